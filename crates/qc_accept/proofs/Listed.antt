@@ -9,7 +9,8 @@ use Rattle.std.proofs.lemmas.List.Elements.{All-nil}
 use Rattle.std.proofs.lemmas.Option.{cond_some, slice_get_past}
 use Rattle.toml.specs.Data.{Data, as_str}
 use Rattle.qc_plan.specs.Need.{need_of}
-use Rattle.qc_decl.specs.Limits.{greatest_threshold, most_digits}
+use Rattle.qc_decl.specs.Limits.{greatest_threshold}
+use Rattle.qc_number.specs.Numbers.{most_digits}
 use Rattle.qc_decl.specs.Names.{is_between}
 use Rattle.qc_accept.specs.declared.epochs.Side.{Side}
 use Rattle.qc_accept.specs.Epochs.{EntryOf, StoreOf, entries_in, entry_in, is_at, needs_of, place_in, places_of, threshold_of, thresholds, with_entry, with_item}

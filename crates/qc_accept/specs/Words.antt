@@ -5,7 +5,8 @@ use Rattle.std.specs.List.{list_any, list_all}
 use Rattle.std.specs.Str.{bytes_eq}
 use Rattle.qc_table.specs.Rules.{event, event_number}
 use Rattle.qc_table.specs.declared.row.Event.{Event}
-use Rattle.qc_decl.specs.Limits.{greatest_threshold, most_digits}
+use Rattle.qc_decl.specs.Limits.{greatest_threshold}
+use Rattle.qc_number.specs.Numbers.{most_digits}
 use Rattle.qc_decl.specs.Names.{is_between}
 
 -- what stands before and behind the first byte of this kind

@@ -3,10 +3,11 @@
 ghost use Rattle.std.specs.Prelude.{◌≡◌, ◌<◌, ◌≤◌, length, option_map, IsTrue};
 ghost use Rattle.std.specs.List.{list_all};
 ghost use Rattle.qc_decl.specs.Names.{is_between, is_name, is_name_byte};
-ghost use Rattle.qc_decl.specs.Limits.{most_digits};
+ghost use Rattle.qc_number.specs.Numbers.{most_digits};
 ghost use Rattle.qc_accept.specs.Words.{two, three, four, number_in, value_of};
 
-use qc_decl::{LONGEST_NAME, MOST_DIGITS};
+use qc_decl::LONGEST_NAME;
+use qc_number::MOST_DIGITS;
 
 /// The one word before and the one behind the text's one space.
 pub(crate) fn two(text: &str) -> Option<(&str, &str)>

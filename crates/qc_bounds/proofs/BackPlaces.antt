@@ -61,8 +61,8 @@ told_before (Some old) (Some new) here told put tells = refl
 
 -- the places of actors
 
-others_place : (a b : ℕ) → (a == b) ≡ false → place_of b ≡ place_of a → ⊥
-others_place a b other same = eqb-false a b other (sym (ap (λ (p : Place). p.actor) same))
+others_place : (folder : Option (List ℕ)) (a b : ℕ) → (a == b) ≡ false → place_of folder b ≡ place_of folder a → ⊥
+others_place folder a b other same = eqb-false a b other (sym (ap (λ (p : Place). p.actor) same))
 
 -- one disk more is handed out
 
@@ -70,72 +70,72 @@ handed_here : (o : Option (List ℕ)) (bytes : List ℕ) → o ≡ Some bytes �
 handed_here None bytes is = absurd (let never : ⊥ = cc in never)
 handed_here (Some held) bytes is = refl
 
-module _ (k : ℕ) (old new : Places) (here : new (place_of k) ≡ Some []) (others : IsSameElsewhere (place_of k) old new)
-    (so_far : AreHandedOut k old) where
-  one_handed : AreHandedOut (suc k) new
+module _ (folder : Option (List ℕ)) (k : ℕ) (old new : Places) (here : new (place_of folder k) ≡ Some []) (others : IsSameElsewhere (place_of folder k) old new)
+    (so_far : AreHandedOut folder k old) where
+  one_handed : AreHandedOut folder (suc k) new
   one_handed a low = by (k == a) refl
     where
-      by : (c : Bool) → (k == a) ≡ c → IsSome (new (place_of a))
+      by : (c : Bool) → (k == a) ≡ c → IsSome (new (place_of folder a))
       by true this =
-          subst (λ (b : ℕ). IsSome (new (place_of b))) (eqb-true k a this)
-          (handed_here (new (place_of k)) [] here)
+          subst (λ (b : ℕ). IsSome (new (place_of folder b))) (eqb-true k a this)
+          (handed_here (new (place_of folder k)) [] here)
       by false other =
           let apart : k ≡ a → ⊥ = eqb-false k a other in
-          subst (λ (o : Option (List ℕ)). IsSome o) (sym (others (place_of a) (others_place k a other)))
+          subst (λ (o : Option (List ℕ)). IsSome o) (sym (others (place_of folder a) (others_place folder k a other)))
           (so_far a (omega (arith, low, apart)))
 
-pub handed_more : {T : Type 0} (k : ℕ) (old new : Option Places) (disk : T)
-    → IsHandedOut {T = T} old (place_of k) (Ok disk) new → IfSome old (AreHandedOut k)
-    → IfSome new (AreHandedOut (suc k))
-handed_more k old None disk handed so_far = tt
-handed_more k None (Some new) disk handed so_far = absurd handed
-handed_more k (Some old) (Some new) disk handed so_far = one_handed k old new handed.1 handed.2 so_far
+pub handed_more : {T : Type 0} (folder : Option (List ℕ)) (k : ℕ) (old new : Option Places) (disk : T)
+    → IsHandedOut {T = T} old (place_of folder k) (Ok disk) new → IfSome old (AreHandedOut folder k)
+    → IfSome new (AreHandedOut folder (suc k))
+handed_more folder k old None disk handed so_far = tt
+handed_more folder k None (Some new) disk handed so_far = absurd handed
+handed_more folder k (Some old) (Some new) disk handed so_far = one_handed folder k old new handed.1 handed.2 so_far
 
 -- disks come back
 
-pub none_back : (n : ℕ) (h : List Entry) (places : Option Places) → IfSome places (AreHandedOut n)
-    → IfSome places (AreBackSoFar n h nobody)
-none_back n h None handed = tt
-none_back n h (Some places) handed =
+pub none_back : (folder : Option (List ℕ)) (n : ℕ) (h : List Entry) (places : Option Places) → IfSome places (AreHandedOut folder n)
+    → IfSome places (AreBackSoFar folder n h nobody)
+none_back folder n h None handed = tt
+none_back folder n h (Some places) handed =
     record { handed = handed; back = λ a is. absurd (let never : false ≡ true = is in let no : ⊥ = cc in no) }
 
-module _ (n a : ℕ) (h : List Entry) (visited : ℕ → Bool) (old new : Places) (told : Option Told) (low : a < n)
-    (put : IsPutBack (Some old) (place_of a) told (Some new)) (on : JournalIsOn (journal_of (own a h)) told)
-    (so_far : AreBackSoFar n h visited old) where
-  same_there : (b : ℕ) → (a == b) ≡ false → new (place_of b) ≡ old (place_of b)
-  same_there b other = elsewhere old new (place_of a) told put (place_of b) (others_place a b other)
+module _ (folder : Option (List ℕ)) (n a : ℕ) (h : List Entry) (visited : ℕ → Bool) (old new : Places) (told : Option Told) (low : a < n)
+    (put : IsPutBack (Some old) (place_of folder a) told (Some new)) (on : JournalIsOn (journal_of (own a h)) told)
+    (so_far : AreBackSoFar folder n h visited old) where
+  same_there : (b : ℕ) → (a == b) ≡ false → new (place_of folder b) ≡ old (place_of folder b)
+  same_there b other = elsewhere old new (place_of folder a) told put (place_of folder b) (others_place folder a b other)
 
-  handed_at : (b : ℕ) → b < n → (c : Bool) → (a == b) ≡ c → IsSome (new (place_of b))
+  handed_at : (b : ℕ) → b < n → (c : Bool) → (a == b) ≡ c → IsSome (new (place_of folder b))
   handed_at b less true this =
-      subst (λ (k : ℕ). IsSome (new (place_of k))) (eqb-true a b this)
-      (still_handed old new (place_of a) told put (so_far.handed a low) on.tells)
+      subst (λ (k : ℕ). IsSome (new (place_of folder k))) (eqb-true a b this)
+      (still_handed old new (place_of folder a) told put (so_far.handed a low) on.tells)
   handed_at b less false other =
       subst (λ (o : Option (List ℕ)). IsSome o) (sym (same_there b other)) (so_far.handed b less)
 
   back_at : (b : ℕ) → with_visit visited a b ≡ true → (c : Bool) → (a == b) ≡ c
-      → HoldsJournal (journal_of (own b h)) (new (place_of b))
+      → HoldsJournal (journal_of (own b h)) (new (place_of folder b))
   back_at b is true this =
-      subst (λ (k : ℕ). HoldsJournal (journal_of (own k h)) (new (place_of k))) (eqb-true a b this)
-      (here_holds old new (place_of a) told (map spelled (journal_of (own a h)).records)
+      subst (λ (k : ℕ). HoldsJournal (journal_of (own k h)) (new (place_of folder k))) (eqb-true a b this)
+      (here_holds old new (place_of folder a) told (map spelled (journal_of (own a h)).records)
       (option_map spelled (journal_of (own a h)).pending) put (so_far.handed a low) on.tells on.holds)
   back_at b is false other =
       subst (HoldsJournal (journal_of (own b h))) (sym (same_there b other))
       (so_far.back b (sym (visit_other a b visited other) ∙ is))
 
-  one_back_at : AreBackSoFar n h (with_visit visited a) new
+  one_back_at : AreBackSoFar folder n h (with_visit visited a) new
   one_back_at =
       record { handed = λ b less. handed_at b less (a == b) refl; back = λ b is. back_at b is (a == b) refl }
 
-pub one_back : (n a : ℕ) (h : List Entry) (visited : ℕ → Bool) (old new : Option Places) (told : Option Told) → a < n
-    → IsPutBack old (place_of a) told new → (IsSome old → JournalIsOn (journal_of (own a h)) told)
-    → IfSome old (AreBackSoFar n h visited) → IfSome new (AreBackSoFar n h (with_visit visited a))
-one_back n a h visited old None told low put on so_far = tt
-one_back n a h visited None (Some new) told low put on so_far = absurd put
-one_back n a h visited (Some old) (Some new) told low put on so_far =
-    one_back_at n a h visited old new told low put (on refl) so_far
+pub one_back : (folder : Option (List ℕ)) (n a : ℕ) (h : List Entry) (visited : ℕ → Bool) (old new : Option Places) (told : Option Told) → a < n
+    → IsPutBack old (place_of folder a) told new → (IsSome old → JournalIsOn (journal_of (own a h)) told)
+    → IfSome old (AreBackSoFar folder n h visited) → IfSome new (AreBackSoFar folder n h (with_visit visited a))
+one_back folder n a h visited old None told low put on so_far = tt
+one_back folder n a h visited None (Some new) told low put on so_far = absurd put
+one_back folder n a h visited (Some old) (Some new) told low put on so_far =
+    one_back_at folder n a h visited old new told low put (on refl) so_far
 
-pub all_back : (decl : Declaration) (n : ℕ) (h : List Entry) (visited : ℕ → Bool) (places : Option Places)
-    → controller decl ≤ n → ((a : ℕ) → a < n → visited a ≡ true) → IfSome places (AreBackSoFar n h visited)
-    → HoldJournals decl h places
-all_back decl n h visited None few all so_far = tt
-all_back decl n h visited (Some places) few all so_far = λ a low. so_far.back a (all a (omega (arith, low, few)))
+pub all_back : (folder : Option (List ℕ)) (decl : Declaration) (n : ℕ) (h : List Entry) (visited : ℕ → Bool) (places : Option Places)
+    → controller decl ≤ n → ((a : ℕ) → a < n → visited a ≡ true) → IfSome places (AreBackSoFar folder n h visited)
+    → HoldJournals folder decl h places
+all_back folder decl n h visited None few all so_far = tt
+all_back folder decl n h visited (Some places) few all so_far = λ a low. so_far.back a (all a (omega (arith, low, few)))

@@ -10,9 +10,9 @@ use Rattle.qc_promise.specs.Kept.{Journal, journal_of}
 use Rattle.qc_record.specs.Records.{spelled}
 use Rattle.qc_store.specs.Contents.{DiskHolds, HoldsBodies}
 
--- the place of an actor, in no folder
-abbrev pub place_of : ℕ → Place
-place_of a = record { folder = None; actor = a }
+-- the place of an actor in a folder, or without one
+abbrev pub place_of : Option (List ℕ) → ℕ → Place
+place_of folder a = record { folder = folder; actor = a }
 
 -- the bytes of a place are a journal of these bodies, with the pending one or without it
 abbrev pub PlaceHolds : List (List ℕ) → Option (List ℕ) → Option (List ℕ) → Type 0
@@ -24,9 +24,10 @@ abbrev pub HoldsJournal : Journal → Option (List ℕ) → Type 0
 HoldsJournal j bytes = PlaceHolds (map spelled j.records) (option_map spelled j.pending) bytes
 
 -- each actor's place holds the journal of its own steps, where the rack tells
-abbrev pub HoldJournals : Declaration → List Entry → Option Places → Type 0
-HoldJournals decl h told =
-    IfSome told (λ places. (a : ℕ) → a < controller decl → HoldsJournal (journal_of (own a h)) (places (place_of a)))
+abbrev pub HoldJournals : Option (List ℕ) → Declaration → List Entry → Option Places → Type 0
+HoldJournals folder decl h told =
+    IfSome told
+    (λ places. (a : ℕ) → a < controller decl → HoldsJournal (journal_of (own a h)) (places (place_of folder a)))
 
 -- the disk tells, and holds the journal
 pub record JournalIsOn (j : Journal) (told : Option Told) : Type 0 where
@@ -34,10 +35,11 @@ pub record JournalIsOn (j : Journal) (told : Option Told) : Type 0 where
   pub holds : DiskHolds told (map spelled j.records) (option_map spelled j.pending)
 
 -- a disk was handed out for each actor below a number
-abbrev pub AreHandedOut : ℕ → Places → Type 0
-AreHandedOut n places = (a : ℕ) → a < n → IsSome (places (place_of a))
+abbrev pub AreHandedOut : Option (List ℕ) → ℕ → Places → Type 0
+AreHandedOut folder n places = (a : ℕ) → a < n → IsSome (places (place_of folder a))
 
 -- while disks come back, the places of those that were visited hold their journals
-pub record AreBackSoFar (n : ℕ) (h : List Entry) (visited : ℕ → Bool) (places : Places) : Type 0 where
-  pub handed : AreHandedOut n places
-  pub back : (a : ℕ) → visited a ≡ true → HoldsJournal (journal_of (own a h)) (places (place_of a))
+pub record AreBackSoFar (folder : Option (List ℕ)) (n : ℕ) (h : List Entry) (visited : ℕ → Bool) (places : Places)
+    : Type 0 where
+  pub handed : AreHandedOut folder n places
+  pub back : (a : ℕ) → visited a ≡ true → HoldsJournal (journal_of (own a h)) (places (place_of folder a))

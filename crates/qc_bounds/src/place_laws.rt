@@ -29,16 +29,17 @@ pub fn disks_leave_their_bodies()
         → IsSome new → IsSome old }
 {}
 
-/// Disks come back to a rack one by one, in any order: where it tells, each that
+/// Disks come back to a rack one by one, in any order, to the places of one folder: where it tells, each that
 /// holds its actor's journal leaves it at its place. Once all came back, each
 /// place holds its actor's journal.
 pub fn places_hold_journals_disk_by_disk()
-    ensures none { (n : ℕ) (h : List Entry) (places : Option Places) → IfSome places (AreHandedOut n)
-        → IfSome places (AreBackSoFar n h nobody) }
-    ensures one { (n a : ℕ) (h : List Entry) (visited : ℕ → Bool) (old new : Option Places) (told : Option Told)
-        → a < n → IsPutBack old (place_of a) told new → (IsSome old → JournalIsOn (journal_of (own a h)) told)
-        → IfSome old (AreBackSoFar n h visited) → IfSome new (AreBackSoFar n h (with_visit visited a)) }
-    ensures all { (decl : Declaration) (n : ℕ) (h : List Entry) (visited : ℕ → Bool) (places : Option Places)
-        → controller decl ≤ n → ((a : ℕ) → a < n → visited a ≡ true) → IfSome places (AreBackSoFar n h visited)
-        → HoldJournals decl h places }
+    ensures none { (folder : Option (List ℕ)) (n : ℕ) (h : List Entry) (places : Option Places)
+        → IfSome places (AreHandedOut folder n) → IfSome places (AreBackSoFar folder n h nobody) }
+    ensures one { (folder : Option (List ℕ)) (n a : ℕ) (h : List Entry) (visited : ℕ → Bool)
+        (old new : Option Places) (told : Option Told) → a < n → IsPutBack old (place_of folder a) told new
+        → (IsSome old → JournalIsOn (journal_of (own a h)) told)
+        → IfSome old (AreBackSoFar folder n h visited) → IfSome new (AreBackSoFar folder n h (with_visit visited a)) }
+    ensures all { (folder : Option (List ℕ)) (decl : Declaration) (n : ℕ) (h : List Entry) (visited : ℕ → Bool)
+        (places : Option Places) → controller decl ≤ n → ((a : ℕ) → a < n → visited a ≡ true)
+        → IfSome places (AreBackSoFar folder n h visited) → HoldJournals folder decl h places }
 {}

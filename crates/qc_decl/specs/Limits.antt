@@ -24,13 +24,10 @@ most_epochs = 8
 abbrev pub most_alike_triples : ℕ
 most_alike_triples = 1024
 
--- Of texts and numbers: the bytes of a name, the digits of a number, and the greatest of each kind of number.
+-- Of texts and numbers: the bytes of a name, and the greatest of each kind of number.
 
 abbrev pub longest_name : ℕ
 longest_name = 32
-
-abbrev pub most_digits : ℕ
-most_digits = 5
 
 abbrev pub greatest_weight : ℕ
 greatest_weight = 255

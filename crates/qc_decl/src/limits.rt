@@ -28,9 +28,6 @@ pub const MOST_ALIKE_TRIPLES: u16 = 1_024;
 /// The most bytes of a name.
 pub const LONGEST_NAME: usize = 32;
 
-/// The most digits of a number.
-pub const MOST_DIGITS: usize = 5;
-
 /// The greatest weight of a site.
 pub const GREATEST_WEIGHT: u8 = 255;
 
@@ -66,7 +63,6 @@ pub fn limits_are_as_defined()
     ensures epochs { MOST_EPOCHS ≡ limits.most_epochs }
     ensures alike_triples { MOST_ALIKE_TRIPLES ≡ limits.most_alike_triples }
     ensures name { LONGEST_NAME ≡ limits.longest_name }
-    ensures digits { MOST_DIGITS ≡ limits.most_digits }
     ensures weight { GREATEST_WEIGHT ≡ limits.greatest_weight }
     ensures threshold { GREATEST_THRESHOLD ≡ limits.greatest_threshold }
     ensures declaration_bytes { MOST_DECLARATION_BYTES ≡ limits.most_declaration_bytes }

@@ -20,10 +20,14 @@
 //! check of the program reads the code of all crates.
 #![tactic(auto)]
 
+mod file_disk;
+mod file_rack;
 mod file_shelf;
 mod handed;
 mod out_sink;
 mod taken;
 
+pub use file_disk::FileDisk;
+pub use file_rack::FileRack;
 pub use file_shelf::FileShelf;
 pub use out_sink::OutSink;

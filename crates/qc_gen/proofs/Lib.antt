@@ -3,3 +3,4 @@ mod Writable
 mod Reading
 mod Phases
 mod Lengths
+pub mod Loads

@@ -31,10 +31,10 @@ use Rattle.qc_node.specs.Settling.{IsSettling}
 more_spent : (h : List Entry) (n m : ℕ) → n ≤ m → Spent h n → Spent h m
 more_spent h n m less spent = record { falls = omega (arith, spent.falls, less); in_time = spent.in_time }
 
-module _ (tells : Bool) (decl : Declaration) (script : Script) (h : List Entry) (inputs : List Bool)
+module _ (folder : Option (List ℕ)) (tells : Bool) (decl : Declaration) (script : Script) (h : List Entry) (inputs : List Bool)
     (run : RunsWithFalls (IsLawfulWithFalls decl) (fits_of decl) decl script h inputs)
     (runnable : IsRunnable decl script) (rooms : List ℕ) (before now : ℕ) (places : Option Places)
-    (s : IsSettling tells decl h rooms (controller decl) before now places) where
+    (s : IsSettling folder tells decl h rooms (controller decl) before now places) where
   visited : (a : ℕ) → a < controller decl → s.visited a ≡ true
   visited a low = all_visited (controller decl) a s.visited s.counted low
 
@@ -61,5 +61,5 @@ module _ (tells : Bool) (decl : Declaration) (script : Script) (h : List Entry) 
       run_kept decl script (controller decl) (fits_of decl) h inputs runnable.accepted runnable.declared few below run
       within (λ a low. s.kept tell a (visited a low))
 
-  pub settled_places : HoldJournals decl h places
-  settled_places = all_back decl (controller decl) h s.visited places (omega arith) visited s.back
+  pub settled_places : HoldJournals folder decl h places
+  settled_places = all_back folder decl (controller decl) h s.visited places (omega arith) visited s.back

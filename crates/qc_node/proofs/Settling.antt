@@ -38,9 +38,9 @@ nobody_is : (a : ℕ) → nobody a ≡ true → ⊥
 nobody_is a is = cc is
 
 module _ (tells : Bool) (decl : Declaration) (h : List Entry) where
-  pub settling_none : (rooms : List ℕ) (before : ℕ) (places : Option Places) → is_some places ≡ tells
-      → IfSome places (AreHandedOut (controller decl)) → IsSettling tells decl h rooms 0 before before places
-  settling_none rooms before places told handed = record {
+  pub settling_none : (folder : Option (List ℕ)) (rooms : List ℕ) (before : ℕ) (places : Option Places) → is_some places ≡ tells
+      → IfSome places (AreHandedOut folder (controller decl)) → IsSettling folder tells decl h rooms 0 before before places
+  settling_none folder rooms before places told handed = record {
     visited = nobody;
     counted = none_visited (controller decl);
     roomed = λ a is. absurd (nobody_is a is);
@@ -49,7 +49,7 @@ module _ (tells : Bool) (decl : Declaration) (h : List Entry) where
     in_time = λ a is. absurd (nobody_is a is);
     kept = λ on a is. absurd (nobody_is a is);
     told = told;
-    back = none_back (controller decl) h places handed;
+    back = none_back folder (controller decl) h places handed;
   }
 
   -- what is known of a process tells what its disk holds once it is handed over, when others went on
@@ -88,9 +88,9 @@ module _ (tells : Bool) (decl : Declaration) (h : List Entry) where
     new_at rooms visited none roomed true is = absurd (none_and_one (slice_get rooms a) none (roomed a is))
     new_at rooms visited none roomed false is = is
 
-    module _ (low : a < controller decl) (rooms : List ℕ) (none : slice_get rooms a ≡ Some 0) (now then : ℕ)
-        (added : IsKept now disk then) (old new : Option Places) (put : IsPutBack old (place_of a) told new)
-        (count before : ℕ) (s : IsSettling tells decl h rooms count before now old) where
+    module _ (folder : Option (List ℕ)) (low : a < controller decl) (rooms : List ℕ) (none : slice_get rooms a ≡ Some 0) (now then : ℕ)
+        (added : IsKept now disk then) (old new : Option Places) (put : IsPutBack old (place_of folder a) told new)
+        (count before : ℕ) (s : IsSettling folder tells decl h rooms count before now old) where
       fresh : s.visited a ≡ false
       fresh = new_at rooms s.visited none s.roomed (s.visited a) refl
 
@@ -103,7 +103,7 @@ module _ (tells : Bool) (decl : Declaration) (h : List Entry) where
           get_else rooms a b 1 (λ e. eqb-false a b other (sym e))
           ∙ s.roomed b (sym (visit_other a b s.visited other) ∙ is)
 
-      pub settling_one : IsSettling tells decl h (slice_set rooms a 1) (count + 1) before then new
+      pub settling_one : IsSettling folder tells decl h (slice_set rooms a 1) (count + 1) before then new
       settling_one = record {
         visited = with_visit s.visited a;
         counted = one_visited (controller decl) a s.visited low fresh ∙ ap (λ (n : ℕ). n + 1) s.counted;
@@ -114,9 +114,9 @@ module _ (tells : Bool) (decl : Declaration) (h : List Entry) where
         kept = λ tell.
             each_visited (λ (k : ℕ). AreKeptOrMisfits decl k (own k h)) s.visited a
             (misfits_of decl a (own a h) (on.told_by.kept tell)) (s.kept tell);
-        told = put_tells old new (place_of a) told put ∙ s.told;
+        told = put_tells old new (place_of folder a) told put ∙ s.told;
         back =
-            one_back (controller decl) a h s.visited old new told low put
+            one_back folder (controller decl) a h s.visited old new told low put
             (λ some. journal_on (sym s.told ∙ some)) s.back;
       }
 
@@ -128,16 +128,16 @@ module _ (tells : Bool) (decl : Declaration) (h now : List Entry) (rooms more_ro
   pub goes_now : Goes (number p) (seen p) [] now
   goes_now = subst (Goes (number p) (seen p) []) seen_is (saw_goes p q saw)
 
-  module _ (actor : ℕ) (actor_is : actor ≡ number q) (low : number p < controller decl) (told : Option Told)
+  module _ (folder : Option (List ℕ)) (actor : ℕ) (actor_is : actor ≡ number q) (low : number p < controller decl) (told : Option Told)
       (disk : ℕ) (on : IsOnDisk tells decl (number p) now told disk) (faults after : ℕ)
       (kept : IsKept faults disk after)
-      (old new : Option Places) (put : IsPutBack old (place_of actor) told new) where
-    put_here : IsPutBack old (place_of (number p)) told new
-    put_here = subst (λ (k : ℕ). IsPutBack old (place_of k) told new) (actor_is ∙ saw.pass.number_is) put
+      (old new : Option Places) (put : IsPutBack old (place_of folder actor) told new) where
+    put_here : IsPutBack old (place_of folder (number p)) told new
+    put_here = subst (λ (k : ℕ). IsPutBack old (place_of folder k) told new) (actor_is ∙ saw.pass.number_is) put
 
-    pub called_one : (count before : ℕ) → IsSettling tells decl h rooms count before faults old
-        → IsSettling tells decl now more_rooms (count + 1) before after new
+    pub called_one : (count before : ℕ) → IsSettling folder tells decl h rooms count before faults old
+        → IsSettling folder tells decl now more_rooms (count + 1) before after new
     called_one count before s =
-        subst (λ (l : List ℕ). IsSettling tells decl now l (count + 1) before after new) (sym called)
-        (settling_one tells decl now (number p) told disk on low rooms first faults after kept old new put_here count
-        before (subst (λ (l : List Entry). IsSettling tells decl l rooms count before faults old) (sym same) s))
+        subst (λ (l : List ℕ). IsSettling folder tells decl now l (count + 1) before after new) (sym called)
+        (settling_one tells decl now (number p) told disk on folder low rooms first faults after kept old new put_here count
+        before (subst (λ (l : List Entry). IsSettling folder tells decl l rooms count before faults old) (sym same) s))

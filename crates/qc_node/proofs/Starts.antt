@@ -30,61 +30,61 @@ put_tells None (Some new) here told put = absurd put
 put_tells (Some old) None here told put = absurd put
 put_tells (Some old) (Some new) here told put = refl
 
-pub started_tells : (n : ℕ) (old new : Option Places) → IsHandedBelow n old new → is_some new ≡ is_some old
-started_tells n None None handed = refl
-started_tells n None (Some new) handed = absurd handed
-started_tells n (Some old) None handed = absurd handed
-started_tells n (Some old) (Some new) handed = refl
+pub started_tells : (folder : Option (List ℕ)) (n : ℕ) (old new : Option Places) → IsHandedBelow folder n old new → is_some new ≡ is_some old
+started_tells folder n None None handed = refl
+started_tells folder n None (Some new) handed = absurd handed
+started_tells folder n (Some old) None handed = absurd handed
+started_tells folder n (Some old) (Some new) handed = refl
 
 -- none, and one more
 
-none_handed : (old : Option Places) → IsHandedBelow 0 old old
-none_handed None = tt
-none_handed (Some old) = record {
+none_handed : (folder : Option (List ℕ)) (old : Option Places) → IsHandedBelow folder 0 old old
+none_handed folder None = tt
+none_handed folder (Some old) = record {
   empty = λ a low. absurd (omega (arith, low));
   handed = λ a low. absurd (omega (arith, low));
   same = λ a high. refl;
 }
 
-pub none_started : (old : Option Places) (before : ℕ) → AreStarted 0 old before old before
-none_started old before = record { places = none_handed old; later = omega arith }
+pub none_started : (folder : Option (List ℕ)) (old : Option Places) (before : ℕ) → AreStarted folder 0 old before old before
+none_started folder old before = record { places = none_handed folder old; later = omega arith }
 
-pub other_place : (a b : ℕ) → (a ≡ b → ⊥) → place_of a ≡ place_of b → ⊥
-other_place a b other same = other (ap (λ (p : Place). p.actor) same)
+pub other_place : (folder : Option (List ℕ)) (a b : ℕ) → (a ≡ b → ⊥) → place_of folder a ≡ place_of folder b → ⊥
+other_place folder a b other same = other (ap (λ (p : Place). p.actor) same)
 
-module _ (n : ℕ) (old mid new : Places) (was : AreHandedBelow n old mid)
-    (here : IsHandedOut {T = Unit {0}} (Some mid) (place_of n) (Ok tt) (Some new)) where
-  empty_at : (a : ℕ) → a < n + 1 → (c : Bool) → (n == a) ≡ c → HoldsNoByte (old (place_of a))
+module _ (folder : Option (List ℕ)) (n : ℕ) (old mid new : Places) (was : AreHandedBelow folder n old mid)
+    (here : IsHandedOut {T = Unit {0}} (Some mid) (place_of folder n) (Ok tt) (Some new)) where
+  empty_at : (a : ℕ) → a < n + 1 → (c : Bool) → (n == a) ≡ c → HoldsNoByte (old (place_of folder a))
   empty_at a low true this =
-      subst (λ (k : ℕ). HoldsNoByte (old (place_of k))) (eqb-true n a this)
+      subst (λ (k : ℕ). HoldsNoByte (old (place_of folder k))) (eqb-true n a this)
       (subst HoldsNoByte (was.same n (omega arith)) here.0)
   empty_at a low false other =
       let apart : n ≡ a → ⊥ = eqb-false n a other in was.empty a (omega (arith, low, apart))
 
-  more_handed : AreHandedOut (suc n) new
-  more_handed = handed_more {T = Unit {0}} n (Some mid) (Some new) tt here was.handed
+  more_handed : AreHandedOut folder (suc n) new
+  more_handed = handed_more {T = Unit {0}} folder n (Some mid) (Some new) tt here was.handed
 
-  one_more_at : AreHandedBelow (n + 1) old new
+  one_more_at : AreHandedBelow folder (n + 1) old new
   one_more_at = record {
     empty = λ a low. empty_at a low (n == a) refl;
     handed = λ a low. more_handed a (omega (arith, low));
     same = λ a high.
-        here.2 (place_of a) (other_place a n (λ same. omega (arith, high, same))) ∙ was.same a (omega (arith, high));
+        here.2 (place_of folder a) (other_place folder a n (λ same. omega (arith, high, same))) ∙ was.same a (omega (arith, high));
   }
 
-one_more_handed : (n : ℕ) (old mid new : Option Places) → IsHandedBelow n old mid
-    → IsHandedOut {T = Unit {0}} mid (place_of n) (Ok tt) new → IsHandedBelow (n + 1) old new
-one_more_handed n None None None was here = tt
-one_more_handed n None None (Some new) was here = absurd here
-one_more_handed n None (Some mid) new was here = absurd was
-one_more_handed n (Some old) None new was here = absurd was
-one_more_handed n (Some old) (Some mid) None was here = absurd here
-one_more_handed n (Some old) (Some mid) (Some new) was here = one_more_at n old mid new was here
+one_more_handed : (folder : Option (List ℕ)) (n : ℕ) (old mid new : Option Places) → IsHandedBelow folder n old mid
+    → IsHandedOut {T = Unit {0}} mid (place_of folder n) (Ok tt) new → IsHandedBelow folder (n + 1) old new
+one_more_handed folder n None None None was here = tt
+one_more_handed folder n None None (Some new) was here = absurd here
+one_more_handed folder n None (Some mid) new was here = absurd was
+one_more_handed folder n (Some old) None new was here = absurd was
+one_more_handed folder n (Some old) (Some mid) None was here = absurd here
+one_more_handed folder n (Some old) (Some mid) (Some new) was here = one_more_at folder n old mid new was here
 
-pub one_more_started : (n : ℕ) (old mid new : Option Places) (before then now : ℕ)
-    → AreStarted n old before mid then → IsStarted n mid then new now → AreStarted (n + 1) old before new now
-one_more_started n old mid new before then now was one = record {
-  places = one_more_handed n old mid new was.places one.handed;
+pub one_more_started : (folder : Option (List ℕ)) (n : ℕ) (old mid new : Option Places) (before then now : ℕ)
+    → AreStarted folder n old before mid then → IsStarted folder n mid then new now → AreStarted folder (n + 1) old before new now
+one_more_started folder n old mid new before then now was one = record {
+  places = one_more_handed folder n old mid new was.places one.handed;
   later = omega (arith, was.later, one.later);
 }
 
@@ -97,44 +97,44 @@ handed_to None (Some new) here disk handed = absurd handed
 handed_to (Some old) None here disk handed = absurd handed
 handed_to (Some old) (Some new) here disk handed = handed
 
-pub one_started : {T : Type 0} (a : ℕ) (old new : Option Places) (before now : ℕ) (disk : T)
-    → IsHandedOut {T = T} old (place_of a) (Ok disk) new → RackRose {T = T} before now (Ok disk)
-    → IsStarted a old before new now
-one_started a old new before now disk handed rose =
-    record { handed = handed_to old new (place_of a) disk handed; later = rose.later }
+pub one_started : {T : Type 0} (folder : Option (List ℕ)) (a : ℕ) (old new : Option Places) (before now : ℕ) (disk : T)
+    → IsHandedOut {T = T} old (place_of folder a) (Ok disk) new → RackRose {T = T} before now (Ok disk)
+    → IsStarted folder a old before new now
+one_started folder a old new before now disk handed rose =
+    record { handed = handed_to old new (place_of folder a) disk handed; later = rose.later }
 
 -- or refused it
 
-refused_at : {T : Type 0} (a : ℕ) (old new : Option Places) (before now : ℕ) (fault : RackFault)
-    → IsHandedOut {T = T} old (place_of a) (Err fault) new → NamesActor a fault
-    → RackRose {T = T} before now (Err fault) → IsRefused old before now fault
-refused_at a None new before now (NotEmpty named) handed names rose = tt
-refused_at a (Some old) None before now (NotEmpty named) handed names rose = absurd handed
-refused_at a (Some old) (Some new) before now (NotEmpty named) handed names rose =
-    subst (λ (k : ℕ). HoldsNoByte (old (place_of k)) → ⊥) (sym names) handed.0
-refused_at a old new before now (Failed named) handed names rose = rose.failed named refl
-refused_at a old new before now OutOfMemory handed names rose = tt
+refused_at : {T : Type 0} (folder : Option (List ℕ)) (a : ℕ) (old new : Option Places) (before now : ℕ) (fault : RackFault)
+    → IsHandedOut {T = T} old (place_of folder a) (Err fault) new → NamesActor a fault
+    → RackRose {T = T} before now (Err fault) → IsRefused folder old before now fault
+refused_at folder a None new before now (NotEmpty named) handed names rose = tt
+refused_at folder a (Some old) None before now (NotEmpty named) handed names rose = absurd handed
+refused_at folder a (Some old) (Some new) before now (NotEmpty named) handed names rose =
+    subst (λ (k : ℕ). HoldsNoByte (old (place_of folder k)) → ⊥) (sym names) handed.0
+refused_at folder a old new before now (Failed named) handed names rose = rose.failed named refl
+refused_at folder a old new before now OutOfMemory handed names rose = tt
 
-same_otherwise : (a : ℕ) (old new : Places) → IsSameAtAll old new → IsOtherwiseSame a old new
-same_otherwise a old new same = record { here = inl (same (place_of a)); others = λ b other. same (place_of b) }
+same_otherwise : (folder : Option (List ℕ)) (a : ℕ) (old new : Places) → IsSameAtAll old new → IsOtherwiseSame folder a old new
+same_otherwise folder a old new same = record { here = inl (same (place_of folder a)); others = λ b other. same (place_of folder b) }
 
-refused_places : (T : Type 0) (a : ℕ) (old new : Option Places) (fault : RackFault)
-    → IsHandedOut {T = T} old (place_of a) (Err fault) new → BothTell old new (IsOtherwiseSame a)
-refused_places T a None None fault handed = tt
-refused_places T a None (Some new) fault handed = absurd handed
-refused_places T a (Some old) None fault handed = absurd handed
-refused_places T a (Some old) (Some new) (NotEmpty named) handed = same_otherwise a old new handed.1
-refused_places T a (Some old) (Some new) (Failed named) handed = same_otherwise a old new handed
-refused_places T a (Some old) (Some new) OutOfMemory handed = same_otherwise a old new handed
+refused_places : (folder : Option (List ℕ)) (T : Type 0) (a : ℕ) (old new : Option Places) (fault : RackFault)
+    → IsHandedOut {T = T} old (place_of folder a) (Err fault) new → BothTell old new (IsOtherwiseSame folder a)
+refused_places folder T a None None fault handed = tt
+refused_places folder T a None (Some new) fault handed = absurd handed
+refused_places folder T a (Some old) None fault handed = absurd handed
+refused_places folder T a (Some old) (Some new) (NotEmpty named) handed = same_otherwise folder a old new handed.1
+refused_places folder T a (Some old) (Some new) (Failed named) handed = same_otherwise folder a old new handed
+refused_places folder T a (Some old) (Some new) OutOfMemory handed = same_otherwise folder a old new handed
 
-pub rack_refused : {T : Type 0} (a : ℕ) (old new : Option Places) (before now : ℕ) (fault : RackFault)
-    → IsHandedOut {T = T} old (place_of a) (Err fault) new → NamesActor a fault
-    → RackRose {T = T} before now (Err fault) → IsUnstarted a old before new now fault
-rack_refused {T} a old new before now fault handed names rose = record {
-  why = refused_at {T = T} a old new before now fault handed names rose;
+pub rack_refused : {T : Type 0} (folder : Option (List ℕ)) (a : ℕ) (old new : Option Places) (before now : ℕ) (fault : RackFault)
+    → IsHandedOut {T = T} old (place_of folder a) (Err fault) new → NamesActor a fault
+    → RackRose {T = T} before now (Err fault) → IsUnstarted folder a old before new now fault
+rack_refused {T} folder a old new before now fault handed names rose = record {
+  why = refused_at {T = T} folder a old new before now fault handed names rose;
   named = names;
   later = rose.later;
-  places = refused_places T a old new fault handed;
+  places = refused_places folder T a old new fault handed;
 }
 
 -- a process wasn't started on its disk, which came back
@@ -145,29 +145,29 @@ start_names a told before now (NotEmpty named) refused = refused.0
 start_names a told before now (Failed named) refused = refused.0
 start_names a told before now OutOfMemory refused = tt
 
-back_otherwise : {T : Type 0} (a : ℕ) (disk : T) (old mid new : Option Places) (told : Option Told)
-    → IsHandedOut {T = T} old (place_of a) (Ok disk) mid → IsPutBack mid (place_of a) told new
-    → BothTell old new (IsOtherwiseSame a)
-back_otherwise a disk None None None told handed put = tt
-back_otherwise a disk None None (Some new) told handed put = absurd put
-back_otherwise a disk None (Some mid) new told handed put = absurd handed
-back_otherwise a disk (Some old) None new told handed put = absurd handed
-back_otherwise a disk (Some old) (Some mid) None told handed put = absurd put
-back_otherwise a disk (Some old) (Some mid) (Some new) told handed put = record {
+back_otherwise : {T : Type 0} (folder : Option (List ℕ)) (a : ℕ) (disk : T) (old mid new : Option Places) (told : Option Told)
+    → IsHandedOut {T = T} old (place_of folder a) (Ok disk) mid → IsPutBack mid (place_of folder a) told new
+    → BothTell old new (IsOtherwiseSame folder a)
+back_otherwise folder a disk None None None told handed put = tt
+back_otherwise folder a disk None None (Some new) told handed put = absurd put
+back_otherwise folder a disk None (Some mid) new told handed put = absurd handed
+back_otherwise folder a disk (Some old) None new told handed put = absurd handed
+back_otherwise folder a disk (Some old) (Some mid) None told handed put = absurd put
+back_otherwise folder a disk (Some old) (Some mid) (Some new) told handed put = record {
   here = inr handed.0;
   others = λ b other.
-      elsewhere mid new (place_of a) told put (place_of b) (other_place b a other)
-      ∙ handed.2 (place_of b) (other_place b a other);
+      elsewhere mid new (place_of folder a) told put (place_of folder b) (other_place folder b a other)
+      ∙ handed.2 (place_of folder b) (other_place folder b a other);
 }
 
-module _ (a : ℕ) (told : Option Told) (empty : (t : Told) → told ≡ Some t → t.now ≡ settled []) where
+module _ (folder : Option (List ℕ)) (a : ℕ) (told : Option Told) (empty : (t : Told) → told ≡ Some t → t.now ≡ settled []) where
   not_full : (o : Option Told) → told ≡ o → IsSome o → ((t : Told) → told ≡ Some t → t.now ≡ settled [] → ⊥) → ⊥
   not_full None is some full = cc
   not_full (Some t) is some full = full t is (empty t is)
 
   start_refused_at : (old : Option Places) (before then now disk after : ℕ) (fault : RackFault)
       → (IsSome old → IsSome told) → before ≤ then → disk ≡ 0 → IsKept then after now
-      → IsStartRefused a told disk after fault → IsRefused old before now fault
+      → IsStartRefused a told disk after fault → IsRefused folder old before now fault
   start_refused_at None before then now disk after (NotEmpty named) tells later fresh kept refused = tt
   start_refused_at (Some old) before then now disk after (NotEmpty named) tells later fresh kept refused =
       absurd (not_full told refl (tells refl) refused.1)
@@ -177,29 +177,29 @@ module _ (a : ℕ) (told : Option Told) (empty : (t : Told) → told ≡ Some t 
 
   pub start_refused : {T : Type 0} (disk_is : T) (old mid new : Option Places) (back : Option Told)
       (before then now disk after : ℕ) (fault : RackFault)
-      → IsHandedOut {T = T} old (place_of a) (Ok disk_is) mid → RackRose {T = T} before then (Ok disk_is)
+      → IsHandedOut {T = T} old (place_of folder a) (Ok disk_is) mid → RackRose {T = T} before then (Ok disk_is)
       → (IsSome old → IsSome told) → disk ≡ 0 → IsStartRefused a told disk after fault
-      → IsPutBack mid (place_of a) back new → IsKept then after now → IsUnstarted a old before new now fault
+      → IsPutBack mid (place_of folder a) back new → IsKept then after now → IsUnstarted folder a old before new now fault
   start_refused {T} disk_is old mid new back before then now disk after fault handed rose tells fresh refused put kept =
       record {
         why = start_refused_at old before then now disk after fault tells rose.later fresh kept refused;
         named = start_names a told disk after fault refused;
         later = omega (arith, rose.later, kept.later);
-        places = back_otherwise {T = T} a disk_is old mid new back handed put;
+        places = back_otherwise {T = T} folder a disk_is old mid new back handed put;
       }
 
 -- all were started
 
-pub empty_before : (decl : Declaration) (old new : Option Places) → IsHandedBelow (controller decl) old new
-    → AreEmpty decl old
-empty_before decl None new handed = tt
-empty_before decl (Some old) None handed = absurd handed
-empty_before decl (Some old) (Some new) handed = handed.empty
+pub empty_before : (folder : Option (List ℕ)) (decl : Declaration) (old new : Option Places) → IsHandedBelow folder (controller decl) old new
+    → AreEmpty folder decl old
+empty_before folder decl None new handed = tt
+empty_before folder decl (Some old) None handed = absurd handed
+empty_before folder decl (Some old) (Some new) handed = handed.empty
 
-pub all_handed : (n : ℕ) (old new : Option Places) → IsHandedBelow n old new → IfSome new (AreHandedOut n)
-all_handed n old None handed = tt
-all_handed n None (Some new) handed = absurd handed
-all_handed n (Some old) (Some new) handed = handed.handed
+pub all_handed : (folder : Option (List ℕ)) (n : ℕ) (old new : Option Places) → IsHandedBelow folder n old new → IfSome new (AreHandedOut folder n)
+all_handed folder n old None handed = tt
+all_handed folder n None (Some new) handed = absurd handed
+all_handed folder n (Some old) (Some new) handed = handed.handed
 
 -- one more in a list, by places
 

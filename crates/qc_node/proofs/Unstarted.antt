@@ -55,89 +55,89 @@ here_begun old new here (Some t) put handed tells has =
 
 -- disks come back: none at first, and then one more
 
-none_back_at : (old : Option Places) → BothTell old old (AreBackBelow 0)
-none_back_at None = tt
-none_back_at (Some old) = record { begun = λ a low. absurd (omega (arith, low)); same = λ a high. refl }
+none_back_at : (folder : Option (List ℕ)) (old : Option Places) → BothTell old old (AreBackBelow folder 0)
+none_back_at folder None = tt
+none_back_at folder (Some old) = record { begun = λ a low. absurd (omega (arith, low)); same = λ a high. refl }
 
-pub none_back : (old : Option Places) (before : ℕ) → IsGivenBack 0 old before old before
-none_back old before = record { later = omega arith; places = none_back_at old }
+pub none_back : (folder : Option (List ℕ)) (old : Option Places) (before : ℕ) → IsGivenBack folder 0 old before old before
+none_back folder old before = record { later = omega arith; places = none_back_at folder old }
 
-module _ (n : ℕ) (old mid new : Places) (told : Option Told) (was : AreBackBelow n old mid)
-    (put : IsPutBack (Some mid) (place_of n) told (Some new)) (handed : IsSome (old (place_of n)))
+module _ (folder : Option (List ℕ)) (n : ℕ) (old mid new : Places) (told : Option Told) (was : AreBackBelow folder n old mid)
+    (put : IsPutBack (Some mid) (place_of folder n) told (Some new)) (handed : IsSome (old (place_of folder n)))
     (tells : IsSome told) (has : DiskHasJournal told []) where
-  still_handed : IsSome (mid (place_of n))
+  still_handed : IsSome (mid (place_of folder n))
   still_handed = subst (λ (o : Option (List ℕ)). IsSome o) (sym (was.same n (omega arith))) handed
 
-  same_there : (a : ℕ) → (a ≡ n → ⊥) → new (place_of a) ≡ mid (place_of a)
-  same_there a other = elsewhere mid new (place_of n) told put (place_of a) (other_place a n other)
+  same_there : (a : ℕ) → (a ≡ n → ⊥) → new (place_of folder a) ≡ mid (place_of folder a)
+  same_there a other = elsewhere mid new (place_of folder n) told put (place_of folder a) (other_place folder a n other)
 
-  begun_at : (a : ℕ) → a < n + 1 → (c : Bool) → (n == a) ≡ c → HasBegun (new (place_of a))
+  begun_at : (a : ℕ) → a < n + 1 → (c : Bool) → (n == a) ≡ c → HasBegun (new (place_of folder a))
   begun_at a low true this =
-      subst (λ (k : ℕ). HasBegun (new (place_of k))) (eqb-true n a this)
-      (here_begun mid new (place_of n) told put still_handed tells has)
+      subst (λ (k : ℕ). HasBegun (new (place_of folder k))) (eqb-true n a this)
+      (here_begun mid new (place_of folder n) told put still_handed tells has)
   begun_at a low false other =
       let apart : n ≡ a → ⊥ = eqb-false n a other in
       subst HasBegun (sym (same_there a (λ same. apart (sym same)))) (was.begun a (omega (arith, low, apart)))
 
-  one_more_at : AreBackBelow (n + 1) old new
+  one_more_at : AreBackBelow folder (n + 1) old new
   one_more_at = record {
     begun = λ a low. begun_at a low (n == a) refl;
     same = λ a high. same_there a (λ same. omega (arith, high, same)) ∙ was.same a (omega (arith, high));
   }
 
-one_more_places : (n : ℕ) (old mid new : Option Places) (told : Option Told) → BothTell old mid (AreBackBelow n)
-    → IsPutBack mid (place_of n) told new → IfSome old (λ places. IsSome (places (place_of n)))
-    → (IsSome old → IsSome told) → DiskHasJournal told [] → BothTell old new (AreBackBelow (n + 1))
-one_more_places n None None None told was put handed tells has = tt
-one_more_places n None None (Some new) told was put handed tells has = absurd put
-one_more_places n None (Some mid) new told was put handed tells has = absurd was
-one_more_places n (Some old) None new told was put handed tells has = absurd was
-one_more_places n (Some old) (Some mid) None told was put handed tells has = absurd put
-one_more_places n (Some old) (Some mid) (Some new) told was put handed tells has =
-    one_more_at n old mid new told was put handed (tells refl) has
+one_more_places : (folder : Option (List ℕ)) (n : ℕ) (old mid new : Option Places) (told : Option Told) → BothTell old mid (AreBackBelow folder n)
+    → IsPutBack mid (place_of folder n) told new → IfSome old (λ places. IsSome (places (place_of folder n)))
+    → (IsSome old → IsSome told) → DiskHasJournal told [] → BothTell old new (AreBackBelow folder (n + 1))
+one_more_places folder n None None None told was put handed tells has = tt
+one_more_places folder n None None (Some new) told was put handed tells has = absurd put
+one_more_places folder n None (Some mid) new told was put handed tells has = absurd was
+one_more_places folder n (Some old) None new told was put handed tells has = absurd was
+one_more_places folder n (Some old) (Some mid) None told was put handed tells has = absurd put
+one_more_places folder n (Some old) (Some mid) (Some new) told was put handed tells has =
+    one_more_at folder n old mid new told was put handed (tells refl) has
 
-pub one_more_back : (n : ℕ) (old mid new : Option Places) (before then now disk : ℕ) (told : Option Told)
-    → IsGivenBack n old before mid then → IsPutBack mid (place_of n) told new → IsKept then disk now
-    → IfSome old (λ places. IsSome (places (place_of n))) → (IsSome old → IsSome told) → DiskHasJournal told []
-    → IsGivenBack (n + 1) old before new now
-one_more_back n old mid new before then now disk told was put kept handed tells has = record {
+pub one_more_back : (folder : Option (List ℕ)) (n : ℕ) (old mid new : Option Places) (before then now disk : ℕ) (told : Option Told)
+    → IsGivenBack folder n old before mid then → IsPutBack mid (place_of folder n) told new → IsKept then disk now
+    → IfSome old (λ places. IsSome (places (place_of folder n))) → (IsSome old → IsSome told) → DiskHasJournal told []
+    → IsGivenBack folder (n + 1) old before new now
+one_more_back folder n old mid new before then now disk told was put kept handed tells has = record {
   later = omega (arith, was.later, kept.later);
-  places = one_more_places n old mid new told was.places put handed tells has;
+  places = one_more_places folder n old mid new told was.places put handed tells has;
 }
 
-pub handed_at : (n a : ℕ) (old : Option Places) → a < n → IfSome old (AreHandedOut n)
-    → IfSome old (λ places. IsSome (places (place_of a)))
-handed_at n a None low handed = tt
-handed_at n a (Some old) low handed = handed a low
+pub handed_at : (folder : Option (List ℕ)) (n a : ℕ) (old : Option Places) → a < n → IfSome old (AreHandedOut folder n)
+    → IfSome old (λ places. IsSome (places (place_of folder a)))
+handed_at folder n a None low handed = tt
+handed_at folder n a (Some old) low handed = handed a low
 
 -- why none began
 
-later_refused : (n : ℕ) (old mid : Option Places) (before then now : ℕ) (fault : RackFault)
-    → IsHandedBelow n old mid → before ≤ then → NamesActor n fault → IsRefused mid then now fault
-    → IsRefused old before now fault
-later_refused n None mid before then now (NotEmpty named) was later names why = tt
-later_refused n (Some old) None before then now (NotEmpty named) was later names why = absurd was
-later_refused n (Some old) (Some mid) before then now (NotEmpty named) was later names why = λ none.
+later_refused : (folder : Option (List ℕ)) (n : ℕ) (old mid : Option Places) (before then now : ℕ) (fault : RackFault)
+    → IsHandedBelow folder n old mid → before ≤ then → NamesActor n fault → IsRefused folder mid then now fault
+    → IsRefused folder old before now fault
+later_refused folder n None mid before then now (NotEmpty named) was later names why = tt
+later_refused folder n (Some old) None before then now (NotEmpty named) was later names why = absurd was
+later_refused folder n (Some old) (Some mid) before then now (NotEmpty named) was later names why = λ none.
     why (subst HoldsNoByte (sym (was.same named (omega (arith, names)))) none)
-later_refused n old mid before then now (Failed named) was later names why = omega (arith, why, later)
-later_refused n old mid before then now OutOfMemory was later names why = tt
+later_refused folder n old mid before then now (Failed named) was later names why = omega (arith, why, later)
+later_refused folder n old mid before then now OutOfMemory was later names why = tt
 
-back_refused : (old : Option Places) (before then now : ℕ) (fault : RackFault) → then ≤ now
-    → IsRefused old before then fault → IsRefused old before now fault
-back_refused old before then now (NotEmpty named) later why = why
-back_refused old before then now (Failed named) later why = omega (arith, why, later)
-back_refused old before then now OutOfMemory later why = tt
+back_refused : (folder : Option (List ℕ)) (old : Option Places) (before then now : ℕ) (fault : RackFault) → then ≤ now
+    → IsRefused folder old before then fault → IsRefused folder old before now fault
+back_refused folder old before then now (NotEmpty named) later why = why
+back_refused folder old before then now (Failed named) later why = omega (arith, why, later)
+back_refused folder old before then now OutOfMemory later why = tt
 
 -- disks were handed out for those below an actor, its process wasn't started, and they came back
 
-module _ (n : ℕ) (old mid last new : Places) (was : AreHandedBelow n old mid) (un : IsOtherwiseSame n mid last)
-    (back : AreBackBelow n last new) where
-  here_by : (last (place_of n) ≡ mid (place_of n)) ⊎ HoldsNoByte (mid (place_of n))
-      → (new (place_of n) ≡ old (place_of n)) ⊎ HoldsNoByte (old (place_of n))
+module _ (folder : Option (List ℕ)) (n : ℕ) (old mid last new : Places) (was : AreHandedBelow folder n old mid) (un : IsOtherwiseSame folder n mid last)
+    (back : AreBackBelow folder n last new) where
+  here_by : (last (place_of folder n) ≡ mid (place_of folder n)) ⊎ HoldsNoByte (mid (place_of folder n))
+      → (new (place_of folder n) ≡ old (place_of folder n)) ⊎ HoldsNoByte (old (place_of folder n))
   here_by (inl same) = inl (back.same n (omega arith) ∙ (same ∙ was.same n (omega arith)))
   here_by (inr none) = inr (subst HoldsNoByte (was.same n (omega arith)) none)
 
-  all_back_at : (fault : RackFault) → NamesActor n fault → AreGivenBack fault old new
+  all_back_at : (fault : RackFault) → NamesActor n fault → AreGivenBack folder fault old new
   all_back_at fault names = record {
     actor = n;
     named = names;
@@ -149,55 +149,55 @@ module _ (n : ℕ) (old mid last new : Places) (was : AreHandedBelow n old mid) 
         ∙ (un.others a (λ same. omega (arith, high, same)) ∙ was.same a (omega (arith, high)));
   }
 
-all_back : (n : ℕ) (old mid last new : Option Places) (fault : RackFault) → IsHandedBelow n old mid
-    → BothTell mid last (IsOtherwiseSame n) → BothTell last new (AreBackBelow n) → NamesActor n fault
-    → BothTell old new (AreGivenBack fault)
-all_back n None None None None fault was un back names = tt
-all_back n None None None (Some new) fault was un back names = absurd back
-all_back n None None (Some last) new fault was un back names = absurd un
-all_back n None (Some mid) last new fault was un back names = absurd was
-all_back n (Some old) None last new fault was un back names = absurd was
-all_back n (Some old) (Some mid) None new fault was un back names = absurd un
-all_back n (Some old) (Some mid) (Some last) None fault was un back names = absurd back
-all_back n (Some old) (Some mid) (Some last) (Some new) fault was un back names =
-    all_back_at n old mid last new was un back fault names
+all_back : (folder : Option (List ℕ)) (n : ℕ) (old mid last new : Option Places) (fault : RackFault) → IsHandedBelow folder n old mid
+    → BothTell mid last (IsOtherwiseSame folder n) → BothTell last new (AreBackBelow folder n) → NamesActor n fault
+    → BothTell old new (AreGivenBack folder fault)
+all_back folder n None None None None fault was un back names = tt
+all_back folder n None None None (Some new) fault was un back names = absurd back
+all_back folder n None None (Some last) new fault was un back names = absurd un
+all_back folder n None (Some mid) last new fault was un back names = absurd was
+all_back folder n (Some old) None last new fault was un back names = absurd was
+all_back folder n (Some old) (Some mid) None new fault was un back names = absurd un
+all_back folder n (Some old) (Some mid) (Some last) None fault was un back names = absurd back
+all_back folder n (Some old) (Some mid) (Some last) (Some new) fault was un back names =
+    all_back_at folder n old mid last new was un back fault names
 
-pub given_up : (n m : ℕ) (old mid last new : Option Places) (before then after now : ℕ) (fault : RackFault)
-    → AreStarted n old before mid then → IsUnstarted n mid then last after fault → m ≡ n
-    → IsGivenBack m last after new now → AreUnstarted old before new now fault
-given_up n m old mid last new before then after now fault was un count given =
-    let back : IsGivenBack n last after new now =
-    subst (λ (k : ℕ). IsGivenBack k last after new now) count given in
-    let all : BothTell old new (AreGivenBack fault) =
-    all_back n old mid last new fault was.places un.places back.places un.named in
+pub given_up : (folder : Option (List ℕ)) (n m : ℕ) (old mid last new : Option Places) (before then after now : ℕ) (fault : RackFault)
+    → AreStarted folder n old before mid then → IsUnstarted folder n mid then last after fault → m ≡ n
+    → IsGivenBack folder m last after new now → AreUnstarted folder old before new now fault
+given_up folder n m old mid last new before then after now fault was un count given =
+    let back : IsGivenBack folder n last after new now =
+    subst (λ (k : ℕ). IsGivenBack folder k last after new now) count given in
+    let all : BothTell old new (AreGivenBack folder fault) =
+    all_back folder n old mid last new fault was.places un.places back.places un.named in
     record {
       why =
-          back_refused old before after now fault back.later
-          (later_refused n old mid before then after fault was.places was.later un.named un.why);
+          back_refused folder old before after now fault back.later
+          (later_refused folder n old mid before then after fault was.places was.later un.named un.why);
       later = omega (arith, was.later, un.later, back.later);
-      tells = told_alike old new (AreGivenBack fault) all;
+      tells = told_alike old new (AreGivenBack folder fault) all;
       back = all;
     }
 
 -- what was handed out still is
 
-still_at : (n : ℕ) (mid last : Places) → IsOtherwiseSame n mid last → AreHandedOut n mid → AreHandedOut n last
-still_at n mid last un handed = λ a low.
+still_at : (folder : Option (List ℕ)) (n : ℕ) (mid last : Places) → IsOtherwiseSame folder n mid last → AreHandedOut folder n mid → AreHandedOut folder n last
+still_at folder n mid last un handed = λ a low.
     subst (λ (o : Option (List ℕ)). IsSome o) (sym (un.others a (λ same. omega (arith, low, same)))) (handed a low)
 
-pub handed_still : (n m : ℕ) (old mid last : Option Places) → m ≡ n → IsHandedBelow n old mid
-    → BothTell mid last (IsOtherwiseSame n) → IfSome last (AreHandedOut m)
-handed_still n m old mid None count was un = tt
-handed_still n m old None (Some last) count was un = absurd un
-handed_still n m None (Some mid) (Some last) count was un = absurd was
-handed_still n m (Some old) (Some mid) (Some last) count was un =
-    subst (λ (k : ℕ). AreHandedOut k last) (sym count) (still_at n mid last un was.handed)
+pub handed_still : (folder : Option (List ℕ)) (n m : ℕ) (old mid last : Option Places) → m ≡ n → IsHandedBelow folder n old mid
+    → BothTell mid last (IsOtherwiseSame folder n) → IfSome last (AreHandedOut folder m)
+handed_still folder n m old mid None count was un = tt
+handed_still folder n m old None (Some last) count was un = absurd un
+handed_still folder n m None (Some mid) (Some last) count was un = absurd was
+handed_still folder n m (Some old) (Some mid) (Some last) count was un =
+    subst (λ (k : ℕ). AreHandedOut folder k last) (sym count) (still_at folder n mid last un was.handed)
 
 -- nothing was handed out, since memory was wanting
 
-pub nothing_back : (old : Option Places) → BothTell old old (AreGivenBack OutOfMemory)
-nothing_back None = tt
-nothing_back (Some old) = record {
+pub nothing_back : (folder : Option (List ℕ)) (old : Option Places) → BothTell old old (AreGivenBack folder OutOfMemory)
+nothing_back folder None = tt
+nothing_back folder (Some old) = record {
   actor = 0;
   named = tt;
   empty = λ a low. absurd (omega (arith, low));
@@ -206,6 +206,6 @@ nothing_back (Some old) = record {
   same = λ a high. refl;
 }
 
-pub wanting_unstarted : (old : Option Places) (before : ℕ) → AreUnstarted old before old before OutOfMemory
-wanting_unstarted old before =
-    record { why = tt; later = omega arith; tells = refl; back = nothing_back old }
+pub wanting_unstarted : (folder : Option (List ℕ)) (old : Option Places) (before : ℕ) → AreUnstarted folder old before old before OutOfMemory
+wanting_unstarted folder old before =
+    record { why = tt; later = omega arith; tells = refl; back = nothing_back folder old }

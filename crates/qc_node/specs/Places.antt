@@ -1,4 +1,4 @@
--- What the places of a rack hold before a run and after it; why no run began, and what they hold then.
+-- What the places of a rack, in one folder or in none, hold before a run and after it; why no run began, and what they hold then.
 use Rattle.std.specs.Prelude.{◌≡◌, ◌⊎◌, ℕ, ◌<◌, List, [], Option, Some, None, IfSome}
 use Rattle.qc_decl.specs.Actors.{controller}
 use Rattle.qc_decl.specs.declared.declaration.Declaration.{Declaration}
@@ -11,16 +11,16 @@ use Rattle.qc_outside.specs.declared.rack.RackFault.TheVariants as racks
 pub use Rattle.qc_bounds.specs.Places.{HoldJournals, HoldsJournal, place_of}
 
 -- no actor's place holds a byte, where the rack tells
-abbrev pub AreEmpty : Declaration → Option Places → Type 0
-AreEmpty decl told = IfSome told (λ places. (a : ℕ) → a < controller decl → HoldsNoByte (places (place_of a)))
+abbrev pub AreEmpty : Option (List ℕ) → Declaration → Option Places → Type 0
+AreEmpty folder decl told = IfSome told (λ places. (a : ℕ) → a < controller decl → HoldsNoByte (places (place_of folder a)))
 
 -- Why no run began, by what the places held before and the counts of the rack's faults before and now: a place isn't
 -- empty only where it holds bytes, and the rack failed only where its count rose.
-abbrev pub IsRefused : Option Places → ℕ → ℕ → RackFault → Type 0
-IsRefused told before now (racks.NotEmpty actor) =
-    IfSome told (λ places. HoldsNoByte (places (place_of actor)) → ⊥)
-IsRefused told before now (racks.Failed actor) = Rose before now
-IsRefused told before now racks.OutOfMemory = Unit {0}
+abbrev pub IsRefused : Option (List ℕ) → Option Places → ℕ → ℕ → RackFault → Type 0
+IsRefused folder told before now (racks.NotEmpty actor) =
+    IfSome told (λ places. HoldsNoByte (places (place_of folder actor)) → ⊥)
+IsRefused folder told before now (racks.Failed actor) = Rose before now
+IsRefused folder told before now racks.OutOfMemory = Unit {0}
 
 -- neither rack tells its places, or both do, and this holds of them
 abbrev pub BothTell : Option Places → Option Places → (Places → Places → Type 0) → Type 0
@@ -37,10 +37,10 @@ HasBegun (Some bytes) = IsJournal [] bytes
 -- No run began, since one actor's process wasn't started: that of the actor whom the fault names, if it names one. Each
 -- place of an actor before that one held no byte, and its disk came back to it with its journal begun. The place of that
 -- actor is as it was, or held no byte; the places of the actors behind it are as they were.
-pub record AreGivenBack (fault : RackFault) (old new : Places) : Type 0 where
+pub record AreGivenBack (folder : Option (List ℕ)) (fault : RackFault) (old new : Places) : Type 0 where
   pub actor : ℕ
   pub named : NamesActor actor fault
-  pub empty : (a : ℕ) → a < actor → HoldsNoByte (old (place_of a))
-  pub begun : (a : ℕ) → a < actor → HasBegun (new (place_of a))
-  pub here : (new (place_of actor) ≡ old (place_of actor)) ⊎ HoldsNoByte (old (place_of actor))
-  pub same : (a : ℕ) → actor < a → new (place_of a) ≡ old (place_of a)
+  pub empty : (a : ℕ) → a < actor → HoldsNoByte (old (place_of folder a))
+  pub begun : (a : ℕ) → a < actor → HasBegun (new (place_of folder a))
+  pub here : (new (place_of folder actor) ≡ old (place_of folder actor)) ⊎ HoldsNoByte (old (place_of folder actor))
+  pub same : (a : ℕ) → actor < a → new (place_of folder a) ≡ old (place_of folder a)

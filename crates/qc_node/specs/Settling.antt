@@ -14,7 +14,7 @@ use Rattle.qc_bounds.specs.Visits.{visits_below}
 -- So many disks went back, of the actors that were visited, and so these passes have rooms: in their accounts no fault
 -- ever waited past its call, and the rack's count rose by their falls from what it was before. The rack tells where the
 -- disks of the run do; then records were kept but for misfits, and the places hold the journals.
-pub record IsSettling (tells : Bool) (decl : Declaration) (h : List Entry) (rooms : List ℕ) (count before now : ℕ)
+pub record IsSettling (folder : Option (List ℕ)) (tells : Bool) (decl : Declaration) (h : List Entry) (rooms : List ℕ) (count before now : ℕ)
     (places : Option Places) : Type 0 where
   pub visited : ℕ → Bool
   pub counted : visits_below (controller decl) visited ≡ count
@@ -24,4 +24,4 @@ pub record IsSettling (tells : Bool) (decl : Declaration) (h : List Entry) (room
   pub in_time : (a : ℕ) → visited a ≡ true → IsEverInTime a h
   pub kept : tells ≡ true → (a : ℕ) → visited a ≡ true → AreKeptOrMisfits decl a (own a h)
   pub told : is_some places ≡ tells
-  pub back : IfSome places (AreBackSoFar (controller decl) h visited)
+  pub back : IfSome places (AreBackSoFar folder (controller decl) h visited)

@@ -19,51 +19,51 @@ abbrev pub AreUp : List ProcessView → Type 0
 AreUp ps = (a : ℕ) (p : ProcessView) → slice_get ps a ≡ Some p → IsUp p.store
 
 -- disks were handed out for the actors below a number, at whose places there was no byte; those of the others stay
-pub record AreHandedBelow (n : ℕ) (old new : Places) : Type 0 where
-  pub empty : (a : ℕ) → a < n → HoldsNoByte (old (place_of a))
-  pub handed : AreHandedOut n new
-  pub same : (a : ℕ) → n ≤ a → new (place_of a) ≡ old (place_of a)
+pub record AreHandedBelow (folder : Option (List ℕ)) (n : ℕ) (old new : Places) : Type 0 where
+  pub empty : (a : ℕ) → a < n → HoldsNoByte (old (place_of folder a))
+  pub handed : AreHandedOut folder n new
+  pub same : (a : ℕ) → n ≤ a → new (place_of folder a) ≡ old (place_of folder a)
 
-abbrev pub IsHandedBelow : ℕ → Option Places → Option Places → Type 0
-IsHandedBelow n old new = BothTell old new (AreHandedBelow n)
+abbrev pub IsHandedBelow : Option (List ℕ) → ℕ → Option Places → Option Places → Type 0
+IsHandedBelow folder n old new = BothTell old new (AreHandedBelow folder n)
 
 -- A rack's places, and its count, before and after the processes of the actors below a number were started.
-pub record AreStarted (n : ℕ) (old : Option Places) (before : ℕ) (new : Option Places) (now : ℕ) : Type 0 where
-  pub places : IsHandedBelow n old new
+pub record AreStarted (folder : Option (List ℕ)) (n : ℕ) (old : Option Places) (before : ℕ) (new : Option Places) (now : ℕ) : Type 0 where
+  pub places : IsHandedBelow folder n old new
   pub later : before ≤ now
 
 -- of one actor
-pub record IsStarted (a : ℕ) (old : Option Places) (before : ℕ) (new : Option Places) (now : ℕ) : Type 0 where
-  pub handed : IsHandedOut {T = Unit {0}} old (place_of a) (Ok tt) new
+pub record IsStarted (folder : Option (List ℕ)) (a : ℕ) (old : Option Places) (before : ℕ) (new : Option Places) (now : ℕ) : Type 0 where
+  pub handed : IsHandedOut {T = Unit {0}} old (place_of folder a) (Ok tt) new
   pub later : before ≤ now
 
 -- one actor's place is as it was, or held no byte; those of the others stay
-pub record IsOtherwiseSame (a : ℕ) (old new : Places) : Type 0 where
-  pub here : (new (place_of a) ≡ old (place_of a)) ⊎ HoldsNoByte (old (place_of a))
-  pub others : (b : ℕ) → (b ≡ a → ⊥) → new (place_of b) ≡ old (place_of b)
+pub record IsOtherwiseSame (folder : Option (List ℕ)) (a : ℕ) (old new : Places) : Type 0 where
+  pub here : (new (place_of folder a) ≡ old (place_of folder a)) ⊎ HoldsNoByte (old (place_of folder a))
+  pub others : (b : ℕ) → (b ≡ a → ⊥) → new (place_of folder b) ≡ old (place_of folder b)
 
 -- A rack before and after the process of one actor wasn't started.
-pub record IsUnstarted (a : ℕ) (old : Option Places) (before : ℕ) (new : Option Places) (now : ℕ) (fault : RackFault)
+pub record IsUnstarted (folder : Option (List ℕ)) (a : ℕ) (old : Option Places) (before : ℕ) (new : Option Places) (now : ℕ) (fault : RackFault)
     : Type 0 where
-  pub why : IsRefused old before now fault
+  pub why : IsRefused folder old before now fault
   pub named : NamesActor a fault
   pub later : before ≤ now
-  pub places : BothTell old new (IsOtherwiseSame a)
+  pub places : BothTell old new (IsOtherwiseSame folder a)
 
 -- A rack before and after a start that was given up.
-pub record AreUnstarted (old : Option Places) (before : ℕ) (new : Option Places) (now : ℕ) (fault : RackFault) : Type 0
+pub record AreUnstarted (folder : Option (List ℕ)) (old : Option Places) (before : ℕ) (new : Option Places) (now : ℕ) (fault : RackFault) : Type 0
   where
-    pub why : IsRefused old before now fault
+    pub why : IsRefused folder old before now fault
     pub later : before ≤ now
     pub tells : is_some new ≡ is_some old
-    pub back : BothTell old new (AreGivenBack fault)
+    pub back : BothTell old new (AreGivenBack folder fault)
 
 -- the disks of the actors below a number came back, with their journals begun; the places of the others stay
-pub record AreBackBelow (n : ℕ) (old new : Places) : Type 0 where
-  pub begun : (a : ℕ) → a < n → HasBegun (new (place_of a))
-  pub same : (a : ℕ) → n ≤ a → new (place_of a) ≡ old (place_of a)
+pub record AreBackBelow (folder : Option (List ℕ)) (n : ℕ) (old new : Places) : Type 0 where
+  pub begun : (a : ℕ) → a < n → HasBegun (new (place_of folder a))
+  pub same : (a : ℕ) → n ≤ a → new (place_of folder a) ≡ old (place_of folder a)
 
 -- A rack to which the disks of the actors below a number came back.
-pub record IsGivenBack (n : ℕ) (old : Option Places) (before : ℕ) (new : Option Places) (now : ℕ) : Type 0 where
+pub record IsGivenBack (folder : Option (List ℕ)) (n : ℕ) (old : Option Places) (before : ℕ) (new : Option Places) (now : ℕ) : Type 0 where
   pub later : before ≤ now
-  pub places : BothTell old new (AreBackBelow n)
+  pub places : BothTell old new (AreBackBelow folder n)

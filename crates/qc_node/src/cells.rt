@@ -48,13 +48,14 @@ impl<D: Disk, N: Named> Cells<D, N> {
 
     /// What comes next is done, in phases up to the last one that is given: a control
     /// line acts, in the cell of its actor or by the controller, or the next phase
-    /// begins. Whether something is left.
-    pub(crate) fn advance<R: Wait>(
+    /// begins, of which the gate is told before. Whether something is left.
+    pub(crate) fn advance<G: Gate, R: Threads + Wait + Sync>(
         &self,
         rt: &R,
         alloc: Global,
         decl: &Declaration,
         fabric: &Fabric<Rules, N>,
+        gate: &G,
         last: u32,
     ) -> Result<bool, OutOfMemory>
         requires declaration { decl.now ≡ N.declaration }
@@ -74,7 +75,11 @@ impl<D: Disk, N: Named> Cells<D, N> {
                 let mut cell = self.cells[actor as usize].lock(rt);
                 cell.restart(rt, alloc, decl, fabric, last)
             }
-            Some(Control::Phase(_) | Control::Cut(_, _) | Control::Heal(_, _)) | None => {
+            Some(Control::Phase(number)) => {
+                gate.phase(rt, number, last);
+                self.controller.lock(rt).advance(rt, decl, fabric, last)
+            }
+            Some(Control::Cut(_, _) | Control::Heal(_, _)) | None => {
                 self.controller.lock(rt).advance(rt, decl, fabric, last)
             }
         }

@@ -1,6 +1,6 @@
 //! A whole run of a script.
 
-ghost use Rattle.std.specs.Prelude.{◌≡◌, ◌+◌, ◌-◌, ◌^◌, ◌<◌, ◌≤◌, ℕ, [], true, IfErr, IfOk, IfSome, IsSome, is_some};
+ghost use Rattle.std.specs.Prelude.{◌≡◌, ◌+◌, ◌-◌, ◌^◌, ◌<◌, ◌≤◌, ℕ, [], true, IfErr, IfOk, IfSome, IsSome, is_some, option_copied};
 ghost use Rattle.std.specs.Prelude.{vec_capacity, vec_len};
 ghost use Rattle.qc_decl.specs.Accepted.{IsAccepted};
 ghost use Rattle.qc_decl.specs.Actors.{actors, controller};
@@ -48,7 +48,7 @@ pub struct Ran {
 }
 
 /// Runs a script from its beginning to its end, to a limit, or to want of
-/// memory, over a disk of the rack for each actor. What happened is a run in each
+/// memory, over a disk of the rack for each actor, in the job's folder or in none. What happened is a run in each
 /// case. Before its last event each counted quantity was below its limit. Each
 /// disk goes back to its place. Where the rack tells, a run begins only where no
 /// actor's place holds a byte; records are kept then, and each place holds its
@@ -72,15 +72,15 @@ pub fn run_script<G: Gate + Sync, K: Rack, R: Threads + Wait + Sync>(
     ensures spent { IfOk result (λ ran. K.faults rack.new < 2 ^ 64 - 1
         → Spent ran.history (K.faults rack.new - K.faults rack.old)) }
     ensures kept { IfOk result (λ ran. IsSome (K.places rack.old) → Kept ran.history) }
-    ensures empty { IfOk result (λ ran. AreEmpty job.now.decl.now (K.places rack.old)) }
+    ensures empty { IfOk result (λ ran. AreEmpty (option_copied job.now.dir) job.now.decl.now (K.places rack.old)) }
     ensures places { IfOk result (λ ran. 1 ≤ phase_of ran.history
-        → HoldJournals job.now.decl.now ran.history (K.places rack.new)) }
+        → HoldJournals (option_copied job.now.dir) job.now.decl.now ran.history (K.places rack.new)) }
     ensures tells { IsSome (K.places rack.old) → IsSome (K.places rack.new) }
     ensures later { K.faults rack.old ≤ K.faults rack.new }
     ensures refused { IfErr result (λ fault.
-        IsRefused (K.places rack.old) (K.faults rack.old) (K.faults rack.new) fault) }
+        IsRefused (option_copied job.now.dir) (K.places rack.old) (K.faults rack.old) (K.faults rack.new) fault) }
     ensures given_back { IfErr result (λ fault.
-        BothTell (K.places rack.old) (K.places rack.new) (AreGivenBack fault)) }
+        BothTell (K.places rack.old) (K.places rack.new) (AreGivenBack (option_copied job.now.dir) fault)) }
 {
     let made = Passes::make(alloc, job.decl.sites + job.decl.clients + 2)?;
     run_named::<Brand, G, K, R>(rt, alloc, job, script, made, rack)
@@ -109,14 +109,15 @@ fn run_named<N: Named + Send + Sync, G: Gate + Sync, K: Rack, R: Threads + Wait 
     ensures spent { IfOk result (λ ran. K.faults rack.new < 2 ^ 64 - 1
         → Spent ran.history (K.faults rack.new - K.faults rack.old)) }
     ensures kept { IfOk result (λ ran. N.tells ≡ true → Kept ran.history) }
-    ensures empty { IfOk result (λ ran. AreEmpty N.declaration (K.places rack.old)) }
-    ensures places { IfOk result (λ ran. HoldJournals N.declaration ran.history (K.places rack.new)) }
+    ensures empty { IfOk result (λ ran. AreEmpty (option_copied job.now.dir) N.declaration (K.places rack.old)) }
+    ensures places { IfOk result (λ ran.
+        HoldJournals (option_copied job.now.dir) N.declaration ran.history (K.places rack.new)) }
     ensures tells { is_some (K.places rack.new) ≡ N.tells }
     ensures later { K.faults rack.old ≤ K.faults rack.new }
     ensures refused { IfErr result (λ fault.
-        IsRefused (K.places rack.old) (K.faults rack.old) (K.faults rack.new) fault) }
+        IsRefused (option_copied job.now.dir) (K.places rack.old) (K.faults rack.old) (K.faults rack.new) fault) }
     ensures given_back { IfErr result (λ fault.
-        BothTell (K.places rack.old) (K.places rack.new) (AreGivenBack fault)) }
+        BothTell (K.places rack.old) (K.places rack.new) (AreGivenBack (option_copied job.now.dir) fault)) }
 {
     let Made {
         passes,
@@ -125,7 +126,7 @@ fn run_named<N: Named + Send + Sync, G: Gate + Sync, K: Rack, R: Threads + Wait 
     } = made;
     let still: Still<Rules, N> = Still::make(alloc, job.decl, script, passes, right)?;
     let places = Vec::with_capacity(alloc, usize::from(job.decl.sites + job.decl.clients + 1))?;
-    let processes = start(alloc, job.decl, rack)?;
+    let processes = start(alloc, job.decl, job.dir, rack)?;
     let cells = cells_of(each, processes, places);
     Ok(run_cells(rt, alloc, job, still, cells, rack))
 }
@@ -142,20 +143,20 @@ fn run_cells<N: Named + Send + Sync, G: Gate + Sync, K: Rack, R: Threads + Wait 
     requires declaration { job.now.decl.now ≡ N.declaration }
     requires runnable { IsRunnable N.declaration N.script }
     requires tells { is_some (K.places rack.old) ≡ N.tells }
-    requires handed { IfSome (K.places rack.old) (AreHandedOut (controller N.declaration)) }
+    requires handed { IfSome (K.places rack.old) (AreHandedOut (option_copied job.now.dir) (controller N.declaration)) }
     ensures script { result.script ≡ N.script }
     ensures ended { HasEnded N.declaration N.script result.history result.end }
     // The count may have risen before.
     ensures spent { (before : ℕ) → before ≤ K.faults rack.old → K.faults rack.new < 2 ^ 64 - 1
         → Spent result.history (K.faults rack.new - before) }
     ensures kept { N.tells ≡ true → Kept result.history }
-    ensures places { HoldJournals N.declaration result.history (K.places rack.new) }
+    ensures places { HoldJournals (option_copied job.now.dir) N.declaration result.history (K.places rack.new) }
     ensures tells { is_some (K.places rack.new) ≡ N.tells }
     ensures later { K.faults rack.old ≤ K.faults rack.new }
 {
     let (still, end) = drive_script(rt, alloc, job, still, &cells);
     let mut roll = still.roll();
-    settle(cells, &mut roll, rack);
+    settle(job.dir, cells, &mut roll, rack);
     let (script, entries) = roll.end();
     Ran {
         script,

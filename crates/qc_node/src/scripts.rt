@@ -25,6 +25,8 @@ pub struct Job<'a, G: Gate> {
     pub gate: &'a G,
     /// How many workers there are.
     pub workers: u8,
+    /// The folder of the disks, where one is named.
+    pub dir: Option<&'a str>,
 }
 
 /// All that is left of a script that can be run, by so many workers in threads that

@@ -56,7 +56,7 @@ fn serve<D: Disk, N: Named, G: Gate, R: Threads + Wait + Sync>(
                     return DriveEnd::OutOfMemory;
                 }
             }
-            Picked::Quiet => match cells.advance(rt, alloc, decl, fabric, last) {
+            Picked::Quiet => match cells.advance(rt, alloc, decl, fabric, gate, last) {
                 Ok(true) => {}
                 Ok(false) => return DriveEnd::Quiet,
                 Err(_) => return DriveEnd::OutOfMemory,

@@ -5,7 +5,7 @@ use Rattle.qc_outside.specs.declared.rack.RackFault.TheVariants as racks
 use Rattle.qc_outside.specs.declared.shelf.ShelfFault.{ShelfFault}
 use Rattle.qc_outside.specs.declared.shelf.ShelfFault.TheVariants as faults
 use Rattle.qc_report.specs.declared.cause.Cause.{Cause}
-use Rattle.qc_report.specs.declared.cause.Cause.TheVariants.{Done, NotBuilt, Shelf, Declaration, Script}
+use Rattle.qc_report.specs.declared.cause.Cause.TheVariants.{Done, Usage, Shelf, Declaration, Script}
 use Rattle.qc_report.specs.declared.cause.Cause.TheVariants.{Rack, Sink, Full, OutOfMemory}
 use Rattle.qc_msg.specs.declared.step.What.{What}
 use Rattle.qc_msg.specs.declared.step.What.TheVariants.{Steps, Operations, Carried}
@@ -26,6 +26,7 @@ status_of_rack racks.OutOfMemory = 8
 
 abbrev pub status_of : Cause → ℕ
 status_of Done = 0
+status_of Usage = 1
 status_of (Declaration fault) = status_of_refused fault
 status_of (Script fault) = status_of_script fault
 status_of (Shelf script fault) = status_of_shelf fault
@@ -33,7 +34,6 @@ status_of Sink = 5
 status_of (Rack fault) = status_of_rack fault
 status_of (Full what number) = 7
 status_of OutOfMemory = 8
-status_of NotBuilt = 9
 
 -- which file it was
 abbrev pub file_text : Bool → List ℕ
@@ -62,7 +62,7 @@ what_text Carried = codes "lines "
 -- the whole text of a cause; no word where all was done
 abbrev pub cause_text_of : Cause → List ℕ
 cause_text_of Done = []
-cause_text_of NotBuilt = codes "quorum: not built\n"
+cause_text_of Usage = codes "quorum: usage\n"
 cause_text_of (Shelf script fault) = shelf_text script fault
 cause_text_of (Declaration fault) = refused_text fault
 cause_text_of (Script fault) = script_text fault

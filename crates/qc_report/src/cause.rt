@@ -20,8 +20,8 @@ use std::alloc::Global;
 pub enum Cause {
     /// All was done.
     Done,
-    /// What was asked has a form that isn't built.
-    NotBuilt,
+    /// The words have the form of no command.
+    Usage,
     /// A file wasn't taken: the script's, or else the declaration's.
     Shelf { script: bool, fault: ShelfFault },
     /// The declaration is refused.
@@ -39,14 +39,15 @@ pub enum Cause {
 }
 
 impl Cause {
-    /// The program's exit status: 0 where all was done, 2 for a declaration
-    /// that is refused, 3 for a script, 4 for a file, 5 for the output, 6 for a
-    /// disk, 7 for a limit, 8 for want of memory, 9 for what isn't built.
+    /// The program's exit status: 0 where all was done, 1 for words of no
+    /// command, 2 for a declaration that is refused, 3 for a script, 4 for a
+    /// file, 5 for the output, 6 for a disk, 7 for a limit, 8 for want of memory.
     pub fn status(&self) -> u8
         ensures { result ≡ status_of self.now }
     {
         match self {
             Cause::Done => 0,
+            Cause::Usage => 1,
             Cause::Declaration(fault) => refused_status(fault),
             Cause::Script(fault) => script_status(*fault),
             Cause::Shelf { fault, .. } => shelf_status(*fault),
@@ -54,7 +55,6 @@ impl Cause {
             Cause::Rack(fault) => rack_status(*fault),
             Cause::Full { .. } => 7,
             Cause::OutOfMemory => 8,
-            Cause::NotBuilt => 9,
         }
     }
 }
@@ -87,7 +87,7 @@ pub fn cause_text(alloc: Global, cause: &Cause) -> Result<Vec<u8>, OutOfMemory>
     let mut page = Page::new(alloc);
     match cause {
         Cause::Done => {}
-        Cause::NotBuilt => page.put("quorum: not built\n")?,
+        Cause::Usage => page.put("quorum: usage\n")?,
         Cause::Shelf { script, fault } => shelf_text(&mut page, *script, *fault)?,
         Cause::Declaration(fault) => put_refused(&mut page, fault)?,
         Cause::Script(fault) => put_script(&mut page, *fault)?,

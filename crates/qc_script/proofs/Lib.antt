@@ -1,6 +1,5 @@
 pub mod FirstRefused
 pub mod Lasts
-pub mod Numbers
 pub mod Reading
 pub mod SoundItems
 pub mod SoundScripts

@@ -4,8 +4,10 @@ use Rattle.std.specs.Prelude.{decimal, option_and_then}
 use Rattle.qc_link.specs.declared.rule.Rule.{Rule}
 use Rattle.qc_outside.specs.declared.disk.ArmKind.{ArmKind}
 use Rattle.qc_outside.specs.declared.disk.ArmKind.TheVariants.{Stop, Fail}
-use Rattle.qc_script.proofs.WrittenWords.{actor_read, apart, client_read, end_read, name_read, number_read, ordinal_read, rule_read}
-use Rattle.qc_script.specs.Forms.{actor_of, client_of, end_of, name_of, number_of, ordinal_of, rule_of}
+use Rattle.qc_script.proofs.WrittenWords.{actor_read, apart, client_read, end_read, name_read, ordinal_read, rule_read}
+use Rattle.qc_number.proofs.Numbers.{number_read}
+use Rattle.qc_script.specs.Forms.{actor_of, client_of, end_of, name_of, ordinal_of, rule_of}
+use Rattle.qc_number.specs.Numbers.{number_of}
 use Rattle.qc_script.specs.Lines.{command_line, line_of, link_of, other_line, pair_of, verb_of}
 use Rattle.qc_script.specs.Options.{◌>>=◌}
 use Rattle.qc_script.specs.Written.{HasFewDigits, IsWritable, IsWritableActor, IsWritableEnd, IsWritableOrdinal, IsWritableVerb, actor_word, end_word, ordinal_word, rule_word, verb_words, words_in}

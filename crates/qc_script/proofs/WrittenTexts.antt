@@ -11,7 +11,7 @@ use Rattle.qc_link.specs.declared.rule.Rule.{Rule}
 use Rattle.qc_link.specs.declared.rule.Rule.TheVariants as rule
 use Rattle.qc_outside.specs.declared.disk.ArmKind.{ArmKind}
 use Rattle.qc_outside.specs.declared.disk.ArmKind.TheVariants.{Stop, Fail}
-use Rattle.qc_script.proofs.Numbers.{digits}
+use Rattle.qc_number.proofs.Numbers.{digits}
 use Rattle.qc_script.specs.Text.{is_skipped, lines_of, without_cr, words_of}
 use Rattle.qc_script.specs.Written.{HasFewDigits, IsWritable, IsWritableActor, IsWritableEnd, IsWritableOrdinal, IsWritableVerb, actor_word, arm_word, end_word, is_plain, ordinal_word, rule_word, text_of_line, verb_words, words_in}
 use Rattle.qc_script.specs.declared.actor.ActorName.{ActorName}

@@ -8,26 +8,14 @@ use Rattle.std.specs.Str.Parse.{digits_value}
 use Rattle.std.proofs.lemmas.Bool.{le-leb, eqb-true, and_from}
 use Rattle.std.proofs.lemmas.Fmt.{decimal_digit, decimal_is_IsNumeral, decimal_nonempty, first_decimal, length-decimal-le}
 use Rattle.std.proofs.lemmas.Slice.Eq.{bytes_eq-Decides}
-use Rattle.qc_decl.specs.Limits.{most_digits}
-use Rattle.qc_decl.specs.Names.{is_between}
 use Rattle.qc_link.specs.declared.rule.Rule.{Rule}
 use Rattle.qc_link.specs.declared.rule.Rule.TheVariants as rule
-use Rattle.qc_script.proofs.Numbers.{digits}
-use Rattle.qc_script.specs.Forms.{actor_of, client_in, client_of, end_of, has_leading_zero, index_of, name_of, number_of, ordinal_of, rule_of}
+use Rattle.qc_number.proofs.Numbers.{number_read}
+use Rattle.qc_number.specs.Numbers.{number_of}
+use Rattle.qc_script.specs.Forms.{actor_of, client_in, client_of, end_of, has_leading_zero, index_of, name_of, ordinal_of, rule_of}
 use Rattle.qc_script.specs.Written.{HasFewDigits, IsWritableActor, IsWritableEnd, IsWritableName, IsWritableOrdinal, actor_word, end_word, ordinal_word, rule_word}
 use Rattle.qc_script.specs.declared.actor.ActorName.{ActorName}
 use Rattle.qc_script.specs.declared.actor.ActorName.TheVariants.{Site, Client, Administrator}
-
--- a number
-pub number_read : (n : ℕ) → HasFewDigits n → number_of (decimal n) ≡ Some n
-number_read n few =
-    let small : n < 2 ^ 64 = omega arith in
-    let some : 0 < length (decimal n) = decimal_nonempty n small in
-    let short : length (decimal n) ≤ 5 = length-decimal-le 5 n (omega arith) (omega arith) small in
-    let numeral = decimal_is_IsNumeral n small in
-    let all : list_all is_ascii_digit (decimal n) ≡ true = digits.from (decimal n) numeral.0.1 in
-    let long : is_between 1 most_digits (length (decimal n)) ≡ true = and_from _ _ (le-leb 1 _ some) (le-leb _ 5 short) in
-    ap (λ t. cond t (Some (digits_value 10 (decimal n))) None) (and_from _ _ long all) ∙ ap Some numeral.1
 
 -- a leading zero is the first digit, before others
 zero_first : (ds : List ℕ) → has_leading_zero ds ≡ true → get_or ds 0 0 ≡ 48

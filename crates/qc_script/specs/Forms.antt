@@ -1,21 +1,12 @@
 -- What a word may be in the place where it stands: a number, an actor, a link's end, an ordinal, a rule, a name.
 use Rattle.std.specs.Prelude.{ℕ, Bool, false, ◌==◌, ◌&&◌, if◌then◌else◌, List, [], ◌∷◌, codes, length}
 use Rattle.std.specs.Prelude.{Option, Some, None, option_map, option_and_then}
-use Rattle.std.specs.Char.{is_ascii_digit}
-use Rattle.std.specs.List.{list_all}
 use Rattle.std.specs.Str.{bytes_eq}
-use Rattle.std.specs.Str.Parse.{digits_value}
-use Rattle.qc_decl.specs.Limits.{most_digits}
-use Rattle.qc_decl.specs.Names.{is_between}
 use Rattle.qc_link.specs.declared.rule.Rule.{Rule}
 use Rattle.qc_link.specs.declared.rule.Rule.TheVariants.{Drop, Twice, Late, Again}
+use Rattle.qc_number.specs.Numbers.{number_of}
 use Rattle.qc_script.specs.declared.actor.ActorName.{ActorName}
 use Rattle.qc_script.specs.declared.actor.ActorName.TheVariants.{Site, Client, Administrator}
-
--- NUMBER: one to five ASCII digits
-abbrev pub number_of : List ℕ → Option ℕ
-number_of word =
-    if is_between 1 most_digits (length word) && list_all is_ascii_digit word then Some (digits_value 10 word) else None
 
 -- whether a zero (48) stands before other digits
 abbrev pub has_leading_zero : List ℕ → Bool

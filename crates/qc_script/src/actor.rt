@@ -1,9 +1,9 @@
 //! Actors, as words name them.
 
 ghost use Rattle.std.specs.Prelude.{◌≡◌};
-ghost use Rattle.qc_script.specs.Forms.{actor_of, numbered_of, client_of};
+ghost use Rattle.qc_script.specs.Forms.{actor_of, client_of, has_leading_zero, index_of, numbered_of};
 
-use crate::number::index;
+use qc_number::number;
 
 /// An actor, as a word names it. There may be none of that number.
 #[derive(Clone, Copy)]
@@ -38,6 +38,27 @@ fn numbered(word: &[u8]) -> Option<ActorName>
         b's' => Some(ActorName::Site(index(digits)?)),
         b'c' => Some(ActorName::Client(index(digits)?)),
         _ => None,
+    }
+}
+
+/// A number without a leading zero, as stands in an actor's name.
+fn index(digits: &[u8]) -> Option<u32>
+    ensures { result ≡ index_of digits.now }
+{
+    if has_leading_zero(digits) {
+        None
+    } else {
+        number(digits)
+    }
+}
+
+/// Whether a zero stands before other digits.
+fn has_leading_zero(digits: &[u8]) -> bool
+    ensures { result ≡ has_leading_zero digits.now }
+{
+    match digits {
+        [] | [_] => false,
+        [first, ..] => *first == b'0',
     }
 }
 

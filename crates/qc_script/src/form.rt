@@ -5,9 +5,9 @@ ghost use Rattle.std.specs.Prelude.{◌≡◌};
 ghost use Rattle.qc_script.specs.Forms.{end_of, ordinal_of, rule_of, name_of};
 
 use crate::actor::ActorName;
-use crate::number::number;
 use crate::word::Word;
 use qc_link::Rule;
+use qc_number::number;
 
 /// A link's end: an actor, or none for `*`, which stands for all.
 pub(crate) fn end(word: &[u8]) -> Option<Option<ActorName>>

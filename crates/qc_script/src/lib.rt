@@ -33,7 +33,6 @@ mod form;
 mod item;
 mod laws;
 mod line;
-mod number;
 mod range;
 mod reader;
 mod runs;

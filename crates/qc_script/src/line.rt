@@ -8,9 +8,9 @@ ghost use Rattle.qc_script.specs.Lines.{alone_of, do_of, verb_of, command_line};
 
 use crate::actor::{self, ActorName};
 use crate::form;
-use crate::number::number;
 use crate::word::{Word, Words};
 use qc_link::Rule;
+use qc_number::number;
 use qc_outside::ArmKind;
 
 /// What a line's words say: its actors, numbers and names as they are written,

@@ -1,7 +1,7 @@
 -- A shelf that failed is blamed on the file that it failed at.
-use Rattle.std.proofs.Common.{◌≡◌, ℕ, Bool, true, false, List, Option, Some, None, Result, Ok, Err, refl, ap, sym, subst, ◌∙◌, ◌⊎◌, inl, inr}
+use Rattle.std.proofs.Common.{◌≡◌, ℕ, Bool, true, false, List, Option, None, Some, Result, Ok, Err, refl, ap, sym, subst, ◌∙◌, ◌⊎◌, inl, inr}
 use Rattle.std.specs.Option.{option_map_or}
-use Rattle.std.specs.Prelude.{if◌then◌else◌, IsOk, IsSome}
+use Rattle.std.specs.Prelude.{if◌then◌else◌, IsOk}
 use Rattle.qc_accept.specs.Accept.{accepted}
 use Rattle.qc_accept.specs.declared.fault.DeclFault.{DeclFault}
 use Rattle.qc_decl.specs.One.{built_in_of}
@@ -15,11 +15,12 @@ use Rattle.qc_script.specs.Grammar.{Refusal, script_of}
 use Rattle.qc_script.specs.declared.script.Script.{Script}
 use Rattle.qc_top.proofs.Ends.{the_err}
 use Rattle.qc_top.specs.Answers.{IsCounted, is_built_in}
-use Rattle.qc_top.specs.Words.{AskedOf}
-use Rattle.qc_top.specs.Work.{Caused, ◌>>=◌, Gives, IsBlamed, bytes_of, run_of, spelled_in, unless_a_line_is, unless_refused, work_of, work_on}
+use Rattle.qc_words.specs.Words.{AskedOf, Check, Run, Load}
+use Rattle.qc_top.specs.Work.{Caused, ◌>>=◌, Gives, IsBlamed, accept_work, bytes_of, load_work, run_of, script_work, spelled_in, unless_a_line_is, unless_refused, work_of}
 use Rattle.qc_top.specs.declared.answers.Answers.{Answers}
 use Rattle.qc_top.specs.declared.work.Work.{Work}
-use Rattle.qc_top.specs.declared.work.Work.TheVariants.{Accept, Run}
+use Rattle.qc_top.specs.declared.work.Work.TheVariants as works
+use Rattle.qc_top.specs.declared.work.Output.TheVariants as outputs
 
 -- the blame for a failure
 abbrev failed : Bool → Cause
@@ -77,51 +78,72 @@ never_read (Ok script) blamed is = cc
 never_read (Err refusal) blamed is = cc
 
 never_run : (decl : Declaration) (bytes : List ℕ) (blamed : Bool) → run_of decl bytes ≡ Err (failed blamed) → ⊥
-never_run decl bytes blamed is = by (came_of (unless_a_line_is (script_of decl bytes)) (λ script. Ok (Run decl script)) (failed blamed) is)
+never_run decl bytes blamed is = by (came_of (unless_a_line_is (script_of decl bytes)) (λ script. Ok (works.Run decl script outputs.Text)) (failed blamed) is)
   where
-    by : (unless_a_line_is (script_of decl bytes) ≡ Err (failed blamed)) ⊎ ((script : Script) × (unless_a_line_is (script_of decl bytes) ≡ Ok script) × ((let given : Caused Work = Ok (Run decl script) in given) ≡ Err (failed blamed))) → ⊥
+    by : (unless_a_line_is (script_of decl bytes) ≡ Err (failed blamed)) ⊎ ((script : Script) × (unless_a_line_is (script_of decl bytes) ≡ Ok script) × ((let given : Caused Work = Ok (works.Run decl script outputs.Text) in given) ≡ Err (failed blamed))) → ⊥
     by (inl none) = never_read (script_of decl bytes) blamed none
     by (inr (script, there, none)) = cc
 
--- something stands under the declaration's name
-record IsScriptFailed (blamed : Bool) (script : Option (List ℕ)) (answer : Answer) : Type 0 where
-  pub file : true ≡ blamed
-  pub asked : IsSome script
-  pub answer_is : answer ≡ Err faults.Failed
-
-script_failed : (script : Option (List ℕ)) (answer : Answer) (spelled : Result Declaration DeclFault) (blamed : Bool) → work_on script answer spelled ≡ Err (failed blamed) → IsScriptFailed blamed script answer
-script_failed None answer spelled blamed is = absurd (by (came_of (unless_refused spelled) (λ decl. Ok (Accept decl)) (failed blamed) is))
+never_accepted : (spelled : Result Declaration DeclFault) (blamed : Bool) → accept_work spelled ≡ Err (failed blamed) → ⊥
+never_accepted spelled blamed is = by (came_of (unless_refused spelled) (λ decl. Ok (works.Accept decl)) (failed blamed) is)
   where
-    by : (unless_refused spelled ≡ Err (failed blamed)) ⊎ ((decl : Declaration) × (unless_refused spelled ≡ Ok decl) × ((let given : Caused Work = Ok (Accept decl) in given) ≡ Err (failed blamed))) → ⊥
+    by : (unless_refused spelled ≡ Err (failed blamed)) ⊎ ((decl : Declaration) × (unless_refused spelled ≡ Ok decl) × ((let given : Caused Work = Ok (works.Accept decl) in given) ≡ Err (failed blamed))) → ⊥
     by (inl none) = never_refused spelled blamed none
     by (inr (decl, there, none)) = cc
-script_failed (Some name) answer spelled blamed is = by (came_of (bytes_of true answer) (λ bytes. unless_refused spelled >>= (λ decl. run_of decl bytes)) (failed blamed) is)
+
+-- something stands under the declaration's name
+script_failed : (answer : Answer) (spelled : Result Declaration DeclFault) (blamed : Bool) → script_work answer spelled ≡ Err (failed blamed) → IsFailed true blamed answer
+script_failed answer spelled blamed is = by (came_of (bytes_of true answer) (λ bytes. unless_refused spelled >>= (λ decl. run_of decl bytes)) (failed blamed) is)
   where
     later : (bytes : List ℕ) → (unless_refused spelled ≡ Err (failed blamed)) ⊎ ((decl : Declaration) × (unless_refused spelled ≡ Ok decl) × (run_of decl bytes ≡ Err (failed blamed))) → ⊥
     later bytes (inl none) = never_refused spelled blamed none
     later bytes (inr (decl, there, none)) = never_run decl bytes blamed none
 
     by : (bytes_of true answer ≡ Err (failed blamed)) ⊎ ((bytes : List ℕ) × (bytes_of true answer ≡ Ok bytes) × ((unless_refused spelled >>= (λ decl. run_of decl bytes)) ≡ Err (failed blamed)))
-        → IsScriptFailed blamed (Some name) answer
-    by (inl none) = let f : IsFailed true blamed answer = answer_failed true blamed answer none in record { file = f.file; asked = refl; answer_is = f.answer_is }
+        → IsFailed true blamed answer
+    by (inl none) = answer_failed true blamed answer none
     by (inr (bytes, there, none)) = absurd (later bytes (came_of (unless_refused spelled) (λ decl. run_of decl bytes) (failed blamed) none))
 
 -- the right file is blamed
-blamed_for : (asked : AskedOf) (answers : Answers) (script : Bool) → work_of asked answers ≡ Err (failed script) → IsBlamed asked answers script
-blamed_for asked answers script is = by (came_of (spelled_in asked.decl answers.decl) (work_on asked.script answers.script) (failed script) is)
+
+check_blamed : (decl : List ℕ) (answers : Answers) (script : Bool) → work_of (Check decl) answers ≡ Err (failed script) → IsBlamed (Check decl) answers script
+check_blamed decl answers script is = by (came_of (spelled_in decl answers.decl) accept_work (failed script) is)
   where
-    by : (spelled_in asked.decl answers.decl ≡ Err (failed script)) ⊎ ((s : Result Declaration DeclFault) × (spelled_in asked.decl answers.decl ≡ Ok s) × (work_on asked.script answers.script s ≡ Err (failed script))) → IsBlamed asked answers script
-    by (inl none) = let f : IsDeclFailed script asked.decl answers.decl = decl_failed asked.decl answers.decl script none in subst (λ (b : Bool). IsBlamed asked answers b) f.file (f.named, f.answer_is)
+    by : (spelled_in decl answers.decl ≡ Err (failed script)) ⊎ ((s : Result Declaration DeclFault) × (spelled_in decl answers.decl ≡ Ok s) × (accept_work s ≡ Err (failed script))) → IsBlamed (Check decl) answers script
+    by (inl none) = let f : IsDeclFailed script decl answers.decl = decl_failed decl answers.decl script none in subst (λ (b : Bool). IsBlamed (Check decl) answers b) f.file (f.named, f.answer_is)
+    by (inr (s, there, none)) = absurd (never_accepted s script none)
+
+run_blamed : (decl name : List ℕ) (workers : ℕ) (dir : Option (List ℕ)) (answers : Answers) (script : Bool) → work_of (Run decl name workers dir) answers ≡ Err (failed script) → IsBlamed (Run decl name workers dir) answers script
+run_blamed decl name workers dir answers script is = by (came_of (spelled_in decl answers.decl) (script_work answers.script) (failed script) is)
+  where
+    by : (spelled_in decl answers.decl ≡ Err (failed script)) ⊎ ((s : Result Declaration DeclFault) × (spelled_in decl answers.decl ≡ Ok s) × (script_work answers.script s ≡ Err (failed script))) → IsBlamed (Run decl name workers dir) answers script
+    by (inl none) = let f : IsDeclFailed script decl answers.decl = decl_failed decl answers.decl script none in subst (λ (b : Bool). IsBlamed (Run decl name workers dir) answers b) f.file (f.named, f.answer_is)
     by (inr (s, there, none)) =
-        let f : IsScriptFailed script asked.script answers.script = script_failed asked.script answers.script s script none in
-        let stands : IsOk (spelled_in asked.decl answers.decl) = subst (λ (r : Caused (Result Declaration DeclFault)). IsOk r) (sym there) refl in
-        subst (λ (b : Bool). IsBlamed asked answers b) f.file (f.asked, stands, f.answer_is)
+        let f : IsFailed true script answers.script = script_failed answers.script s script none in
+        let stands : IsOk (spelled_in decl answers.decl) = subst (λ (r : Caused (Result Declaration DeclFault)). IsOk r) (sym there) refl in
+        subst (λ (b : Bool). IsBlamed (Run decl name workers dir) answers b) f.file (stands, f.answer_is)
+
+blamed_for : (asked : AskedOf) (answers : Answers) (script : Bool) → work_of asked answers ≡ Err (failed script) → IsBlamed asked answers script
+blamed_for (Check decl) answers script is = check_blamed decl answers script is
+blamed_for (Run decl name workers dir) answers script is = run_blamed decl name workers dir answers script is
+blamed_for (Load count seed workers) answers script is = absurd (let never : ⊥ = cc in never)
 
 pub blames : (asked : AskedOf) (answers : Answers) (cause : Cause) → Gives (work_of asked answers) (the_err cause) → (script : Bool) → cause ≡ causes.Shelf script faults.Failed → IsBlamed asked answers script
 blames asked answers cause (inl is) script same = blamed_for asked answers script (is ∙ ap (λ (c : Cause). let r : Caused Work = Err c in r) same)
 blames asked answers cause (inr wanting) script same = absurd (let never : ⊥ = cc in never)
 
 -- where the shelf is blamed, its count of faults rose
+
+decl_rose : (asked : AskedOf) (answers : Answers) → IsBlamed asked answers false → answers.decl ≡ Err faults.Failed
+decl_rose (Check decl) answers blamed = blamed.1
+decl_rose (Run decl name workers dir) answers blamed = blamed.1
+decl_rose (Load count seed workers) answers blamed = absurd blamed
+
+script_rose : (asked : AskedOf) (answers : Answers) → IsBlamed asked answers true → answers.script ≡ Err faults.Failed
+script_rose (Check decl) answers blamed = absurd blamed
+script_rose (Run decl name workers dir) answers blamed = blamed.1
+script_rose (Load count seed workers) answers blamed = absurd blamed
+
 pub blame_rose : (asked : AskedOf) (answers : Answers) (script : Bool) (before now : ℕ) → IsBlamed asked answers script → IsCounted before now answers → Rose before now
-blame_rose asked answers false before now blamed counted = counted.decl blamed.1
-blame_rose asked answers true before now blamed counted = counted.script blamed.2
+blame_rose asked answers false before now blamed counted = counted.decl (decl_rose asked answers blamed)
+blame_rose asked answers true before now blamed counted = counted.script (script_rose asked answers blamed)

@@ -1,6 +1,6 @@
 -- How a call ends: with a run of its script and its text, with a word on its declaration, or with a cause that is due.
-use Rattle.std.proofs.Common.{◌≡◌, ℕ, false, List, [], Option, Some, None, Result, Ok, Err, inl, inr, refl, sym, subst, arith}
-use Rattle.std.specs.Prelude.{MatchOption, replicate}
+use Rattle.std.proofs.Common.{◌≡◌, ◌⊎◌, ◌∙◌, ℕ, false, List, [], Option, Some, None, Result, Ok, Err, inl, inr, refl, sym, subst, arith}
+use Rattle.std.specs.Prelude.{replicate}
 use Rattle.qc_core.specs.Conduct.{IsLawfulWithFalls}
 use Rattle.qc_due.specs.Whole.{IsWholeWithFalls}
 use Rattle.qc_decl.specs.Actors.{actors}
@@ -13,7 +13,7 @@ use Rattle.qc_outside.specs.declared.rack.RackFault.{RackFault}
 use Rattle.qc_outside.specs.declared.rack.RackFault.TheVariants as racks
 use Rattle.qc_report.specs.declared.cause.Cause.{Cause}
 use Rattle.qc_report.specs.declared.cause.Cause.TheVariants as causes
-use Rattle.qc_text.specs.Text.{text_of}
+use Rattle.qc_outside.specs.declared.shelf.ShelfFault.TheVariants as faults
 use Rattle.qc_promise.specs.Kept.{Kept}
 use Rattle.qc_script.specs.RunsWithFalls.{RunWithFalls, begins}
 use Rattle.qc_script.specs.declared.script.Script.{Script}
@@ -21,8 +21,13 @@ use Rattle.qc_top.proofs.Right.{work_is}
 use Rattle.qc_fabric.specs.Limits.{IsBelow}
 use Rattle.qc_top.proofs.Runs.{run_atomic, run_due, run_known}
 use Rattle.qc_top.specs.Racks.{cause_of_rack}
-use Rattle.qc_top.specs.Top.{AreStatesKnown, IsFullCause, IsNoRack, IsRan, IsRight, IsRunnable, IsTold, Leaves, LeavesAsked, LeavesNothing, LeavesRun, LeavesWords, OnPrinted, PrintsBetween}
-use Rattle.qc_top.specs.Words.{AskedOf, asked}
+use Rattle.qc_top.specs.Top.{AreStatesKnown, IsFullCause, IsNoRack, IsNoShelf, IsRan, IsRight, IsRunnable, IsTold, Leaves, LeavesRun, OnPrinted, PrintsBetween, cause_of_words, output_of}
+use Rattle.qc_words.specs.Asked.{IsTold as IsToldOf}
+use Rattle.qc_words.specs.Askable.{IsAskable}
+use Rattle.qc_words.specs.Words.{AskedOf, asked}
+use Rattle.qc_words.specs.declared.fault.WordsFault.{WordsFault}
+use Rattle.qc_words.specs.declared.fault.WordsFault.TheVariants as words_faults
+use Rattle.qc_top.specs.declared.work.Output.{Output}
 use Rattle.qc_top.specs.Work.{Caused, Gives, IsRefusal, work_of}
 use Rattle.qc_top.specs.declared.answers.Answers.{Answers}
 use Rattle.qc_top.specs.declared.work.Work.{Work}
@@ -40,7 +45,7 @@ on_printed : (cause : Cause) (P : Type 0) → P → OnPrinted cause P
 on_printed causes.Done P here = here
 on_printed causes.Sink P here = here
 on_printed causes.OutOfMemory P here = tt
-on_printed causes.NotBuilt P here = tt
+on_printed causes.Usage P here = tt
 on_printed (causes.Shelf script fault) P here = tt
 on_printed (causes.Declaration fault) P here = tt
 on_printed (causes.Script fault) P here = tt
@@ -48,9 +53,9 @@ on_printed (causes.Rack fault) P here = tt
 on_printed (causes.Full what number) P here = tt
 
 -- what a run leaves
-pub leaves_run : (decl : Declaration) (script : Script) (h : List Entry) (old : Option (List ℕ)) (cause : Cause) (new : Option (List ℕ)) → IsRunnable decl script
-    → RunWithFalls (IsLawfulWithFalls decl) (fits_of decl) decl script h → IsRan cause → OnPrinted cause (IsWholeWithFalls (fits_of decl) decl script h) → PrintsBetween (text_of decl script h) old cause new → LeavesRun decl script old cause new h
-leaves_run decl script h old cause new ready run ran whole text = record {
+pub leaves_run : (decl : Declaration) (script : Script) (output : Output) (h : List Entry) (old : Option (List ℕ)) (cause : Cause) (new : Option (List ℕ)) → IsRunnable decl script
+    → RunWithFalls (IsLawfulWithFalls decl) (fits_of decl) decl script h → IsRan cause → OnPrinted cause (IsWholeWithFalls (fits_of decl) decl script h) → PrintsBetween (output_of output decl script h) old cause new → LeavesRun decl script output old cause new h
+leaves_run decl script output h old cause new ready run ran whole text = record {
   accepted = ready.accepted;
   due = ran;
   run = run;
@@ -74,8 +79,8 @@ leaves_want (Ok (works.Accept decl)) taken right = record {
   history = refl;
   text = want_between _ taken;
 }
-leaves_want (Ok (works.Run decl script)) taken right =
-    leaves_run decl script [] taken causes.OutOfMemory taken (right (works.Run decl script) refl) (empty_run decl script) tt tt (want_between (text_of decl script []) taken)
+leaves_want (Ok (works.Run decl script output)) taken right =
+    leaves_run decl script output [] taken causes.OutOfMemory taken (right (works.Run decl script output) refl) (empty_run decl script) tt tt (want_between (output_of output decl script []) taken)
 
 -- the run that didn't begin, since the rack gave no disk, or for want of memory
 
@@ -96,13 +101,13 @@ unbegun_between (racks.Failed actor) text None = tt
 unbegun_between (racks.Failed actor) text (Some old) = refl
 unbegun_between racks.OutOfMemory text taken = want_between text taken
 
-pub leaves_unbegun : (decl : Declaration) (script : Script) (taken : Option (List ℕ)) (fault : RackFault) (cause : Cause) (h : List Entry) → IsRunnable decl script → h ≡ [] → cause ≡ cause_of_rack fault
-    → LeavesRun decl script taken cause taken h
-leaves_unbegun decl script taken fault cause h ready none is =
-    subst (λ (c : Cause). LeavesRun decl script taken c taken h) (sym is)
-    (subst (λ (k : List Entry). LeavesRun decl script taken (cause_of_rack fault) taken k) (sym none)
-    (leaves_run decl script [] taken (cause_of_rack fault) taken ready (empty_run decl script) (unbegun_ran fault) (unbegun_printed fault (IsWholeWithFalls (fits_of decl) decl script []))
-    (unbegun_between fault (text_of decl script []) taken)))
+pub leaves_unbegun : (decl : Declaration) (script : Script) (output : Output) (taken : Option (List ℕ)) (fault : RackFault) (cause : Cause) (h : List Entry) → IsRunnable decl script → h ≡ [] → cause ≡ cause_of_rack fault
+    → LeavesRun decl script output taken cause taken h
+leaves_unbegun decl script output taken fault cause h ready none is =
+    subst (λ (c : Cause). LeavesRun decl script output taken c taken h) (sym is)
+    (subst (λ (k : List Entry). LeavesRun decl script output taken (cause_of_rack fault) taken k) (sym none)
+    (leaves_run decl script output [] taken (cause_of_rack fault) taken ready (empty_run decl script) (unbegun_ran fault) (unbegun_printed fault (IsWholeWithFalls (fits_of decl) decl script []))
+    (unbegun_between fault (output_of output decl script []) taken)))
 
 -- nothing was to be done, for this cause
 pub leaves_refused : (asked : AskedOf) (answers : Answers) (taken : Option (List ℕ)) (cause : Cause) → Gives (work_of asked answers) (the_err cause) → Leaves (work_of asked answers) taken cause taken []
@@ -110,12 +115,39 @@ leaves_refused asked answers taken cause (inl is) = subst (λ (w : Caused Work).
 leaves_refused asked answers taken cause (inr wanting) =
     subst (λ (c : Cause). Leaves (work_of asked answers) taken c taken []) (sym wanting) (leaves_want (work_of asked answers) taken (λ w is. work_is asked answers w is))
 
--- what the words come to, by what was asked
-pub words_leave : {S R : Type 0} (gives : S → List ℕ → ℕ → Answer → S → Type 0) (files : Option Files) (told : R → Option Places) (words : List (List ℕ)) (a : AskedOf) (before after : S) (first last : R)
-    (old : Option (List ℕ)) (cause : Cause) (new : Option (List ℕ)) (h : List Entry)
-    → asked words ≡ Some a → LeavesAsked gives files told a before after first last old cause new h → LeavesWords gives files told words before after first last old cause new h
-words_leave gives files told words a before after first last old cause new h is here =
-    subst (λ (o : Option AskedOf). MatchOption o (LeavesNothing causes.NotBuilt old cause new h × (after ≡ before) × (last ≡ first)) (λ x. LeavesAsked gives files told x before after first last old cause new h)) (sym is) here
+-- words that weren't read
+
+pub unread_due : (words : List (List ℕ)) (fault : WordsFault) (cause : Cause) → cause ≡ cause_of_words fault → IsToldOf fault (asked words)
+    → ((cause ≡ causes.Usage) × (asked words ≡ None)) ⊎ (cause ≡ causes.OutOfMemory)
+unread_due words words_faults.Usage cause is told = inl (is, told)
+unread_due words words_faults.OutOfMemory cause is told = inr is
+
+pub unread_no_rack : (fault : WordsFault) (cause : Cause) → cause ≡ cause_of_words fault → IsNoRack cause
+unread_no_rack words_faults.Usage cause is = λ rack same. absurd (let both : causes.Usage ≡ causes.Rack rack = sym is ∙ same in let never : ⊥ = cc in never)
+unread_no_rack words_faults.OutOfMemory cause is = λ rack same. absurd (let both : causes.OutOfMemory ≡ causes.Rack rack = sym is ∙ same in let never : ⊥ = cc in never)
+
+pub unread_no_shelf : (fault : WordsFault) (cause : Cause) → cause ≡ cause_of_words fault → IsNoShelf cause
+unread_no_shelf words_faults.Usage cause is = λ script same. absurd (let both : causes.Usage ≡ causes.Shelf script faults.Failed = sym is ∙ same in let never : ⊥ = cc in never)
+unread_no_shelf words_faults.OutOfMemory cause is = λ script same. absurd (let both : causes.OutOfMemory ≡ causes.Shelf script faults.Failed = sym is ∙ same in let never : ⊥ = cc in never)
+
+pub unread_no_sink : (fault : WordsFault) (cause : Cause) → cause ≡ cause_of_words fault → cause ≡ causes.Sink → ⊥
+unread_no_sink words_faults.Usage cause is same = let both : causes.Usage ≡ causes.Sink = sym is ∙ same in cc
+unread_no_sink words_faults.OutOfMemory cause is same = let both : causes.OutOfMemory ≡ causes.Sink = sym is ∙ same in cc
+
+pub unread_usage : (words : List (List ℕ)) (fault : WordsFault) (cause : Cause) → cause ≡ cause_of_words fault → IsToldOf fault (asked words) → cause ≡ causes.Usage → asked words ≡ None
+unread_usage words words_faults.Usage cause is told same = told
+unread_usage words words_faults.OutOfMemory cause is told same = absurd (let both : causes.OutOfMemory ≡ causes.Usage = sym is ∙ same in let never : ⊥ = cc in never)
+
+-- the causes with which words were read
+
+pub told_no_usage : (cause : Cause) → IsTold cause → cause ≡ causes.Usage → ⊥
+told_no_usage cause told is = subst IsTold is told
+
+pub ran_no_usage : (cause : Cause) → IsRan cause → cause ≡ causes.Usage → ⊥
+ran_no_usage cause ran is = subst IsRan is ran
+
+pub refused_no_usage : (cause : Cause) → IsRefusal cause → cause ≡ causes.Usage → ⊥
+refused_no_usage cause refusal is = subst IsRefusal is refusal
 
 -- limits, where nothing ran
 
@@ -130,7 +162,7 @@ told_full (causes.Shelf script fault) h told none = none
 told_full (causes.Declaration fault) h told none = none
 told_full (causes.Script fault) h told none = none
 told_full (causes.Rack fault) h told none = none
-told_full causes.NotBuilt h told none = none
+told_full causes.Usage h told none = none
 told_full causes.OutOfMemory h told none = below_at_first h none
 told_full (causes.Full what number) h told none = absurd told
 
@@ -138,12 +170,16 @@ pub refused_full : (cause : Cause) (h : List Entry) → IsRefusal cause → h �
 refused_full (causes.Shelf script fault) h refusal none = none
 refused_full (causes.Declaration fault) h refusal none = none
 refused_full (causes.Script fault) h refusal none = none
-refused_full causes.NotBuilt h refusal none = none
+refused_full causes.Usage h refusal none = none
 refused_full causes.OutOfMemory h refusal none = below_at_first h none
 refused_full causes.Done h refusal none = absurd refusal
 refused_full causes.Sink h refusal none = absurd refusal
 refused_full (causes.Rack fault) h refusal none = absurd refusal
 refused_full (causes.Full what number) h refusal none = absurd refusal
+
+pub unread_full : (fault : WordsFault) (cause : Cause) (h : List Entry) → cause ≡ cause_of_words fault → h ≡ [] → IsFullCause cause h
+unread_full words_faults.Usage cause h is none = subst (λ (c : Cause). IsFullCause c h) (sym is) none
+unread_full words_faults.OutOfMemory cause h is none = subst (λ (c : Cause). IsFullCause c h) (sym is) (below_at_first h none)
 
 pub unbegun_full : (fault : RackFault) (h : List Entry) → h ≡ [] → IsFullCause (cause_of_rack fault) h
 unbegun_full (racks.NotEmpty actor) h none = none

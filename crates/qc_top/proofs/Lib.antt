@@ -6,4 +6,3 @@ mod Planned
 mod Right
 mod Runs
 mod Takes
-mod Workers

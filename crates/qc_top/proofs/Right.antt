@@ -18,12 +18,16 @@ use Rattle.qc_script.specs.Grammar.{Refusal, script_of}
 use Rattle.qc_script.specs.Sound.{IsScriptFor}
 use Rattle.qc_script.specs.declared.script.Script.{Script}
 use Rattle.qc_top.specs.Top.{IsRight}
-use Rattle.qc_top.specs.Words.{AskedOf}
+use Rattle.qc_words.specs.Words.{AskedOf, Check, Run, Load}
+use Rattle.qc_gen.specs.Load.{load_of, load_text}
+use Rattle.qc_gen.proofs.Loads.{loads_read}
 use Rattle.qc_top.specs.Answers.{is_built_in}
-use Rattle.qc_top.specs.Work.{Caused, ◌>>=◌, bytes_of, run_of, spelled_in, unless_a_line_is, unless_refused, work_of, work_on}
+use Rattle.qc_top.specs.Work.{Caused, ◌>>=◌, accept_work, bytes_of, load_work, run_of, script_work, spelled_in, unless_a_line_is, unless_refused, work_of}
 use Rattle.qc_top.specs.declared.answers.Answers.{Answers}
 use Rattle.qc_top.specs.declared.work.Work.{Work}
-use Rattle.qc_top.specs.declared.work.Work.TheVariants.{Accept, Run}
+use Rattle.qc_top.specs.declared.work.Work.TheVariants.{Accept}
+use Rattle.qc_top.specs.declared.work.Work.TheVariants as works
+use Rattle.qc_top.specs.declared.work.Output.TheVariants as outputs
 
 -- what comes of two steps came of the first
 record Came {A B : Type 0} (given : Caused A) (next : A → Caused B) (b : B) : Type 0 where
@@ -90,22 +94,35 @@ read_is (Err refusal) script is = absurd (let never : ⊥ = cc in never)
 
 run_is : (decl : Declaration) (bytes : List ℕ) (work : Work) → IsAccepted decl → run_of decl bytes ≡ Ok work → IsRight work
 run_is decl bytes work right is =
-    let c : Came (unless_a_line_is (script_of decl bytes)) (λ script. Ok (Run decl script)) work = came (unless_a_line_is (script_of decl bytes)) (λ script. Ok (Run decl script)) work is in
+    let c : Came (unless_a_line_is (script_of decl bytes)) (λ script. Ok (works.Run decl script outputs.Text)) work = came (unless_a_line_is (script_of decl bytes)) (λ script. Ok (works.Run decl script outputs.Text)) work is in
     let sound : IsScriptFor decl c.first = script_names decl bytes c.first (read_is (script_of decl bytes) c.first c.is) in
-    subst IsRight (inner (Run decl c.first) work c.rest) (record { accepted = right; declared = sound })
+    subst IsRight (inner (works.Run decl c.first outputs.Text) work c.rest) (record { accepted = right; declared = sound })
+
+accept_is : (spelled : Result Declaration DeclFault) (work : Work) → IsRightly spelled → accept_work spelled ≡ Ok work → IsRight work
+accept_is spelled work right is =
+    let d : Came (unless_refused spelled) (λ decl. Ok (Accept decl)) work = came (unless_refused spelled) (λ decl. Ok (Accept decl)) work is in
+    let same : Accept d.first ≡ work = let e = d.rest in cc in
+    subst IsRight same (declared_is spelled d.first right d.is)
+
+script_is : (answer : Answer) (spelled : Result Declaration DeclFault) (work : Work) → IsRightly spelled → script_work answer spelled ≡ Ok work → IsRight work
+script_is answer spelled work right is =
+    let b : Came (bytes_of true answer) (λ bytes. unless_refused spelled >>= (λ decl. run_of decl bytes)) work =
+    came (bytes_of true answer) (λ bytes. unless_refused spelled >>= (λ decl. run_of decl bytes)) work is in
+    let d : Came (unless_refused spelled) (λ decl. run_of decl b.first) work = came (unless_refused spelled) (λ decl. run_of decl b.first) work b.rest in
+    run_is d.first b.first work (declared_is spelled d.first right d.is) d.rest
+
+-- a load can be run
+load_is : (count seed : ℕ) → IsRight (load_work count seed)
+load_is count seed = record {
+  accepted = three_accepted;
+  declared = script_names three (load_text count seed) (load_of count seed) (loads_read count seed);
+}
 
 pub work_is : (asked : AskedOf) (answers : Answers) (work : Work) → work_of asked answers ≡ Ok work → IsRight work
-work_is asked answers work is =
-    let c : Came (spelled_in asked.decl answers.decl) (work_on asked.script answers.script) work = came (spelled_in asked.decl answers.decl) (work_on asked.script answers.script) work is in
-    by asked.script c.first (spelled_is asked.decl answers.decl c.first c.is) c.rest
-  where
-    by : (script : Option (List ℕ)) (spelled : Result Declaration DeclFault) → IsRightly spelled → work_on script answers.script spelled ≡ Ok work → IsRight work
-    by None spelled right is =
-        let d : Came (unless_refused spelled) (λ decl. Ok (Accept decl)) work = came (unless_refused spelled) (λ decl. Ok (Accept decl)) work is in
-        let same : Accept d.first ≡ work = let e = d.rest in cc in
-        subst IsRight same (declared_is spelled d.first right d.is)
-    by (Some name) spelled right is =
-        let b : Came (bytes_of true answers.script) (λ bytes. unless_refused spelled >>= (λ decl. run_of decl bytes)) work =
-        came (bytes_of true answers.script) (λ bytes. unless_refused spelled >>= (λ decl. run_of decl bytes)) work is in
-        let d : Came (unless_refused spelled) (λ decl. run_of decl b.first) work = came (unless_refused spelled) (λ decl. run_of decl b.first) work b.rest in
-        run_is d.first b.first work (declared_is spelled d.first right d.is) d.rest
+work_is (Check decl) answers work is =
+    let c : Came (spelled_in decl answers.decl) accept_work work = came (spelled_in decl answers.decl) accept_work work is in
+    accept_is c.first work (spelled_is decl answers.decl c.first c.is) c.rest
+work_is (Run decl script workers dir) answers work is =
+    let c : Came (spelled_in decl answers.decl) (script_work answers.script) work = came (spelled_in decl answers.decl) (script_work answers.script) work is in
+    script_is answers.script c.first work (spelled_is decl answers.decl c.first c.is) c.rest
+work_is (Load count seed workers) answers work is = subst IsRight (inner (load_work count seed) work is) (load_is count seed)

@@ -14,13 +14,11 @@ use Rattle.qc_report.specs.declared.cause.Cause.TheVariants as causes
 use Rattle.std.specs.Prelude.{length}
 use Rattle.qc_outside.specs.Shelf.{Files, IsTaken}
 use Rattle.qc_top.specs.Answers.{AreAnswers, IsAnswerFor, IsShort, is_built_in, most_script_bytes, script_file}
-use Rattle.qc_top.specs.Source.{GivesSource, spelled_by}
-use Rattle.qc_top.specs.Words.{AskedOf}
-use Rattle.qc_top.specs.Work.{Caused, ◌>>=◌, Gives, bytes_of, script_work, spelled_in, unless_refused, work_of, work_on}
+use Rattle.qc_top.specs.Source.{GivesSource}
+use Rattle.qc_words.specs.Words.{AskedOf}
+use Rattle.qc_top.specs.Work.{Caused, ◌>>=◌, Gives, bytes_of, spelled_in}
 use Rattle.qc_top.specs.declared.answers.Answers.{Answers}
 use Rattle.qc_top.specs.declared.work.Source.{Source}
-use Rattle.qc_top.specs.declared.work.Work.{Work}
-use Rattle.qc_top.specs.declared.work.Work.TheVariants.{Accept}
 
 -- one step after another
 
@@ -60,27 +58,6 @@ bytes_given name answer bytes is given =
 pub no_bytes_given : (name : List ℕ) (answer : Answer) (cause : Cause) → is_built_in name ≡ false → bytes_of false answer ≡ Err cause → spelled_in name answer ≡ Err cause
 no_bytes_given name answer cause is given =
     spelled_by_test name answer false is ∙ ap (λ (c : Caused (List ℕ)). let s : Caused Spelled = c >>= (λ b. Ok (accepted b)) in s) given
-
--- the whole work
-
--- nothing stands under the declaration's name
-pub nowhere_given : (asked : AskedOf) (answers : Answers) (cause : Cause) → (spelled_in asked.decl answers.decl ≡ Err cause) ⊎ (cause ≡ causes.OutOfMemory)
-    → (work_of asked answers ≡ Err cause) ⊎ (cause ≡ causes.OutOfMemory)
-nowhere_given asked answers cause given = stops (spelled_in asked.decl answers.decl) (work_on asked.script answers.script) cause given
-
--- no script is asked for
-pub accept_given : (asked : AskedOf) (answers : Answers) (source : Source) (result : Result Work Cause) → asked.script ≡ None → spelled_in asked.decl answers.decl ≡ Ok (spelled_by source)
-    → Gives (unless_refused (spelled_by source) >>= (λ decl. Ok (Accept decl))) result → Gives (work_of asked answers) result
-accept_given asked answers source result none given step =
-    goes_on (spelled_in asked.decl answers.decl) (work_on asked.script answers.script) (spelled_by source) result given
-    (subst (λ (s : Option (List ℕ)). Gives (work_on s answers.script (spelled_by source)) result) (sym none) step)
-
--- a script is asked for
-pub script_given : (asked : AskedOf) (answers : Answers) (name : List ℕ) (source : Source) (result : Result Work Cause) → asked.script ≡ Some name → spelled_in asked.decl answers.decl ≡ Ok (spelled_by source)
-    → Gives (script_work answers.script (spelled_by source)) result → Gives (work_of asked answers) result
-script_given asked answers name source result some given step =
-    goes_on (spelled_in asked.decl answers.decl) (work_on asked.script answers.script) (spelled_by source) result given
-    (subst (λ (s : Option (List ℕ)). Gives (work_on s answers.script (spelled_by source)) result) (sym some) step)
 
 -- a script's bytes are within their limit, since the shelf keeps to it
 

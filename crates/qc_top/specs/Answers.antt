@@ -5,7 +5,8 @@ pub use Rattle.qc_decl.specs.Limits.{most_declaration_bytes, most_script_bytes}
 use Rattle.qc_outside.specs.Causes.{Rose}
 use Rattle.qc_outside.specs.Shelf.{Answer, Files, IsAnswer}
 use Rattle.qc_outside.specs.declared.shelf.ShelfFault.TheVariants as faults
-use Rattle.qc_top.specs.Words.{AskedOf}
+use Rattle.qc_words.specs.Forms.{Text}
+use Rattle.qc_words.specs.Words.{AskedOf, Check, Run, Load}
 use Rattle.qc_top.specs.declared.answers.Answers.{Answers}
 
 -- a name that begins with `@` (64) is no file's
@@ -13,14 +14,21 @@ abbrev pub is_built_in : List ℕ → Bool
 is_built_in [] = false
 is_built_in (b ∷ name) = b == 64
 
+abbrev pub file_of : Text → Option Text
+file_of name = if is_built_in name then None else Some name
+
 -- The files that are taken, in this order: the declaration's, unless its name begins with `@`, and then the script's,
--- where one is asked and the declaration's was given.
+-- where a run is asked and the declaration's was given. A load takes none.
 
-abbrev pub decl_file : AskedOf → Option (List ℕ)
-decl_file asked = if is_built_in asked.decl then None else Some asked.decl
+abbrev pub decl_file : AskedOf → Option Text
+decl_file (Check decl) = file_of decl
+decl_file (Run decl script workers dir) = file_of decl
+decl_file (Load count seed workers) = None
 
-abbrev pub script_file : AskedOf → Answer → Option (List ℕ)
-script_file asked answer = if is_built_in asked.decl || is_ok answer then asked.script else None
+abbrev pub script_file : AskedOf → Answer → Option Text
+script_file (Check decl) answer = None
+script_file (Run decl script workers dir) answer = if is_built_in decl || is_ok answer then Some script else None
+script_file (Load count seed workers) answer = None
 
 -- What a call of the shelf gave: `gives` says what it may do.
 pub record IsGiven {S : Type 0} (gives : S → List ℕ → ℕ → Answer → S → Type 0) (files : Option Files)

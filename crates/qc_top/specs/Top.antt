@@ -1,5 +1,5 @@
 -- What the top call leaves: a run of the words' script and its text, a word on a declaration, or a cause that is due.
-use Rattle.std.specs.Prelude.{◌≡◌, ℕ, Bool, true, ◌++◌, List, [], Option, Some, None, Ok, Err, IsSome, MatchOption, ◌⊎◌}
+use Rattle.std.specs.Prelude.{◌≡◌, ℕ, Bool, true, ◌++◌, List, [], Option, Some, None, Ok, Err, IsSome, ◌⊎◌}
 use Rattle.qc_promise.specs.Atomic.{Atomic}
 use Rattle.qc_promise.specs.Committed.{committed}
 use Rattle.qc_promise.specs.Due.{Due}
@@ -18,6 +18,7 @@ use Rattle.qc_outside.specs.declared.shelf.ShelfFault.TheVariants as faults
 use Rattle.qc_report.specs.Declarations.{accepted_text_of}
 use Rattle.qc_report.specs.declared.cause.Cause.{Cause}
 use Rattle.qc_report.specs.declared.cause.Cause.TheVariants as causes
+use Rattle.qc_text.specs.Summary.{summary_of}
 use Rattle.qc_text.specs.Text.{text_of}
 use Rattle.qc_script.specs.RunsWithFalls.{RunWithFalls}
 use Rattle.qc_script.specs.declared.script.Script.{Script}
@@ -28,11 +29,17 @@ use Rattle.qc_node.specs.declared.ends.DriveEnd.{DriveEnd}
 use Rattle.qc_node.specs.declared.ends.DriveEnd.TheVariants as ends
 use Rattle.qc_top.specs.Answers.{AreAnswers}
 use Rattle.qc_top.specs.Racks.{LeavesRack}
-use Rattle.qc_top.specs.Words.{AskedOf, asked}
+use Rattle.qc_top.specs.Words.{folder_of}
 use Rattle.qc_top.specs.Work.{Caused, IsBlamed, work_of}
 use Rattle.qc_top.specs.declared.answers.Answers.{Answers}
 use Rattle.qc_top.specs.declared.work.Work.{Work}
 use Rattle.qc_top.specs.declared.work.Work.TheVariants as works
+use Rattle.qc_top.specs.declared.work.Output.{Output}
+use Rattle.qc_top.specs.declared.work.Output.TheVariants as outputs
+use Rattle.qc_words.specs.Forms.{Text}
+use Rattle.qc_words.specs.Words.{AskedOf, asked}
+use Rattle.qc_words.specs.declared.fault.WordsFault.{WordsFault}
+use Rattle.qc_words.specs.declared.fault.WordsFault.TheVariants as words_faults
 
 -- how a run ended, by its history: a limit is told exactly where it was reached, and want of memory only below
 abbrev pub IsEnd : DriveEnd → List Entry → Type 0
@@ -49,7 +56,7 @@ IsFullCause (causes.Shelf script fault) h = h ≡ []
 IsFullCause (causes.Declaration fault) h = h ≡ []
 IsFullCause (causes.Script fault) h = h ≡ []
 IsFullCause (causes.Rack fault) h = h ≡ []
-IsFullCause causes.NotBuilt h = h ≡ []
+IsFullCause causes.Usage h = h ≡ []
 IsFullCause causes.OutOfMemory h = IsBelow h
 
 -- what a telling sink took: the whole text where all was done, a part of it where the sink failed, and else nothing
@@ -61,7 +68,7 @@ abbrev pub Printed : List ℕ → List ℕ → Cause → List ℕ → Type 0
 Printed text old causes.Done new = new ≡ old ++ text
 Printed text old causes.Sink new = IsPrefixOf old text new
 Printed text old causes.OutOfMemory new = new ≡ old
-Printed text old causes.NotBuilt new = new ≡ old
+Printed text old causes.Usage new = new ≡ old
 Printed text old (causes.Shelf script fault) new = new ≡ old
 Printed text old (causes.Declaration fault) new = new ≡ old
 Printed text old (causes.Script fault) new = new ≡ old
@@ -79,7 +86,7 @@ abbrev pub OnPrinted : Cause → Type 0 → Type 0
 OnPrinted causes.Done P = P
 OnPrinted causes.Sink P = P
 OnPrinted causes.OutOfMemory P = Unit {0}
-OnPrinted causes.NotBuilt P = Unit {0}
+OnPrinted causes.Usage P = Unit {0}
 OnPrinted (causes.Shelf script fault) P = Unit {0}
 OnPrinted (causes.Declaration fault) P = Unit {0}
 OnPrinted (causes.Script fault) P = Unit {0}
@@ -91,7 +98,7 @@ abbrev pub IsTold : Cause → Type 0
 IsTold causes.Done = Unit {0}
 IsTold causes.Sink = Unit {0}
 IsTold causes.OutOfMemory = Unit {0}
-IsTold causes.NotBuilt = ⊥
+IsTold causes.Usage = ⊥
 IsTold (causes.Shelf script fault) = ⊥
 IsTold (causes.Declaration fault) = ⊥
 IsTold (causes.Script fault) = ⊥
@@ -107,7 +114,7 @@ IsRan (causes.Full what number) = Unit {0}
 IsRan causes.Done = Unit {0}
 IsRan causes.Sink = Unit {0}
 IsRan causes.OutOfMemory = Unit {0}
-IsRan causes.NotBuilt = ⊥
+IsRan causes.Usage = ⊥
 IsRan (causes.Shelf script fault) = ⊥
 IsRan (causes.Declaration fault) = ⊥
 IsRan (causes.Script fault) = ⊥
@@ -132,18 +139,23 @@ pub record LeavesWord (decl : Declaration) (old : Option (List ℕ)) (cause : Ca
 abbrev pub AreStatesKnown : Declaration → List Entry → Type 0
 AreStatesKnown decl h = IsSome (replay decl (committed decl h))
 
+-- what is printed of a run: its text, or the summary of the load that it is
+abbrev pub output_of : Output → Declaration → Script → List Entry → List ℕ
+output_of outputs.Text decl script h = text_of decl script h
+output_of (outputs.Summary count seed) decl script h = summary_of decl count seed h
+
 -- What a call leaves that runs a script over a declaration.
-pub record LeavesRun (decl : Declaration) (script : Script) (old : Option (List ℕ)) (cause : Cause)
+pub record LeavesRun (decl : Declaration) (script : Script) (output : Output) (old : Option (List ℕ)) (cause : Cause)
     (new : Option (List ℕ)) (h : List Entry) : Type 0 where
   pub accepted : IsAccepted decl
   pub due : IsRan cause
   -- what happened is a run of the script, in which disks may fail, and actors fall and rise
   pub run : RunWithFalls (IsLawfulWithFalls decl) (fits_of decl) decl script h
-  -- where its text is printed, it is a whole one: each input that was taken has its turn, all that the script asks was
+  -- where something is printed of it, it is a whole one: each input that was taken has its turn, all that the script asks was
   -- done, and nothing is left to do
   pub whole : OnPrinted cause (IsWholeWithFalls (fits_of decl) decl script h)
-  -- what is printed is the text of just this history
-  pub text : PrintsBetween (text_of decl script h) old cause new
+  -- what is printed is the text, or the summary, of just this history
+  pub text : PrintsBetween (output_of output decl script h) old cause new
   -- and each state in it is known, where actors keep their records
   pub states : OnPrinted cause (Kept h → AreStatesKnown decl h)
   -- each reply, each commit record and all that sites post is due
@@ -154,7 +166,7 @@ pub record LeavesRun (decl : Declaration) (script : Script) (old : Option (List 
 abbrev pub Leaves : Caused Work → Option (List ℕ) → Cause → Option (List ℕ) → List Entry → Type 0
 Leaves (Err why) old cause new h = LeavesNothing why old cause new h
 Leaves (Ok (works.Accept decl)) old cause new h = LeavesWord decl old cause new h
-Leaves (Ok (works.Run decl script)) old cause new h = LeavesRun decl script old cause new h
+Leaves (Ok (works.Run decl script output)) old cause new h = LeavesRun decl script output old cause new h
 
 -- What a call leaves whose words ask this, over any shelf and rack: there are the answers that the shelf gave, and all
 -- is said of these bytes and faults.
@@ -164,22 +176,37 @@ pub record LeavesAsked {S R : Type 0} (gives : S → List ℕ → ℕ → Answer
   pub answers : Answers
   pub given : AreAnswers gives files asked before after answers
   pub leaves : Leaves (work_of asked answers) old cause new h
-  pub rack : LeavesRack told (work_of asked answers) first last h
+  pub rack : LeavesRack (folder_of asked) told (work_of asked answers) first last h
   pub blame : (script : Bool) → cause ≡ causes.Shelf script faults.Failed → IsBlamed asked answers script
 
--- the same of words; words of another form come to nothing, and the shelf and the rack are left as they were
+-- the cause for words that aren't read
+abbrev pub cause_of_words : WordsFault → Cause
+cause_of_words words_faults.Usage = causes.Usage
+cause_of_words words_faults.OutOfMemory = causes.OutOfMemory
+
+-- What a call leaves whose words weren't read: they ask nothing, or memory was wanting. Nothing is taken from the shelf
+-- and the rack, nothing happens, and nothing is printed.
+pub record LeavesUnread {S R : Type 0} (words : List Text) (before after : S) (first last : R) (old : Option (List ℕ))
+    (cause : Cause) (new : Option (List ℕ)) (h : List Entry) : Type 0 where
+  pub due : ((cause ≡ causes.Usage) × (asked words ≡ None)) ⊎ (cause ≡ causes.OutOfMemory)
+  pub history : h ≡ []
+  pub text : new ≡ old
+  pub shelf : after ≡ before
+  pub rack : last ≡ first
+
+-- What a call leaves, by its words.
 abbrev pub LeavesWords : {S R : Type 0} → (S → List ℕ → ℕ → Answer → S → Type 0) → Option Files
-    → (R → Option Places) → List (List ℕ) → S → S → R → R → Option (List ℕ) → Cause → Option (List ℕ) → List Entry
+    → (R → Option Places) → List Text → S → S → R → R → Option (List ℕ) → Cause → Option (List ℕ) → List Entry
     → Type 0
 LeavesWords gives files told words before after first last old cause new h =
-    MatchOption (asked words)
-    (LeavesNothing causes.NotBuilt old cause new h × (after ≡ before) × (last ≡ first))
-    (λ a. LeavesAsked gives files told a before after first last old cause new h)
+    LeavesUnread words before after first last old cause new h
+    ⊎ ((a : AskedOf) × (asked words ≡ Some a)
+    × LeavesAsked gives files told a before after first last old cause new h)
 
 -- work that can be done: what the words come to is such work
 abbrev pub IsRight : Work → Type 0
 IsRight (works.Accept decl) = IsAccepted decl
-IsRight (works.Run decl script) = IsRunnable decl script
+IsRight (works.Run decl script output) = IsRunnable decl script
 
 -- the shelf isn't blamed for a failure
 abbrev pub IsNoShelf : Cause → Type 0

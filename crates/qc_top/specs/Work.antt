@@ -1,11 +1,12 @@
 -- What a call has to do: what its words come to, by what the shelf answered for the files that they name.
-use Rattle.std.specs.Prelude.{◌≡◌, ℕ, Bool, true, false, List, Option, Some, None, Result, Ok, Err, IsOk, IsSome}
+use Rattle.std.specs.Prelude.{◌≡◌, ℕ, Bool, true, false, List, Some, None, Result, Ok, Err, IsOk}
 use Rattle.std.specs.Prelude.{if◌then◌else◌, ◌⊎◌}
 use Rattle.std.specs.Option.{option_map_or}
 use Rattle.qc_accept.specs.Accept.{accepted}
 use Rattle.qc_accept.specs.declared.fault.DeclFault.{DeclFault}
 use Rattle.qc_decl.specs.declared.declaration.Declaration.{Declaration}
-use Rattle.qc_decl.specs.One.{built_in_of}
+use Rattle.qc_decl.specs.One.{built_in_of, three}
+use Rattle.qc_gen.specs.Load.{load_of}
 use Rattle.qc_outside.specs.Shelf.{Answer}
 use Rattle.qc_outside.specs.declared.shelf.ShelfFault.{ShelfFault}
 use Rattle.qc_outside.specs.declared.shelf.ShelfFault.TheVariants as faults
@@ -15,10 +16,11 @@ use Rattle.qc_script.specs.Grammar.{Refusal, script_of}
 use Rattle.qc_script.specs.declared.script.Script.{Script}
 use Rattle.qc_script.specs.declared.script.ScriptFault.TheVariants.{Line}
 use Rattle.qc_top.specs.Answers.{is_built_in}
-use Rattle.qc_top.specs.Words.{AskedOf}
 use Rattle.qc_top.specs.declared.answers.Answers.{Answers}
 use Rattle.qc_top.specs.declared.work.Work.{Work}
-use Rattle.qc_top.specs.declared.work.Work.TheVariants.{Accept, Run}
+use Rattle.qc_top.specs.declared.work.Work.TheVariants as works
+use Rattle.qc_top.specs.declared.work.Output.TheVariants.{Text, Summary}
+use Rattle.qc_words.specs.Words.{AskedOf, Check, Run, Load}
 
 -- what there is, or the cause for which there is nothing
 abbrev pub Caused : Type 0 → Type 0
@@ -63,26 +65,42 @@ unless_a_line_is (Err refusal) = Err (causes.Script (Line refusal.number refusal
 
 -- the run of the script that bytes spell
 abbrev pub run_of : Declaration → List ℕ → Caused Work
-run_of decl bytes = unless_a_line_is (script_of decl bytes) >>= (λ script. Ok (Run decl script))
+run_of decl bytes = unless_a_line_is (script_of decl bytes) >>= (λ script. Ok (works.Run decl script Text))
 
 abbrev pub script_work : Answer → Result Declaration DeclFault → Caused Work
 script_work answer spelled = bytes_of true answer >>= (λ bytes. unless_refused spelled >>= (λ decl. run_of decl bytes))
 
-abbrev pub work_on : Option (List ℕ) → Answer → Result Declaration DeclFault → Caused Work
-work_on None answer spelled = unless_refused spelled >>= (λ decl. Ok (Accept decl))
-work_on (Some script) answer spelled = script_work answer spelled
+abbrev pub accept_work : Result Declaration DeclFault → Caused Work
+accept_work spelled = unless_refused spelled >>= (λ decl. Ok (works.Accept decl))
+
+-- a load is a run over `@three`, of which a summary is printed
+abbrev pub load_work : ℕ → ℕ → Work
+load_work count seed = works.Run three (load_of count seed) (Summary count seed)
 
 -- What is asked. The first cause for which there is nothing to do is told, in this order: the declaration's file, the
 -- script's, the declaration, and the first line that is refused of the script.
 abbrev pub work_of : AskedOf → Answers → Caused Work
-work_of asked answers = spelled_in asked.decl answers.decl >>= work_on asked.script answers.script
+work_of (Check decl) answers = spelled_in decl answers.decl >>= accept_work
+work_of (Run decl script workers dir) answers = spelled_in decl answers.decl >>= script_work answers.script
+work_of (Load count seed workers) answers = Ok (load_work count seed)
 
 -- A shelf that failed is blamed on the file that it failed at: on the declaration's only where its name is a file's,
 -- and on the script's only where one is asked and something stands under the declaration's name.
+
+abbrev pub IsDeclBlamed : AskedOf → Answers → Type 0
+IsDeclBlamed (Check decl) answers = (is_built_in decl ≡ false) × (answers.decl ≡ Err faults.Failed)
+IsDeclBlamed (Run decl script workers dir) answers = (is_built_in decl ≡ false) × (answers.decl ≡ Err faults.Failed)
+IsDeclBlamed (Load count seed workers) answers = ⊥
+
+abbrev pub IsScriptBlamed : AskedOf → Answers → Type 0
+IsScriptBlamed (Check decl) answers = ⊥
+IsScriptBlamed (Run decl script workers dir) answers =
+    IsOk (spelled_in decl answers.decl) × (answers.script ≡ Err faults.Failed)
+IsScriptBlamed (Load count seed workers) answers = ⊥
+
 abbrev pub IsBlamed : AskedOf → Answers → Bool → Type 0
-IsBlamed asked answers false = (is_built_in asked.decl ≡ false) × (answers.decl ≡ Err faults.Failed)
-IsBlamed asked answers true =
-    IsSome asked.script × IsOk (spelled_in asked.decl answers.decl) × (answers.script ≡ Err faults.Failed)
+IsBlamed asked answers false = IsDeclBlamed asked answers
+IsBlamed asked answers true = IsScriptBlamed asked answers
 
 -- what code gives is what there is; want of memory may come in its place
 abbrev pub Gives : {A : Type 0} → Caused A → Result A Cause → Type 0
@@ -94,7 +112,7 @@ abbrev pub IsRefusal : Cause → Type 0
 IsRefusal (causes.Shelf script fault) = Unit {0}
 IsRefusal (causes.Declaration fault) = Unit {0}
 IsRefusal (causes.Script fault) = Unit {0}
-IsRefusal causes.NotBuilt = ⊥
+IsRefusal causes.Usage = ⊥
 IsRefusal causes.OutOfMemory = Unit {0}
 IsRefusal causes.Done = ⊥
 IsRefusal causes.Sink = ⊥

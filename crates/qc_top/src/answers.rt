@@ -2,13 +2,13 @@
 
 ghost use Rattle.std.specs.Prelude.{◌≡◌, ◌≤◌, option_map, Err};
 ghost use Rattle.qc_outside.specs.Causes.{Rose};
-ghost use Rattle.qc_top.specs.Answers.{AreAnswers, IsAnswerFor, IsCounted, decl_file, is_built_in, script_file};
-ghost use Rattle.qc_top.specs.Words.{asked_in};
+ghost use Rattle.qc_top.specs.Answers.{AreAnswers, IsAnswerFor, IsCounted, decl_file, file_of, is_built_in, script_file};
+ghost use Rattle.qc_words.specs.Asked.{asked_in};
 
-use crate::words::Asked;
 use qc_decl::{MOST_DECLARATION_BYTES, MOST_SCRIPT_BYTES};
 use qc_list::List;
 use qc_outside::{Shelf, ShelfFault};
+use qc_words::Asked;
 
 /// A file's bytes, or why there are none.
 pub type Answer = Result<List<u8>, ShelfFault>;
@@ -17,7 +17,7 @@ pub type Answer = Result<List<u8>, ShelfFault>;
 /// missing.
 #[derive(Drop)]
 pub struct Answers {
-    /// For the declaration's file, unless its name begins with `@`.
+    /// For the declaration's file, unless its name begins with `@` or none is asked.
     pub decl: Answer,
     /// For the script's, where one is asked and the declaration's was given.
     pub script: Answer,
@@ -56,22 +56,27 @@ fn answer_for<F: Shelf>(name: Option<&str>, limit: u32, shelf: &mut F) -> Answer
 fn decl_file(asked: Asked<'_>) -> Option<&str>
     ensures { option_map (λ n. n.now) result ≡ decl_file (asked_in asked.entry) }
 {
-    if is_built_in(asked.decl) {
-        None
-    } else {
-        Some(asked.decl)
+    match asked {
+        Asked::Check { decl } | Asked::Run { decl, .. } => file_of(decl),
+        Asked::Load { .. } => None,
     }
 }
 
 /// The script's file, which is taken where the declaration's was given.
-fn script_file<'a>(asked: Asked<'a>, decl: &Answer) -> Option<&'a str>
-    ensures { option_map (λ n. n.now) result ≡ script_file (asked_in asked.entry) decl.now }
+fn script_file<'a>(asked: Asked<'a>, answer: &Answer) -> Option<&'a str>
+    ensures { option_map (λ n. n.now) result ≡ script_file (asked_in asked.entry) answer.now }
 {
-    if is_built_in(asked.decl) || decl.is_ok() {
-        asked.script
-    } else {
-        None
+    match asked {
+        Asked::Run { decl, script, .. } if is_built_in(decl) || answer.is_ok() => Some(script),
+        Asked::Check { .. } | Asked::Run { .. } | Asked::Load { .. } => None,
     }
+}
+
+/// The file of a declaration's name.
+fn file_of(name: &str) -> Option<&str>
+    ensures { option_map (λ n. n.now) result ≡ file_of name.now }
+{
+    if is_built_in(name) { None } else { Some(name) }
 }
 
 /// Whether a name begins with `@`. No file is taken for such a name.

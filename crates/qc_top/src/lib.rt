@@ -1,11 +1,10 @@
 //! The top call: from a command line's words to the printed run.
 //!
-//! `quorum_words` does all that the program does: it reads the words
-//! (`asked_by`), which ask for one to eight workers
-//! (`one_to_eight_workers_are_asked`), takes the files that they name from the shelf (`answers_for`),
-//! and does what is asked over the bytes or faults that it was handed
-//! (`perform`): it says that a declaration is accepted, or runs a script, over a
-//! disk of the rack for each actor, and prints the run.
+//! `quorum_words` does all that the program does: it reads the words (`asked_by`),
+//! takes the files that they name from the shelf (`answers_for`), and does what is
+//! asked over the bytes or faults that it was handed (`perform`): it says that a
+//! declaration is accepted, or runs a script, over a disk of the rack for each
+//! actor, and prints the run, or the summary of the load that it is.
 //!
 //! 1. What a call has to do is exact in the words and in what it was handed, and
 //!    so is the cause for which it has nothing to do (`work_of`).
@@ -24,19 +23,16 @@
 
 mod answers;
 mod ended;
-mod laws;
 mod printing;
 mod running;
 mod top;
-mod words;
 mod work;
 
 pub use answers::{Answer, Answers, answers_for};
 pub use ended::Ended;
-pub use laws::one_to_eight_workers_are_asked;
 pub use qc_msg::What;
 pub use qc_report::{Cause, cause_text};
-pub use qc_text::text;
+pub use qc_text::{summary, text};
+pub use qc_words::{Asked, WordsFault, asked_by};
 pub use top::{perform, quorum_words};
-pub use words::{Asked, asked_by};
-pub use work::Work;
+pub use work::{Output, Work};

@@ -1,6 +1,6 @@
 //! The run of a script, and how it ends.
 
-ghost use Rattle.std.specs.Prelude.{◌≡◌};
+ghost use Rattle.std.specs.Prelude.{◌≡◌, option_copied};
 ghost use Rattle.qc_due.specs.Whole.{IsWholeWithFalls};
 ghost use Rattle.qc_fabric.specs.Events.{before_last_event};
 ghost use Rattle.qc_fabric.specs.Limits.{IsBelow};
@@ -9,15 +9,14 @@ ghost use Rattle.qc_node.specs.Rules.{fits_of};
 ghost use Rattle.qc_node.specs.declared.ends.DriveEnd.TheVariants.{Quiet};
 ghost use Rattle.qc_outside.specs.Causes.{Rose};
 ghost use Rattle.qc_report.specs.Causes.{status_of};
-ghost use Rattle.qc_text.specs.Text.{text_of};
 ghost use Rattle.qc_top.specs.Racks.{FillsPlaces, IsUsed, cause_of_rack};
 ghost use Rattle.qc_top.specs.Top.{IsEnd, IsFullCause, IsNoRack, IsNoShelf, IsRan, IsRunnable, LeavesRun};
-ghost use Rattle.qc_top.specs.Top.{OnPrinted, PrintsBetween};
+ghost use Rattle.qc_top.specs.Top.{OnPrinted, PrintsBetween, output_of};
 
 use crate::ended::{Ended, without_run};
 use crate::printing::print;
+use crate::work::Output;
 use qc_decl::Declaration;
-use qc_msg::History;
 use qc_node::{DriveEnd, Job, Ran, run_script};
 use qc_outside::{Gate, Rack, RackFault, Sink};
 use qc_report::Cause;
@@ -26,12 +25,13 @@ use std::alloc::Global;
 use std::sync::Wait;
 use std::thread::Threads;
 
-/// Runs a script over the rack's disks, and prints the run.
+/// Runs a script over the rack's disks, and prints what is to be printed of it.
 pub(crate) fn run<T, G, K, R>(
     rt: &T,
     alloc: Global,
     job: &Job<'_, G>,
     script: Script,
+    output: Output,
     sink: &mut K,
     rack: &mut R,
 ) -> Ended
@@ -41,10 +41,12 @@ where
     K: Sink,
     R: Rack,
     requires runnable { IsRunnable job.now.decl.now script }
-    ensures leaves { LeavesRun job.now.decl.now script (K.taken sink.old) result.cause (K.taken sink.new)
+    ensures leaves { LeavesRun job.now.decl.now script output (K.taken sink.old) result.cause (K.taken sink.new)
         result.history }
-    ensures rack { FillsPlaces job.now.decl.now (R.places rack.old) (R.places rack.new) result.history }
-    ensures used { IsUsed R.faults R.places rack.old rack.new result.cause result.history }
+    ensures rack { FillsPlaces (option_copied job.now.dir) job.now.decl.now (R.places rack.old) (R.places rack.new)
+        result.history }
+    ensures used { IsUsed (option_copied job.now.dir) R.faults R.places rack.old rack.new result.cause
+        result.history }
     ensures status { result.status ≡ status_of result.cause }
     ensures full { IsFullCause result.cause result.history }
     ensures before { IsBelow (before_last_event result.history) }
@@ -52,7 +54,7 @@ where
     ensures sink { result.cause ≡ Cause.Sink → Rose (K.faults sink.old) (K.faults sink.new) }
 {
     match run_script(rt, alloc, job, script, rack) {
-        Ok(ran) => finish(alloc, job.decl, ran, sink),
+        Ok(ran) => finish(alloc, job.decl, ran, output, sink),
         Err(fault) => without_run(alloc, rack_cause(fault)),
     }
 }
@@ -68,10 +70,16 @@ fn rack_cause(fault: RackFault) -> Cause
 }
 
 /// Prints a run that ended, where it came to the script's end.
-fn finish<K: Sink>(alloc: Global, decl: &Declaration, ran: Ran, sink: &mut K) -> Ended
+fn finish<K: Sink>(
+    alloc: Global,
+    decl: &Declaration,
+    ran: Ran,
+    output: Output,
+    sink: &mut K,
+) -> Ended
     requires runnable { IsRunnable decl.now ran.script }
     requires ended { HasEnded decl.now ran.script ran.history ran.end }
-    ensures leaves { LeavesRun decl.now ran.script (K.taken sink.old) result.cause (K.taken sink.new)
+    ensures leaves { LeavesRun decl.now ran.script output (K.taken sink.old) result.cause (K.taken sink.new)
         result.history }
     ensures history { result.history ≡ ran.history }
     ensures status { result.status ≡ status_of result.cause }
@@ -81,42 +89,37 @@ fn finish<K: Sink>(alloc: Global, decl: &Declaration, ran: Ran, sink: &mut K) ->
     ensures shelf { IsNoShelf result.cause }
     ensures sink { result.cause ≡ Cause.Sink → Rose (K.faults sink.old) (K.faults sink.new) }
 {
-    let Ran {
-        script,
-        history,
-        end,
-    } = ran;
-    let cause = conclude(alloc, decl, &script, end, &history, sink);
+    let cause = conclude(alloc, decl, &ran, output, sink);
     Ended {
         status: cause.status(),
         cause,
-        history,
+        history: ran.history,
     }
 }
 
-/// The cause of the end of a run, whose text is printed where the script came
-/// to its end.
+/// The cause of the end of a run, of which something is printed where the script
+/// came to its end.
 fn conclude<K: Sink>(
     alloc: Global,
     decl: &Declaration,
-    script: &Script,
-    end: DriveEnd,
-    history: &History,
+    ran: &Ran,
+    output: Output,
     sink: &mut K,
 ) -> Cause
-    requires end { IsEnd end history.now }
-    requires whole { end ≡ Quiet → IsWholeWithFalls (fits_of decl.now) decl.now script.now history.now }
-    ensures full { IsFullCause result history.now }
-    ensures whole { OnPrinted result (IsWholeWithFalls (fits_of decl.now) decl.now script.now history.now) }
-    ensures text { PrintsBetween (text_of decl.now script.now history.now)
+    requires end { IsEnd ran.now.end ran.now.history }
+    requires whole { ran.now.end ≡ Quiet
+        → IsWholeWithFalls (fits_of decl.now) decl.now ran.now.script ran.now.history }
+    ensures full { IsFullCause result ran.now.history }
+    ensures whole { OnPrinted result (IsWholeWithFalls (fits_of decl.now) decl.now ran.now.script ran.now.history) }
+    ensures text { PrintsBetween (output_of output decl.now ran.now.script ran.now.history)
         (K.taken sink.old) result (K.taken sink.new) }
     ensures ran { IsRan result }
     ensures rack { IsNoRack result }
     ensures shelf { IsNoShelf result }
     ensures sink { result ≡ Cause.Sink → Rose (K.faults sink.old) (K.faults sink.new) }
 {
-    match end {
-        DriveEnd::Quiet => print(alloc, decl, script, history, sink),
+    match ran.end {
+        DriveEnd::Quiet => print(alloc, decl, &ran.script, &ran.history, output, sink),
         DriveEnd::Full(full) => Cause::Full {
             what: full.what,
             number: full.number,

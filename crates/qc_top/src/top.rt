@@ -1,6 +1,6 @@
 //! The top call.
 
-ghost use Rattle.std.specs.Prelude.{◌≡◌, ◌-◌, ◌<◌, ◌≤◌, ◌^◌, Bool, Err, IsSome, None, Ok};
+ghost use Rattle.std.specs.Prelude.{◌≡◌, ◌⊎◌, ◌-◌, ◌<◌, ◌≤◌, ◌^◌, Bool, IsSome, None, Ok, option_copied};
 ghost use Rattle.qc_fabric.specs.Events.{before_last_event};
 ghost use Rattle.qc_fabric.specs.Limits.{IsBelow};
 ghost use Rattle.qc_outside.specs.Causes.{Rose};
@@ -10,30 +10,35 @@ ghost use Rattle.qc_promise.specs.Spent.{Spent};
 ghost use Rattle.qc_report.specs.Causes.{status_of};
 ghost use Rattle.qc_top.specs.Answers.{IsShort};
 ghost use Rattle.qc_top.specs.Racks.{IsRackBlamed, IsUsed, LeavesRack};
-ghost use Rattle.qc_top.specs.Top.{IsFullCause, IsNoShelf, IsRight, Leaves, LeavesWords};
-ghost use Rattle.qc_top.specs.Words.{asked, asked_in, texts_of};
+ghost use Rattle.qc_top.specs.Top.{IsFullCause, IsNoShelf, IsRight, Leaves, LeavesWords, cause_of_words};
+ghost use Rattle.qc_top.specs.Words.{folder_in, folder_of, workers_of};
 ghost use Rattle.qc_top.specs.Work.{IsBlamed, work_of};
+ghost use Rattle.qc_words.specs.Askable.{IsAskable};
+ghost use Rattle.qc_words.specs.Asked.{asked_in};
+ghost use Rattle.qc_words.specs.Parts.{texts_of};
+ghost use Rattle.qc_words.specs.Words.{asked};
 
 use crate::answers::{Answers, answers_for};
 use crate::ended::{Ended, without_run};
 use crate::printing::tell;
 use crate::running::run;
-use crate::words::{Asked, asked_by};
 use crate::work::{Work, work_for};
 use qc_node::Job;
 use qc_outside::{Gate, Rack, Shelf, ShelfFault, Sink};
 use qc_report::Cause;
+use qc_words::{Asked, WordsFault, asked_by};
 use std::alloc::Global;
 use std::sync::Wait;
 use std::thread::Threads;
 
 /// Does all that the program does. `check DECL` takes the declaration of this
 /// name and says that it is accepted; `run DECL SCRIPT` runs the script of this
-/// name over it and writes the text of the run to the sink. With `--workers N`
-/// behind these words the actors are served by so many threads. Files
-/// are taken from the shelf; a name of a declaration that begins with `@` is that
-/// of a built-in one. For a run the rack gives each actor a disk, and it gets all of
-/// them back. Each turn of an actor passes the gate before it is posted.
+/// name over it and writes the text of the run to the sink; `load COUNT SEED` runs
+/// the script of a load over `@three` and writes its summary. With `--workers N`
+/// the actors are served by so many threads. Files are taken from the shelf; a name
+/// of a declaration that begins with `@` is that of a built-in one. For a run the
+/// rack gives each actor a disk, in the folder of `--dir D` or in none, and it gets
+/// all of them back. Each turn of an actor passes the gate before it is posted.
 /// Where the shelf, the sink or a disk is blamed for a failure, the count of faults
 /// rose, or stands at the greatest number that it can tell.
 pub fn quorum_words<T, F, K, R, G>(
@@ -53,7 +58,9 @@ where
     G: Gate + Sync,
     ensures leaves { LeavesWords F.gives (F.files shelf.old) R.places (texts_of words.now) shelf.old shelf.new
         rack.old rack.new (K.taken sink.old) result.cause (K.taken sink.new) result.history }
-    ensures words { asked (texts_of words.now) ≡ None → result.cause ≡ Cause.NotBuilt }
+    ensures words { asked (texts_of words.now) ≡ None
+        → (result.cause ≡ Cause.Usage) ⊎ (result.cause ≡ Cause.OutOfMemory) }
+    ensures usage { result.cause ≡ Cause.Usage → asked (texts_of words.now) ≡ None }
     ensures kept { IsSome (R.places rack.old) → Kept result.history }
     ensures spent { R.faults rack.new < 2 ^ 64 - 1
         → Spent result.history (R.faults rack.new - R.faults rack.old) }
@@ -65,15 +72,28 @@ where
         → Rose (F.faults shelf.old) (F.faults shelf.new) }
     ensures sink { result.cause ≡ Cause.Sink → Rose (K.faults sink.old) (K.faults sink.new) }
     ensures rack { (fault : RackFault) → result.cause ≡ Cause.Rack fault
-        → IsRackBlamed (R.places rack.old) (R.faults rack.old) (R.faults rack.new) fault }
+        → IsRackBlamed (folder_in (texts_of words.now)) (R.places rack.old) (R.faults rack.old) (R.faults rack.new)
+        fault }
     ensures later { R.faults rack.old ≤ R.faults rack.new }
     ensures tells { IsSome (R.places rack.old) → IsSome (R.places rack.new) }
 {
-    let Some(asked) = asked_by(words) else {
-        return without_run(alloc, Cause::NotBuilt);
-    };
-    let answers = answers_for(asked, shelf);
-    perform(rt, alloc, asked, answers, gate, sink, rack)
+    match asked_by(alloc, words) {
+        Ok(asked) => {
+            let answers = answers_for(asked, shelf);
+            perform(rt, alloc, asked, answers, gate, sink, rack)
+        }
+        Err(fault) => without_run(alloc, words_cause(fault)),
+    }
+}
+
+/// The cause for words that weren't read.
+fn words_cause(fault: WordsFault) -> Cause
+    ensures { result ≡ cause_of_words fault }
+{
+    match fault {
+        WordsFault::Usage => Cause::Usage,
+        WordsFault::OutOfMemory => Cause::OutOfMemory,
+    }
 }
 
 /// Does what the words ask, over the bytes or faults that were handed over for
@@ -92,31 +112,36 @@ where
     G: Gate + Sync,
     K: Sink,
     R: Rack,
+    requires askable { IsAskable (asked_in asked.entry) }
     requires short { IsShort answers.script }
     ensures leaves { Leaves (work_of (asked_in asked.entry) answers)
         (K.taken sink.old) result.cause (K.taken sink.new) result.history }
     ensures blame { (script : Bool) → result.cause ≡ Cause.Shelf script ShelfFault.Failed
         → IsBlamed (asked_in asked.entry) answers script }
-    ensures rack { LeavesRack R.places (work_of (asked_in asked.entry) answers) rack.old rack.new result.history }
-    ensures used { IsUsed R.faults R.places rack.old rack.new result.cause result.history }
+    ensures rack { LeavesRack (folder_of (asked_in asked.entry)) R.places (work_of (asked_in asked.entry) answers)
+        rack.old rack.new result.history }
+    ensures used { IsUsed (folder_of (asked_in asked.entry)) R.faults R.places rack.old rack.new result.cause
+        result.history }
+    ensures asked { result.cause ≡ Cause.Usage → ⊥ }
     ensures status { result.status ≡ status_of result.cause }
     ensures full { IsFullCause result.cause result.history }
     ensures before { IsBelow (before_last_event result.history) }
     ensures sink { result.cause ≡ Cause.Sink → Rose (K.faults sink.old) (K.faults sink.new) }
 {
     match work_for(alloc, asked, answers) {
-        Ok(work) => do_work(rt, alloc, work, gate, asked.workers, sink, rack),
+        Ok(work) => do_work(rt, alloc, work, asked, gate, sink, rack),
         Err(cause) => without_run(alloc, cause),
     }
 }
 
-/// Does what is to be done, a run by so many workers.
+/// Does what is to be done, a run by as many workers and over the disks that are
+/// asked.
 fn do_work<T, G, K, R>(
     rt: &T,
     alloc: Global,
     work: Work,
+    asked: Asked<'_>,
     gate: &G,
-    workers: u8,
     sink: &mut K,
     rack: &mut R,
 ) -> Ended
@@ -127,8 +152,10 @@ where
     R: Rack,
     requires right { IsRight work }
     ensures leaves { Leaves (Ok work) (K.taken sink.old) result.cause (K.taken sink.new) result.history }
-    ensures rack { LeavesRack R.places (Ok work) rack.old rack.new result.history }
-    ensures used { IsUsed R.faults R.places rack.old rack.new result.cause result.history }
+    ensures rack { LeavesRack (folder_of (asked_in asked.entry)) R.places (Ok work) rack.old rack.new result.history }
+    ensures used { IsUsed (folder_of (asked_in asked.entry)) R.faults R.places rack.old rack.new result.cause
+        result.history }
+    ensures asked { result.cause ≡ Cause.Usage → ⊥ }
     ensures status { result.status ≡ status_of result.cause }
     ensures full { IsFullCause result.cause result.history }
     ensures before { IsBelow (before_last_event result.history) }
@@ -137,13 +164,34 @@ where
 {
     match work {
         Work::Accept(decl) => without_run(alloc, tell(alloc, &decl, sink)),
-        Work::Run(decl, script) => {
+        Work::Run(decl, script, output) => {
             let job = Job {
                 decl: &decl,
                 gate,
-                workers,
+                workers: workers_of(asked),
+                dir: folder_of(asked),
             };
-            run(rt, alloc, &job, script, sink, rack)
+            run(rt, alloc, &job, script, output, sink, rack)
         }
+    }
+}
+
+/// How many workers are asked for.
+fn workers_of(asked: Asked<'_>) -> u8
+    ensures { result ≡ workers_of (asked_in asked.entry) }
+{
+    match asked {
+        Asked::Check { .. } => 1,
+        Asked::Run { workers, .. } | Asked::Load { workers, .. } => workers,
+    }
+}
+
+/// The folder that is asked for.
+fn folder_of(asked: Asked<'_>) -> Option<&str>
+    ensures { option_copied result ≡ folder_of (asked_in asked.entry) }
+{
+    match asked {
+        Asked::Run { dir, .. } => dir,
+        Asked::Check { .. } | Asked::Load { .. } => None,
     }
 }

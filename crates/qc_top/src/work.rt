@@ -4,22 +4,25 @@ ghost use Rattle.std.specs.Prelude.{◌≡◌, ◌≤◌, false, IfErr, IfOk, Er
 ghost use Rattle.std.specs.Option.{option_map_or};
 ghost use Rattle.qc_decl.specs.Accepted.{IsAccepted};
 ghost use Rattle.qc_decl.specs.Named.{IsNamed};
-ghost use Rattle.qc_decl.specs.One.{built_in_of};
+ghost use Rattle.qc_decl.specs.One.{built_in_of, three};
 ghost use Rattle.qc_script.specs.Grammar.{script_of};
 ghost use Rattle.qc_top.specs.Answers.{IsShort, most_script_bytes};
 ghost use Rattle.qc_top.specs.Source.{GivesSource, IsKnown, spelled_by};
-ghost use Rattle.qc_top.specs.Work.{Gives, IsRefusal, bytes_of, cause_of_shelf, run_of, script_work, spelled_in};
-ghost use Rattle.qc_top.specs.Work.{unless_a_line_is, unless_refused, work_of};
-ghost use Rattle.qc_top.specs.Words.{asked_in};
+ghost use Rattle.qc_top.specs.Work.{◌>>=◌, Gives, IsRefusal, accept_work, bytes_of, cause_of_shelf, load_work, run_of};
+ghost use Rattle.qc_top.specs.Work.{script_work, spelled_in, unless_a_line_is, unless_refused, work_of};
+ghost use Rattle.qc_words.specs.Askable.{IsAskable};
+ghost use Rattle.qc_words.specs.Asked.{asked_in};
+ghost use Rattle.qc_words.specs.Limits.{greatest_seed, most_transactions};
 
 use crate::answers::{Answer, Answers, is_built_in};
-use crate::words::Asked;
 use qc_accept::{DeclFault, accept};
 use qc_decl::{Declaration, built_in};
+use qc_gen::load_script;
 use qc_list::List;
 use qc_outside::ShelfFault;
 use qc_report::Cause;
 use qc_script::{Script, ScriptFault, read};
+use qc_words::Asked;
 use std::alloc::Global;
 
 /// What a call has to do.
@@ -27,8 +30,22 @@ use std::alloc::Global;
 pub enum Work {
     /// To say that this declaration is accepted.
     Accept(Declaration),
-    /// To run this script over this declaration.
-    Run(Declaration, Script),
+    /// To run this script over this declaration, and to print this of it.
+    Run(Declaration, Script, Output),
+}
+
+/// What is to be printed of a run.
+#[derive(Clone, Copy)]
+pub enum Output {
+    /// Its text.
+    Text,
+    /// Its summary, as the load of so many transactions from this seed.
+    Summary {
+        /// How many transactions.
+        count: u32,
+        /// The seed.
+        seed: u32,
+    },
 }
 
 /// Where a declaration stands.
@@ -43,15 +60,64 @@ pub(crate) enum Source {
 /// What a call has to do by what its words ask, or the cause for which it has
 /// nothing to do. A file that wasn't given comes before what the files hold.
 pub(crate) fn work_for(alloc: Global, asked: Asked<'_>, answers: Answers) -> Result<Work, Cause>
-    requires { IsShort answers.script }
+    requires askable { IsAskable (asked_in asked.entry) }
+    requires short { IsShort answers.script }
     ensures work { Gives (work_of (asked_in asked.entry) answers) result }
     ensures refusal { IfErr result IsRefusal }
 {
     let Answers { decl, script } = answers;
-    let source = source_at(alloc, asked.decl, decl)?;
-    match asked.script {
-        None => Ok(Work::Accept(declaration(alloc, source)?)),
-        Some(_) => script_work(alloc, source, script),
+    match asked {
+        Asked::Check { decl: name } => accept_at(alloc, name, decl),
+        Asked::Run { decl: name, .. } => run_at(alloc, name, decl, script),
+        Asked::Load { count, seed, .. } => load_work(alloc, count, seed),
+    }
+}
+
+/// To say that the declaration of this name is accepted.
+fn accept_at(alloc: Global, name: &str, answer: Answer) -> Result<Work, Cause>
+    ensures work { Gives (spelled_in name.now answer >>= accept_work) result }
+    ensures refusal { IfErr result IsRefusal }
+{
+    let source = source_at(alloc, name, answer)?;
+    Ok(Work::Accept(declaration(alloc, source)?))
+}
+
+/// The run of the script that was given, over the declaration of this name.
+fn run_at(alloc: Global, name: &str, answer: Answer, script: Answer) -> Result<Work, Cause>
+    requires short { IsShort script }
+    ensures work { Gives (spelled_in name.now answer >>= script_work script) result }
+    ensures refusal { IfErr result IsRefusal }
+{
+    let source = source_at(alloc, name, answer)?;
+    script_work(alloc, source, script)
+}
+
+/// The run of a load of so many transactions from this seed, over `@three`.
+fn load_work(alloc: Global, count: u32, seed: u32) -> Result<Work, Cause>
+    requires few { count ≤ most_transactions }
+    requires within { seed ≤ greatest_seed }
+    ensures work { Gives (Ok (load_work count seed)) result }
+    ensures refusal { IfErr result IsRefusal }
+{
+    let decl = three(alloc)?;
+    let Ok(text) = load_script(alloc, count, seed) else {
+        return Err(Cause::OutOfMemory);
+    };
+    let script = script_in(alloc, &decl, text.as_slice())?;
+    Ok(Work::Run(decl, script, Output::Summary { count, seed }))
+}
+
+/// The declaration `@three`.
+fn three(alloc: Global) -> Result<Declaration, Cause>
+    ensures three { Gives (Ok three) result }
+    ensures accepted { IfOk result IsAccepted }
+    ensures named { IfOk result IsNamed }
+    ensures refusal { IfErr result IsRefusal }
+{
+    match built_in(alloc, "@three") {
+        Ok(Some(decl)) => Ok(decl),
+        Ok(None) => unreachable!(),
+        Err(_) => Err(Cause::OutOfMemory),
     }
 }
 
@@ -150,7 +216,7 @@ fn run_of(alloc: Global, decl: Declaration, bytes: &[u8]) -> Result<Work, Cause>
     ensures refusal { IfErr result IsRefusal }
 {
     let script = script_in(alloc, &decl, bytes)?;
-    Ok(Work::Run(decl, script))
+    Ok(Work::Run(decl, script, Output::Text))
 }
 
 /// The script that these bytes spell, unless a line of it is refused.

@@ -11,7 +11,8 @@ use Rattle.clap.proofs.WalkLemmas.{both}
 use Rattle.qc_words.specs.Askable.{AreFew, IsAskable, IsName, IsNameIfAny}
 use Rattle.qc_words.specs.Forms.{Form, Part, Reading, Text, Values, are_given, ended, is_among, is_given, is_value, nothing_read, option_of, option_or_place, parts_of, placed, value_of, values_in, values_of, waits_for_none, with_named, with_next, with_part, with_word, with_words}
 use Rattle.qc_words.specs.Limits.{greatest_seed, most_transactions, most_workers}
-use Rattle.qc_words.specs.Numbers.{number_of, number_within, within}
+use Rattle.qc_number.specs.Numbers.{number_of}
+use Rattle.qc_words.specs.Numbers.{number_within, within}
 use Rattle.qc_words.specs.Words.{AskedOf, Check, asked, asked_behind, check_form, check_of, load_form, load_of, run_form, run_of, workers_of}
 
 bounds : (least most : ℕ) (o : Option ℕ) (n : ℕ) → within least most o ≡ Some n → (least ≤ n) × (n ≤ most)

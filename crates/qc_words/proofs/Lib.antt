@@ -1,10 +1,9 @@
 mod Alike
 mod Anywhere
-mod Askable
+pub mod Askable
 mod Clapped
 mod Commands
 mod Fits
-mod Numbers
 mod Rows
 mod Said
 mod Steps

@@ -1,18 +1,18 @@
 -- What can be asked is read as it is written.
-use Rattle.std.proofs.Common.{◌≡◌, ◌∙◌, ℕ, ◌<◌, ◌≤◌, ◌^◌, true, [], ◌∷◌, Option, Some, None, length, refl, ap, arith}
+use Rattle.std.proofs.Common.{◌≡◌, ◌∙◌, ℕ, ◌<◌, ◌≤◌, true, [], ◌∷◌, Option, Some, None, length, refl, arith}
 use Rattle.std.specs.Prelude.{decimal}
 use Rattle.std.specs.Char.{is_ascii_digit}
 use Rattle.std.specs.List.{list_all}
 use Rattle.std.proofs.lemmas.Bool.{le-leb}
-use Rattle.std.proofs.lemmas.Fmt.{decimal_is_IsNumeral, decimal_nonempty, length-decimal-le}
 use Rattle.qc_words.specs.Askable.{IsAskable, IsLoad, IsName, IsRun}
 use Rattle.qc_words.specs.Forms.{Text, option_of}
 use Rattle.qc_words.specs.Limits.{greatest_seed, most_transactions, most_workers}
-use Rattle.qc_words.specs.Numbers.{number_of, number_within}
+use Rattle.qc_number.specs.Numbers.{number_of}
+use Rattle.qc_words.specs.Numbers.{number_within}
 use Rattle.qc_words.specs.Words.{AskedOf, Check, Run, Load, asked}
 use Rattle.qc_words.specs.Written.{words_in}
 use Rattle.qc_words.proofs.Clapped.{option_is_long, values_are_plain}
-use Rattle.qc_words.proofs.Numbers.{digits}
+use Rattle.qc_number.proofs.Numbers.{decimal_is_digits, number_read}
 
 -- a value names no option
 no_option : (word : Text) → IsName word → option_of word ≡ None
@@ -25,14 +25,8 @@ digits_are_value (b ∷ rest) some all = grind (arith, all)
 
 number_is : (n : ℕ) → n ≤ 99999 → (IsName (decimal n)) × (number_of (decimal n) ≡ Some n)
 number_is n few =
-    let small : n < 2 ^ 64 = omega arith in
-    let some : 0 < length (decimal n) = decimal_nonempty n small in
-    let short : length (decimal n) ≤ 5 = length-decimal-le 5 n (omega arith) (omega arith) small in
-    let numeral = decimal_is_IsNumeral n small in
-    let all : list_all is_ascii_digit (decimal n) ≡ true = digits.from (decimal n) numeral.0.1 in (
-      digits_are_value (decimal n) some all,
-      rw (le-leb 1 _ some, le-leb _ 5 short, all) (ap Some numeral.1),
-    )
+    let is = decimal_is_digits n few in
+    (digits_are_value (decimal n) is.0 is.1, number_read n few)
 
 within_is : (least most n : ℕ) → least ≤ n → n ≤ most → most ≤ 99999 → number_within least most (decimal n) ≡ Some n
 within_is least most n above below few = rw ((number_is n (omega arith)).1, le-leb least n above, le-leb n most below) refl

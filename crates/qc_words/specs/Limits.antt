@@ -1,10 +1,6 @@
 -- The limits of words. `src/limits.rt` has the same numbers for code, and a law says that both agree.
 use Rattle.std.specs.Prelude.{ℕ}
 
--- the digits of a number
-abbrev pub most_digits : ℕ
-most_digits = 5
-
 -- the transactions of a load
 abbrev pub most_transactions : ℕ
 most_transactions = 500

@@ -1,13 +1,6 @@
--- Numbers in words: one to five ASCII digits, within bounds. Zeros may lead.
-use Rattle.std.specs.Prelude.{ℕ, ◌&&◌, nat_le, if◌then◌else◌, List, length, Option, Some, None}
-use Rattle.std.specs.Char.{is_ascii_digit}
-use Rattle.std.specs.List.{list_all}
-use Rattle.std.specs.Str.Parse.{digits_value}
-use Rattle.qc_words.specs.Limits.{most_digits}
-
-abbrev pub number_of : List ℕ → Option ℕ
-number_of word = if nat_le 1 (length word) && (nat_le (length word) most_digits && list_all is_ascii_digit word)
-    then Some (digits_value 10 word) else None
+-- Numbers in words, within bounds.
+use Rattle.std.specs.Prelude.{ℕ, ◌&&◌, nat_le, if◌then◌else◌, List, Option, Some, None}
+use Rattle.qc_number.specs.Numbers.{number_of}
 
 abbrev pub within : ℕ → ℕ → Option ℕ → Option ℕ
 within least most None = None

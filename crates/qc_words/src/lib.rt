@@ -30,6 +30,4 @@ pub use laws::{
     options_are_one_word_or_two, options_stand_anywhere, words_are_read_as_written,
     words_are_values_and_options, words_ask_within_limits, words_of_a_form_are_taken_by_clap,
 };
-pub use limits::{
-    GREATEST_SEED, MOST_DIGITS, MOST_TRANSACTIONS, MOST_WORKERS, limits_of_words_are_as_defined,
-};
+pub use limits::{GREATEST_SEED, MOST_TRANSACTIONS, MOST_WORKERS, limits_of_words_are_as_defined};

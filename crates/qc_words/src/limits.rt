@@ -2,10 +2,7 @@
 //! definitions, and the law at the end says that both agree.
 
 ghost use Rattle.std.specs.Prelude.{◌≡◌};
-ghost use Rattle.qc_words.specs.Limits.{greatest_seed, most_digits, most_transactions, most_workers};
-
-/// The most digits of a number.
-pub const MOST_DIGITS: usize = 5;
+ghost use Rattle.qc_words.specs.Limits.{greatest_seed, most_transactions, most_workers};
 
 /// The most transactions of a load.
 pub const MOST_TRANSACTIONS: u32 = 500;
@@ -18,7 +15,6 @@ pub const MOST_WORKERS: u32 = 8;
 
 /// The limits of the code are those of the definitions.
 pub fn limits_of_words_are_as_defined()
-    ensures digits { MOST_DIGITS ≡ most_digits }
     ensures transactions { MOST_TRANSACTIONS ≡ most_transactions }
     ensures seed { GREATEST_SEED ≡ greatest_seed }
     ensures workers { MOST_WORKERS ≡ most_workers }

@@ -1,9 +1,8 @@
 -- A call over the system's files and a writer: what the shelf handed over is just what all is said of.
 use Rattle.std.proofs.Common.{◌≡◌, ◌≤◌, ℕ, List, [], ◌∷◌, ◌++◌, Option, None, Some, Ok, Err}
-use Rattle.std.proofs.Common.{refl, sym, subst, ap, ◌∙◌, arith}
+use Rattle.std.proofs.Common.{refl, sym, subst, ap, ◌∙◌, ◌⊎◌, inl, inr, arith}
 use Rattle.std.proofs.lemmas.List.{append-nil}
 use Rattle.std.specs.Option.{option_map_or}
-use Rattle.std.specs.Prelude.{MatchOption}
 use Rattle.qc_fabric.specs.Events.{before_last_event}
 use Rattle.qc_fabric.specs.Limits.{IsBelow}
 use Rattle.qc_files.specs.Outside.{ShelfOfFiles}
@@ -16,15 +15,14 @@ use Rattle.qc_outside.specs.declared.mem_rack.Kept.{Kept as KeptPlace}
 use Rattle.qc_outside.specs.declared.rack.RackFault.{RackFault}
 use Rattle.qc_outside.specs.declared.rack.RackFault.TheVariants as racks
 use Rattle.qc_promise.specs.Kept.{Kept}
-use Rattle.qc_promise.specs.Spent.{Spent}
 use Rattle.qc_report.specs.Causes.{status_of}
 use Rattle.qc_report.specs.declared.cause.Cause.{Cause}
 use Rattle.qc_report.specs.declared.cause.Cause.TheVariants as causes
 use Rattle.qc_top.specs.Answers.{IsAnswerFor, decl_file, most_declaration_bytes, most_script_bytes, script_file}
 use Rattle.qc_top.specs.Racks.{IsRackBlamed}
-use Rattle.qc_top.specs.Top.{AreStatesKnown, IsFullCause, IsNoRack, Leaves, LeavesAsked, LeavesNothing}
+use Rattle.qc_top.specs.Top.{AreStatesKnown, IsFullCause, IsNoRack, Leaves, LeavesAsked}
 use Rattle.qc_top.specs.Top.{LeavesWords, OnPrinted}
-use Rattle.qc_top.specs.Words.{AskedOf, asked}
+use Rattle.qc_words.specs.Words.{AskedOf, asked}
 use Rattle.qc_top.specs.Work.{Caused, work_of}
 use Rattle.qc_top.specs.declared.work.Work.{Work}
 use Rattle.qc_top.specs.declared.work.Work.TheVariants as works
@@ -45,7 +43,7 @@ printed_then : (cause : Cause) (P Q : Type 0) → (P → Q) → OnPrinted cause 
 printed_then causes.Done P Q then here = then here
 printed_then causes.Sink P Q then here = then here
 printed_then causes.OutOfMemory P Q then here = tt
-printed_then causes.NotBuilt P Q then here = tt
+printed_then causes.Usage P Q then here = tt
 printed_then (causes.Shelf script fault) P Q then here = tt
 printed_then (causes.Declaration fault) P Q then here = tt
 printed_then (causes.Script fault) P Q then here = tt
@@ -56,26 +54,27 @@ kept_work : (work : Caused Work) (cause : Cause) (taken : List ℕ) (h : List En
     → Leaves work (Some []) cause (Some taken) h → Kept h → IsKeptWork work cause h
 kept_work (Err why) cause taken h left kept = tt
 kept_work (Ok (works.Accept decl)) cause taken h left kept = tt
-kept_work (Ok (works.Run decl script)) cause taken h left kept = record {
+kept_work (Ok (works.Run decl script output)) cause taken h left kept = record {
   due = left.replies;
   atomic = left.atomic kept;
   states = printed_then cause (Kept h → AreStatesKnown decl h) (AreStatesKnown decl h)
       (λ known. known kept) left.states;
 }
 
--- nobody blames a new rack: none of its places holds a byte, and it counts no fault
-pub unblamed : (kept : List KeptPlace) → kept ≡ [] → (cause : Cause)
-    → ((fault : RackFault) → cause ≡ causes.Rack fault → IsRackBlamed (Some (held kept)) 0 0 fault) → IsNoRack cause
-unblamed kept none cause blame = λ fault is. by fault (blame fault is)
+-- nobody blames a new rack in memory: none of its places holds a byte, and it counts no fault
+pub unblamed : (folder : Option (List ℕ)) (kept : List KeptPlace) → kept ≡ [] → (cause : Cause)
+    → ((fault : RackFault) → cause ≡ causes.Rack fault → IsRackBlamed folder (Some (held kept)) 0 0 fault)
+    → IsNoRack cause
+unblamed folder kept none cause blame = λ fault is. by fault (blame fault is)
   where
-    by : (fault : RackFault) → IsRackBlamed (Some (held kept)) 0 0 fault → ⊥
+    by : (fault : RackFault) → IsRackBlamed folder (Some (held kept)) 0 0 fault → ⊥
     by (racks.NotEmpty actor) blamed =
-        blamed.0 (subst (λ (k : List KeptPlace). HoldsNoByte (held k (place_of actor))) (sym none) tt)
+        blamed.0 (subst (λ (k : List KeptPlace). HoldsNoByte (held k (place_of folder actor))) (sym none) tt)
     by (racks.Failed actor) blamed = let never : 1 ≤ 0 = blamed.0 in omega arith
     by racks.OutOfMemory blamed = blamed.1 refl
 
 module _ {R : Type 0} (told : R → Option Places) (before after : ShelfOfFiles) (first last : R) (cause : Cause)
-    (taken : List ℕ) (h : List Entry) (kept : Kept h) where
+    (taken : List ℕ) (h : List Entry) where
   call_for : (a : AskedOf) → before.handed ≡ []
       → LeavesAsked keeps None told a before after first last (Some []) cause (Some taken) h
       → IsCallFor a after.handed cause taken h
@@ -91,40 +90,29 @@ module _ {R : Type 0} (told : R → Option Places) (before after : ShelfOfFiles)
             left.given.script
             ∙ ap (λ l. l ++ for_file (script_file a left.answers.decl) most_script_bytes left.answers.script) one;
         leaves = left.leaves;
-        keeps = kept_work (work_of a left.answers) cause taken h left.leaves kept;
+        keeps = kept_work (work_of a left.answers) cause taken h left.leaves;
         blame = left.blame;
       }
 
-  -- by what the words ask, if they ask anything
-  by_words : (o : Option AskedOf) → before.handed ≡ [] → (o ≡ None → cause ≡ causes.NotBuilt)
-      → MatchOption o
-      (LeavesNothing causes.NotBuilt (Some []) cause (Some taken) h × (after ≡ before) × (last ≡ first))
-      (λ a. LeavesAsked keeps None told a before after first last (Some []) cause (Some taken) h)
-      → MatchOption o (IsNoCall after.handed cause taken h) (λ a. IsCallFor a after.handed cause taken h)
-  by_words None unread due left =
-      record {
-        files = ap (λ (s : ShelfOfFiles). s.handed) left.1 ∙ unread;
-        due = due refl;
-        history = left.0.history;
-        text = ap (λ (o : Option (List ℕ)). option_map_or (λ text. text) o []) left.0.text;
-      }
-  by_words (Some a) unread due left = call_for a unread left
+  -- by whether the words were read
+  by_words : (words : List (List ℕ)) → before.handed ≡ []
+      → LeavesWords keeps None told words before after first last (Some []) cause (Some taken) h
+      → IsNoCall words after.handed cause taken h
+      ⊎ ((a : AskedOf) × (asked words ≡ Some a) × IsCallFor a after.handed cause taken h)
+  by_words words unread (inl left) = inl (record {
+    files = ap (λ (s : ShelfOfFiles). s.handed) left.shelf ∙ unread;
+    due = left.due;
+    history = left.history;
+    text = ap (λ (o : Option (List ℕ)). option_map_or (λ text. text) o []) left.text;
+  })
+  by_words words unread (inr (a, is, left)) = inr (a, is, call_for a unread left)
 
-  pub is_call : (words : List (List ℕ)) (old : List ℕ) (status : ℕ)
-      → before.handed ≡ [] → old ≡ [] → (asked words ≡ None → cause ≡ causes.NotBuilt)
+  pub is_call : (words : List (List ℕ)) (old : List ℕ) (status : ℕ) → before.handed ≡ [] → old ≡ []
       → LeavesWords keeps None told words before after first last (Some old) cause (Some taken) h
-      → status ≡ status_of cause → IsFullCause cause h → IsBelow (before_last_event h) → Spent h 0 → IsNoRack cause
+      → status ≡ status_of cause → IsFullCause cause h → IsBelow (before_last_event h)
       → IsCall words after.handed status cause taken h
-  is_call words old status unread unwritten due left told_is full below spent disks =
+  is_call words old status unread unwritten left told_is full below =
       let fresh : LeavesWords keeps None told words before after first last (Some []) cause (Some taken) h =
       subst (λ l. LeavesWords keeps None told words before after first last (Some l) cause (Some taken) h)
       unwritten left in
-      record {
-        by_words = by_words (asked words) unread due fresh;
-        told = told_is;
-        full = full;
-        before = below;
-        kept = kept;
-        spent = spent;
-        disks = disks;
-      }
+      record { by_words = by_words words unread fresh; told = told_is; full = full; before = below }

@@ -1,5 +1,5 @@
 -- What a call of the program leaves: by its words, what was handed over for its files, and what standard output took.
-use Rattle.std.specs.Prelude.{◌≡◌, ℕ, Bool, List, [], ◌∷◌, ◌++◌, Option, None, Some, Ok, Err, MatchOption}
+use Rattle.std.specs.Prelude.{◌≡◌, ◌⊎◌, ℕ, ◌<◌, ◌-◌, ◌^◌, Bool, List, [], ◌∷◌, ◌++◌, Option, None, Some, Ok, Err}
 use Rattle.qc_decl.specs.declared.declaration.Declaration.{Declaration}
 use Rattle.qc_fabric.specs.Events.{before_last_event}
 use Rattle.qc_fabric.specs.Limits.{IsBelow}
@@ -12,15 +12,19 @@ use Rattle.qc_promise.specs.Due.{Due}
 use Rattle.qc_promise.specs.Kept.{Kept}
 use Rattle.qc_promise.specs.Spent.{Spent}
 use Rattle.qc_report.specs.Causes.{status_of}
+use Rattle.qc_outside.specs.declared.rack.RackFault.{RackFault}
 use Rattle.qc_report.specs.declared.cause.Cause.{Cause}
 use Rattle.qc_report.specs.declared.cause.Cause.TheVariants as causes
 use Rattle.qc_top.specs.Answers.{decl_file, most_declaration_bytes, most_script_bytes, script_file}
 use Rattle.qc_top.specs.Top.{AreStatesKnown, IsFullCause, IsNoRack, Leaves, OnPrinted}
-use Rattle.qc_top.specs.Words.{AskedOf, asked}
+use Rattle.qc_top.specs.Racks.{IsRackBlamed}
+use Rattle.qc_top.specs.Words.{folder_in}
 use Rattle.qc_top.specs.Work.{Caused, IsBlamed, work_of}
 use Rattle.qc_top.specs.declared.answers.Answers.{Answers}
 use Rattle.qc_top.specs.declared.work.Work.{Work}
 use Rattle.qc_top.specs.declared.work.Work.TheVariants as works
+use Rattle.qc_words.specs.Forms.{Text}
+use Rattle.qc_words.specs.Words.{AskedOf, asked}
 
 -- what is handed over for a file, where one is asked for
 abbrev pub for_file : Option (List ℕ) → ℕ → Answer → List HandedOver
@@ -44,7 +48,7 @@ pub record IsKeptRun (decl : Declaration) (cause : Cause) (h : List Entry) : Typ
 abbrev pub IsKeptWork : Caused Work → Cause → List Entry → Type 0
 IsKeptWork (Err why) cause h = Unit {0}
 IsKeptWork (Ok (works.Accept decl)) cause h = Unit {0}
-IsKeptWork (Ok (works.Run decl script)) cause h = IsKeptRun decl cause h
+IsKeptWork (Ok (works.Run decl script output)) cause h = IsKeptRun decl cause h
 
 -- A call whose words ask this.
 pub record IsCallFor (asked : AskedOf) (handed : List HandedOver) (cause : Cause) (taken : List ℕ) (h : List Entry)
@@ -55,25 +59,40 @@ pub record IsCallFor (asked : AskedOf) (handed : List HandedOver) (cause : Cause
   -- and of them all is said: what is to be done, what happened, and that just its text was taken, or a part of it, or
   -- nothing
   pub leaves : Leaves (work_of asked answers) (Some []) cause (Some taken) h
-  pub keeps : IsKeptWork (work_of asked answers) cause h
+  pub keeps : Kept h → IsKeptWork (work_of asked answers) cause h
   pub blame : (script : Bool) → cause ≡ causes.Shelf script faults.Failed → IsBlamed asked answers script
 
--- A call whose words have another form: no file is asked for, nothing happens, and nothing is taken.
-pub record IsNoCall (handed : List HandedOver) (cause : Cause) (taken : List ℕ) (h : List Entry) : Type 0 where
+-- A call whose words weren't read: they ask nothing, or memory was wanting. No file is asked for, nothing happens, and
+-- nothing is taken.
+pub record IsNoCall (words : List Text) (handed : List HandedOver) (cause : Cause) (taken : List ℕ) (h : List Entry)
+    : Type 0 where
   pub files : handed ≡ []
-  pub due : cause ≡ causes.NotBuilt
+  pub due : ((cause ≡ causes.Usage) × (asked words ≡ None)) ⊎ (cause ≡ causes.OutOfMemory)
   pub history : h ≡ []
   pub text : taken ≡ []
 
 -- A call with these words, over files as they were handed over and an output that took just this.
-pub record IsCall (words : List (List ℕ)) (handed : List HandedOver) (status : ℕ) (cause : Cause) (taken : List ℕ)
+pub record IsCall (words : List Text) (handed : List HandedOver) (status : ℕ) (cause : Cause) (taken : List ℕ)
     (h : List Entry) : Type 0 where
-  pub by_words : MatchOption (asked words) (IsNoCall handed cause taken h) (λ a. IsCallFor a handed cause taken h)
+  pub by_words : IsNoCall words handed cause taken h
+      ⊎ ((a : AskedOf) × (asked words ≡ Some a) × IsCallFor a handed cause taken h)
   pub told : status ≡ status_of cause
   -- a limit is told exactly where it was reached
   pub full : IsFullCause cause h
   pub before : IsBelow (before_last_event h)
-  -- records are kept; what falls by disks there are was armed; and no disk is missing
+
+-- The same over disks in memory: records are kept; what falls by disks there are was armed; and no disk is missing.
+pub record IsCallInMemory (words : List Text) (handed : List HandedOver) (status : ℕ) (cause : Cause) (taken : List ℕ)
+    (h : List Entry) : Type 0 where
+  pub call : IsCall words handed status cause taken h
   pub kept : Kept h
   pub spent : Spent h 0
   pub disks : IsNoRack cause
+
+-- The same over the files of a folder, of which nothing is told but how many of their calls failed: these are the falls
+-- by disks that weren't armed, as long as 64 bits count them, and a disk that failed is told only where there are some.
+pub record IsCallInFolder (words : List Text) (handed : List HandedOver) (faults status : ℕ) (cause : Cause)
+    (taken : List ℕ) (h : List Entry) : Type 0 where
+  pub call : IsCall words handed status cause taken h
+  pub spent : faults < 2 ^ 64 - 1 → Spent h faults
+  pub disks : (fault : RackFault) → cause ≡ causes.Rack fault → IsRackBlamed (folder_in words) None 0 faults fault

@@ -1,25 +1,35 @@
 //! The program `quorum`: the real outside, and the top call.
 //!
 //! All that matters is in `qc_top`. Here the words, the files and standard
-//! output of the system are handed in, with a rack of disks in memory, and the
-//! cause of a status other than 0 is told on standard error, whatever that takes.
-//! What a call leaves is said in `run`, of the very bytes that were handed over and
-//! of all that standard output took (`IsCall`). Since the rack tells what its disks
-//! hold, records are kept: so each run is due and atomic.
+//! output of the system are handed in, with a rack of disks, and the cause of a
+//! status other than 0 is told on standard error, whatever that takes.
+//! What a call leaves is said of the very bytes that were handed over and of all
+//! that standard output took (`IsCall`).
+//!
+//! 1. Where the words name no folder, disks are in memory (`run_in_memory`). Their
+//!    rack tells what they hold, and records are kept: so each run is due and atomic.
+//! 2. Where they name one, disks are its files (`run_in_folder`). Nothing is told of
+//!    what these hold: of such a run is said what holds whatever a disk does, and
+//!    that it is atomic if no disk lost a record.
 #![tactic(auto)]
 
-ghost use Rattle.std.specs.Prelude.{◌≡◌, [], IfOk, drop, map};
+ghost use Rattle.std.specs.Prelude.{◌≡◌, [], IfOk, drop, is_some, map};
 ghost use Rattle.std.specs.IoError.{error_kind};
 ghost use Rattle.std.specs.Process.{exit_status};
 ghost use Rattle.std.specs.Vec.Iter.{into_iter_items};
 ghost use Rattle.qc_report.specs.Causes.{status_of};
-ghost use Rattle.qc_top.specs.Words.{texts_of};
-ghost use Rattle.quorum.specs.Call.{IsCall};
+ghost use Rattle.qc_top.specs.Words.{folder_in};
+ghost use Rattle.qc_words.specs.Parts.{texts_of};
+ghost use Rattle.qc_words.specs.Words.{asked};
+ghost use Rattle.quorum.specs.Call.{IsCallInFolder, IsCallInMemory};
 ghost use Rattle.quorum.specs.Words.{cause_of_kind};
 
-use qc_files::{FileShelf, OutSink};
-use qc_outside::{MemRack, OpenGate, Tear};
-use qc_top::{Cause, Ended, cause_text, quorum_words};
+mod progress;
+
+use crate::progress::Progress;
+use qc_files::{FileRack, FileShelf, OutSink};
+use qc_outside::{Gate, MemRack, Tear};
+use qc_top::{Asked, Cause, Ended, WordsFault, asked_by, cause_text, quorum_words};
 use std::alloc::{AllocError, Global};
 use std::env::Args;
 use std::io::{self, ErrorKind, Write};
@@ -52,7 +62,7 @@ fn cause_of(error: &io::Error) -> Cause
 {
     match error.kind() {
         ErrorKind::OutOfMemory => Cause::OutOfMemory,
-        _ => Cause::NotBuilt,
+        _ => Cause::Usage,
     }
 }
 
@@ -67,43 +77,92 @@ fn borrowed(alloc: Global, words: &[String]) -> Result<Vec<&str>, AllocError>
     Ok(texts)
 }
 
+/// Whether the words name a folder for the disks.
+fn name_a_folder(alloc: Global, words: &[&str]) -> Result<bool, AllocError>
+    ensures { IfOk result (λ b. b ≡ is_some (folder_in (texts_of words.now))) }
+{
+    match asked_by(alloc, words) {
+        Ok(Asked::Run { dir, .. }) => Ok(dir.is_some()),
+        Ok(Asked::Check { .. } | Asked::Load { .. }) | Err(WordsFault::Usage) => Ok(false),
+        Err(WordsFault::OutOfMemory) => Err(AllocError),
+    }
+}
+
 /// The top call over the system's files, a writer, as standard output is, and a new
 /// rack in memory. All that it leaves is said of what the files were read as, and of
 /// what the writer took.
-fn run<R, W>(
+fn run_in_memory<R, W, G>(
     rt: &R,
     words: &[&str],
     shelf: &mut FileShelf<'_, R>,
     sink: &mut OutSink<W>,
     rack: &mut MemRack,
+    gate: &G,
 ) -> Ended
 where
     R: Threads + Wait + Sync + Files + AllocGlobal,
     W: Write,
+    G: Gate + Sync,
     requires unread { shelf.old.handed ≡ [] }
     requires unwritten { sink.old.taken ≡ [] }
     requires unused { rack.old.places.items ≡ [] }
-    ensures { IsCall (texts_of words.now) shelf.new.handed result.status result.cause sink.new.taken
+    ensures { IsCallInMemory (texts_of words.now) shelf.new.handed result.status result.cause sink.new.taken
         result.history }
 {
-    quorum_words(rt, rt.alloc(), words, shelf, sink, rack, &OpenGate)
+    quorum_words(rt, rt.alloc(), words, shelf, sink, rack, gate)
+}
+
+/// The same over a new rack of files.
+fn run_in_folder<R, W, G>(
+    rt: &R,
+    words: &[&str],
+    shelf: &mut FileShelf<'_, R>,
+    sink: &mut OutSink<W>,
+    rack: &mut FileRack<'_, R>,
+    gate: &G,
+) -> Ended
+where
+    R: Threads + Wait + Sync + Files + AllocGlobal,
+    R::File: Send,
+    W: Write,
+    G: Gate + Sync,
+    requires unread { shelf.old.handed ≡ [] }
+    requires unwritten { sink.old.taken ≡ [] }
+    requires unused { rack.old.faults ≡ 0 }
+    ensures { IsCallInFolder (texts_of words.now) shelf.new.handed rack.new.faults result.status result.cause
+        sink.new.taken result.history }
+{
+    quorum_words(rt, rt.alloc(), words, shelf, sink, rack, gate)
 }
 
 /// The cause with which a call of these words ends, over the system's files and
 /// standard output.
-fn call<R>(rt: &R, words: &[String]) -> Cause
+fn call<R, G>(rt: &R, words: &[String], gate: &G) -> Cause
 where
     R: Threads + Wait + Sync + Files + Print + AllocGlobal,
+    R::File: Send,
+    G: Gate + Sync,
 {
-    let Ok(texts) = borrowed(rt.alloc(), words) else {
+    let alloc = rt.alloc();
+    let Ok(texts) = borrowed(alloc, words) else {
         return Cause::OutOfMemory;
     };
-    let Ok(mut rack) = MemRack::new(rt.alloc(), Tear::Nothing) else {
-        return Cause::OutOfMemory;
-    };
+    let words = texts.as_slice();
     let mut shelf = FileShelf::new(rt);
     let mut sink = OutSink::new(io::writer(rt));
-    run(rt, texts.as_slice(), &mut shelf, &mut sink, &mut rack).cause
+    match (
+        name_a_folder(alloc, words),
+        MemRack::new(alloc, Tear::Nothing),
+    ) {
+        (Ok(true), _) => {
+            let mut rack = FileRack::new(rt);
+            run_in_folder(rt, words, &mut shelf, &mut sink, &mut rack, gate).cause
+        }
+        (Ok(false), Ok(mut rack)) => {
+            run_in_memory(rt, words, &mut shelf, &mut sink, &mut rack, gate).cause
+        }
+        _ => Cause::OutOfMemory,
+    }
 }
 
 /// Tells a cause on standard error, and gives the program's exit, which is the
@@ -118,9 +177,11 @@ fn exit_for(rt: &HostRuntime, cause: &Cause) -> ExitCode
 }
 
 fn main(rt: HostRuntime) -> ExitCode {
+    let progress = Progress::new(&rt);
     let cause = match words_of_call(&rt) {
-        Ok(words) => call(&rt, words.as_slice()),
+        Ok(words) => call(&rt, words.as_slice(), &progress),
         Err(error) => cause_of(&error),
     };
+    progress.end();
     exit_for(&rt, &cause)
 }

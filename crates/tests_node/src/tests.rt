@@ -55,6 +55,7 @@ fn ran<G: Gate + Sync, R: Threads + Wait + Sync>(
         decl,
         gate,
         workers,
+        dir: None,
     };
     match run(rt, alloc, &job, script) {
         Ok(ran) => Ok(ran),

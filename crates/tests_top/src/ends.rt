@@ -10,7 +10,7 @@ use std::thread::Threads;
 /// The script of the first run.
 const SCRIPT: &str = "phase\nc0 begin\nc0 do x W1\nc0 do x R\nc0 commit\n";
 
-const NOT_BUILT: Ending = (9, "quorum: not built\n", 0);
+const USAGE: Ending = (1, "quorum: usage\n", 0);
 
 const NO_DECLARATION: Ending = (4, "quorum: declaration file: missing\n", 0);
 
@@ -18,11 +18,17 @@ const NO_SCRIPT: Ending = (4, "quorum: script file: missing\n", 0);
 
 #[test]
 fn words_have_their_forms(rt: HostRuntime) {
-    let rows: [&[&str]; 20] = [
+    let rows: [&[&str]; 29] = [
         &[],
+        &["--help"],
+        &["frob"],
         &["run"],
         &["check"],
-        &["load", "1", "2"],
+        &["load", "1"],
+        &["load", "0", "7"],
+        &["load", "501", "7"],
+        &["load", "1", "65537"],
+        &["load", "1", "7", "--dir", "d"],
         &["run", "@one"],
         &["run", "@one", "-s"],
         &["run", "@one", ""],
@@ -31,24 +37,20 @@ fn words_have_their_forms(rt: HostRuntime) {
         &["run", "@one", "s", "--workers"],
         &["run", "@one", "s", "--workers", "0"],
         &["run", "@one", "s", "--workers", "9"],
-        &["run", "@one", "s", "--workers", "01"],
+        &["run", "@one", "s", "--workers", "000001"],
+        &["run", "@one", "s", "--workers=2", "--workers", "2"],
+        &["run", "@one", "s", "--dir="],
+        &["run", "@one", "s", "--dir", "--workers=2"],
         &["run", "@one", "s", "--workers", ""],
         &["run", "@one", "s", "workers", "2"],
-        &["run", "--workers", "2", "@one", "s"],
+        &["run", "@one", "--", "s"],
         &["check", "@one", "s", "--workers", "2"],
         &["check", "@one", "s"],
         &["check", ""],
         &["check", "-d"],
     ];
     for words in rows {
-        ends_with(
-            &rt,
-            rt.alloc(),
-            words,
-            &[("s", SCRIPT)],
-            (&[], &[]),
-            NOT_BUILT,
-        );
+        ends_with(&rt, rt.alloc(), words, &[("s", SCRIPT)], (&[], &[]), USAGE);
     }
 }
 

@@ -19,6 +19,8 @@ mod epochs;
 #[cfg(test)]
 mod falls;
 #[cfg(test)]
+mod loads;
+#[cfg(test)]
 mod overtaking;
 #[cfg(test)]
 mod racks;

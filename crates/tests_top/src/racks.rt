@@ -31,19 +31,28 @@ fn ends_on<T: Threads + Wait + Sync + Abort, R: Rack>(
     assert!(rt; taken.is_empty());
 }
 
-/// Whether the call over this rack comes to its end.
-fn is_done<T: Threads + Wait + Sync, R: Rack>(rt: &T, alloc: Global, rack: &mut R) -> bool {
-    match call_on(rt, alloc, &WORDS, &FILES, rack) {
+/// Whether the call of these words over this rack comes to its end.
+fn is_done<T: Threads + Wait + Sync, R: Rack>(
+    rt: &T,
+    alloc: Global,
+    words: &[&str],
+    rack: &mut R,
+) -> bool {
+    match call_on(rt, alloc, words, &FILES, rack) {
         Ok((ended, _)) => ended.status == 0,
         Err(_) => false,
     }
 }
 
-/// Writes a byte to an actor's disk, and gives the disk back.
-fn fill(rack: &mut MemRack, actor: u8) -> Result<Result<(), DiskFault>, RackFault> {
-    let mut disk = rack.disk(None, actor)?;
+/// Writes a byte to an actor's disk in a folder, and gives the disk back.
+fn fill(
+    rack: &mut MemRack,
+    dir: Option<&str>,
+    actor: u8,
+) -> Result<Result<(), DiskFault>, RackFault> {
+    let mut disk = rack.disk(dir, actor)?;
     let answer = disk.write_at(0, &[7]);
-    rack.keep(None, actor, disk);
+    rack.keep(dir, actor, disk);
     Ok(answer)
 }
 
@@ -57,7 +66,7 @@ fn places_that_hold_bytes_are_told(rt: HostRuntime) -> Result<(), Fail> {
     ];
     for actor in 0..3u8 {
         let mut rack = new_rack(rt.alloc())?;
-        assert_eq!(rt; fill(&mut rack, actor), Ok(Ok(())));
+        assert_eq!(rt; fill(&mut rack, None, actor), Ok(Ok(())));
         ends_on(&rt, rt.alloc(), &mut rack, (6, texts[actor as usize], 0));
     }
     Ok(())
@@ -67,7 +76,7 @@ fn places_that_hold_bytes_are_told(rt: HostRuntime) -> Result<(), Fail> {
 #[test]
 fn a_rack_is_filled_by_a_run(rt: HostRuntime) -> Result<(), Fail> {
     let mut rack = new_rack(rt.alloc())?;
-    assert!(rt; is_done(&rt, rt.alloc(), &mut rack));
+    assert!(rt; is_done(&rt, rt.alloc(), &WORDS, &mut rack));
     ends_on(
         &rt,
         rt.alloc(),
@@ -75,7 +84,24 @@ fn a_rack_is_filled_by_a_run(rt: HostRuntime) -> Result<(), Fail> {
         (6, "quorum: disk of actor 0: not empty\n", 0),
     );
     for actor in 0..3u8 {
-        assert!(rt; fill(&mut rack, actor) == Err(RackFault::NotEmpty { actor }));
+        assert!(rt; fill(&mut rack, None, actor) == Err(RackFault::NotEmpty { actor }));
+    }
+    Ok(())
+}
+
+/// A run fills the places of the folder that its words name, and no others.
+#[test]
+fn runs_fill_the_places_of_their_folder(rt: HostRuntime) -> Result<(), Fail> {
+    let in_folder = ["run", "--dir", "d", "@one", "s"];
+    for (words, full) in [(WORDS.as_slice(), None), (in_folder.as_slice(), Some("d"))] {
+        let mut rack = new_rack(rt.alloc())?;
+        assert!(rt; is_done(&rt, rt.alloc(), words, &mut rack));
+        for actor in 0..3u8 {
+            for dir in [None, Some("d"), Some("e")] {
+                let is_full = fill(&mut rack, dir, actor) == Err(RackFault::NotEmpty { actor });
+                assert_eq!(rt; is_full, dir == full);
+            }
+        }
     }
     Ok(())
 }
@@ -142,6 +168,6 @@ fn disks_that_fail_are_told(rt: HostRuntime) {
         assert!(rt; rack.given == rack.back && rack.given == actor as u32);
     }
     let mut rack = FailingRack::new(rt.alloc(), 3);
-    assert!(rt; is_done(&rt, rt.alloc(), &mut rack));
+    assert!(rt; is_done(&rt, rt.alloc(), &WORDS, &mut rack));
     assert!(rt; rack.given == 3 && rack.back == 3);
 }

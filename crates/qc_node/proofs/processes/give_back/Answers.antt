@@ -1,6 +1,6 @@
 use Rattle.std.proofs.Common.{rules, ◌≡◌, ◌+◌, ◌<◌, ◌∷◌, ◌++◌, ◌∙◌, ℕ, Some, [], ap, append_assoc, arith, length}
 use Rattle.std.proofs.Common.{length-append, subst, sym}
-use Rattle.std.specs.Prelude.{is_some, slice_get, vec_len}
+use Rattle.std.specs.Prelude.{is_some, slice_get, vec_len, option_copied}
 use Rattle.std.specs.Vec.Iter.{into_iter_items}
 use Rattle.qc_outside.specs.Places.{IsPutBack}
 use Rattle.qc_process.specs.Stored.{IsOnDisk, IsProcess}
@@ -16,7 +16,7 @@ loop-process-init g c = record {
   can = tt;
   finite = tt;
   split = c.into_iter-process-iterator.ensures.into_iter_gives.0;
-  back = none_back (g.K.Rack.places c.args.rack.now) (g.K.Rack.faults c.args.rack.now);
+  back = none_back (option_copied c.args.dir) (g.K.Rack.places c.args.rack.now) (g.K.Rack.faults c.args.rack.now);
 }
 
 pub loop-process-preserved : goal.loop-process-preserved
@@ -42,8 +42,8 @@ loop-process-preserved g c =
     let on : IsOnDisk tells decl n [] told (g.K.D.Disk.faults c.into_disk.result) =
     c.into_disk.ensures.stored tells decl n [] is.stored in
     let begun : DiskHasJournal told [] = c.into_disk.ensures.begun tells decl n [] (c.requires.up n p at) is.stored in
-    let put : IsPutBack (places c.loop-process.rack) (place_of n) told (places c.keep.new.self) =
-    subst (λ (a : ℕ). IsPutBack (places c.loop-process.rack) (place_of a) told (places c.keep.new.self))
+    let put : IsPutBack (places c.loop-process.rack) (place_of (option_copied c.args.dir) n) told (places c.keep.new.self) =
+    subst (λ (a : ℕ). IsPutBack (places c.loop-process.rack) (place_of (option_copied c.args.dir) a) told (places c.keep.new.self))
     (c.number-actor.ensures ∙ is.number_is) c.keep.ensures.put in
     record {
       can = tt;
@@ -51,13 +51,13 @@ loop-process-preserved g c =
       split = append_assoc c.loop-process.yielded (p ∷ []) rest ∙ split;
       back =
           subst
-          (λ (k : ℕ). IsGivenBack k (places c.args.rack.now) (g.K.Rack.faults c.args.rack.now)
+          (λ (k : ℕ). IsGivenBack (option_copied c.args.dir) k (places c.args.rack.now) (g.K.Rack.faults c.args.rack.now)
           (places c.keep.new.self) (g.K.Rack.faults c.keep.new.self)) (sym more)
-          (one_more_back n (places c.args.rack.now) (places c.loop-process.rack) (places c.keep.new.self)
+          (one_more_back (option_copied c.args.dir) n (places c.args.rack.now) (places c.loop-process.rack) (places c.keep.new.self)
           (g.K.Rack.faults c.args.rack.now) (g.K.Rack.faults c.loop-process.rack)
           (g.K.Rack.faults c.keep.new.self) (g.K.D.Disk.faults c.into_disk.result) told
           c.loop-process.invariant.back put c.keep.ensures.kept
-          (handed_at (vec_len c.args.each) n (places c.args.rack.now) low c.requires.handed) on.still begun);
+          (handed_at (option_copied c.args.dir) (vec_len c.args.each) n (places c.args.rack.now) low c.requires.handed) on.still begun);
     }
 
 pub returns : goal.returns
@@ -73,5 +73,5 @@ returns g c =
       length-append c.loop-process.yielded (into_iter_items c.loop-process.process-iterator),
     ) in
     subst
-    (λ (k : ℕ). IsGivenBack k (g.K.Rack.places c.args.rack.now) (g.K.Rack.faults c.args.rack.now)
+    (λ (k : ℕ). IsGivenBack (option_copied c.args.dir) k (g.K.Rack.places c.args.rack.now) (g.K.Rack.faults c.args.rack.now)
     (g.K.Rack.places c.loop-process.rack) (g.K.Rack.faults c.loop-process.rack)) all c.loop-process.invariant.back

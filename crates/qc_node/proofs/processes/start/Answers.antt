@@ -1,5 +1,5 @@
 use Rattle.std.proofs.Common.{rules, ◌≡◌, ◌+◌, ◌≤◌, ◌∙◌, ℕ, ap, arith, length, subst, sym}
-use Rattle.std.specs.Prelude.{is_some, vec_len}
+use Rattle.std.specs.Prelude.{is_some, vec_len, option_copied}
 use Rattle.qc_decl.specs.Actors.{actors}
 use Rattle.qc_node.specs.Starts.{AreProcesses, AreStarted, AreUp, IsOtherwiseSame}
 use Rattle.qc_node.proofs.Starts.{more_processes, more_up, one_more_started, started_tells}
@@ -9,7 +9,7 @@ use Rattle.qc_node.proofs.processes.start.Goals as goal
 pub give_back-requires-clause-handed : goal.give_back-requires-clause-handed
 give_back-requires-clause-handed g c κs within =
     let places = g.K.Rack.places in
-    handed_still c.loop-actor.actor (vec_len c.loop-actor.each) (places c.args.rack.now)
+    handed_still (option_copied c.args.dir) c.loop-actor.actor (vec_len c.loop-actor.each) (places c.args.rack.now)
     (places c.loop-actor.rack) (places c.start_one.new.rack) c.loop-actor.invariant.count
     c.loop-actor.invariant.started.places c.in-Err.ensures.refused.places
 
@@ -19,17 +19,17 @@ give_back-requires-clause-processes g c κs within =
       c.args.decl.now,
       c.loop-actor.invariant.each (is_some (places c.start_one.new.rack))
           (λ is.
-          sym (started_tells c.loop-actor.actor (places c.args.rack.now) (places c.loop-actor.rack)
+          sym (started_tells (option_copied c.args.dir) c.loop-actor.actor (places c.args.rack.now) (places c.loop-actor.rack)
           c.loop-actor.invariant.started.places)
           ∙ (sym (told_alike (places c.loop-actor.rack) (places c.start_one.new.rack)
-          (IsOtherwiseSame c.loop-actor.actor) c.in-Err.ensures.refused.places) ∙ is)),
+          (IsOtherwiseSame (option_copied c.args.dir) c.loop-actor.actor) c.in-Err.ensures.refused.places) ∙ is)),
     )
 
 pub returns-in-Err-clause-refused : goal.returns-in-Err-clause-refused
 returns-in-Err-clause-refused g c =
     let places = g.K.Rack.places in
     let faults = g.K.Rack.faults in
-    given_up c.loop-actor.actor (vec_len c.loop-actor.each) (places c.args.rack.now) (places c.loop-actor.rack)
+    given_up (option_copied c.args.dir) c.loop-actor.actor (vec_len c.loop-actor.each) (places c.args.rack.now) (places c.loop-actor.rack)
     (places c.start_one.new.rack) (places c.give_back.new.rack) (faults c.args.rack.now) (faults c.loop-actor.rack)
     (faults c.start_one.new.rack) (faults c.give_back.new.rack) c.in-Err.fault c.loop-actor.invariant.started
     c.in-Err.ensures.refused c.loop-actor.invariant.count c.give_back.ensures
@@ -49,13 +49,13 @@ loop-actor-preserved g c =
           (more_processes tells c.args.decl.now c.loop-actor.each.items c.in-Ok.process c.loop-actor.actor many
           (c.loop-actor.invariant.each tells on)
           (c.in-Ok.ensures.begun tells
-          (λ is. started_tells c.loop-actor.actor (places c.args.rack.now) (places c.loop-actor.rack)
+          (λ is. started_tells (option_copied c.args.dir) c.loop-actor.actor (places c.args.rack.now) (places c.loop-actor.rack)
           c.loop-actor.invariant.started.places ∙ on is)));
       up =
           subst AreUp (sym c.push_reserved.ensures.items)
           (more_up c.loop-actor.each.items c.in-Ok.process c.loop-actor.invariant.up c.in-Ok.ensures.up);
       started =
-          one_more_started c.loop-actor.actor (places c.args.rack.now) (places c.loop-actor.rack)
+          one_more_started (option_copied c.args.dir) c.loop-actor.actor (places c.args.rack.now) (places c.loop-actor.rack)
           (places c.start_one.new.rack) (faults c.args.rack.now) (faults c.loop-actor.rack)
           (faults c.start_one.new.rack) c.loop-actor.invariant.started c.in-Ok.ensures.started;
     }
@@ -66,5 +66,5 @@ returns-clause-started g c =
     let faults = g.K.Rack.faults in
     let all : c.loop-actor.actor ≡ actors c.args.decl.now = search (rules, arith) in
     subst
-    (λ (n : ℕ). AreStarted n (places c.args.rack.now) (faults c.args.rack.now) (places c.loop-actor.rack)
+    (λ (n : ℕ). AreStarted (option_copied c.args.dir) n (places c.args.rack.now) (faults c.args.rack.now) (places c.loop-actor.rack)
     (faults c.loop-actor.rack)) all c.loop-actor.invariant.started

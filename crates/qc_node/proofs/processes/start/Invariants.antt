@@ -1,5 +1,5 @@
 use Rattle.std.proofs.Common.{◌≡◌, ◌≤◌, Bool, true}
-use Rattle.std.specs.Prelude.{IsSome, vec_capacity, vec_len}
+use Rattle.std.specs.Prelude.{IsSome, vec_capacity, vec_len, option_copied}
 use Rattle.qc_decl.specs.Actors.{actors}
 use Rattle.qc_node.specs.Starts.{AreProcesses, AreStarted, AreUp}
 use Rattle.qc_node.proofs.processes.start.Given as goal
@@ -13,6 +13,6 @@ invariant-loop-actor g l = record {
       → AreProcesses tells l.decl l.each.items;
   up : AreUp l.each.items;
   started :
-      AreStarted l.actor (g.K.Rack.places l.initial.rack) (g.K.Rack.faults l.initial.rack) (g.K.Rack.places l.rack)
+      AreStarted (option_copied l.dir) l.actor (g.K.Rack.places l.initial.rack) (g.K.Rack.faults l.initial.rack) (g.K.Rack.places l.rack)
       (g.K.Rack.faults l.rack);
 }

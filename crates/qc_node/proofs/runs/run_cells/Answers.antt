@@ -1,3 +1,4 @@
+use Rattle.std.specs.Prelude.{option_copied}
 use Rattle.std.proofs.Common.{◌≡◌, ◌∙◌, ◌-◌, List, None, subst, sym}
 use Rattle.qc_core.specs.Conduct.{IsLawfulWithFalls}
 use Rattle.qc_fabric.specs.Events.{before_last_event}
@@ -41,7 +42,7 @@ returns-clause-spent g c before less short =
     (sym c.settle.ensures.history) c.roll-roll.ensures.runs in
     let same : c.from_vec.result ≡ h = c.from_vec.ensures ∙ c.end-script.ensures.history in
     subst (λ (l : List Entry). Spent l (g.K.Rack.faults c.settle.new.rack - before)) (sym same)
-    (settled_spent g.N.Named.tells decl script h inputs run c.requires.runnable c.settle.new.roll.rooms
+    (settled_spent (option_copied c.args.job.now.dir) g.N.Named.tells decl script h inputs run c.requires.runnable c.settle.new.roll.rooms
     (g.K.Rack.faults c.args.rack.now) (g.K.Rack.faults c.settle.new.rack) (g.K.Rack.places c.settle.new.rack)
     c.settle.ensures.settled before less short)
 
@@ -59,7 +60,7 @@ returns-clause-kept g c tell =
     c.roll-roll.ensures.below in
     let same : c.from_vec.result ≡ h = c.from_vec.ensures ∙ c.end-script.ensures.history in
     subst Kept (sym same)
-    (settled_kept g.N.Named.tells decl script h inputs run c.requires.runnable c.settle.new.roll.rooms
+    (settled_kept (option_copied c.args.job.now.dir) g.N.Named.tells decl script h inputs run c.requires.runnable c.settle.new.roll.rooms
     (g.K.Rack.faults c.args.rack.now) (g.K.Rack.faults c.settle.new.rack) (g.K.Rack.places c.settle.new.rack)
     c.settle.ensures.settled below tell)
 
@@ -73,7 +74,7 @@ returns-clause-places g c =
     subst (λ (l : List Entry). RunsWithFalls (IsLawfulWithFalls decl) (fits_of decl) decl script l inputs)
     (sym c.settle.ensures.history) c.roll-roll.ensures.runs in
     let same : c.from_vec.result ≡ h = c.from_vec.ensures ∙ c.end-script.ensures.history in
-    subst (λ (l : List Entry). HoldJournals decl l (g.K.Rack.places c.settle.new.rack)) (sym same)
-    (settled_places g.N.Named.tells decl script h inputs run c.requires.runnable c.settle.new.roll.rooms
+    subst (λ (l : List Entry). HoldJournals (option_copied c.args.job.now.dir) decl l (g.K.Rack.places c.settle.new.rack)) (sym same)
+    (settled_places (option_copied c.args.job.now.dir) g.N.Named.tells decl script h inputs run c.requires.runnable c.settle.new.roll.rooms
     (g.K.Rack.faults c.args.rack.now) (g.K.Rack.faults c.settle.new.rack) (g.K.Rack.places c.settle.new.rack)
     c.settle.ensures.settled)

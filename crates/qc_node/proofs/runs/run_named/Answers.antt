@@ -1,5 +1,5 @@
 use Rattle.std.proofs.Common.{◌≡◌, ◌∙◌, subst}
-use Rattle.std.specs.Prelude.{vec_len}
+use Rattle.std.specs.Prelude.{vec_len, option_copied}
 use Rattle.qc_decl.specs.Actors.{actors, controller}
 use Rattle.qc_decl.specs.declared.declaration.Declaration.{Declaration}
 use Rattle.qc_laws.proofs.Downs.{tells}
@@ -23,14 +23,14 @@ cells_of-cells-requires-clause-begun g c κs within =
 
 pub run_cells-requires-clause-tells : goal.run_cells-requires-clause-tells
 run_cells-requires-clause-tells g c κs within =
-    started_tells (controller c.args.job.now.decl.now) (g.K.Rack.places c.args.rack.now)
+    started_tells (option_copied c.args.job.now.dir) (controller c.args.job.now.decl.now) (g.K.Rack.places c.args.rack.now)
     (g.K.Rack.places c.start.new.rack) c.in_ok-processes.ensures.started.places ∙ c.requires.tells
 
 pub run_cells-requires-clause-handed : goal.run_cells-requires-clause-handed
 run_cells-requires-clause-handed g c κs within =
-    all_handed (controller g.N.Named.declaration) (g.K.Rack.places c.args.rack.now) (g.K.Rack.places c.start.new.rack)
+    all_handed (option_copied c.args.job.now.dir) (controller g.N.Named.declaration) (g.K.Rack.places c.args.rack.now) (g.K.Rack.places c.start.new.rack)
     (subst
-    (λ (d : Declaration). IsHandedBelow (controller d) (g.K.Rack.places c.args.rack.now)
+    (λ (d : Declaration). IsHandedBelow (option_copied c.args.job.now.dir) (controller d) (g.K.Rack.places c.args.rack.now)
     (g.K.Rack.places c.start.new.rack)) c.requires.declaration c.in_ok-processes.ensures.started.places)
 
 pub returns-clause-spent : goal.returns-clause-spent
@@ -39,7 +39,7 @@ returns-clause-spent g c short =
 
 pub returns-clause-empty : goal.returns-clause-empty
 returns-clause-empty g c =
-    empty_before g.N.Named.declaration (g.K.Rack.places c.args.rack.now) (g.K.Rack.places c.start.new.rack)
+    empty_before (option_copied c.args.job.now.dir) g.N.Named.declaration (g.K.Rack.places c.args.rack.now) (g.K.Rack.places c.start.new.rack)
     (subst
-    (λ (d : Declaration). IsHandedBelow (controller d) (g.K.Rack.places c.args.rack.now)
+    (λ (d : Declaration). IsHandedBelow (option_copied c.args.job.now.dir) (controller d) (g.K.Rack.places c.args.rack.now)
     (g.K.Rack.places c.start.new.rack)) c.requires.declaration c.in_ok-processes.ensures.started.places)

@@ -1,3 +1,4 @@
+use Rattle.std.specs.Prelude.{option_copied}
 use Rattle.std.proofs.Common.{rules, ◌≡◌, ◌+◌, ◌∷◌, ◌++◌, ◌∙◌, ℕ, [], arith, length, length-append, refl, subst, sym}
 use Rattle.qc_decl.specs.Actors.{actors}
 use Rattle.qc_node.specs.Settling.{IsSettling}
@@ -11,7 +12,8 @@ loop-cell-init g c = record {
   same = refl;
   count = search (rules, arith);
   settling =
-      settling_none g.N.Named.tells g.N.Named.declaration c.args.roll.now.history c.args.roll.now.rooms
+      settling_none g.N.Named.tells g.N.Named.declaration c.args.roll.now.history (option_copied c.args.dir)
+      c.args.roll.now.rooms
       (g.K.Rack.faults c.args.rack.now) (g.K.Rack.places c.args.rack.now) c.requires.tells c.requires.handed;
 }
 
@@ -26,7 +28,7 @@ loop-cell-preserved g c =
       count = search (rules, arith);
       settling =
           subst
-          (λ (n : ℕ). IsSettling g.N.Named.tells g.N.Named.declaration c.settle_one.new.roll.history
+          (λ (n : ℕ). IsSettling (option_copied c.args.dir) g.N.Named.tells g.N.Named.declaration c.settle_one.new.roll.history
           c.settle_one.new.roll.rooms n (g.K.Rack.faults c.args.rack.now) (g.K.Rack.faults c.settle_one.new.rack)
           (g.K.Rack.places c.settle_one.new.rack)) (sym more)
           (c.settle_one.ensures.one (length c.loop-cell.yielded) (g.K.Rack.faults c.args.rack.now)
@@ -37,6 +39,6 @@ pub returns-clause-settled : goal.returns-clause-settled
 returns-clause-settled g c =
     let count : length c.loop-cell.yielded ≡ actors g.N.Named.declaration = search (rules, arith) in
     subst
-    (λ (n : ℕ). IsSettling g.N.Named.tells g.N.Named.declaration c.loop-cell.roll.history c.loop-cell.roll.rooms n
+    (λ (n : ℕ). IsSettling (option_copied c.args.dir) g.N.Named.tells g.N.Named.declaration c.loop-cell.roll.history c.loop-cell.roll.rooms n
     (g.K.Rack.faults c.args.rack.now) (g.K.Rack.faults c.loop-cell.rack) (g.K.Rack.places c.loop-cell.rack)) count
     c.loop-cell.invariant.settling

@@ -1,5 +1,5 @@
 use Rattle.std.proofs.Common.{◌≡◌, ◌+◌, length}
-use Rattle.std.specs.Prelude.{vec_len}
+use Rattle.std.specs.Prelude.{vec_len, option_copied}
 use Rattle.std.specs.Vec.Iter.{into_iter_items}
 use Rattle.qc_node.specs.Settling.{IsSettling}
 use Rattle.qc_node.proofs.settle.settle.Given as goal
@@ -12,6 +12,6 @@ invariant-loop-cell g l = record {
   same : l.roll.history ≡ l.initial.roll.history;
   count : length l.yielded + length (into_iter_items l.cell-iterator) ≡ vec_len l.fn.cells.cells;
   settling :
-      IsSettling g.N.Named.tells g.N.Named.declaration l.roll.history l.roll.rooms (length l.yielded)
+      IsSettling (option_copied l.fn.dir) g.N.Named.tells g.N.Named.declaration l.roll.history l.roll.rooms (length l.yielded)
       (g.K.Rack.faults l.initial.rack) (g.K.Rack.faults l.rack) (g.K.Rack.places l.rack);
 }

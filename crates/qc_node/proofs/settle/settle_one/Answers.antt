@@ -1,3 +1,4 @@
+use Rattle.std.specs.Prelude.{option_copied}
 use Rattle.std.proofs.Common.{◌<◌, [], arith}
 use Rattle.qc_decl.specs.Actors.{controller}
 use Rattle.qc_pass.specs.Tokens.{number, seen}
@@ -25,6 +26,6 @@ returns-clause-one g c =
     c.cell.inside.given_up c.cell.invariant.known in
     called_one tells decl c.args.roll.now.history now c.args.roll.now.rooms c.call.new.self.rooms p q
     c.call.ensures.history c.call.ensures.saw c.call.ensures.seen c.call.ensures.first c.call.ensures.called
-    c.number-actor.result c.number-actor.ensures low told disk on (g.K.Rack.faults c.args.rack.now)
+    (option_copied c.args.dir) c.number-actor.result c.number-actor.ensures low told disk on (g.K.Rack.faults c.args.rack.now)
     (g.K.Rack.faults c.keep.new.self) c.keep.ensures.kept (g.K.Rack.places c.args.rack.now)
     (g.K.Rack.places c.keep.new.self) c.keep.ensures.put

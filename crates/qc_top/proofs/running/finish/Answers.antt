@@ -10,7 +10,7 @@ conclude-cause-requires-clause-whole g c = ended_whole c.args.decl.now c.args.ra
 
 pub returns-clause-leaves : goal.returns-clause-leaves
 returns-clause-leaves g c =
-    leaves_run c.args.decl.now c.args.ran.script c.args.ran.history (g.K.Sink.taken c.args.sink.now) c.conclude-cause.result (g.K.Sink.taken c.conclude-cause.new.sink) c.requires.runnable
+    leaves_run c.args.decl.now c.args.ran.script c.args.output c.args.ran.history (g.K.Sink.taken c.args.sink.now) c.conclude-cause.result (g.K.Sink.taken c.conclude-cause.new.sink) c.requires.runnable
     (ended_run c.args.decl.now c.args.ran.script c.requires.runnable c.args.ran.history c.args.ran.end c.requires.ended)
     c.conclude-cause.ensures.ran c.conclude-cause.ensures.whole c.conclude-cause.ensures.text
 

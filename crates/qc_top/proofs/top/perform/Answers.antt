@@ -2,13 +2,14 @@ use Rattle.std.proofs.Common.{refl, subst, sym, ◌∙◌, List}
 use Rattle.qc_msg.specs.Steps.{Entry}
 use Rattle.qc_report.specs.declared.cause.Cause.{Cause}
 use Rattle.qc_top.proofs.Blame.{blames}
-use Rattle.qc_top.proofs.Ends.{leaves_refused, refused_full, refused_no_rack}
+use Rattle.qc_top.proofs.Ends.{leaves_refused, refused_full, refused_no_rack, refused_no_usage}
 use Rattle.qc_top.proofs.Idle.{idle_rack, idle_used}
 use Rattle.qc_top.proofs.Runs.{begun_below}
 use Rattle.qc_top.proofs.Right.{work_is}
 use Rattle.qc_top.specs.Racks.{LeavesRack}
 use Rattle.qc_top.specs.Top.{IsFullCause, Leaves}
-use Rattle.qc_top.specs.Words.{asked_in}
+use Rattle.qc_top.specs.Words.{folder_of}
+use Rattle.qc_words.specs.Asked.{asked_in}
 use Rattle.qc_top.specs.Work.{Caused, IsRefusal, work_of}
 use Rattle.qc_top.specs.declared.work.Work.{Work}
 use Rattle.qc_top.proofs.top.perform.Goals as goal
@@ -25,15 +26,15 @@ returns-in-Ok-clause-blame g c = λ script same. absurd (c.do_work.ensures.shelf
 
 pub returns-in-Ok-clause-rack : goal.returns-in-Ok-clause-rack
 returns-in-Ok-clause-rack g c =
-    subst (λ (w : Caused Work). LeavesRack g.R.Rack.places w c.args.rack.now c.do_work.new.rack c.do_work.result.history) (sym c.in-Ok.ensures.work) c.do_work.ensures.rack
+    subst (λ (w : Caused Work). LeavesRack (folder_of (asked_in c.args.asked)) g.R.Rack.places w c.args.rack.now c.do_work.new.rack c.do_work.result.history) (sym c.in-Ok.ensures.work) c.do_work.ensures.rack
 
 pub returns-in-Err-clause-rack : goal.returns-in-Err-clause-rack
 returns-in-Err-clause-rack g c =
-    idle_rack g.R.Rack.places (work_of (asked_in c.args.asked) c.args.answers) c.args.rack.now c.args.rack.now c.without_run.result.history refl c.without_run.ensures.history
+    idle_rack (folder_of (asked_in c.args.asked)) g.R.Rack.places (work_of (asked_in c.args.asked) c.args.answers) c.args.rack.now c.args.rack.now c.without_run.result.history refl c.without_run.ensures.history
 
 pub returns-in-Err-clause-used : goal.returns-in-Err-clause-used
 returns-in-Err-clause-used g c =
-    idle_used g.R.Rack.faults g.R.Rack.places c.args.rack.now c.without_run.result.cause c.without_run.result.history c.without_run.ensures.history
+    idle_used (folder_of (asked_in c.args.asked)) g.R.Rack.faults g.R.Rack.places c.args.rack.now c.without_run.result.cause c.without_run.result.history c.without_run.ensures.history
     (refused_no_rack c.without_run.result.cause (subst IsRefusal (sym c.without_run.ensures.cause) c.in-Err.ensures.refusal))
 
 pub returns-in-Err-clause-leaves : goal.returns-in-Err-clause-leaves
@@ -51,3 +52,7 @@ returns-in-Err-clause-full g c =
 
 pub returns-in-Err-clause-before : goal.returns-in-Err-clause-before
 returns-in-Err-clause-before g c = begun_below c.without_run.result.history c.without_run.ensures.history
+
+pub returns-in-Err-clause-asked : goal.returns-in-Err-clause-asked
+returns-in-Err-clause-asked g c is =
+    refused_no_usage c.without_run.result.cause (subst IsRefusal (sym c.without_run.ensures.cause) c.in-Err.ensures.refusal) is

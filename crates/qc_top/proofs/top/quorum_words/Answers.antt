@@ -1,44 +1,124 @@
-use Rattle.std.proofs.Common.{◌≡◌, ◌∙◌, Some, ap, sym}
-use Rattle.std.specs.Prelude.{option_map}
+use Rattle.std.proofs.Common.{◌≡◌, ◌∙◌, ◌⊎◌, Option, Some, None, absurd, inl, inr, refl, subst, sym}
+use Rattle.qc_report.specs.declared.cause.Cause.TheVariants as causes
+use Rattle.std.specs.Prelude.{option_and_then}
+use Rattle.qc_outside.specs.declared.rack.RackFault.{RackFault}
 use Rattle.qc_top.proofs.Blame.{blame_rose}
-use Rattle.qc_top.proofs.Ends.{words_leave}
+use Rattle.qc_top.proofs.Ends.{unread_due, unread_full, unread_no_rack, unread_no_shelf, unread_no_sink, unread_usage}
 use Rattle.qc_top.proofs.Idle.{begun_kept, begun_spent}
+use Rattle.qc_top.proofs.Runs.{begun_below}
 use Rattle.qc_top.proofs.Takes.{answers_short}
-use Rattle.qc_top.specs.Words.{asked, asked_in, texts_of}
+use Rattle.qc_top.specs.Racks.{IsRackBlamed}
+use Rattle.qc_top.specs.Words.{folder_of}
+use Rattle.qc_words.proofs.Askable.{asks_askable}
+use Rattle.qc_words.specs.Asked.{asked_in}
+use Rattle.qc_words.specs.Parts.{texts_of}
+use Rattle.qc_words.specs.Words.{AskedOf, asked}
 use Rattle.qc_top.proofs.top.quorum_words.Goals as goal
 
-pub returns-clause-leaves : goal.returns-clause-leaves
-returns-clause-leaves g c =
-    let named : asked (texts_of c.args.words.now) ≡ Some (asked_in c.in-Some.asked) = sym c.asked_by.ensures ∙ ap (option_map asked_in) c.in-Some.is in
-    words_leave g.F.Shelf.gives (g.F.Shelf.files c.args.shelf.now) g.R.Rack.places (texts_of c.args.words.now) (asked_in c.in-Some.asked) c.args.shelf.now c.answers_for-answers.new.shelf c.args.rack.now c.perform.new.rack
-    (g.K.Sink.taken c.args.sink.now) c.perform.result.cause (g.K.Sink.taken c.perform.new.sink) c.perform.result.history named
-    (record { answers = c.answers_for-answers.result; given = c.answers_for-answers.ensures.answers; leaves = c.perform.ensures.leaves; rack = c.perform.ensures.rack; blame = c.perform.ensures.blame })
+-- words that were read
 
-pub returns-clause-shelf : goal.returns-clause-shelf
-returns-clause-shelf g c =
-    λ script same. blame_rose (asked_in c.in-Some.asked) c.answers_for-answers.result script (g.F.Shelf.faults c.args.shelf.now) (g.F.Shelf.faults c.answers_for-answers.new.shelf) (c.perform.ensures.blame script same) c.answers_for-answers.ensures.count
-
-pub returns-clause-rack : goal.returns-clause-rack
-returns-clause-rack g c = c.perform.ensures.used.blame
-
-pub returns-clause-kept : goal.returns-clause-kept
-returns-clause-kept g c = c.perform.ensures.used.kept
-
-pub returns-clause-spent : goal.returns-clause-spent
-returns-clause-spent g c = c.perform.ensures.used.spent
-
-pub returns-clause-later : goal.returns-clause-later
-returns-clause-later g c = c.perform.ensures.used.later
-
-pub returns-clause-tells : goal.returns-clause-tells
-returns-clause-tells g c = c.perform.ensures.used.tells
-
-pub returns-in_default-clause-kept : goal.returns-in_default-clause-kept
-returns-in_default-clause-kept g c = λ _. begun_kept c.without_run.result.history c.without_run.ensures.history
-
-pub returns-in_default-clause-spent : goal.returns-in_default-clause-spent
-returns-in_default-clause-spent g c = λ _. begun_spent c.without_run.result.history _ c.without_run.ensures.history
+pub perform-requires-clause-askable : goal.perform-requires-clause-askable
+perform-requires-clause-askable g c = λ _ _. asks_askable (texts_of c.args.words.now) (asked_in c.in-Ok.asked) c.in-Ok.ensures
 
 pub perform-requires-clause-short : goal.perform-requires-clause-short
 perform-requires-clause-short g c = λ _ _.
-    answers_short g.F.Shelf.gives (g.F.Shelf.files c.args.shelf.now) (asked_in c.in-Some.asked) c.args.shelf.now c.answers_for-answers.new.shelf c.answers_for-answers.result c.answers_for-answers.ensures.answers
+    answers_short g.F.Shelf.gives (g.F.Shelf.files c.args.shelf.now) (asked_in c.in-Ok.asked) c.args.shelf.now
+    c.answers_for-answers.new.shelf c.answers_for-answers.result c.answers_for-answers.ensures.answers
+
+pub returns-in-Ok-clause-leaves : goal.returns-in-Ok-clause-leaves
+returns-in-Ok-clause-leaves g c = inr (asked_in c.in-Ok.asked, c.in-Ok.ensures, record {
+  answers = c.answers_for-answers.result;
+  given = c.answers_for-answers.ensures.answers;
+  leaves = c.perform.ensures.leaves;
+  rack = c.perform.ensures.rack;
+  blame = c.perform.ensures.blame;
+})
+
+pub returns-in-Ok-clause-words : goal.returns-in-Ok-clause-words
+returns-in-Ok-clause-words g c = λ none. absurd (let both : Some (asked_in c.in-Ok.asked) ≡ None = sym c.in-Ok.ensures ∙ none in let never : ⊥ = cc in never)
+
+pub returns-in-Ok-clause-usage : goal.returns-in-Ok-clause-usage
+returns-in-Ok-clause-usage g c = λ is. absurd (c.perform.ensures.asked is)
+
+pub returns-in-Ok-clause-shelf : goal.returns-in-Ok-clause-shelf
+returns-in-Ok-clause-shelf g c = λ script same.
+    blame_rose (asked_in c.in-Ok.asked) c.answers_for-answers.result script (g.F.Shelf.faults c.args.shelf.now)
+    (g.F.Shelf.faults c.answers_for-answers.new.shelf) (c.perform.ensures.blame script same)
+    c.answers_for-answers.ensures.count
+
+pub returns-in-Ok-clause-rack : goal.returns-in-Ok-clause-rack
+returns-in-Ok-clause-rack g c = λ fault is.
+    subst
+    (λ (a : Option AskedOf). IsRackBlamed (option_and_then folder_of a) (g.R.Rack.places c.args.rack.now)
+    (g.R.Rack.faults c.args.rack.now) (g.R.Rack.faults c.perform.new.rack) fault) (sym c.in-Ok.ensures)
+    (c.perform.ensures.used.blame fault is)
+
+pub returns-in-Ok-clause-kept : goal.returns-in-Ok-clause-kept
+returns-in-Ok-clause-kept g c = c.perform.ensures.used.kept
+
+pub returns-in-Ok-clause-spent : goal.returns-in-Ok-clause-spent
+returns-in-Ok-clause-spent g c = c.perform.ensures.used.spent
+
+pub returns-in-Ok-clause-later : goal.returns-in-Ok-clause-later
+returns-in-Ok-clause-later g c = c.perform.ensures.used.later
+
+pub returns-in-Ok-clause-tells : goal.returns-in-Ok-clause-tells
+returns-in-Ok-clause-tells g c = c.perform.ensures.used.tells
+
+-- and words that weren't
+
+pub returns-in-Err-clause-leaves : goal.returns-in-Err-clause-leaves
+returns-in-Err-clause-leaves g c = inl (record {
+  due =
+      unread_due (texts_of c.args.words.now) c.in-Err.fault c.without_run.result.cause
+      (c.without_run.ensures.cause ∙ c.words_cause.ensures) c.in-Err.ensures;
+  history = c.without_run.ensures.history;
+  text = refl;
+  shelf = refl;
+  rack = refl;
+})
+
+pub returns-in-Err-clause-words : goal.returns-in-Err-clause-words
+returns-in-Err-clause-words g c = λ none.
+    by (unread_due (texts_of c.args.words.now) c.in-Err.fault c.without_run.result.cause
+    (c.without_run.ensures.cause ∙ c.words_cause.ensures) c.in-Err.ensures)
+  where
+    by : ((c.without_run.result.cause ≡ causes.Usage) × (asked (texts_of c.args.words.now) ≡ None))
+        ⊎ (c.without_run.result.cause ≡ causes.OutOfMemory)
+        → (c.without_run.result.cause ≡ causes.Usage) ⊎ (c.without_run.result.cause ≡ causes.OutOfMemory)
+    by (inl due) = inl due.0
+    by (inr wanting) = inr wanting
+
+pub returns-in-Err-clause-usage : goal.returns-in-Err-clause-usage
+returns-in-Err-clause-usage g c = λ is.
+    unread_usage (texts_of c.args.words.now) c.in-Err.fault c.without_run.result.cause
+    (c.without_run.ensures.cause ∙ c.words_cause.ensures) c.in-Err.ensures is
+
+pub returns-in-Err-clause-full : goal.returns-in-Err-clause-full
+returns-in-Err-clause-full g c =
+    unread_full c.in-Err.fault c.without_run.result.cause c.without_run.result.history
+    (c.without_run.ensures.cause ∙ c.words_cause.ensures) c.without_run.ensures.history
+
+pub returns-in-Err-clause-before : goal.returns-in-Err-clause-before
+returns-in-Err-clause-before g c = begun_below c.without_run.result.history c.without_run.ensures.history
+
+pub returns-in-Err-clause-shelf : goal.returns-in-Err-clause-shelf
+returns-in-Err-clause-shelf g c = λ script is.
+    absurd (unread_no_shelf c.in-Err.fault c.without_run.result.cause
+    (c.without_run.ensures.cause ∙ c.words_cause.ensures) script is)
+
+pub returns-in-Err-clause-sink : goal.returns-in-Err-clause-sink
+returns-in-Err-clause-sink g c = λ is.
+    absurd (unread_no_sink c.in-Err.fault c.without_run.result.cause
+    (c.without_run.ensures.cause ∙ c.words_cause.ensures) is)
+
+pub returns-in-Err-clause-rack : goal.returns-in-Err-clause-rack
+returns-in-Err-clause-rack g c = λ fault is.
+    absurd (unread_no_rack c.in-Err.fault c.without_run.result.cause
+    (c.without_run.ensures.cause ∙ c.words_cause.ensures) fault is)
+
+pub returns-in-Err-clause-kept : goal.returns-in-Err-clause-kept
+returns-in-Err-clause-kept g c = λ _. begun_kept c.without_run.result.history c.without_run.ensures.history
+
+pub returns-in-Err-clause-spent : goal.returns-in-Err-clause-spent
+returns-in-Err-clause-spent g c = λ _. begun_spent c.without_run.result.history _ c.without_run.ensures.history
