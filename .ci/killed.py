@@ -33,6 +33,8 @@ PAUSE = 0.004
 SITES, CLIENTS, ACTORS = range(0, 3), range(3, 6), range(0, 7)
 # No more transactions with two operations each have room in a run.
 MOST = 500
+# With so many commits of nothing in each phase a run stays below its limit of steps.
+MOST_EMPTY = 63
 # Two sites of three are asked for a promise.
 QUORUM = 2
 
@@ -82,7 +84,7 @@ class Run:
         """Runs it, and kills it then; its status, and what it printed. Nobody is killed where that is none."""
         call = subprocess.Popen(self.words, stdin=subprocess.DEVNULL, stdout=subprocess.PIPE, stderr=subprocess.PIPE)
         begin = time.monotonic()
-        # The text fits in no pipe, so it is read only where the run ends by itself.
+        # A text that is longer than the pipe holds waits for its reader, so such a run is killed as it prints.
         while seconds is not None and call.poll() is None and time.monotonic() - begin < seconds:
             for reader in self.readers:
                 reader.look()
@@ -182,7 +184,7 @@ def fitted(program, folder, script):
         with open(script, "w") as file:
             file.write(script_of(transactions, empty))
         seconds, faults = time_of(program, script, 1, "%s/timed-%d-%d" % (folder, transactions, empty))
-        if faults or seconds > SECONDS / 2 or empty > 64:
+        if faults or seconds > SECONDS / 2 or empty > MOST_EMPTY / 2:
             break
         if transactions < MOST:
             transactions = min(MOST, transactions * 2)
