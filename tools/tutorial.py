@@ -8,7 +8,7 @@ docs/TUTORIAL.md and docs/DIAGNOSTICS.md, each in a folder of its own that is
 made for it and thrown away. Of a page, these fenced blocks are read, in their
 order; the word behind the fence is the block's kind:
 
-  KIND title=FILE             the file's whole text
+  KIND title=FILE             the file's whole text; folders in its name are made
   diff title=FILE             an edit of the file: lines with `-` give way to
                               lines with `+`, those with a space stay. The old
                               lines of a place stand together in the file once;
@@ -110,6 +110,7 @@ def make_file(folder, files, block):
         for number, old, new in hunks_of(block):
             lines = edited(lines, number, old, new)
     files[name] = lines
+    os.makedirs(os.path.dirname(os.path.join(folder, name)), exist_ok=True)
     with open(os.path.join(folder, name), "w", encoding="utf-8") as file:
         file.write("".join(line + "\n" for line in lines))
 
