@@ -14,10 +14,11 @@ order; the word behind the fence is the block's kind:
                               lines of a place stand together in the file once;
                               behind lines with `+` the next place begins
   diff title=FILE from=OTHER  the file is OTHER with this edit
-  console                     commands, each a line `$ ./quorum WORDS`, and then
-                              all that it prints: standard output, standard
-                              error, and for a status other than 0 the line
-                              `status N`. `> FILE` at a command's end sends
+  console                     commands, each a line `$ ./quorum WORDS`,
+                              `$ tools/journals.py WORDS` or `$ mkdir FOLDER`,
+                              and then all that it prints: standard output,
+                              standard error, and for a status other than 0 the
+                              line `status N`. `> FILE` at a command's end sends
                               standard output there.
 
 Says which line of a page differs, and ends with status 1 then, and where a page
@@ -34,7 +35,8 @@ HERE = os.path.dirname(os.path.abspath(__file__))
 ROOT = os.path.dirname(HERE)
 PAGES = ("docs/TUTORIAL.md", "docs/DIAGNOSTICS.md")
 FENCE = re.compile(r"^```(\w*)(.*)$")
-COMMAND = ["$", "./quorum"]
+# The commands beside ./quorum, and how they are called.
+OTHERS = {"tools/journals.py": [sys.executable, os.path.join(ROOT, "tools", "journals.py")], "mkdir": ["mkdir"]}
 
 
 class Wrong(Exception):
@@ -123,10 +125,10 @@ def commands_of(block):
     commands = []
     for number, line in enumerate(block.lines, block.line):
         words = line.split(" ")
-        if words[:2] == COMMAND:
-            commands.append((number, words[2:], []))
+        if words[0] == "$" and words[1:2] and words[1] in ["./quorum", *OTHERS]:
+            commands.append((number, words[1:], []))
         elif not commands or words[0] == "$":
-            raise Wrong(number, "no command of the form %s WORDS" % " ".join(COMMAND))
+            raise Wrong(number, "no command that is known here")
         else:
             commands[-1][2].append(line)
     return commands
@@ -148,7 +150,7 @@ def printed(program, folder, words):
 
 def called(program, folder, words, output):
     """The call of the program, ended."""
-    call = [program] + words
+    call = OTHERS.get(words[0], [program]) + words[1:]
     return subprocess.run(call, cwd=folder, stdin=subprocess.DEVNULL, stdout=output, stderr=subprocess.PIPE, timeout=3600)
 
 

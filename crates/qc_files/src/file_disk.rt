@@ -4,27 +4,29 @@ ghost use Rattle.std.specs.Prelude.{◌≡◌, ◌≤◌, None};
 ghost use Rattle.qc_outside.specs.Causes.{Rose};
 ghost use Rattle.qc_outside.specs.Fuses.{no_fuse};
 
+use crate::whole_file::WholeFile;
 use qc_list::OutOfMemory;
 use qc_outside::{Disk, DiskFault, MemDisk};
 use std::alloc::Global;
 use std::fs::OpenFile;
-use std::io::{self, ErrorKind, Read, Seek, SeekFrom, Write};
+use std::io::{ErrorKind, Read, Seek, Write};
 
 /// A file, or a disk in memory where there is none. Nothing is told of what it
-/// holds. It counts the calls of the file that failed.
+/// holds. It counts the calls of the file that failed, as those of one that became
+/// shorter than what was written to it do.
 ///
 /// At a fall a file keeps all that was written to it.
 #[derive(Drop)]
 pub struct FileDisk<F: Drop> {
     alloc: Global,
-    file: Option<F>,
+    file: Option<WholeFile<F>>,
     memory: MemDisk,
     faults: u64,
 }
 
 impl<F: Drop> FileDisk<F> {
     /// The disk that is this file, or the one in memory where there is none.
-    pub(crate) fn new(alloc: Global, file: Option<F>, memory: MemDisk) -> FileDisk<F>
+    pub(crate) fn new(alloc: Global, file: Option<WholeFile<F>>, memory: MemDisk) -> FileDisk<F>
         ensures { result.faults ≡ 0 }
     {
         FileDisk {
@@ -54,32 +56,6 @@ impl<F: Drop> FileDisk<F> {
     }
 }
 
-/// How many bytes a file holds.
-fn length_of<F: OpenFile>(file: &F) -> io::Result<u64> {
-    Ok(file.metadata()?.len())
-}
-
-/// At most `count` bytes of a file from `at` on.
-fn read_from<F: Read + Seek>(
-    alloc: Global,
-    file: &mut F,
-    at: u64,
-    count: u32,
-) -> io::Result<Vec<u8>> {
-    let mut bytes = Vec::new(alloc);
-    file.seek(SeekFrom::Start(at))?;
-    file.by_ref()
-        .take(u64::from(count))
-        .read_to_end(&mut bytes)?;
-    Ok(bytes)
-}
-
-/// Writes the bytes into a file from `at` on.
-fn write_from<F: Write + Seek>(file: &mut F, at: u64, bytes: &[u8]) -> io::Result<()> {
-    file.seek(SeekFrom::Start(at))?;
-    file.write_all(bytes)
-}
-
 impl<F: Read + Write + Seek + OpenFile + Send + Drop> Disk for FileDisk<F> {
     ghost faults = { λ d. d.faults };
 
@@ -92,7 +68,7 @@ impl<F: Read + Write + Seek + OpenFile + Send + Drop> Disk for FileDisk<F> {
     fn len(&mut self) -> Result<u64, DiskFault> {
         match &self.file {
             None => self.memory.len(),
-            Some(file) => match length_of(file) {
+            Some(file) => match file.len() {
                 Ok(len) => Ok(len),
                 Err(_) => Err(self.failed()),
             },
@@ -103,7 +79,7 @@ impl<F: Read + Write + Seek + OpenFile + Send + Drop> Disk for FileDisk<F> {
         let Some(file) = &mut self.file else {
             return self.memory.read(at, count);
         };
-        match read_from(self.alloc, file, at, count) {
+        match file.read(self.alloc, at, count) {
             Ok(bytes) if bytes.len() <= count as usize => Ok(bytes),
             Err(error) if error.kind() == ErrorKind::OutOfMemory => Err(DiskFault::OutOfMemory),
             _ => Err(self.failed()),
@@ -121,7 +97,7 @@ impl<F: Read + Write + Seek + OpenFile + Send + Drop> Disk for FileDisk<F> {
         let Some(file) = &mut self.file else {
             return self.memory.write_at(at, bytes);
         };
-        match write_from(file, at, bytes) {
+        match file.write(at, bytes) {
             Ok(()) => Ok(()),
             Err(_) => Err(self.failed()),
         }
@@ -130,7 +106,7 @@ impl<F: Read + Write + Seek + OpenFile + Send + Drop> Disk for FileDisk<F> {
     fn sync(&mut self) -> Result<(), DiskFault> {
         match &self.file {
             None => self.memory.sync(),
-            Some(file) => match file.sync_all() {
+            Some(file) => match file.sync() {
                 Ok(()) => Ok(()),
                 Err(_) => Err(self.failed()),
             },

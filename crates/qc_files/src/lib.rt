@@ -11,10 +11,14 @@
 //! 4. Where a call is told as failed its count of faults rose, or had come to the
 //!    most that 64 bits hold. Want of memory, a file that isn't there and one that
 //!    is too long leave the count; a sink wants no memory.
-//! 5. What is kept is for proofs alone: it takes no memory. The system's files and
-//!    standard output tell no proof what they hold. So no clause says that a file
-//!    is opened, or that what standard output took is what a terminal shows; the
-//!    program's stored run and its end-to-end checks show that.
+//! 5. A rack gives each actor a file of a folder, or a disk in memory without one, and
+//!    tells nothing of what they hold. Where it tells a file as failed its count rose,
+//!    to which it adds the failed calls of each disk that comes back.
+//! 6. What is kept of files that are read and of the output is for proofs alone: it
+//!    takes no memory. The system's files and standard output tell no proof what they
+//!    hold. So no clause says that a file is opened, that it keeps what was synced, or
+//!    that what standard output took is what a terminal shows; the program's stored run
+//!    and its end-to-end checks show that.
 //!
 //! The program hands them to the top call. They stand apart from it, since a
 //! check of the program reads the code of all crates.
@@ -26,6 +30,7 @@ mod file_shelf;
 mod handed;
 mod out_sink;
 mod taken;
+mod whole_file;
 
 pub use file_disk::FileDisk;
 pub use file_rack::FileRack;

@@ -1,6 +1,7 @@
 mod Blame
 mod Ends
 mod Idle
+mod Loads
 mod OwnRises
 mod Planned
 mod Right

@@ -40,7 +40,7 @@ came (Ok a) next b is = record { first = a; is = refl; rest = is }
 came (Err cause) next b is = absurd (let never : ⊥ = cc in never)
 
 -- of two answers that are equal, the values are
-inner : {A : Type 0} (a b : A) → (let given : Caused A = Ok a in given) ≡ Ok b → a ≡ b
+pub inner : {A : Type 0} (a b : A) → (let given : Caused A = Ok a in given) ≡ Ok b → a ≡ b
 inner a b is = cc
 
 abbrev the_ok : Declaration → Result Declaration DeclFault

@@ -112,7 +112,7 @@ where
     G: Gate + Sync,
     K: Sink,
     R: Rack,
-    requires askable { IsAskable (asked_in asked.entry) }
+    requires askable { IsAskable (asked_in asked) }
     requires short { IsShort answers.script }
     ensures leaves { Leaves (work_of (asked_in asked.entry) answers)
         (K.taken sink.old) result.cause (K.taken sink.new) result.history }

@@ -8,7 +8,7 @@ ghost use Rattle.qc_decl.specs.One.{built_in_of, three};
 ghost use Rattle.qc_script.specs.Grammar.{script_of};
 ghost use Rattle.qc_top.specs.Answers.{IsShort, most_script_bytes};
 ghost use Rattle.qc_top.specs.Source.{GivesSource, IsKnown, spelled_by};
-ghost use Rattle.qc_top.specs.Work.{◌>>=◌, Gives, IsRefusal, accept_work, bytes_of, cause_of_shelf, load_work, run_of};
+ghost use Rattle.qc_top.specs.Work.{Gives, IsRefusal, accept_work, and_then, bytes_of, cause_of_shelf, load_work, run_of};
 ghost use Rattle.qc_top.specs.Work.{script_work, spelled_in, unless_a_line_is, unless_refused, work_of};
 ghost use Rattle.qc_words.specs.Askable.{IsAskable};
 ghost use Rattle.qc_words.specs.Asked.{asked_in};
@@ -60,7 +60,7 @@ pub(crate) enum Source {
 /// What a call has to do by what its words ask, or the cause for which it has
 /// nothing to do. A file that wasn't given comes before what the files hold.
 pub(crate) fn work_for(alloc: Global, asked: Asked<'_>, answers: Answers) -> Result<Work, Cause>
-    requires askable { IsAskable (asked_in asked.entry) }
+    requires askable { IsAskable (asked_in asked) }
     requires short { IsShort answers.script }
     ensures work { Gives (work_of (asked_in asked.entry) answers) result }
     ensures refusal { IfErr result IsRefusal }
@@ -75,7 +75,7 @@ pub(crate) fn work_for(alloc: Global, asked: Asked<'_>, answers: Answers) -> Res
 
 /// To say that the declaration of this name is accepted.
 fn accept_at(alloc: Global, name: &str, answer: Answer) -> Result<Work, Cause>
-    ensures work { Gives (spelled_in name.now answer >>= accept_work) result }
+    ensures work { Gives (and_then accept_work (spelled_in name.now answer)) result }
     ensures refusal { IfErr result IsRefusal }
 {
     let source = source_at(alloc, name, answer)?;
@@ -85,7 +85,7 @@ fn accept_at(alloc: Global, name: &str, answer: Answer) -> Result<Work, Cause>
 /// The run of the script that was given, over the declaration of this name.
 fn run_at(alloc: Global, name: &str, answer: Answer, script: Answer) -> Result<Work, Cause>
     requires short { IsShort script }
-    ensures work { Gives (spelled_in name.now answer >>= script_work script) result }
+    ensures work { Gives (and_then (script_work script) (spelled_in name.now answer)) result }
     ensures refusal { IfErr result IsRefusal }
 {
     let source = source_at(alloc, name, answer)?;

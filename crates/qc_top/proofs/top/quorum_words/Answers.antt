@@ -1,4 +1,4 @@
-use Rattle.std.proofs.Common.{◌≡◌, ◌∙◌, ◌⊎◌, Option, Some, None, absurd, inl, inr, refl, subst, sym}
+use Rattle.std.proofs.Common.{◌≡◌, ◌∙◌, ◌⊎◌, Option, Some, None, inl, inr, refl, subst, sym}
 use Rattle.qc_report.specs.declared.cause.Cause.TheVariants as causes
 use Rattle.std.specs.Prelude.{option_and_then}
 use Rattle.qc_outside.specs.declared.rack.RackFault.{RackFault}
@@ -26,13 +26,17 @@ perform-requires-clause-short g c = λ _ _.
     c.answers_for-answers.new.shelf c.answers_for-answers.result c.answers_for-answers.ensures.answers
 
 pub returns-in-Ok-clause-leaves : goal.returns-in-Ok-clause-leaves
-returns-in-Ok-clause-leaves g c = inr (asked_in c.in-Ok.asked, c.in-Ok.ensures, record {
-  answers = c.answers_for-answers.result;
-  given = c.answers_for-answers.ensures.answers;
-  leaves = c.perform.ensures.leaves;
-  rack = c.perform.ensures.rack;
-  blame = c.perform.ensures.blame;
-})
+returns-in-Ok-clause-leaves g c = inr (
+  asked_in c.in-Ok.asked,
+  c.in-Ok.ensures,
+  record {
+    answers = c.answers_for-answers.result;
+    given = c.answers_for-answers.ensures.answers;
+    leaves = c.perform.ensures.leaves;
+    rack = c.perform.ensures.rack;
+    blame = c.perform.ensures.blame;
+  },
+)
 
 pub returns-in-Ok-clause-words : goal.returns-in-Ok-clause-words
 returns-in-Ok-clause-words g c = λ none. absurd (let both : Some (asked_in c.in-Ok.asked) ≡ None = sym c.in-Ok.ensures ∙ none in let never : ⊥ = cc in never)
