@@ -9,6 +9,8 @@ pub mod Posted
 pub mod Ordered
 pub mod Starts
 pub mod Unstarted
+pub mod Unwritten
+pub mod Unbegun
 pub mod Misfits
 pub mod Settling
 pub mod Settled

@@ -1,25 +1,24 @@
--- Disks are handed out to the actors of a run one by one, or one isn't: the rack refused it, or no journal was begun
--- on it, and it came back.
+-- Disks are handed out to the actors of a run one by one, or the rack refuses one.
 use Rattle.std.proofs.Common.{◌≡◌, ℕ, ◌+◌, ◌<◌, ◌≤◌, ◌==◌, zero, suc, Bool, true, false, List, [], ◌∷◌, ◌++◌, length}
 use Rattle.std.proofs.Common.{Option, Some, None, Ok, Err}
-use Rattle.std.proofs.Common.{refl, sym, ap, ◌∙◌, subst, arith, inl, inr}
+use Rattle.std.proofs.Common.{refl, sym, ap, ◌∙◌, subst, arith}
 use Rattle.std.specs.Prelude.{IfSome, IsSome, is_some, slice_get}
 use Rattle.std.proofs.lemmas.Bool.{eqb-false, eqb-true}
+use Rattle.std.proofs.lemmas.List.Elements.{All-head, All-push, All-rest, All-same}
 use Rattle.qc_decl.specs.Actors.{controller}
 use Rattle.qc_decl.specs.declared.declaration.Declaration.{Declaration}
-use Rattle.qc_outside.specs.Disk.{IsKept, NamesActor, RackRose}
+use Rattle.qc_outside.specs.Disk.{NamesActor, RackRose}
 use Rattle.qc_outside.specs.Images.{Told, settled}
 use Rattle.qc_outside.specs.Places.{HoldsNoByte, IsHandedOut, IsPutBack, IsSameAtAll, Place, Places}
 use Rattle.qc_outside.specs.declared.rack.RackFault.{RackFault}
 use Rattle.qc_outside.specs.declared.rack.RackFault.TheVariants.{Failed, NotEmpty, OutOfMemory}
-use Rattle.qc_process.specs.Opens.{IsStartRefused}
 use Rattle.qc_process.specs.Stored.{IsProcess}
 use Rattle.qc_process.specs.Views.{IsUp, ProcessView}
 use Rattle.qc_bounds.specs.Places.{AreHandedOut, place_of}
-use Rattle.qc_bounds.proofs.BackPlaces.{elsewhere, handed_more}
+use Rattle.qc_bounds.proofs.BackPlaces.{handed_more}
 use Rattle.qc_node.specs.Places.{AreEmpty, BothTell, IsRefused}
-use Rattle.qc_node.specs.Starts.{AreHandedBelow, AreProcesses, AreStarted, AreUp, IsHandedBelow, IsOtherwiseSame, IsStarted}
-use Rattle.qc_node.specs.Starts.{IsUnstarted}
+use Rattle.qc_node.specs.Starts.{AreHandedBelow, AreProcesses, AreStarted, AreUp, IsHandedBelow, IsStarted, IsUnstarted}
+use Rattle.qc_node.specs.Starts.{AreUnwritten, IsUnwritten}
 
 -- who tells its places still does
 
@@ -30,7 +29,8 @@ put_tells None (Some new) here told put = absurd put
 put_tells (Some old) None here told put = absurd put
 put_tells (Some old) (Some new) here told put = refl
 
-pub started_tells : (folder : Option (List ℕ)) (n : ℕ) (old new : Option Places) → IsHandedBelow folder n old new → is_some new ≡ is_some old
+pub started_tells : (folder : Option (List ℕ)) (n : ℕ) (old new : Option Places) → IsHandedBelow folder n old new
+    → is_some new ≡ is_some old
 started_tells folder n None None handed = refl
 started_tells folder n None (Some new) handed = absurd handed
 started_tells folder n (Some old) None handed = absurd handed
@@ -46,7 +46,8 @@ none_handed folder (Some old) = record {
   same = λ a high. refl;
 }
 
-pub none_started : (folder : Option (List ℕ)) (old : Option Places) (before : ℕ) → AreStarted folder 0 old before old before
+pub none_started : (folder : Option (List ℕ)) (old : Option Places) (before : ℕ)
+    → AreStarted folder 0 old before old before
 none_started folder old before = record { places = none_handed folder old; later = omega arith }
 
 pub other_place : (folder : Option (List ℕ)) (a b : ℕ) → (a ≡ b → ⊥) → place_of folder a ≡ place_of folder b → ⊥
@@ -69,7 +70,8 @@ module _ (folder : Option (List ℕ)) (n : ℕ) (old mid new : Places) (was : Ar
     empty = λ a low. empty_at a low (n == a) refl;
     handed = λ a low. more_handed a (omega (arith, low));
     same = λ a high.
-        here.2 (place_of folder a) (other_place folder a n (λ same. omega (arith, high, same))) ∙ was.same a (omega (arith, high));
+        here.2 (place_of folder a) (other_place folder a n (λ same. omega (arith, high, same)))
+        ∙ was.same a (omega (arith, high));
   }
 
 one_more_handed : (folder : Option (List ℕ)) (n : ℕ) (old mid new : Option Places) → IsHandedBelow folder n old mid
@@ -82,7 +84,8 @@ one_more_handed folder n (Some old) (Some mid) None was here = absurd here
 one_more_handed folder n (Some old) (Some mid) (Some new) was here = one_more_at folder n old mid new was here
 
 pub one_more_started : (folder : Option (List ℕ)) (n : ℕ) (old mid new : Option Places) (before then now : ℕ)
-    → AreStarted folder n old before mid then → IsStarted folder n mid then new now → AreStarted folder (n + 1) old before new now
+    → AreStarted folder n old before mid then → IsStarted folder n mid then new now
+    → AreStarted folder (n + 1) old before new now
 one_more_started folder n old mid new before then now was one = record {
   places = one_more_handed folder n old mid new was.places one.handed;
   later = omega (arith, was.later, one.later);
@@ -105,8 +108,8 @@ one_started folder a old new before now disk handed rose =
 
 -- or refused it
 
-refused_at : {T : Type 0} (folder : Option (List ℕ)) (a : ℕ) (old new : Option Places) (before now : ℕ) (fault : RackFault)
-    → IsHandedOut {T = T} old (place_of folder a) (Err fault) new → NamesActor a fault
+refused_at : {T : Type 0} (folder : Option (List ℕ)) (a : ℕ) (old new : Option Places) (before now : ℕ)
+    (fault : RackFault) → IsHandedOut {T = T} old (place_of folder a) (Err fault) new → NamesActor a fault
     → RackRose {T = T} before now (Err fault) → IsRefused folder old before now fault
 refused_at folder a None new before now (NotEmpty named) handed names rose = tt
 refused_at folder a (Some old) None before now (NotEmpty named) handed names rose = absurd handed
@@ -115,91 +118,76 @@ refused_at folder a (Some old) (Some new) before now (NotEmpty named) handed nam
 refused_at folder a old new before now (Failed named) handed names rose = rose.failed named refl
 refused_at folder a old new before now OutOfMemory handed names rose = tt
 
-same_otherwise : (folder : Option (List ℕ)) (a : ℕ) (old new : Places) → IsSameAtAll old new → IsOtherwiseSame folder a old new
-same_otherwise folder a old new same = record { here = inl (same (place_of folder a)); others = λ b other. same (place_of folder b) }
+refused_places : (T : Type 0) (here : Place) (old new : Option Places) (fault : RackFault)
+    → IsHandedOut {T = T} old here (Err fault) new → BothTell old new IsSameAtAll
+refused_places T here None None fault handed = tt
+refused_places T here None (Some new) fault handed = absurd handed
+refused_places T here (Some old) None fault handed = absurd handed
+refused_places T here (Some old) (Some new) (NotEmpty named) handed = handed.1
+refused_places T here (Some old) (Some new) (Failed named) handed = handed
+refused_places T here (Some old) (Some new) OutOfMemory handed = handed
 
-refused_places : (folder : Option (List ℕ)) (T : Type 0) (a : ℕ) (old new : Option Places) (fault : RackFault)
-    → IsHandedOut {T = T} old (place_of folder a) (Err fault) new → BothTell old new (IsOtherwiseSame folder a)
-refused_places folder T a None None fault handed = tt
-refused_places folder T a None (Some new) fault handed = absurd handed
-refused_places folder T a (Some old) None fault handed = absurd handed
-refused_places folder T a (Some old) (Some new) (NotEmpty named) handed = same_otherwise folder a old new handed.1
-refused_places folder T a (Some old) (Some new) (Failed named) handed = same_otherwise folder a old new handed
-refused_places folder T a (Some old) (Some new) OutOfMemory handed = same_otherwise folder a old new handed
-
-pub rack_refused : {T : Type 0} (folder : Option (List ℕ)) (a : ℕ) (old new : Option Places) (before now : ℕ) (fault : RackFault)
-    → IsHandedOut {T = T} old (place_of folder a) (Err fault) new → NamesActor a fault
+pub rack_refused : {T : Type 0} (folder : Option (List ℕ)) (a : ℕ) (old new : Option Places) (before now : ℕ)
+    (fault : RackFault) → IsHandedOut {T = T} old (place_of folder a) (Err fault) new → NamesActor a fault
     → RackRose {T = T} before now (Err fault) → IsUnstarted folder a old before new now fault
 rack_refused {T} folder a old new before now fault handed names rose = record {
   why = refused_at {T = T} folder a old new before now fault handed names rose;
   named = names;
   later = rose.later;
-  places = refused_places folder T a old new fault handed;
+  places = refused_places T (place_of folder a) old new fault handed;
 }
 
--- a process wasn't started on its disk, which came back
+-- all were handed out
 
-start_names : (a : ℕ) (told : Option Told) (before now : ℕ) (fault : RackFault)
-    → IsStartRefused a told before now fault → NamesActor a fault
-start_names a told before now (NotEmpty named) refused = refused.0
-start_names a told before now (Failed named) refused = refused.0
-start_names a told before now OutOfMemory refused = tt
-
-back_otherwise : {T : Type 0} (folder : Option (List ℕ)) (a : ℕ) (disk : T) (old mid new : Option Places) (told : Option Told)
-    → IsHandedOut {T = T} old (place_of folder a) (Ok disk) mid → IsPutBack mid (place_of folder a) told new
-    → BothTell old new (IsOtherwiseSame folder a)
-back_otherwise folder a disk None None None told handed put = tt
-back_otherwise folder a disk None None (Some new) told handed put = absurd put
-back_otherwise folder a disk None (Some mid) new told handed put = absurd handed
-back_otherwise folder a disk (Some old) None new told handed put = absurd handed
-back_otherwise folder a disk (Some old) (Some mid) None told handed put = absurd put
-back_otherwise folder a disk (Some old) (Some mid) (Some new) told handed put = record {
-  here = inr handed.0;
-  others = λ b other.
-      elsewhere mid new (place_of folder a) told put (place_of folder b) (other_place folder b a other)
-      ∙ handed.2 (place_of folder b) (other_place folder b a other);
-}
-
-module _ (folder : Option (List ℕ)) (a : ℕ) (told : Option Told) (empty : (t : Told) → told ≡ Some t → t.now ≡ settled []) where
-  not_full : (o : Option Told) → told ≡ o → IsSome o → ((t : Told) → told ≡ Some t → t.now ≡ settled [] → ⊥) → ⊥
-  not_full None is some full = cc
-  not_full (Some t) is some full = full t is (empty t is)
-
-  start_refused_at : (old : Option Places) (before then now disk after : ℕ) (fault : RackFault)
-      → (IsSome old → IsSome told) → before ≤ then → disk ≡ 0 → IsKept then after now
-      → IsStartRefused a told disk after fault → IsRefused folder old before now fault
-  start_refused_at None before then now disk after (NotEmpty named) tells later fresh kept refused = tt
-  start_refused_at (Some old) before then now disk after (NotEmpty named) tells later fresh kept refused =
-      absurd (not_full told refl (tells refl) refused.1)
-  start_refused_at old before then now disk after (Failed named) tells later fresh kept refused =
-      omega (arith, refused.1, fresh, later, kept.added, kept.later)
-  start_refused_at old before then now disk after OutOfMemory tells later fresh kept refused = tt
-
-  pub start_refused : {T : Type 0} (disk_is : T) (old mid new : Option Places) (back : Option Told)
-      (before then now disk after : ℕ) (fault : RackFault)
-      → IsHandedOut {T = T} old (place_of folder a) (Ok disk_is) mid → RackRose {T = T} before then (Ok disk_is)
-      → (IsSome old → IsSome told) → disk ≡ 0 → IsStartRefused a told disk after fault
-      → IsPutBack mid (place_of folder a) back new → IsKept then after now → IsUnstarted folder a old before new now fault
-  start_refused {T} disk_is old mid new back before then now disk after fault handed rose tells fresh refused put kept =
-      record {
-        why = start_refused_at old before then now disk after fault tells rose.later fresh kept refused;
-        named = start_names a told disk after fault refused;
-        later = omega (arith, rose.later, kept.later);
-        places = back_otherwise {T = T} folder a disk_is old mid new back handed put;
-      }
-
--- all were started
-
-pub empty_before : (folder : Option (List ℕ)) (decl : Declaration) (old new : Option Places) → IsHandedBelow folder (controller decl) old new
-    → AreEmpty folder decl old
+pub empty_before : (folder : Option (List ℕ)) (decl : Declaration) (old new : Option Places)
+    → IsHandedBelow folder (controller decl) old new → AreEmpty folder decl old
 empty_before folder decl None new handed = tt
 empty_before folder decl (Some old) None handed = absurd handed
 empty_before folder decl (Some old) (Some new) handed = handed.empty
 
-pub all_handed : (folder : Option (List ℕ)) (n : ℕ) (old new : Option Places) → IsHandedBelow folder n old new → IfSome new (AreHandedOut folder n)
+pub all_handed : (folder : Option (List ℕ)) (n : ℕ) (old new : Option Places) → IsHandedBelow folder n old new
+    → IfSome new (AreHandedOut folder n)
 all_handed folder n old None handed = tt
 all_handed folder n None (Some new) handed = absurd handed
 all_handed folder n (Some old) (Some new) handed = handed.handed
+
+pub fewer_handed : (folder : Option (List ℕ)) (m n : ℕ) (places : Option Places) → m ≤ n
+    → IfSome places (AreHandedOut folder n) → IfSome places (AreHandedOut folder m)
+fewer_handed folder m n None few handed = tt
+fewer_handed folder m n (Some places) few handed = λ a low. handed a (omega (arith, low, few))
+
+-- a disk that was just handed out is unwritten
+
+pub just_handed : (was now : Bool) (told : Option Told) (count : ℕ) → now ≡ was → (now ≡ true → IsSome told)
+    → ((t : Told) → told ≡ Some t → t.now ≡ settled []) → count ≡ 0 → IsUnwritten was told count
+just_handed was now told count same tells empty fresh =
+    record { still = λ is. tells (same ∙ is); empty = empty; fresh = fresh }
+
+-- unwritten disks: one more; the first, and the others
+module _ {D : Type 0} (tells : Bool) (told : D → Option Told) (count : D → ℕ) where
+  pub more_unwritten : (xs all : List D) (x : D) → all ≡ xs ++ x ∷ [] → AreUnwritten tells told count xs
+      → IsUnwritten tells (told x) (count x) → AreUnwritten tells told count all
+  more_unwritten xs all x split each here =
+      All-same (λ d. IsUnwritten tells (told d) (count d)) all (xs ++ x ∷ []) split
+      (All-push (λ d. IsUnwritten tells (told d) (count d)) xs x each here)
+
+  pub first_unwritten : (xs rest : List D) (x : D) → xs ≡ x ∷ rest → AreUnwritten tells told count xs
+      → IsUnwritten tells (told x) (count x)
+  first_unwritten xs rest x split each =
+      All-head (λ d. IsUnwritten tells (told d) (count d)) x rest
+      (All-same (λ d. IsUnwritten tells (told d) (count d)) (x ∷ rest) xs (sym split) each)
+
+  pub rest_unwritten : (xs rest : List D) (x : D) → xs ≡ x ∷ rest → AreUnwritten tells told count xs
+      → AreUnwritten tells told count rest
+  rest_unwritten xs rest x split each =
+      All-rest (λ d. IsUnwritten tells (told d) (count d)) x rest xs split each
+
+  pub still_unwritten : (now : Bool) (xs : List D) → now ≡ tells → AreUnwritten tells told count xs
+      → AreUnwritten now told count xs
+  still_unwritten now xs same each = subst (λ (b : Bool). AreUnwritten b told count xs) (sym same) each
+
+  pub same_unwritten : (xs ys : List D) → ys ≡ xs → AreUnwritten tells told count xs → AreUnwritten tells told count ys
+  same_unwritten xs ys same each = subst (AreUnwritten tells told count) (sym same) each
 
 -- one more in a list, by places
 
@@ -227,7 +215,12 @@ module _ {A : Type 0} (P : ℕ → A → Type 0) where
       (more_at 0 xs x a y (λ k z there. subst (λ (i : ℕ). P i z) (sym (from k)) (each k z there))
       (subst (λ (k : ℕ). P k x) (sym count ∙ sym (from (length xs))) here) is)
 
--- one process more
+-- none, and one process more
+
+pub none_each : {A : Type 0} (P : ℕ → A → Type 0) (xs : List A) → xs ≡ [] → (a : ℕ) (y : A) → slice_get xs a ≡ Some y
+    → P a y
+none_each P [] none a y is = absurd (cc is)
+none_each P (x ∷ xs) none a y is = absurd (cc none)
 
 pub more_processes : (tells : Bool) (decl : Declaration) (ps : List ProcessView) (p : ProcessView) (n : ℕ)
     → length ps ≡ n → AreProcesses tells decl ps → IsProcess tells decl n [] p → AreProcesses tells decl (ps ++ p ∷ [])

@@ -1,12 +1,12 @@
--- A start is given up: the disks that were handed out come back, and leave begun journals.
+-- A start is given up, since the rack refused a disk; disks come back, with their journals begun.
 use Rattle.std.proofs.Common.{◌≡◌, ◌⊎◌, ℕ, ◌+◌, ◌<◌, ◌≤◌, ◌==◌, Bool, true, false, List, [], ◌∷◌, ◌++◌}
 use Rattle.std.proofs.Common.{Option, Some, None, refl, sym, ◌∙◌, subst, arith, inl, inr}
 use Rattle.std.specs.Prelude.{IfSome, IsSome, is_some}
-use Rattle.std.proofs.lemmas.Bool.{eqb-false, eqb-true}
+use Rattle.std.proofs.lemmas.Bool.{cases_lt, eqb-false, eqb-true}
 use Rattle.qc_journal.specs.Grammar.{IsJournal}
 use Rattle.qc_outside.specs.Disk.{IsKept, NamesActor}
 use Rattle.qc_outside.specs.Images.{Told, as_read}
-use Rattle.qc_outside.specs.Places.{HoldsNoByte, IsPutBack, Place, Places, held_after}
+use Rattle.qc_outside.specs.Places.{HoldsNoByte, IsPutBack, IsSameAtAll, Place, Places, held_after}
 use Rattle.qc_outside.specs.declared.rack.RackFault.{RackFault}
 use Rattle.qc_outside.specs.declared.rack.RackFault.TheVariants.{Failed, NotEmpty, OutOfMemory}
 use Rattle.qc_outside.proofs.Kept.{read_is_image}
@@ -15,8 +15,8 @@ use Rattle.qc_bounds.specs.Places.{AreHandedOut, HoldsJournal, place_of}
 use Rattle.qc_bounds.proofs.BackPlaces.{elsewhere}
 use Rattle.qc_store.specs.Contents.{DiskHasJournal}
 use Rattle.qc_node.specs.Places.{AreGivenBack, BothTell, HasBegun, IsRefused}
-use Rattle.qc_node.specs.Starts.{AreBackBelow, AreHandedBelow, AreStarted, AreUnstarted, IsGivenBack, IsHandedBelow}
-use Rattle.qc_node.specs.Starts.{IsOtherwiseSame, IsUnstarted}
+use Rattle.qc_node.specs.Starts.{AreBackBelow, AreBackFrom, AreHandedBelow, AreStarted, AreUnstarted, IsBackFrom}
+use Rattle.qc_node.specs.Starts.{IsGivenBack, IsHandedBelow, IsUnstarted}
 use Rattle.qc_node.proofs.Starts.{other_place}
 
 -- who tells its places still does
@@ -59,12 +59,13 @@ none_back_at : (folder : Option (List ℕ)) (old : Option Places) → BothTell o
 none_back_at folder None = tt
 none_back_at folder (Some old) = record { begun = λ a low. absurd (omega (arith, low)); same = λ a high. refl }
 
-pub none_back : (folder : Option (List ℕ)) (old : Option Places) (before : ℕ) → IsGivenBack folder 0 old before old before
+pub none_back : (folder : Option (List ℕ)) (old : Option Places) (before : ℕ)
+    → IsGivenBack folder 0 old before old before
 none_back folder old before = record { later = omega arith; places = none_back_at folder old }
 
-module _ (folder : Option (List ℕ)) (n : ℕ) (old mid new : Places) (told : Option Told) (was : AreBackBelow folder n old mid)
-    (put : IsPutBack (Some mid) (place_of folder n) told (Some new)) (handed : IsSome (old (place_of folder n)))
-    (tells : IsSome told) (has : DiskHasJournal told []) where
+module _ (folder : Option (List ℕ)) (n : ℕ) (old mid new : Places) (told : Option Told)
+    (was : AreBackBelow folder n old mid) (put : IsPutBack (Some mid) (place_of folder n) told (Some new))
+    (handed : IsSome (old (place_of folder n))) (tells : IsSome told) (has : DiskHasJournal told []) where
   still_handed : IsSome (mid (place_of folder n))
   still_handed = subst (λ (o : Option (List ℕ)). IsSome o) (sym (was.same n (omega arith))) handed
 
@@ -85,8 +86,9 @@ module _ (folder : Option (List ℕ)) (n : ℕ) (old mid new : Places) (told : O
     same = λ a high. same_there a (λ same. omega (arith, high, same)) ∙ was.same a (omega (arith, high));
   }
 
-one_more_places : (folder : Option (List ℕ)) (n : ℕ) (old mid new : Option Places) (told : Option Told) → BothTell old mid (AreBackBelow folder n)
-    → IsPutBack mid (place_of folder n) told new → IfSome old (λ places. IsSome (places (place_of folder n)))
+one_more_places : (folder : Option (List ℕ)) (n : ℕ) (old mid new : Option Places) (told : Option Told)
+    → BothTell old mid (AreBackBelow folder n) → IsPutBack mid (place_of folder n) told new
+    → IfSome old (λ places. IsSome (places (place_of folder n)))
     → (IsSome old → IsSome told) → DiskHasJournal told [] → BothTell old new (AreBackBelow folder (n + 1))
 one_more_places folder n None None None told was put handed tells has = tt
 one_more_places folder n None None (Some new) told was put handed tells has = absurd put
@@ -96,10 +98,10 @@ one_more_places folder n (Some old) (Some mid) None told was put handed tells ha
 one_more_places folder n (Some old) (Some mid) (Some new) told was put handed tells has =
     one_more_at folder n old mid new told was put handed (tells refl) has
 
-pub one_more_back : (folder : Option (List ℕ)) (n : ℕ) (old mid new : Option Places) (before then now disk : ℕ) (told : Option Told)
-    → IsGivenBack folder n old before mid then → IsPutBack mid (place_of folder n) told new → IsKept then disk now
-    → IfSome old (λ places. IsSome (places (place_of folder n))) → (IsSome old → IsSome told) → DiskHasJournal told []
-    → IsGivenBack folder (n + 1) old before new now
+pub one_more_back : (folder : Option (List ℕ)) (n : ℕ) (old mid new : Option Places) (before then now disk : ℕ)
+    (told : Option Told) → IsGivenBack folder n old before mid then → IsPutBack mid (place_of folder n) told new
+    → IsKept then disk now → IfSome old (λ places. IsSome (places (place_of folder n)))
+    → (IsSome old → IsSome told) → DiskHasJournal told [] → IsGivenBack folder (n + 1) old before new now
 one_more_back folder n old mid new before then now disk told was put kept handed tells has = record {
   later = omega (arith, was.later, kept.later);
   places = one_more_places folder n old mid new told was.places put handed tells has;
@@ -128,48 +130,52 @@ back_refused folder old before then now (NotEmpty named) later why = why
 back_refused folder old before then now (Failed named) later why = omega (arith, why, later)
 back_refused folder old before then now OutOfMemory later why = tt
 
--- disks were handed out for those below an actor, its process wasn't started, and they came back
+-- disks were handed out for those below an actor, whose disk the rack refused, and they came back unwritten
 
-module _ (folder : Option (List ℕ)) (n : ℕ) (old mid last new : Places) (was : AreHandedBelow folder n old mid) (un : IsOtherwiseSame folder n mid last)
-    (back : AreBackBelow folder n last new) where
-  here_by : (last (place_of folder n) ≡ mid (place_of folder n)) ⊎ HoldsNoByte (mid (place_of folder n))
-      → (new (place_of folder n) ≡ old (place_of folder n)) ⊎ HoldsNoByte (old (place_of folder n))
-  here_by (inl same) = inl (back.same n (omega arith) ∙ (same ∙ was.same n (omega arith)))
-  here_by (inr none) = inr (subst HoldsNoByte (was.same n (omega arith)) none)
+module _ (folder : Option (List ℕ)) (n : ℕ) (old mid last new : Places) (was : AreHandedBelow folder n old mid)
+    (un : IsSameAtAll mid last) (back : AreBackFrom folder 0 n last new) where
+  same_above : (a : ℕ) → n ≤ a → new (place_of folder a) ≡ old (place_of folder a)
+  same_above a high = back.behind a (omega (arith, high)) ∙ (un (place_of folder a) ∙ was.same a high)
 
-  all_back_at : (fault : RackFault) → NamesActor n fault → AreGivenBack folder fault old new
-  all_back_at fault names = record {
+  full_by : (a : ℕ) → (HoldsNoByte (old (place_of folder a)) → ⊥) → (a < n) ⊎ (n ≤ a)
+      → new (place_of folder a) ≡ old (place_of folder a)
+  full_by a full (inl low) = absurd (full (was.empty a low))
+  full_by a full (inr high) = same_above a high
+
+  empty_by : (a : ℕ) → HoldsNoByte (old (place_of folder a)) → (a < n) ⊎ (n ≤ a) → HoldsNoByte (new (place_of folder a))
+  empty_by a none (inl low) = back.empty a (omega arith) (omega (arith, low))
+  empty_by a none (inr high) = subst HoldsNoByte (sym (same_above a high)) none
+
+  refused_back_at : (fault : RackFault) → NamesActor n fault → AreGivenBack folder fault old new
+  refused_back_at fault names = record {
     actor = n;
     named = names;
-    empty = was.empty;
-    begun = back.begun;
-    here = here_by un.here;
-    same = λ a high.
-        back.same a (omega (arith, high))
-        ∙ (un.others a (λ same. omega (arith, high, same)) ∙ was.same a (omega (arith, high)));
+    full = λ a full. full_by a full (cases_lt a n);
+    empty = λ a other none. inl (empty_by a none (cases_lt a n));
+    unwritten = λ why a none. empty_by a none (cases_lt a n);
   }
 
-all_back : (folder : Option (List ℕ)) (n : ℕ) (old mid last new : Option Places) (fault : RackFault) → IsHandedBelow folder n old mid
-    → BothTell mid last (IsOtherwiseSame folder n) → BothTell last new (AreBackBelow folder n) → NamesActor n fault
-    → BothTell old new (AreGivenBack folder fault)
-all_back folder n None None None None fault was un back names = tt
-all_back folder n None None None (Some new) fault was un back names = absurd back
-all_back folder n None None (Some last) new fault was un back names = absurd un
-all_back folder n None (Some mid) last new fault was un back names = absurd was
-all_back folder n (Some old) None last new fault was un back names = absurd was
-all_back folder n (Some old) (Some mid) None new fault was un back names = absurd un
-all_back folder n (Some old) (Some mid) (Some last) None fault was un back names = absurd back
-all_back folder n (Some old) (Some mid) (Some last) (Some new) fault was un back names =
-    all_back_at folder n old mid last new was un back fault names
+refused_back : (folder : Option (List ℕ)) (n : ℕ) (old mid last new : Option Places) (fault : RackFault)
+    → IsHandedBelow folder n old mid → BothTell mid last IsSameAtAll → BothTell last new (AreBackFrom folder 0 n)
+    → NamesActor n fault → BothTell old new (AreGivenBack folder fault)
+refused_back folder n None None None None fault was un back names = tt
+refused_back folder n None None None (Some new) fault was un back names = absurd back
+refused_back folder n None None (Some last) new fault was un back names = absurd un
+refused_back folder n None (Some mid) last new fault was un back names = absurd was
+refused_back folder n (Some old) None last new fault was un back names = absurd was
+refused_back folder n (Some old) (Some mid) None new fault was un back names = absurd un
+refused_back folder n (Some old) (Some mid) (Some last) None fault was un back names = absurd back
+refused_back folder n (Some old) (Some mid) (Some last) (Some new) fault was un back names =
+    refused_back_at folder n old mid last new was un back fault names
 
-pub given_up : (folder : Option (List ℕ)) (n m : ℕ) (old mid last new : Option Places) (before then after now : ℕ) (fault : RackFault)
-    → AreStarted folder n old before mid then → IsUnstarted folder n mid then last after fault → m ≡ n
-    → IsGivenBack folder m last after new now → AreUnstarted folder old before new now fault
-given_up folder n m old mid last new before then after now fault was un count given =
-    let back : IsGivenBack folder n last after new now =
-    subst (λ (k : ℕ). IsGivenBack folder k last after new now) count given in
+pub rack_gave_up : (folder : Option (List ℕ)) (n m : ℕ) (old mid last new : Option Places) (before then after now : ℕ)
+    (fault : RackFault) → AreStarted folder n old before mid then → IsUnstarted folder n mid then last after fault
+    → m ≡ n → IsBackFrom folder 0 m last after new now → AreUnstarted folder old before new now fault
+rack_gave_up folder n m old mid last new before then after now fault was un count given =
+    let back : IsBackFrom folder 0 n last after new now =
+    subst (λ (k : ℕ). IsBackFrom folder 0 k last after new now) count given in
     let all : BothTell old new (AreGivenBack folder fault) =
-    all_back folder n old mid last new fault was.places un.places back.places un.named in
+    refused_back folder n old mid last new fault was.places un.places back.places un.named in
     record {
       why =
           back_refused folder old before after now fault back.later
@@ -179,20 +185,6 @@ given_up folder n m old mid last new before then after now fault was un count gi
       back = all;
     }
 
--- what was handed out still is
-
-still_at : (folder : Option (List ℕ)) (n : ℕ) (mid last : Places) → IsOtherwiseSame folder n mid last → AreHandedOut folder n mid → AreHandedOut folder n last
-still_at folder n mid last un handed = λ a low.
-    subst (λ (o : Option (List ℕ)). IsSome o) (sym (un.others a (λ same. omega (arith, low, same)))) (handed a low)
-
-pub handed_still : (folder : Option (List ℕ)) (n m : ℕ) (old mid last : Option Places) → m ≡ n → IsHandedBelow folder n old mid
-    → BothTell mid last (IsOtherwiseSame folder n) → IfSome last (AreHandedOut folder m)
-handed_still folder n m old mid None count was un = tt
-handed_still folder n m old None (Some last) count was un = absurd un
-handed_still folder n m None (Some mid) (Some last) count was un = absurd was
-handed_still folder n m (Some old) (Some mid) (Some last) count was un =
-    subst (λ (k : ℕ). AreHandedOut folder k last) (sym count) (still_at folder n mid last un was.handed)
-
 -- nothing was handed out, since memory was wanting
 
 pub nothing_back : (folder : Option (List ℕ)) (old : Option Places) → BothTell old old (AreGivenBack folder OutOfMemory)
@@ -200,12 +192,12 @@ nothing_back folder None = tt
 nothing_back folder (Some old) = record {
   actor = 0;
   named = tt;
-  empty = λ a low. absurd (omega (arith, low));
-  begun = λ a low. absurd (omega (arith, low));
-  here = inl refl;
-  same = λ a high. refl;
+  full = λ a full. refl;
+  empty = λ a other none. inl none;
+  unwritten = λ why a none. none;
 }
 
-pub wanting_unstarted : (folder : Option (List ℕ)) (old : Option Places) (before : ℕ) → AreUnstarted folder old before old before OutOfMemory
+pub wanting_unstarted : (folder : Option (List ℕ)) (old : Option Places) (before : ℕ)
+    → AreUnstarted folder old before old before OutOfMemory
 wanting_unstarted folder old before =
     record { why = tt; later = omega arith; tells = refl; back = nothing_back folder old }

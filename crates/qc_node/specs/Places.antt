@@ -1,4 +1,5 @@
--- What the places of a rack, in one folder or in none, hold before a run and after it; why no run began, and what they hold then.
+-- What the places of a rack, in one folder or in none, hold before a run and after it; why no run began, and what they
+-- hold then.
 use Rattle.std.specs.Prelude.{◌≡◌, ◌⊎◌, ℕ, ◌<◌, List, [], Option, Some, None, IfSome}
 use Rattle.qc_decl.specs.Actors.{controller}
 use Rattle.qc_decl.specs.declared.declaration.Declaration.{Declaration}
@@ -12,7 +13,8 @@ pub use Rattle.qc_bounds.specs.Places.{HoldJournals, HoldsJournal, place_of}
 
 -- no actor's place holds a byte, where the rack tells
 abbrev pub AreEmpty : Option (List ℕ) → Declaration → Option Places → Type 0
-AreEmpty folder decl told = IfSome told (λ places. (a : ℕ) → a < controller decl → HoldsNoByte (places (place_of folder a)))
+AreEmpty folder decl told =
+    IfSome told (λ places. (a : ℕ) → a < controller decl → HoldsNoByte (places (place_of folder a)))
 
 -- Why no run began, by what the places held before and the counts of the rack's faults before and now: a place isn't
 -- empty only where it holds bytes, and the rack failed only where its count rose.
@@ -34,13 +36,21 @@ abbrev pub HasBegun : Option (List ℕ) → Type 0
 HasBegun None = ⊥
 HasBegun (Some bytes) = IsJournal [] bytes
 
+-- a place wasn't empty
+abbrev pub IsNotEmpty : RackFault → Type 0
+IsNotEmpty (racks.NotEmpty actor) = Unit {0}
+IsNotEmpty (racks.Failed actor) = ⊥
+IsNotEmpty racks.OutOfMemory = ⊥
+
 -- No run began, since one actor's process wasn't started: that of the actor whom the fault names, if it names one. Each
--- place of an actor before that one held no byte, and its disk came back to it with its journal begun. The place of that
--- actor is as it was, or held no byte; the places of the actors behind it are as they were.
+-- place that held a byte is as it was. One that held none holds none, or a begun journal; only at that actor's place
+-- may a disk that failed have left anything. Where a place wasn't empty, none got a byte.
 pub record AreGivenBack (folder : Option (List ℕ)) (fault : RackFault) (old new : Places) : Type 0 where
   pub actor : ℕ
   pub named : NamesActor actor fault
-  pub empty : (a : ℕ) → a < actor → HoldsNoByte (old (place_of folder a))
-  pub begun : (a : ℕ) → a < actor → HasBegun (new (place_of folder a))
-  pub here : (new (place_of folder actor) ≡ old (place_of folder actor)) ⊎ HoldsNoByte (old (place_of folder actor))
-  pub same : (a : ℕ) → actor < a → new (place_of folder a) ≡ old (place_of folder a)
+  pub full : (a : ℕ) → (HoldsNoByte (old (place_of folder a)) → ⊥)
+      → new (place_of folder a) ≡ old (place_of folder a)
+  pub empty : (a : ℕ) → (a ≡ actor → ⊥) → HoldsNoByte (old (place_of folder a))
+      → HoldsNoByte (new (place_of folder a)) ⊎ HasBegun (new (place_of folder a))
+  pub unwritten : IsNotEmpty fault → (a : ℕ) → HoldsNoByte (old (place_of folder a))
+      → HoldsNoByte (new (place_of folder a))

@@ -1,10 +1,14 @@
--- What a rack is while its disks are handed out to the actors of a run, one by one; why none begins, and how the disks
--- that were handed out come back.
-use Rattle.std.specs.Prelude.{◌≡◌, ◌⊎◌, ℕ, ◌<◌, ◌≤◌, Bool, List, [], Option, Some, Ok, is_some, slice_get}
+-- What a rack is while its disks are handed out to the actors of a run, one by one; why no process began, and how the
+-- disks that were handed out come back.
+use Rattle.std.specs.Prelude.{◌≡◌, ◌⊎◌, ℕ, ◌+◌, ◌<◌, ◌≤◌, Bool, true, List, [], Option, Some, Ok}
+use Rattle.std.specs.Prelude.{All, IsSome, is_some, slice_get}
 use Rattle.qc_decl.specs.declared.declaration.Declaration.{Declaration}
+use Rattle.qc_outside.specs.Causes.{Rose}
 use Rattle.qc_outside.specs.Disk.{NamesActor}
-use Rattle.qc_outside.specs.Places.{HoldsNoByte, IsHandedOut, Places}
+use Rattle.qc_outside.specs.Images.{Told, settled}
+use Rattle.qc_outside.specs.Places.{HoldsNoByte, IsHandedOut, IsSameAtAll, Places}
 use Rattle.qc_outside.specs.declared.rack.RackFault.{RackFault}
+use Rattle.qc_outside.specs.declared.rack.RackFault.TheVariants as racks
 use Rattle.qc_process.specs.Stored.{IsProcess}
 use Rattle.qc_process.specs.Views.{IsUp, ProcessView}
 use Rattle.qc_bounds.specs.Places.{AreHandedOut, place_of}
@@ -18,6 +22,17 @@ AreProcesses tells decl ps = (a : ℕ) (p : ProcessView) → slice_get ps a ≡ 
 abbrev pub AreUp : List ProcessView → Type 0
 AreUp ps = (a : ℕ) (p : ProcessView) → slice_get ps a ≡ Some p → IsUp p.store
 
+-- A disk that was handed out and did nothing yet, with its count of faults: it holds no byte, and tells where its rack
+-- does.
+pub record IsUnwritten (tells : Bool) (told : Option Told) (count : ℕ) : Type 0 where
+  pub still : tells ≡ true → IsSome told
+  pub empty : (t : Told) → told ≡ Some t → t.now ≡ settled []
+  pub fresh : count ≡ 0
+
+-- all of these are, by what each disk tells and counted
+abbrev pub AreUnwritten : {D : Type 0} → Bool → (D → Option Told) → (D → ℕ) → List D → Type 0
+AreUnwritten tells told count disks = All (λ disk. IsUnwritten tells (told disk) (count disk)) disks
+
 -- disks were handed out for the actors below a number, at whose places there was no byte; those of the others stay
 pub record AreHandedBelow (folder : Option (List ℕ)) (n : ℕ) (old new : Places) : Type 0 where
   pub empty : (a : ℕ) → a < n → HoldsNoByte (old (place_of folder a))
@@ -27,36 +42,33 @@ pub record AreHandedBelow (folder : Option (List ℕ)) (n : ℕ) (old new : Plac
 abbrev pub IsHandedBelow : Option (List ℕ) → ℕ → Option Places → Option Places → Type 0
 IsHandedBelow folder n old new = BothTell old new (AreHandedBelow folder n)
 
--- A rack's places, and its count, before and after the processes of the actors below a number were started.
-pub record AreStarted (folder : Option (List ℕ)) (n : ℕ) (old : Option Places) (before : ℕ) (new : Option Places) (now : ℕ) : Type 0 where
+-- A rack's places, and its count, before and after it handed out the disks of the actors below a number.
+pub record AreStarted (folder : Option (List ℕ)) (n : ℕ) (old : Option Places) (before : ℕ) (new : Option Places)
+    (now : ℕ) : Type 0 where
   pub places : IsHandedBelow folder n old new
   pub later : before ≤ now
 
 -- of one actor
-pub record IsStarted (folder : Option (List ℕ)) (a : ℕ) (old : Option Places) (before : ℕ) (new : Option Places) (now : ℕ) : Type 0 where
+pub record IsStarted (folder : Option (List ℕ)) (a : ℕ) (old : Option Places) (before : ℕ) (new : Option Places)
+    (now : ℕ) : Type 0 where
   pub handed : IsHandedOut {T = Unit {0}} old (place_of folder a) (Ok tt) new
   pub later : before ≤ now
 
--- one actor's place is as it was, or held no byte; those of the others stay
-pub record IsOtherwiseSame (folder : Option (List ℕ)) (a : ℕ) (old new : Places) : Type 0 where
-  pub here : (new (place_of folder a) ≡ old (place_of folder a)) ⊎ HoldsNoByte (old (place_of folder a))
-  pub others : (b : ℕ) → (b ≡ a → ⊥) → new (place_of folder b) ≡ old (place_of folder b)
-
--- A rack before and after the process of one actor wasn't started.
-pub record IsUnstarted (folder : Option (List ℕ)) (a : ℕ) (old : Option Places) (before : ℕ) (new : Option Places) (now : ℕ) (fault : RackFault)
-    : Type 0 where
+-- A rack before and after it refused the disk of one actor.
+pub record IsUnstarted (folder : Option (List ℕ)) (a : ℕ) (old : Option Places) (before : ℕ) (new : Option Places)
+    (now : ℕ) (fault : RackFault) : Type 0 where
   pub why : IsRefused folder old before now fault
   pub named : NamesActor a fault
   pub later : before ≤ now
-  pub places : BothTell old new (IsOtherwiseSame folder a)
+  pub places : BothTell old new IsSameAtAll
 
 -- A rack before and after a start that was given up.
-pub record AreUnstarted (folder : Option (List ℕ)) (old : Option Places) (before : ℕ) (new : Option Places) (now : ℕ) (fault : RackFault) : Type 0
-  where
-    pub why : IsRefused folder old before now fault
-    pub later : before ≤ now
-    pub tells : is_some new ≡ is_some old
-    pub back : BothTell old new (AreGivenBack folder fault)
+pub record AreUnstarted (folder : Option (List ℕ)) (old : Option Places) (before : ℕ) (new : Option Places) (now : ℕ)
+    (fault : RackFault) : Type 0 where
+  pub why : IsRefused folder old before now fault
+  pub later : before ≤ now
+  pub tells : is_some new ≡ is_some old
+  pub back : BothTell old new (AreGivenBack folder fault)
 
 -- the disks of the actors below a number came back, with their journals begun; the places of the others stay
 pub record AreBackBelow (folder : Option (List ℕ)) (n : ℕ) (old new : Places) : Type 0 where
@@ -64,6 +76,42 @@ pub record AreBackBelow (folder : Option (List ℕ)) (n : ℕ) (old new : Places
   pub same : (a : ℕ) → n ≤ a → new (place_of folder a) ≡ old (place_of folder a)
 
 -- A rack to which the disks of the actors below a number came back.
-pub record IsGivenBack (folder : Option (List ℕ)) (n : ℕ) (old : Option Places) (before : ℕ) (new : Option Places) (now : ℕ) : Type 0 where
+pub record IsGivenBack (folder : Option (List ℕ)) (n : ℕ) (old : Option Places) (before : ℕ) (new : Option Places)
+    (now : ℕ) : Type 0 where
   pub later : before ≤ now
   pub places : BothTell old new (AreBackBelow folder n)
+
+-- the disks of so many actors, from one on, came back unwritten; the places of the others stay
+pub record AreBackFrom (folder : Option (List ℕ)) (first n : ℕ) (old new : Places) : Type 0 where
+  pub empty : (a : ℕ) → first ≤ a → a < first + n → HoldsNoByte (new (place_of folder a))
+  pub before : (a : ℕ) → a < first → new (place_of folder a) ≡ old (place_of folder a)
+  pub behind : (a : ℕ) → first + n ≤ a → new (place_of folder a) ≡ old (place_of folder a)
+
+-- A rack to which the unwritten disks of so many actors, from one on, came back.
+pub record IsBackFrom (folder : Option (List ℕ)) (first n : ℕ) (old : Option Places) (before : ℕ)
+    (new : Option Places) (now : ℕ) : Type 0 where
+  pub later : before ≤ now
+  pub places : BothTell old new (AreBackFrom folder first n)
+
+-- Why no journal was begun on an unwritten disk: it failed, and the rack's count rose, or memory was wanting. That it
+-- isn't empty comes only where the rack doesn't tell.
+abbrev pub IsUnbegun : Option Places → ℕ → ℕ → RackFault → Type 0
+IsUnbegun told before now (racks.NotEmpty actor) = IsSome told → ⊥
+IsUnbegun told before now (racks.Failed actor) = Rose before now
+IsUnbegun told before now racks.OutOfMemory = Unit {0}
+
+-- the disks of the actors below a number came back, but for one's unwritten or with a begun journal; the places of the
+-- others stay
+pub record AreBackBut (folder : Option (List ℕ)) (n actor : ℕ) (old new : Places) : Type 0 where
+  pub back : (a : ℕ) → a < n → (a ≡ actor → ⊥)
+      → HoldsNoByte (new (place_of folder a)) ⊎ HasBegun (new (place_of folder a))
+  pub same : (a : ℕ) → n ≤ a → new (place_of folder a) ≡ old (place_of folder a)
+
+-- A rack that had handed out the disks of the actors below a number, before and after no journal was begun on one.
+pub record AreUnbegun (folder : Option (List ℕ)) (n : ℕ) (old : Option Places) (before : ℕ) (new : Option Places)
+    (now : ℕ) (fault : RackFault) : Type 0 where
+  pub actor : ℕ
+  pub named : NamesActor actor fault
+  pub why : IsUnbegun old before now fault
+  pub later : before ≤ now
+  pub places : BothTell old new (AreBackBut folder n actor)

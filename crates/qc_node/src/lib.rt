@@ -20,8 +20,9 @@
 //!    open inputs (`specs/Ends.antt`), whatever the workers answered.
 //! 5. `run_script` does all of it, from a script and a rack to a history. Each disk
 //!    goes back to its place; each fall is of an armed fault or one that the rack
-//!    counted; and where the rack tells, no record is lost. Where no run begins, the
-//!    disks that were handed out go back, with their journals begun.
+//!    counted; and where the rack tells, no record is lost. No journal is begun before
+//!    the disks of all actors are there. Where no run begins, those that were handed
+//!    out go back, and each place that held a byte is as it was.
 #![tactic(auto)]
 
 mod cell;

@@ -54,9 +54,10 @@ pub struct Ran {
 /// actor's place holds a byte; records are kept then, and each place holds its
 /// actor's journal in the end.
 ///
-/// Where no run begins and the rack tells, the disks that were handed out for the
-/// actors before the one that is told came back, each with its journal begun, and no
-/// actor's place that held a byte has changed.
+/// Where no run begins and the rack tells, each place that held a byte is as it was.
+/// One that held none holds none, or a begun journal, but for that of the actor who is
+/// told, whose disk may have failed. Where a place that isn't empty is told, no place
+/// got a byte.
 #[tactic(auto, using(crate::proofs::Runnable::runnable, crate::proofs::Unstarted::nothing_back))]
 pub fn run_script<G: Gate + Sync, K: Rack, R: Threads + Wait + Sync>(
     rt: &R,

@@ -22,7 +22,10 @@ loop-process-init g c = record {
 pub loop-process-preserved : goal.loop-process-preserved
 loop-process-preserved g c =
     let places = g.K.Rack.places in
+    let faults = g.K.Rack.faults in
+    let folder = option_copied c.args.dir in
     let told = g.K.D.Disk.told c.into_disk.result in
+    let count = g.K.D.Disk.faults c.into_disk.result in
     let n = length c.loop-process.yielded in
     let rest = into_iter_items c.next.new.self in
     let p = c.in-Some.process in
@@ -31,19 +34,18 @@ loop-process-preserved g c =
     ap (λ l. c.loop-process.yielded ++ l) (sym first) ∙ c.loop-process.invariant.split in
     let more : length (c.loop-process.yielded ++ p ∷ []) ≡ n + 1 =
     omega (arith, length-append c.loop-process.yielded (p ∷ [])) in
-    let count : length c.args.each.items ≡ vec_len c.args.each = search rules in
+    let all : length c.args.each.items ≡ vec_len c.args.each = search rules in
     let low : n < vec_len c.args.each =
-    omega (arith, count, ap (λ l. length l) split, length-append c.loop-process.yielded (p ∷ rest)) in
+    omega (arith, all, ap (λ l. length l) split, length-append c.loop-process.yielded (p ∷ rest)) in
     let at : slice_get c.args.each.items n ≡ Some p =
     ap (λ l. slice_get l n) (sym split) ∙ at_place c.loop-process.yielded rest p in
     let decl = c.requires.processes.0 in
     let tells = is_some (places c.args.rack.now) in
     let is : IsProcess tells decl n [] p = c.requires.processes.1 n p at in
-    let on : IsOnDisk tells decl n [] told (g.K.D.Disk.faults c.into_disk.result) =
-    c.into_disk.ensures.stored tells decl n [] is.stored in
+    let on : IsOnDisk tells decl n [] told count = c.into_disk.ensures.stored tells decl n [] is.stored in
     let begun : DiskHasJournal told [] = c.into_disk.ensures.begun tells decl n [] (c.requires.up n p at) is.stored in
-    let put : IsPutBack (places c.loop-process.rack) (place_of (option_copied c.args.dir) n) told (places c.keep.new.self) =
-    subst (λ (a : ℕ). IsPutBack (places c.loop-process.rack) (place_of (option_copied c.args.dir) a) told (places c.keep.new.self))
+    let put : IsPutBack (places c.loop-process.rack) (place_of folder n) told (places c.keep.new.self) =
+    subst (λ (a : ℕ). IsPutBack (places c.loop-process.rack) (place_of folder a) told (places c.keep.new.self))
     (c.number-actor.ensures ∙ is.number_is) c.keep.ensures.put in
     record {
       can = tt;
@@ -51,13 +53,12 @@ loop-process-preserved g c =
       split = append_assoc c.loop-process.yielded (p ∷ []) rest ∙ split;
       back =
           subst
-          (λ (k : ℕ). IsGivenBack (option_copied c.args.dir) k (places c.args.rack.now) (g.K.Rack.faults c.args.rack.now)
-          (places c.keep.new.self) (g.K.Rack.faults c.keep.new.self)) (sym more)
-          (one_more_back (option_copied c.args.dir) n (places c.args.rack.now) (places c.loop-process.rack) (places c.keep.new.self)
-          (g.K.Rack.faults c.args.rack.now) (g.K.Rack.faults c.loop-process.rack)
-          (g.K.Rack.faults c.keep.new.self) (g.K.D.Disk.faults c.into_disk.result) told
+          (λ (k : ℕ). IsGivenBack folder k (places c.args.rack.now) (faults c.args.rack.now)
+          (places c.keep.new.self) (faults c.keep.new.self)) (sym more)
+          (one_more_back folder n (places c.args.rack.now) (places c.loop-process.rack) (places c.keep.new.self)
+          (faults c.args.rack.now) (faults c.loop-process.rack) (faults c.keep.new.self) count told
           c.loop-process.invariant.back put c.keep.ensures.kept
-          (handed_at (option_copied c.args.dir) (vec_len c.args.each) n (places c.args.rack.now) low c.requires.handed) on.still begun);
+          (handed_at folder (vec_len c.args.each) n (places c.args.rack.now) low c.requires.handed) on.still begun);
     }
 
 pub returns : goal.returns
@@ -73,5 +74,6 @@ returns g c =
       length-append c.loop-process.yielded (into_iter_items c.loop-process.process-iterator),
     ) in
     subst
-    (λ (k : ℕ). IsGivenBack (option_copied c.args.dir) k (g.K.Rack.places c.args.rack.now) (g.K.Rack.faults c.args.rack.now)
-    (g.K.Rack.places c.loop-process.rack) (g.K.Rack.faults c.loop-process.rack)) all c.loop-process.invariant.back
+    (λ (k : ℕ). IsGivenBack (option_copied c.args.dir) k (g.K.Rack.places c.args.rack.now)
+    (g.K.Rack.faults c.args.rack.now) (g.K.Rack.places c.loop-process.rack) (g.K.Rack.faults c.loop-process.rack)) all
+    c.loop-process.invariant.back

@@ -11,6 +11,6 @@ invariant-loop-process g l = record {
   finite : (goal.iterator-loop-process g).is_finite l.process-iterator;
   split : l.yielded ++ into_iter_items l.process-iterator ≡ l.fn.each.items;
   back :
-      IsGivenBack (option_copied l.fn.dir) (length l.yielded) (g.K.Rack.places l.initial.rack) (g.K.Rack.faults l.initial.rack)
-      (g.K.Rack.places l.rack) (g.K.Rack.faults l.rack);
+      IsGivenBack (option_copied l.fn.dir) (length l.yielded) (g.K.Rack.places l.initial.rack)
+      (g.K.Rack.faults l.initial.rack) (g.K.Rack.places l.rack) (g.K.Rack.faults l.rack);
 }
