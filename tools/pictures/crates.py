@@ -12,7 +12,7 @@ SIZE, HIGH, STEP, MARGIN, LABEL, GAP = 12, 24, 50, 10, 22, 12
 TESTS, PROGRAM = "tests_", "quorum"
 # from the bottom up; a crate stands on none of a later band
 BANDS = {
-    "base": "list stamp table cert plan entry lock link view outside pass journal decl accept",
+    "base": "list stamp number table cert plan entry lock link view outside pass journal decl accept",
     "theory": "onecopy protocol runs bases",
     "system": "msg record fit script inbox mailbox fabric promise spent store site commit front client epoch recover admin core process",
     "laws": "laws due bounds net atomic reach guarantees votes falls",
