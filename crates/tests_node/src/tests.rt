@@ -36,12 +36,12 @@ c2 commit
 ";
 
 /// Runs a script over a declaration by so many workers.
-fn ran<G: Gate + Sync, R: Threads + Wait + Sync>(
+fn ran<'a, G: Gate + Sync, R: Threads + Wait + Sync>(
     rt: &R,
     alloc: Global,
-    decl: &Declaration,
+    decl: &'a Declaration,
     bytes: &[u8],
-    gate: &G,
+    gate: &'a G,
     workers: u8,
 ) -> Result<Ran, Fail>
     requires accepted { IsAccepted decl.now }
