@@ -4,9 +4,10 @@
 usage: tools/folder_time.py PROGRAM COUNT [ROUNDS]
 
 The script of a load of COUNT transactions is run over @three with a folder and without one, and as `load`. The records
-that the files then hold are written again by this program, each as the journal does it: length, body and a closed gate,
-a sync, the open gate, a sync. All are done ROUNDS times (5), in turn; told are the shortest times and the share of each
-of the run with a folder. The folder is made where this is called, so that the disk is the caller's.
+that the files then hold are written again by this program, in the order of the run, each as the journal does it: length,
+body and a closed gate, a sync, the open gate, a sync. All are done ROUNDS times (5), in turn; told are the shortest
+times, and how many times the plain program's each is. The folder is made where this is called, so that the disk is the
+caller's.
 """
 
 import os
@@ -15,7 +16,11 @@ import sys
 import tempfile
 import time
 
+import journals
+
 MODULUS = 65537
+# In which order the actors write the records of a transaction.
+ORDER = ["Prepare", "Commit", "Done"]
 
 
 def load_script(count, seed):
@@ -28,30 +33,36 @@ def load_script(count, seed):
     return "".join(line + "\n" for line in lines)
 
 
-def bodies_of(path):
-    """The bodies of a journal's records."""
-    with open(path, "rb") as file:
-        data = file.read()
-    bodies, at = [], 0
-    while at < len(data) and data[at] != 0:
-        length = int.from_bytes(data[at + 1 : at + 5], "big")
-        bodies.append(data[at + 1 : at + 5 + length])
-        at += 5 + length
-    return bodies
+def records_in(folder):
+    """All records of a load's journals in the order of the run: for each its actor, and its length and body."""
+    found = []
+    for path in journals.journals_of(folder):
+        with open(path, "rb") as file:
+            data = file.read()
+        records, end = journals.records_of(data)
+        ends = [gate for gate, _, _ in records[1:]] + [end]
+        for (gate, kind, fields), behind in zip(records, ends):
+            client, _, number = fields["tx"]
+            found.append((number, client, ORDER.index(kind), int(path[-2:]), data[gate + 1 : behind]))
+    return [record[3:] for record in sorted(found)]
 
 
-def write_plainly(journals, folder):
-    """Writes journals of these records, each record with two writes and two syncs."""
-    for actor, bodies in enumerate(journals):
-        file, at = os.open(os.path.join(folder, "plain-%02d" % actor), os.O_RDWR | os.O_CREAT | os.O_TRUNC, 0o644), 0
-        os.pwrite(file, b"\0", 0)
+def write_plainly(records, actors, folder):
+    """Writes these records, each with two writes and two syncs."""
+    files, gates = [], [0] * actors
+    for actor in range(actors):
+        name = os.path.join(folder, "plain-%02d" % actor)
+        files.append(os.open(name, os.O_RDWR | os.O_CREAT | os.O_TRUNC, 0o644))
+        os.pwrite(files[actor], b"\0", 0)
+        os.fsync(files[actor])
+    for actor, frame in records:
+        file, gate = files[actor], gates[actor]
+        os.pwrite(file, frame + b"\0", gate + 1)
         os.fsync(file)
-        for body in bodies:
-            os.pwrite(file, body + b"\0", at + 1)
-            os.fsync(file)
-            os.pwrite(file, b"\1", at)
-            os.fsync(file)
-            at += 1 + len(body)
+        os.pwrite(file, b"\1", gate)
+        os.fsync(file)
+        gates[actor] = gate + 1 + len(frame)
+    for file in files:
         os.close(file)
 
 
@@ -76,18 +87,18 @@ def main(program, count, rounds=5):
             return disks
 
         disks = in_folder()
-        journals = [bodies_of(os.path.join(disks, name)) for name in sorted(os.listdir(disks))]
+        records, actors = records_in(disks), len(os.listdir(disks))
         ways = {
             "load": lambda: called("load", str(count), "7"),
             "run": lambda: called("run", "@three", script),
             "run with a folder": in_folder,
-            "plain": lambda: write_plainly(journals, folder),
+            "plain": lambda: write_plainly(records, actors, folder),
         }
         best = dict.fromkeys(ways, float("inf"))
         for _ in range(rounds):
             for name, work in ways.items():
                 best[name] = min(best[name], timed(work))
-    print("%d transactions, %d records" % (count, sum(map(len, journals))))
+    print("%d transactions, %d records" % (count, len(records)))
     for name, seconds in best.items():
         print("%-18s %8.3f s %6.2f" % (name, seconds, seconds / best["plain"]))
 

@@ -66,7 +66,7 @@ impl<F: Read + Write + Seek + OpenFile + Send + Drop> Disk for FileDisk<F> {
     ghost has_room = { λ d n end. d.file ≡ None → ⟦<MemDisk as Disk>⟧.has_room d.memory n end };
 
     fn len(&mut self) -> Result<u64, DiskFault> {
-        match &self.file {
+        match &mut self.file {
             None => self.memory.len(),
             Some(file) => match file.len() {
                 Ok(len) => Ok(len),

@@ -5,8 +5,8 @@ use std::fs::OpenFile;
 use std::io::{self, ErrorKind, Read, Seek, SeekFrom, Write};
 
 /// A file, and where the last of what was written to it ends. Where the file is found
-/// shorter, as another process may make it, the call fails: what is missing would
-/// else read as a journal of fewer records.
+/// shorter as it is written or read, as another process may make it, the call fails:
+/// what is missing would else read as a journal of fewer records.
 #[derive(Drop)]
 pub(crate) struct WholeFile<F: Drop> {
     file: F,
@@ -19,9 +19,10 @@ impl<F: Read + Write + Seek + OpenFile + Drop> WholeFile<F> {
         WholeFile { file, end: 0 }
     }
 
-    /// How many bytes it holds.
-    pub(crate) fn len(&self) -> io::Result<u64> {
-        let len = self.file.metadata()?.len();
+    /// How many bytes it holds. Its end is sought, since a system may make a write
+    /// that follows a question for its metadata dearer to sync.
+    pub(crate) fn len(&mut self) -> io::Result<u64> {
+        let len = self.file.seek(SeekFrom::End(0))?;
         if len < self.end {
             return Err(ErrorKind::UnexpectedEof.into());
         }
@@ -50,8 +51,6 @@ impl<F: Read + Write + Seek + OpenFile + Drop> WholeFile<F> {
 
     /// Has the system keep what was written.
     pub(crate) fn sync(&self) -> io::Result<()> {
-        self.file.sync_all()?;
-        self.len()?;
-        Ok(())
+        self.file.sync_all()
     }
 }
