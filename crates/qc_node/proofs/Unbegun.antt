@@ -49,18 +49,16 @@ module _ (folder : Option (List ℕ)) (a k : ℕ) (old mid last new : Places) (t
   same_there b other =
       elsewhere mid last (place_of folder a) told put (place_of folder b) (other_place folder b a other)
 
-  back_by : (b : ℕ) → b < a + 1 + k → (b ≡ a → ⊥) → (b ≡ a) ⊎ ((b < a) ⊎ (a < b))
-      → HoldsNoByte (new (place_of folder b)) ⊎ HasBegun (new (place_of folder b))
-  back_by b low other (inl same) = absurd (other same)
-  back_by b low other (inr (inl before)) =
+  begun_still : (b : ℕ) → b < a → HasBegun (new (place_of folder b))
+  begun_still b before =
       let same : new (place_of folder b) ≡ mid (place_of folder b) =
-      back.before b (omega (arith, before)) ∙ same_there b other in
-      inr (subst HasBegun (sym same) (was.begun b before))
-  back_by b low other (inr (inr behind)) = inl (back.empty b (omega (arith, behind)) low)
+      back.before b (omega (arith, before)) ∙ same_there b (λ same. omega (arith, before, same)) in
+      subst HasBegun (sym same) (was.begun b before)
 
   all_but_at : (n : ℕ) → a + 1 + k ≡ n → AreBackBut folder n a old new
   all_but_at n count = record {
-    back = λ b low other. back_by b (omega (arith, low, count)) other (cases_order b a);
+    begun = begun_still;
+    behind = λ b high low. back.empty b (omega (arith, high)) (omega (arith, low, count));
     same = λ b high.
         back.behind b (omega (arith, high, count))
         ∙ (same_there b (λ same. omega (arith, high, count, same)) ∙ was.same b (omega (arith, high, count)));
@@ -123,9 +121,15 @@ module _ (folder : Option (List ℕ)) (n actor : ℕ) (old mid new : Places) (wa
   full_by a full (inl low) = absurd (full (was.empty a low))
   full_by a full (inr high) = same_above a high
 
+  back_by : (a : ℕ) → a < n → (a ≡ actor → ⊥) → (a ≡ actor) ⊎ ((a < actor) ⊎ (actor < a))
+      → HoldsNoByte (new (place_of folder a)) ⊎ HasBegun (new (place_of folder a))
+  back_by a low other (inl same) = absurd (other same)
+  back_by a low other (inr (inl before)) = inr (back.begun a before)
+  back_by a low other (inr (inr behind)) = inl (back.behind a behind low)
+
   empty_by : (a : ℕ) → (a ≡ actor → ⊥) → HoldsNoByte (old (place_of folder a)) → (a < n) ⊎ (n ≤ a)
       → HoldsNoByte (new (place_of folder a)) ⊎ HasBegun (new (place_of folder a))
-  empty_by a other none (inl low) = back.back a low other
+  empty_by a other none (inl low) = back_by a low other (cases_order a actor)
   empty_by a other none (inr high) = inl (subst HoldsNoByte (sym (same_above a high)) none)
 
   begun_back_at : (fault : RackFault) → NamesActor actor fault → (IsNotEmpty fault → ⊥)
@@ -135,6 +139,7 @@ module _ (folder : Option (List ℕ)) (n actor : ℕ) (old mid new : Places) (wa
     named = names;
     full = λ a full. full_by a full (cases_lt a n);
     empty = λ a other none. empty_by a other none (cases_lt a n);
+    back = inr back.begun;
     unwritten = λ full a none. absurd (empty full);
   }
 

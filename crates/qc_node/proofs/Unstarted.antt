@@ -152,6 +152,7 @@ module _ (folder : Option (List ℕ)) (n : ℕ) (old mid last new : Places) (was
     named = names;
     full = λ a full. full_by a full (cases_lt a n);
     empty = λ a other none. inl (empty_by a none (cases_lt a n));
+    back = inl (λ a none. empty_by a none (cases_lt a n));
     unwritten = λ why a none. empty_by a none (cases_lt a n);
   }
 
@@ -194,6 +195,7 @@ nothing_back folder (Some old) = record {
   named = tt;
   full = λ a full. refl;
   empty = λ a other none. inl none;
+  back = inl (λ a none. none);
   unwritten = λ why a none. none;
 }
 

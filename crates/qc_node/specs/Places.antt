@@ -44,7 +44,8 @@ IsNotEmpty racks.OutOfMemory = ⊥
 
 -- No run began, since one actor's process wasn't started: that of the actor whom the fault names, if it names one. Each
 -- place that held a byte is as it was. One that held none holds none, or a begun journal; only at that actor's place
--- may a disk that failed have left anything. Where a place wasn't empty, none got a byte.
+-- may a disk that failed have left anything. Where a place wasn't empty, none got a byte. Where one did, the disks of
+-- all actors before that one came back with their journals begun.
 pub record AreGivenBack (folder : Option (List ℕ)) (fault : RackFault) (old new : Places) : Type 0 where
   pub actor : ℕ
   pub named : NamesActor actor fault
@@ -52,5 +53,7 @@ pub record AreGivenBack (folder : Option (List ℕ)) (fault : RackFault) (old ne
       → new (place_of folder a) ≡ old (place_of folder a)
   pub empty : (a : ℕ) → (a ≡ actor → ⊥) → HoldsNoByte (old (place_of folder a))
       → HoldsNoByte (new (place_of folder a)) ⊎ HasBegun (new (place_of folder a))
+  pub back : ((a : ℕ) → HoldsNoByte (old (place_of folder a)) → HoldsNoByte (new (place_of folder a)))
+      ⊎ ((a : ℕ) → a < actor → HasBegun (new (place_of folder a)))
   pub unwritten : IsNotEmpty fault → (a : ℕ) → HoldsNoByte (old (place_of folder a))
       → HoldsNoByte (new (place_of folder a))

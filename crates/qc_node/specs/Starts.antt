@@ -1,6 +1,6 @@
 -- What a rack is while its disks are handed out to the actors of a run, one by one; why no process began, and how the
 -- disks that were handed out come back.
-use Rattle.std.specs.Prelude.{◌≡◌, ◌⊎◌, ℕ, ◌+◌, ◌<◌, ◌≤◌, Bool, true, List, [], Option, Some, Ok}
+use Rattle.std.specs.Prelude.{◌≡◌, ℕ, ◌+◌, ◌<◌, ◌≤◌, Bool, true, List, [], Option, Some, Ok}
 use Rattle.std.specs.Prelude.{All, IsSome, is_some, slice_get}
 use Rattle.qc_decl.specs.declared.declaration.Declaration.{Declaration}
 use Rattle.qc_outside.specs.Causes.{Rose}
@@ -100,11 +100,11 @@ IsUnbegun told before now (racks.NotEmpty actor) = IsSome told → ⊥
 IsUnbegun told before now (racks.Failed actor) = Rose before now
 IsUnbegun told before now racks.OutOfMemory = Unit {0}
 
--- the disks of the actors below a number came back, but for one's unwritten or with a begun journal; the places of the
--- others stay
+-- the disks of the actors below a number came back: those before one with their journals begun, those behind it
+-- unwritten; the places of the others stay
 pub record AreBackBut (folder : Option (List ℕ)) (n actor : ℕ) (old new : Places) : Type 0 where
-  pub back : (a : ℕ) → a < n → (a ≡ actor → ⊥)
-      → HoldsNoByte (new (place_of folder a)) ⊎ HasBegun (new (place_of folder a))
+  pub begun : (a : ℕ) → a < actor → HasBegun (new (place_of folder a))
+  pub behind : (a : ℕ) → actor < a → a < n → HoldsNoByte (new (place_of folder a))
   pub same : (a : ℕ) → n ≤ a → new (place_of folder a) ≡ old (place_of folder a)
 
 -- A rack that had handed out the disks of the actors below a number, before and after no journal was begun on one.

@@ -57,7 +57,8 @@ pub struct Ran {
 /// Where no run begins and the rack tells, each place that held a byte is as it was.
 /// One that held none holds none, or a begun journal, but for that of the actor who is
 /// told, whose disk may have failed. Where a place that isn't empty is told, no place
-/// got a byte.
+/// got a byte; where one got one, the disks of all actors before that one came back
+/// with their journals begun.
 #[tactic(auto, using(crate::proofs::Runnable::runnable, crate::proofs::Unstarted::nothing_back))]
 pub fn run_script<G: Gate + Sync, K: Rack, R: Threads + Wait + Sync>(
     rt: &R,
