@@ -7,9 +7,6 @@ use std::sync::{Mutex, Wait};
 use std::thread::Threads;
 use std::time::{Duration, Instant};
 
-/// How often the time is looked at: where the history's length is a multiple of this.
-const STEPS_BETWEEN_LOOKS: u64 = 32;
-
 /// How many milliseconds a run takes at least of which something is told.
 const QUIET_MILLIS: u64 = 1_000;
 
@@ -65,9 +62,6 @@ impl<'a> Progress<'a> {
 
 impl Gate for Progress<'_> {
     fn at<T: Threads + Wait + Sync>(&self, rt: &T, _actor: u8, taken: u64) {
-        if taken % STEPS_BETWEEN_LOOKS != 0 {
-            return;
-        }
         let Some(began) = self.began else {
             return;
         };
