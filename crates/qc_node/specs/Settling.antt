@@ -14,8 +14,8 @@ use Rattle.qc_bounds.specs.Visits.{visits_below}
 -- So many disks went back, of the actors that were visited, and so these passes have rooms: in their accounts no fault
 -- ever waited past its call, and the rack's count rose by their falls from what it was before. The rack tells where the
 -- disks of the run do; then records were kept but for misfits, and the places hold the journals.
-pub record IsSettling (folder : Option (List ℕ)) (tells : Bool) (decl : Declaration) (h : List Entry) (rooms : List ℕ) (count before now : ℕ)
-    (places : Option Places) : Type 0 where
+pub record IsSettling (folder : Option (List ℕ)) (tells : Bool) (decl : Declaration) (h : List Entry)
+    (rooms : List ℕ) (count before now : ℕ) (places : Option Places) : Type 0 where
   pub visited : ℕ → Bool
   pub counted : visits_below (controller decl) visited ≡ count
   pub roomed : (a : ℕ) → visited a ≡ true → slice_get rooms a ≡ Some 1

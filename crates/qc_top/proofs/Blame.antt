@@ -16,7 +16,7 @@ use Rattle.qc_script.specs.declared.script.Script.{Script}
 use Rattle.qc_top.proofs.Ends.{the_err}
 use Rattle.qc_top.specs.Answers.{IsCounted, is_built_in}
 use Rattle.qc_words.specs.Words.{AskedOf, Check, Run, Load}
-use Rattle.qc_top.specs.Work.{Caused, ◌>>=◌, Gives, IsBlamed, accept_work, bytes_of, load_work, run_of, script_work, spelled_in, unless_a_line_is, unless_refused, work_of}
+use Rattle.qc_top.specs.Work.{Caused, ◌>>=◌, Gives, IsBlamed, accept_work, bytes_of, run_of, script_work, spelled_in, unless_a_line_is, unless_refused, work_of}
 use Rattle.qc_top.specs.declared.answers.Answers.{Answers}
 use Rattle.qc_top.specs.declared.work.Work.{Work}
 use Rattle.qc_top.specs.declared.work.Work.TheVariants as works

@@ -7,8 +7,6 @@ use Rattle.qc_decl.specs.Actors.{actors}
 use Rattle.qc_decl.specs.declared.declaration.Declaration.{Declaration}
 use Rattle.qc_msg.specs.Steps.{Entry}
 use Rattle.qc_node.specs.Rules.{fits_of}
-use Rattle.qc_outside.specs.Places.{Places}
-use Rattle.qc_outside.specs.Shelf.{Answer, Files}
 use Rattle.qc_outside.specs.declared.rack.RackFault.{RackFault}
 use Rattle.qc_outside.specs.declared.rack.RackFault.TheVariants as racks
 use Rattle.qc_report.specs.declared.cause.Cause.{Cause}
@@ -23,7 +21,6 @@ use Rattle.qc_top.proofs.Runs.{run_atomic, run_due, run_known}
 use Rattle.qc_top.specs.Racks.{cause_of_rack}
 use Rattle.qc_top.specs.Top.{AreStatesKnown, IsFullCause, IsNoRack, IsNoShelf, IsRan, IsRight, IsRunnable, IsTold, Leaves, LeavesRun, OnPrinted, PrintsBetween, cause_of_words, output_of}
 use Rattle.qc_words.specs.Asked.{IsTold as IsToldOf}
-use Rattle.qc_words.specs.Askable.{IsAskable}
 use Rattle.qc_words.specs.Words.{AskedOf, asked}
 use Rattle.qc_words.specs.declared.fault.WordsFault.{WordsFault}
 use Rattle.qc_words.specs.declared.fault.WordsFault.TheVariants as words_faults

@@ -1,5 +1,5 @@
 -- What the top call leaves: a run of the words' script and its text, a word on a declaration, or a cause that is due.
-use Rattle.std.specs.Prelude.{◌≡◌, ℕ, Bool, true, ◌++◌, List, [], Option, Some, None, Ok, Err, IsSome, ◌⊎◌}
+use Rattle.std.specs.Prelude.{◌≡◌, ℕ, Bool, ◌++◌, List, [], Option, Some, None, Ok, Err, IsSome, ◌⊎◌}
 use Rattle.qc_promise.specs.Atomic.{Atomic}
 use Rattle.qc_promise.specs.Committed.{committed}
 use Rattle.qc_promise.specs.Due.{Due}
@@ -151,8 +151,8 @@ pub record LeavesRun (decl : Declaration) (script : Script) (output : Output) (o
   pub due : IsRan cause
   -- what happened is a run of the script, in which disks may fail, and actors fall and rise
   pub run : RunWithFalls (IsLawfulWithFalls decl) (fits_of decl) decl script h
-  -- where something is printed of it, it is a whole one: each input that was taken has its turn, all that the script asks was
-  -- done, and nothing is left to do
+  -- where something is printed of it, it is a whole one: each input that was taken has its turn, all that the script
+  -- asks was done, and nothing is left to do
   pub whole : OnPrinted cause (IsWholeWithFalls (fits_of decl) decl script h)
   -- what is printed is the text, or the summary, of just this history
   pub text : PrintsBetween (output_of output decl script h) old cause new

@@ -2,7 +2,8 @@
 
 ghost use Rattle.std.specs.Prelude.{◌≡◌, ◌≤◌, option_map, Err};
 ghost use Rattle.qc_outside.specs.Causes.{Rose};
-ghost use Rattle.qc_top.specs.Answers.{AreAnswers, IsAnswerFor, IsCounted, decl_file, file_of, is_built_in, script_file};
+ghost use Rattle.qc_top.specs.Answers.{AreAnswers, IsAnswerFor, IsCounted, decl_file, file_of, is_built_in};
+ghost use Rattle.qc_top.specs.Answers.{script_file};
 ghost use Rattle.qc_words.specs.Asked.{asked_in};
 
 use qc_decl::{MOST_DECLARATION_BYTES, MOST_SCRIPT_BYTES};

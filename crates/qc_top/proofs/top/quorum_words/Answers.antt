@@ -1,7 +1,6 @@
 use Rattle.std.proofs.Common.{◌≡◌, ◌∙◌, ◌⊎◌, Option, Some, None, inl, inr, refl, subst, sym}
 use Rattle.qc_report.specs.declared.cause.Cause.TheVariants as causes
 use Rattle.std.specs.Prelude.{option_and_then}
-use Rattle.qc_outside.specs.declared.rack.RackFault.{RackFault}
 use Rattle.qc_top.proofs.Blame.{blame_rose}
 use Rattle.qc_top.proofs.Ends.{unread_due, unread_full, unread_no_rack, unread_no_shelf, unread_no_sink, unread_usage}
 use Rattle.qc_top.proofs.Idle.{begun_kept, begun_spent}
