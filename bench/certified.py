@@ -191,6 +191,64 @@ def ones(seed):
     return (lambda _state, _event: 1), [*full, *asking[:799]]
 
 
+def asked_elsewhere(asking, covers, ballast, seed):
+    """All is looked up in eight groups of up to 1,024 sets, of which the last ones cover. None of those who
+    ask has such a set in its own group, so no hint leads there."""
+    chance = random.Random(seed)
+    for sets in (asking, ballast):
+        chance.shuffle(sets)
+    full = [*ballast[:MOST_ALIKE - len(covers)], *covers]
+    groups = [(0, log, ALL, full) for log in range(1, 9)]
+    groups += [(0, log, FIRST, asking[:MOST_ALIKE]) for log in range(9, 64)]
+    return (lambda state, event: 1 + (state + event) % 8), groups
+
+
+# Twenty events in each piece of four, and pairs of them, of which any three have one.
+SPREAD = range(4, 64, 3)
+HALVES = [pair for half in (SPREAD[:10], SPREAD[10:]) for pair in itertools.combinations(half, 2)]
+
+
+def halves(seed):
+    """Two of 46 events each ask; each event alone covers."""
+    events = range(18, 64)
+    return asked_elsewhere(
+        list(itertools.combinations(events, 2)), [(e,) for e in events], list(itertools.combinations(events, 3)), seed)
+
+
+def thirds(seed):
+    """Three of 20 events each ask; two of them cover."""
+    return asked_elsewhere(
+        list(itertools.combinations(SPREAD, 3)), HALVES, list(itertools.combinations(SPREAD, 5)), seed)
+
+
+def quarters(seed):
+    """Four of 20 events each ask; two of them cover."""
+    return asked_elsewhere(
+        list(itertools.combinations(SPREAD, 4)), HALVES, list(itertools.combinations(SPREAD, 6)), seed)
+
+
+def fifths(seed):
+    """Five of 20 events each ask; two of them cover."""
+    return asked_elsewhere(
+        list(itertools.combinations(SPREAD, 5)), HALVES, list(itertools.combinations(SPREAD, 6)), seed)
+
+
+def behind(seed):
+    """Three of 20 events each ask, 47 groups of 1,024. With an event left out they are looked up in eight groups
+    more, in which what covers has that event and two others; with one taken, in eight whose pairs cover."""
+    chance, asking = random.Random(seed), list(itertools.combinations(SPREAD, 3))
+    chance.shuffle(asking)
+    ballast = list(itertools.combinations(SPREAD, 5))
+    groups = []
+    for log in range(2, 10):
+        with_event = sorted({(*sorted({*pair, event}),) for pair in HALVES for event in range(log - 2, EVENTS, 8)})
+        chance.shuffle(with_event)
+        chance.shuffle(ballast)
+        groups += [(0, log, ALL, [*ballast[:MOST_ALIKE - len(HALVES)], *HALVES]), (1, log, ALL, with_event)]
+    groups += [(1, log, FIRST, asking[:MOST_ALIKE]) for log in range(10, 57)]
+    return (lambda state, event: 0 if state == 1 else 2 + event % 8), groups
+
+
 def some(count, events, seed):
     """Two of so many events each, in as many groups of so many sets as there may be."""
     side = int((65_535 / count) ** 0.5)
@@ -212,7 +270,8 @@ def more(seed):
 
 LISTS = {
     "two": two, "drawn": drawn, "own": own, "ten": ten, "tens": tens, "pairs": pairs, "three": three, "six": six,
-    "last": last, "apart": apart, "fours": fours, "walks": walks, "sevens": sevens, "ones": ones, "few": few, "more": more,
+    "last": last, "apart": apart, "fours": fours, "walks": walks, "sevens": sevens, "ones": ones, "few": few, "more": more, "halves": halves,
+    "thirds": thirds, "quarters": quarters, "fifths": fifths, "behind": behind,
 }
 
 

@@ -6,22 +6,31 @@ ghost use Rattle.std.specs.Prelude.{◌≡◌, ◌≤◌, length, true};
 ghost use Rattle.qc_cert.specs.Faults.{covers, is_covered};
 ghost use Rattle.qc_cert.specs.Limits.{most_triples};
 
+use crate::pairs::Pairs;
+use crate::places::{GROUPS, group, put, read, zeros};
 use crate::triple::Triple;
 use qc_list::OutOfMemory;
-use qc_table::MOST_STATES;
 use std::alloc::Global;
 
 /// How many slots there are: two for each triple of the longest list.
 const SLOTS: usize = 131_072;
 
+/// How many events a triple leaves out at most of which all hints are looked at.
+const FEW_EVENTS: u32 = 3;
+
 /// Places in a list, which is no part of it.
 #[derive(Drop)]
 pub(crate) struct Hints {
+    /// What events are hashed with. It comes of the whole list, so that no list is
+    /// made against its slots.
+    key: u64,
     /// For each two states a triple with the fewest events.
     least: Vec<u16>,
-    /// Each triple in the slot of its states and events, unless a later one has
-    /// the same slot.
+    /// Each triple in one of the two slots of its states and events, unless a later
+    /// one has it.
     slots: Vec<u16>,
+    /// The sets of one event and of two.
+    pairs: Pairs,
 }
 
 impl Hints {
@@ -29,13 +38,20 @@ impl Hints {
     pub(crate) fn new(alloc: Global, list: &[Triple]) -> Result<Hints, OutOfMemory>
         requires { length list.now ≤ most_triples }
     {
-        let mut least = zeros(alloc, MOST_STATES * MOST_STATES)?;
+        let key = key_of(list);
+        let mut least = zeros(alloc, GROUPS)?;
         let mut slots = zeros(alloc, SLOTS)?;
         for (place, triple) in list.iter().enumerate() {
             add_least(&mut least, list, place as u16, triple);
-            put(&mut slots, slot(triple, triple.out), place as u16);
+            add_slot(&mut slots, key, place as u16, triple);
         }
-        Ok(Hints { least, slots })
+        let pairs = Pairs::new(alloc, list)?;
+        Ok(Hints {
+            key,
+            least,
+            slots,
+            pairs,
+        })
     }
 
     /// Whether a hint leads to a triple of the list that covers this one. One is
@@ -44,46 +60,83 @@ impl Hints {
         ensures { result ≡ true → is_covered list.now triple.now ≡ true }
     {
         covers_at(list, read(&self.least, group(triple)), triple)
-            || covers_at(list, read(&self.slots, slot(triple, near)), triple)
+            || covers_at(
+                list,
+                read(&self.slots, first_slot(self.key, triple, near)),
+                triple,
+            )
+            || triple.out.count_ones() <= FEW_EVENTS && self.tell_few(list, triple, near)
+    }
+
+    /// The same, of a triple that leaves out few events: they are sought themselves,
+    /// and each one and two of them. What isn't covered by one or two of its events,
+    /// and has three, is covered by all of them alone.
+    fn tell_few(&self, list: &[Triple], triple: &Triple, near: u64) -> bool
+        ensures { result ≡ true → is_covered list.now triple.now ≡ true }
+    {
+        if self.stands(list, triple, near) || self.stands(list, triple, triple.out) {
+            return true;
+        }
+        match self.pairs.within(triple) {
+            Some(pair) => self.stands(list, triple, pair),
+            None => false,
+        }
+    }
+
+    /// Whether a triple that stands in a slot of these events covers this one.
+    fn stands(&self, list: &[Triple], triple: &Triple, out: u64) -> bool
+        ensures { result ≡ true → is_covered list.now triple.now ≡ true }
+    {
+        covers_at(
+            list,
+            read(&self.slots, first_slot(self.key, triple, out)),
+            triple,
+        ) || covers_at(
+            list,
+            read(&self.slots, second_slot(self.key, triple, out)),
+            triple,
+        )
     }
 }
 
-/// So many places, all 0.
-fn zeros(alloc: Global, count: usize) -> Result<Vec<u16>, OutOfMemory> {
-    let mut places = Vec::new(alloc);
-    'places: for _place in 0..count {
-        places.push(0)?;
+/// A word that comes of each triple of a list.
+fn key_of(list: &[Triple]) -> u64 {
+    let mut first = 0u64;
+    let mut second = 0u64;
+    for triple in list {
+        first = mixed(first ^ triple.out).wrapping_add(group(triple) as u64);
+        second = mixed(second.wrapping_add(first));
     }
-    Ok(places)
+    first ^ second
 }
 
-/// The number of a triple's group.
-#[inline(always)]
-fn group(triple: &Triple) -> usize {
-    triple.view as usize * MOST_STATES + triple.log as usize
+/// A word of which each bit comes of many bits of this one.
+fn mixed(word: u64) -> u64 {
+    let product = (word ^ word >> 32).wrapping_mul(0x9e37_79b9_7f4a_7c15);
+    product ^ product >> 29
 }
 
-/// The slot of a triple's states and of some events. The groups' slots of the
+/// The first slot of a triple's states and of some events. The groups' slots of the
 /// same events lie side by side.
 #[inline(always)]
-fn slot(triple: &Triple, out: u64) -> usize {
-    (out.wrapping_mul(0x9e37_79b9_7f4a_7c15) >> 47) as usize ^ group(triple)
+fn first_slot(key: u64, triple: &Triple, out: u64) -> usize {
+    ((out ^ key).wrapping_mul(0x9e37_79b9_7f4a_7c15) >> 47) as usize ^ group(triple)
 }
 
-/// The place that is kept at a number, and 0 where there is none.
-#[inline(always)]
-fn read(places: &[u16], number: usize) -> u16 {
-    if number < places.len() {
-        places[number]
+/// The second slot, of other bits of the same product.
+fn second_slot(key: u64, triple: &Triple, out: u64) -> usize {
+    ((out ^ key).wrapping_mul(0x9e37_79b9_7f4a_7c15) >> 30) as usize % SLOTS ^ group(triple)
+}
+
+/// Keeps the place of a triple in its first slot, or, where another one stands
+/// there, in its second one, or else in the first.
+fn add_slot(slots: &mut [u16], key: u64, place: u16, triple: &Triple) {
+    let first = first_slot(key, triple, triple.out);
+    let second = second_slot(key, triple, triple.out);
+    if read(slots, first) != 0 && read(slots, second) == 0 {
+        put(slots, second, place);
     } else {
-        0
-    }
-}
-
-/// Keeps a place at a number.
-fn put(places: &mut [u16], number: usize, place: u16) {
-    if number < places.len() {
-        places[number] = place;
+        put(slots, first, place);
     }
 }
 
