@@ -14,17 +14,12 @@ use crate::blocks::{self, Block};
 use crate::firsts::firsts;
 use crate::hints::Hints;
 use crate::parts::{self, Part};
+use crate::places::{FEW, GROUPS, group};
 use crate::triple::Triple;
 use qc_list::OutOfMemory;
 use qc_table::MOST_STATES;
 use std::alloc::Global;
 use std::marker::Model;
-
-/// How many groups there are: one for each two states.
-const GROUPS: usize = MOST_STATES * MOST_STATES;
-
-/// How many sets stay without a table of bits.
-const FEW: usize = 96;
 
 /// How many sets a walk of parts looks at, where there is a table.
 const WALK: usize = 256;
@@ -203,7 +198,7 @@ impl<'a> Grouped<'a> {
     /// What a triple that covers what this one becomes is likely to leave out: the
     /// fewest events of all that cover this one, as groups are mostly alike.
     pub(crate) fn near(&self, triple: &Triple) -> u64 {
-        let number = triple.view as usize * MOST_STATES + triple.log as usize;
+        let number = group(triple);
         if number < self.groups.len() {
             parts::least(&self.groups[number].parts, triple.out)
         } else {

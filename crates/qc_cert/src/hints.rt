@@ -7,7 +7,7 @@ ghost use Rattle.qc_cert.specs.Faults.{covers, is_covered};
 ghost use Rattle.qc_cert.specs.Limits.{most_triples};
 
 use crate::pairs::Pairs;
-use crate::places::{GROUPS, group, put, read, zeros};
+use crate::places::{GROUPS, SPREAD, group, put, read, zeros};
 use crate::triple::Triple;
 use qc_list::OutOfMemory;
 use std::alloc::Global;
@@ -112,7 +112,7 @@ fn key_of(list: &[Triple]) -> u64 {
 
 /// A word of which each bit comes of many bits of this one.
 fn mixed(word: u64) -> u64 {
-    let product = (word ^ word >> 32).wrapping_mul(0x9e37_79b9_7f4a_7c15);
+    let product = (word ^ word >> 32).wrapping_mul(SPREAD);
     product ^ product >> 29
 }
 
@@ -120,12 +120,12 @@ fn mixed(word: u64) -> u64 {
 /// same events lie side by side.
 #[inline(always)]
 fn first_slot(key: u64, triple: &Triple, out: u64) -> usize {
-    ((out ^ key).wrapping_mul(0x9e37_79b9_7f4a_7c15) >> 47) as usize ^ group(triple)
+    ((out ^ key).wrapping_mul(SPREAD) >> 47) as usize ^ group(triple)
 }
 
 /// The second slot, of other bits of the same product.
 fn second_slot(key: u64, triple: &Triple, out: u64) -> usize {
-    ((out ^ key).wrapping_mul(0x9e37_79b9_7f4a_7c15) >> 30) as usize % SLOTS ^ group(triple)
+    ((out ^ key).wrapping_mul(SPREAD) >> 30) as usize % SLOTS ^ group(triple)
 }
 
 /// Keeps the place of a triple in its first slot, or, where another one stands

@@ -4,15 +4,11 @@
 ghost use Rattle.std.specs.Prelude.{◌<◌};
 ghost use Rattle.qc_table.specs.Limits.{most_events};
 
-use crate::places::{GROUPS, group, put, read, zeros};
+use crate::places::{FEW, GROUPS, group, put, read, zeros};
 use crate::triple::Triple;
 use qc_list::OutOfMemory;
 use qc_table::MOST_EVENTS;
 use std::alloc::Global;
-
-/// How many triples a group has at most of which no pairs are kept: so few sets a
-/// search looks at as fast.
-const FEW: u16 = 96;
 
 /// The sets of one event and of two, of each group that hasn't few triples.
 #[derive(Drop)]
@@ -42,7 +38,7 @@ impl Pairs {
     fn number(&mut self) -> Result<(), OutOfMemory> {
         let mut last = 0u16;
         'groups: for place in 0..GROUPS {
-            if read(&self.numbers, place) > FEW {
+            if read(&self.numbers, place) as usize > FEW {
                 last = last.saturating_add(1);
                 put(&mut self.numbers, place, last);
                 push_words(&mut self.partners)?;

@@ -7,6 +7,7 @@ ghost use Rattle.qc_cert.specs.Groups.{any_within, parts_within, AreParted};
 ghost use Rattle.qc_table.specs.Limits.{most_events};
 ghost use Rattle.qc_table.specs.Sets.{has, is_within};
 
+use crate::places::SPREAD;
 use qc_list::OutOfMemory;
 use qc_table::MOST_EVENTS;
 use std::alloc::Global;
@@ -150,7 +151,7 @@ pub(crate) fn covers(parts: &[Part], out: u64) -> bool
     requires { AreParted parts.now }
     ensures { result ≡ parts_within parts.now out }
 {
-    let high = u64::MAX << (out.wrapping_mul(0x9e37_79b9_7f4a_7c15) >> 32) % 64;
+    let high = u64::MAX << (out.wrapping_mul(SPREAD) >> 32) % 64;
     covers_among(parts, out & high, out) || covers_among(parts, out & !high, out)
 }
 

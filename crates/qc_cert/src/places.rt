@@ -9,6 +9,12 @@ use std::alloc::Global;
 /// How many groups there are: one for each two states.
 pub(crate) const GROUPS: usize = MOST_STATES * MOST_STATES;
 
+/// How many sets of a group a search looks at as fast as it would ask tables.
+pub(crate) const FEW: usize = 96;
+
+/// What spreads words over the high bits of a product: 2^64 by the golden ratio.
+pub(crate) const SPREAD: u64 = 0x9e37_79b9_7f4a_7c15;
+
 /// So many places, all 0.
 pub(crate) fn zeros(alloc: Global, count: usize) -> Result<Vec<u16>, OutOfMemory> {
     let mut places = Vec::new(alloc);
