@@ -3,7 +3,7 @@
 
 usage: tools/definitions.py
 
-The definitions of hybrid atomicity (crates/qc_onecopy/specs/OneCopy.antt, and
+The definitions of hybrid atomicity (crates/theory_onecopy/specs/OneCopy.antt, and
 of crates/qc_promise/specs Committed, Deals, Seen, Told, Atomic) once more, as a
 plain program, so that they can be read, tried and doubted apart from the prover.
 Each file of tools/histories/ has a history of `@one` or of `@three`, step by

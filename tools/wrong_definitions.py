@@ -1,11 +1,11 @@
 #!/usr/bin/env python3
-"""Turns one line of the definitions of falls and epochs at a time: the proofs of qc_net have to refuse each.
+"""Turns one line of the definitions of falls and epochs at a time: the proofs of laws_refinement have to refuse each.
 
 usage: wrong_definitions.py [WORD..]
 
 With words only the edits whose names have one of them are tried. Nothing of the tree is changed: qc_site, qc_epoch,
-qc_recover and qc_net are copied, with what was kept of them, beside the crates below, which have to be built, as
-`rt check` in crates/qc_net leaves them. An edit takes half a minute to two. The status is 0 where each is refused, 1 where one
+qc_recover and laws_refinement are copied, with what was kept of them, beside the crates below, which have to be built, as
+`rt check` in crates/laws_refinement leaves them. An edit takes half a minute to two. The status is 0 where each is refused, 1 where one
 isn't, no longer applies, or isn't a definition any more. Python 3.8 or later.
 """
 import os
@@ -15,7 +15,7 @@ import sys
 import tempfile
 
 TOP = os.path.dirname(os.path.dirname(os.path.abspath(__file__)))
-COPIED = "qc_site", "qc_epoch", "qc_recover", "qc_net"
+COPIED = "qc_site", "qc_epoch", "qc_recover", "laws_refinement"
 
 SITES = "qc_recover/specs/Sites.antt"
 CLIENTS = "qc_recover/specs/Clients.antt"
@@ -23,7 +23,7 @@ ADMINS = "qc_recover/specs/Admins.antt"
 SITE = "qc_site/specs/Site.antt"
 ROWS = "qc_site/specs/Epochs.antt"
 CONDUCT = "qc_epoch/specs/Conduct.antt"
-NET = "qc_net/specs/Net.antt"
+NET = "laws_refinement/specs/Net.antt"
 
 CLOSE = "keeps k (records.Close epoch) = record k { life = k.life + 1; closed_for = Some epoch }"
 INSTALL_CLOCK = "clock = max (latest k.clock lines) clock;"
@@ -81,10 +81,10 @@ EDITS = [
 
 
 def below():
-    """Returns the lines of crates.txt for qc_net and all crates of the repository that it stands on, by crate."""
+    """Returns the lines of crates.txt for laws_refinement and all crates of the repository that it stands on, by crate."""
     with open(f"{TOP}/crates.txt", encoding="utf-8") as it:
         lines = {line.split(":")[0].split()[0]: line for line in it if ":" in line.split("#")[0]}
-    wanted, new = set(), {"qc_net"}
+    wanted, new = set(), {"laws_refinement"}
     while new:
         wanted |= new
         new = {name for crate in new for name in lines[crate].partition(":")[2].split() if name in lines} - wanted
@@ -111,14 +111,14 @@ def copy_to(folder):
 
 
 def tried(folder):
-    """Returns how a check of qc_net ends: proved, refused, refused by a crate below, or why it is no definition."""
-    ran = subprocess.run(["rt", "check", "--jobs", "1"], cwd=f"{folder}/crates/qc_net", stdin=subprocess.DEVNULL,
+    """Returns how a check of laws_refinement ends: proved, refused, refused by a crate below, or why it is no definition."""
+    ran = subprocess.run(["rt", "check", "--jobs", "1"], cwd=f"{folder}/crates/laws_refinement", stdin=subprocess.DEVNULL,
                          capture_output=True, text=True)
     said = ran.stdout + ran.stderr
-    if "crate qc_net:" not in said:
+    if "crate laws_refinement:" not in said:
         own = "logic=not-proved" in said and "./specs/" not in said
         return "refused below" if own else "not a definition"
-    return "PROVED" if "logic=proved" in said.split("crate qc_net:")[1] else "refused"
+    return "PROVED" if "logic=proved" in said.split("crate laws_refinement:")[1] else "refused"
 
 
 def outcome(folder, file, old, new):
@@ -146,7 +146,7 @@ def main(words):
     with tempfile.TemporaryDirectory() as folder:
         copy_to(folder)
         if tried(folder) != "PROVED":
-            raise SystemExit("wrong_definitions: qc_net isn't proved as it stands")
+            raise SystemExit("wrong_definitions: laws_refinement isn't proved as it stands")
         for label, file, old, new in wanted:
             end = outcome(folder, file, old, new)
             wrong += end not in ("refused", "refused below")

@@ -13,9 +13,9 @@ TESTS, PROGRAM = "tests_", "quorum"
 # from the bottom up; a crate stands on none of a later band
 BANDS = {
     "base": "list stamp number table cert plan entry lock link view outside pass journal decl accept",
-    "theory": "onecopy protocol runs bases",
+    "theory": "theory_onecopy theory_machine theory_witnesses theory_bases",
     "system": "msg record fit script inbox mailbox fabric promise spent store site commit front client epoch recover admin core process",
-    "laws": "laws due bounds net atomic reach guarantees votes falls",
+    "laws": "laws_turns laws_due laws_bounds laws_refinement laws_atomic laws_reach laws_guarantees laws_votes falls",
     "outside": "node report text gen words top files quorum",
 }
 

@@ -67,7 +67,7 @@ IMPORTS = (
      ("Phase", "Cut", "Heal", "Called", "Got", "Lost", "Wrote", "Sent", "Told", "Armed", "Fell", "Rose")),
 )
 VARIANTS = (
-    ("answers", "message.Answer"), ("causes", "reply.Why"), ("commands", "step.Command"), ("halves", "reply.Half"),
+    ("answers", "message.Answer"), ("causes", "reply.AbortCause"), ("commands", "step.Command"), ("halves", "reply.Half"),
     ("messages", "message.Message"), ("outcomes", "message.Outcome"), ("records", "record.Record"),
     ("replies", "reply.Reply"), ("wants", "message.Want"), ("falls", "step.Fall"),
 )

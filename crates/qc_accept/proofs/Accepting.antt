@@ -1,5 +1,6 @@
 -- An accepted declaration keeps what it has to.
-use Rattle.std.proofs.Common.{◌≡◌, ℕ, zero, suc, ◌<◌, ◌≤◌, List, [], ◌∷◌, length, map, Option, Some, None, Ok, Err, refl, sym, ap, ◌∙◌, subst, arith}
+use Rattle.std.proofs.Common.{◌≡◌, ℕ, zero, suc, ◌<◌, ◌≤◌, List, [], ◌∷◌, length, map, Option, Some, None, Ok, Err}
+use Rattle.std.proofs.Common.{refl, sym, ap, ◌∙◌, subst, arith}
 use Rattle.std.specs.Prelude.{All, codes, slice_get, option_and_then, option_map}
 use Rattle.std.specs.Option.{option_map_or}
 use Rattle.std.proofs.lemmas.List.{length-map}
@@ -21,7 +22,9 @@ use Rattle.qc_decl.specs.declared.declaration.Declaration.{Declaration}
 use Rattle.qc_decl.specs.declared.declaration.KindNames.{KindNames}
 use Rattle.qc_decl.specs.Limits.{most_clients, most_events, most_objects, most_sites, most_types}
 use Rattle.qc_accept.specs.declared.fault.DeclFault.TheVariants as decl
-use Rattle.qc_accept.specs.Accept.{DraftOf, AreOfStates, AreChecked, ArePlanned, IsShaped, accepted, admitted, all_admitted, all_certified, all_names, cert_names, certified, declared, document_of, draft, draft_of, keys, kind_names, plan_names}
+use Rattle.qc_accept.specs.Accept.{DraftOf, AreOfStates, AreChecked, ArePlanned, IsShaped, accepted, admitted}
+use Rattle.qc_accept.specs.Accept.{all_admitted, all_certified, all_names, cert_names, certified, declared, document_of}
+use Rattle.qc_accept.specs.Accept.{draft, draft_of, keys, kind_names, plan_names}
 use Rattle.qc_decl.proofs.AcceptedNames.{few_names}
 use Rattle.qc_decl.specs.Accepted.{AreThresholds, HasNames, HasThresholds, IsAccepted, IsRight, IsGood}
 use Rattle.qc_decl.specs.Lookup.{kind_at}
@@ -36,46 +39,15 @@ use Rattle.qc_accept.specs.Objects.{ObjectsOf, kind_of, objects_of}
 use Rattle.qc_accept.specs.Types.{AreFew, TypeOf, TypesOf, types_of}
 use Rattle.qc_accept.proofs.Answered.{came, found, mapped, same_ok}
 use Rattle.qc_accept.proofs.Kept.{IsTypeKept, AreTypesKept, types_kept}
-use Rattle.qc_accept.proofs.Drafted.{all_at, all_of, number_is, AreObjectsKept, objects_kept, AreLists, IsPlanOf, ArePlansKept, plans_kept}
-
--- what a draft was made of
-pub record IsDraft (d : DraftOf) : Type 0 where
-  pub sites : ℕ
-  pub clients : ℕ
-  pub types : TypesOf
-  pub objects : ObjectsOf
-  pub plans : List Plan
-  pub is : draft sites clients types objects plans ≡ d
-  pub sites_are : (1 ≤ sites) × (sites ≤ most_sites)
-  pub clients_are : (1 ≤ clients) × (clients ≤ most_clients)
-  pub types_are : AreTypesKept types
-  pub objects_are : AreObjectsKept (length types.names) objects
-  pub plans_are : ArePlansKept (record { sites = sites; types = types; objects = objects }) plans
-
-pub draft_is : (table : Members) (d : DraftOf) → draft_of table ≡ Ok d → IsDraft d
-draft_is table d is =
-    let a = came (number [] table (codes "sites") 1 most_sites) _ d is in
-    let b = came (number [] table (codes "clients") 1 most_clients) _ d a.rest in
-    let c = came (types_of [] table) _ d b.rest in
-    let e = came (objects_of [] table c.value) _ d c.rest in
-    let f = came (plans_of [] table (record { sites = a.value; types = c.value; objects = e.value })) _ d e.rest in
-    let g = came (no_others [] table keys) _ d f.rest in
-    record {
-      sites = a.value;
-      clients = b.value;
-      types = c.value;
-      objects = e.value;
-      plans = f.value;
-      is = same_ok (draft a.value b.value c.value e.value f.value) d g.rest;
-      sites_are = number_is [] table (codes "sites") 1 most_sites a.value a.first;
-      clients_are = number_is [] table (codes "clients") 1 most_clients b.value b.first;
-      types_are = types_kept [] table c.value c.first;
-      objects_are = objects_kept [] table c.value e.value e.first;
-      plans_are = plans_kept [] table (record { sites = a.value; types = c.value; objects = e.value }) f.value f.first;
-    }
+use Rattle.qc_accept.proofs.Drafted.{all_at, all_of, number_is, AreObjectsKept, objects_kept, AreLists, IsPlanOf}
+use Rattle.qc_accept.proofs.Drafted.{ArePlansKept, plans_kept}
+use Rattle.qc_accept.proofs.CheckedDrafts.{IsDraft, IsNamesOf, IsPart, draft_is, names_back, names_long}
+use Rattle.qc_accept.proofs.CheckedDrafts.{names_of_type, part_at}
+use Rattle.qc_accept.proofs.CheckedDrafts.{all_certified_none, all_admitted_none}
 
 -- a store of kept parts fits
-pub store_fits : (sites : ℕ) (types : TypesOf) (objects : ObjectsOf) → sites ≤ most_sites → AreTypesKept types → length objects.names ≤ most_objects
+pub store_fits : (sites : ℕ) (types : TypesOf) (objects : ObjectsOf) → sites ≤ most_sites → AreTypesKept types
+    → length objects.names ≤ most_objects
     → IsFit (record { sites = sites; types = types; objects = objects })
 store_fits sites types objects few_sites are few = record {
   sites = few_sites;
@@ -84,128 +56,6 @@ store_fits sites types objects few_sites are few = record {
   events = all_of IsTypeKept (λ (t : TypeOf). length t.events ≤ most_events) types.list (λ t k. k.events) are.kept;
 }
 
--- names for each type
-names_long : (names : List (List ℕ)) (ts : List TypeOf) → length names ≡ length ts → length (all_names names ts) ≡ length ts
-names_long [] [] same = refl
-names_long [] (t ∷ ts) same = absurd (omega arith)
-names_long (name ∷ names) [] same = absurd (omega arith)
-names_long (name ∷ names) (t ∷ ts) same = ap suc (names_long names ts (omega arith))
-
-record IsNamesOf (ts : List TypeOf) (k : ℕ) (n : KindNames) : Type 0 where
-  name : List ℕ
-  type : TypeOf
-  at : slice_get ts k ≡ Some type
-  is : kind_names name type ≡ n
-
-names_of_type : (names : List (List ℕ)) (ts : List TypeOf) (k : ℕ) (n : KindNames) → slice_get (all_names names ts) k ≡ Some n → IsNamesOf ts k n
-names_of_type [] ts k n is = absurd (let never : ⊥ = cc in never)
-names_of_type (name ∷ names) [] k n is = absurd (let never : ⊥ = cc in never)
-names_of_type (name ∷ names) (t ∷ ts) zero n is = record { name = name; type = t; at = refl; is = cc }
-names_of_type (name ∷ names) (t ∷ ts) (suc k) n is =
-    let p : IsNamesOf ts k n = names_of_type names ts k n is in record { name = p.name; type = p.type; at = p.at; is = p.is }
-
-names_back : (names : List (List ℕ)) (ts : List TypeOf) → length names ≡ length ts → map (λ (n : KindNames). n.name) (all_names names ts) ≡ names
-names_back [] [] same = refl
-names_back [] (t ∷ ts) same = absurd (omega arith)
-names_back (name ∷ names) [] same = absurd (omega arith)
-names_back (name ∷ names) (t ∷ ts) same = ap (λ (ns : List (List ℕ)). name ∷ ns) (names_back names ts (omega arith))
-
--- a part of the type at a place
-record IsPart {A : Type 0} (part : TypeOf → A) (ts : List TypeOf) (k : ℕ) (a : A) : Type 0 where
-  type : TypeOf
-  at : slice_get ts k ≡ Some type
-  is : part type ≡ a
-
-part_at : {A : Type 0} (part : TypeOf → A) (ts : List TypeOf) (k : ℕ) (a : A) → slice_get (map part ts) k ≡ Some a → IsPart part ts k a
-part_at part ts k a is =
-    let m = mapped (slice_get ts k) part a (sym (slice_get-map part ts k) ∙ is) in record { type = m.value; at = m.first; is = m.rest }
-
--- the draft can be checked
-states_are : (ts : List TypeOf) → All IsTypeKept ts → (place : ℕ) (kind : Kind) (list : List Triple)
-    → slice_get (map (λ (t : TypeOf). t.kind) ts) place ≡ Some kind → slice_get (map (λ (t : TypeOf). t.triples) ts) place ≡ Some list → AreOfStates kind list
-states_are ts all place kind list at_kind at_list =
-    let p : IsPart (λ (t : TypeOf). t.kind) ts place kind = part_at (λ (t : TypeOf). t.kind) ts place kind at_kind in
-    let q : IsPart (λ (t : TypeOf). t.triples) ts place list = part_at (λ (t : TypeOf). t.triples) ts place list at_list in
-    let one : Some p.type ≡ Some q.type = sym p.at ∙ q.at in
-    let same : p.type ≡ q.type = cc in
-    let kept : IsTypeKept p.type = all_at IsTypeKept ts place p.type all p.at in
-    let listed : p.type.triples ≡ list = ap (λ (t : TypeOf). t.triples) same ∙ q.is in
-    subst (λ (k : Kind). AreOfStates k list) p.is (subst (AreOfStates p.type.kind) listed kept.triples)
-
-pub draft_checked : (d : DraftOf) → IsDraft d → AreChecked d
-draft_checked d i =
-    let ts : List TypeOf = i.types.list in
-    let few : length ts ≤ most_types = i.types_are.few in
-    let lists : length (map (λ (t : TypeOf). t.triples) ts) ≡ length ts = length-map ts (λ (t : TypeOf). t.triples) in
-    let kinds : length (map (λ (t : TypeOf). t.kind) ts) ≡ length ts = length-map ts (λ (t : TypeOf). t.kind) in
-    subst AreChecked i.is (record {
-      few = omega arith;
-      names = names_long i.types.names ts i.types_are.names ∙ sym lists;
-      kinds = kinds ∙ sym lists;
-      states = states_are ts i.types_are.kept;
-    })
-
--- the plans can be checked
-pub draft_planned : (d : DraftOf) → IsDraft d → ArePlanned d.decl
-draft_planned d i =
-    let objects : length i.objects.kinds ≡ length i.objects.names = i.objects_are.kinds in
-    let few : length i.objects.names ≤ most_objects = i.objects_are.few in
-    let sites : i.sites ≤ most_sites = i.sites_are.1 in
-    let whole : DraftOf = draft i.sites i.clients i.types i.objects i.plans in
-    subst (λ (x : DraftOf). ArePlanned x.decl) i.is (record {
-      objects = omega arith;
-      epochs = i.plans_are.few;
-      shaped = all_of (IsPlanOf (record { sites = i.sites; types = i.types; objects = i.objects })) (IsShaped whole.decl) i.plans
-          (λ p is.
-          let weights : length p.weights ≡ i.sites = is.weights.long in
-          let initial : length p.initial ≡ length i.objects.names = is.initial.objects in
-          let last : length p.last ≡ length i.objects.names = is.last.objects in
-          record { weights = omega arith; initial = omega arith; last = omega arith }) i.plans_are.each_is;
-    })
-
--- certified types have no fault
-certified_none : (place : ℕ) (names : KindNames) (kind : Kind) (list : List Triple) → certified place names kind list ≡ Ok tt → cert.fault_of kind list ≡ None
-certified_none place names kind list is = by (cert.fault_of kind list) is
-  where
-    by : (o : Option CertFault) → option_map_or (λ fault. (let answer : Answer (Unit {0}) = Err (decl.Cert place fault (cert_names names kind fault)) in answer)) o (Ok tt) ≡ Ok tt → o ≡ None
-    by None is = refl
-    by (Some fault) is = absurd (let never : ⊥ = cc in never)
-
-all_certified_none : (place : ℕ) (names : List KindNames) (kinds : List Kind) (lists : List (List Triple)) → length names ≡ length kinds
-    → all_certified place names kinds lists ≡ Ok tt
-    → (k : ℕ) (kind : Kind) (list : List Triple) → slice_get kinds k ≡ Some kind → slice_get lists k ≡ Some list → cert.fault_of kind list ≡ None
-all_certified_none place names [] lists long is k kind list at_kind at_list = absurd (let never : ⊥ = cc in never)
-all_certified_none place names (x ∷ kinds) [] long is k kind list at_kind at_list = absurd (let never : ⊥ = cc in never)
-all_certified_none place [] (x ∷ kinds) (ts ∷ lists) long is k kind list at_kind at_list = absurd (omega arith)
-all_certified_none place (n ∷ names) (x ∷ kinds) (ts ∷ lists) long is zero kind list at_kind at_list =
-    let c = came (certified place n x ts) (λ _. all_certified (suc place) names kinds lists) tt is in
-    let one : x ≡ kind = cc in
-    let same : ts ≡ list = cc in
-    subst (λ (y : Kind). cert.fault_of y list ≡ None) one (subst (λ (ys : List Triple). cert.fault_of x ys ≡ None) same (certified_none place n x ts c.first))
-all_certified_none place (n ∷ names) (x ∷ kinds) (ts ∷ lists) long is (suc k) kind list at_kind at_list =
-    let c = came (certified place n x ts) (λ _. all_certified (suc place) names kinds lists) tt is in
-    all_certified_none (suc place) names kinds lists (omega arith) c.rest k kind list at_kind at_list
-
--- admitted plans have no fault
-admitted_none : (d : Declaration) (epoch : ℕ) (p : Plan) → admitted d epoch p ≡ Ok tt → plan.fault_of p d.kinds d.objects ≡ None
-admitted_none d epoch p is = by (plan.fault_of p d.kinds d.objects) is
-  where
-    by : (o : Option PlanFault) → option_map_or (λ fault. (let answer : Answer (Unit {0}) = Err (decl.Plan epoch fault (plan_names d fault)) in answer)) o (Ok tt) ≡ Ok tt → o ≡ None
-    by None is = refl
-    by (Some fault) is = absurd (let never : ⊥ = cc in never)
-
-all_admitted_none : (d : Declaration) (epoch : ℕ) (ps : List Plan) → all_admitted d epoch ps ≡ Ok tt → (k : ℕ) (p : Plan) → slice_get ps k ≡ Some p
-    → plan.fault_of p d.kinds d.objects ≡ None
-all_admitted_none d epoch [] is k p at = absurd (let never : ⊥ = cc in never)
-all_admitted_none d epoch (x ∷ ps) is zero p at =
-    let c = came (admitted d epoch x) (λ _. all_admitted d (suc epoch) ps) tt is in
-    let same : x ≡ p = cc in
-    subst (λ (y : Plan). plan.fault_of y d.kinds d.objects ≡ None) same (admitted_none d epoch x c.first)
-all_admitted_none d epoch (x ∷ ps) is (suc k) p at =
-    let c = came (admitted d epoch x) (λ _. all_admitted d (suc epoch) ps) tt is in
-    all_admitted_none d (suc epoch) ps c.rest k p at
-
--- the type of an object, and what it keeps
 record IsObjectOf (types : TypesOf) (objects : ObjectsOf) (object : ℕ) (kind : Kind) : Type 0 where
   type : TypeOf
   of : kind_of types objects object ≡ Some type
@@ -213,10 +63,14 @@ record IsObjectOf (types : TypesOf) (objects : ObjectsOf) (object : ℕ) (kind :
   kept : IsTypeKept type
 
 -- the parts of an accepted declaration
-module _ (sites clients : ℕ) (types : TypesOf) (objects : ObjectsOf) (plans : List Plan) (types_are : AreTypesKept types)
-    (objects_are : AreObjectsKept (length types.names) objects) (plans_are : ArePlansKept (record { sites = sites; types = types; objects = objects }) plans) where
-  right_at : all_certified 0 (all_names types.names types.list) (map (λ (t : TypeOf). t.kind) types.list) (map (λ (t : TypeOf). t.triples) types.list) ≡ Ok tt
-      → (number : ℕ) (kind : Kind) → slice_get (map (λ (t : TypeOf). t.kind) types.list) number ≡ Some kind → IsRight kind
+module _ (sites clients : ℕ) (types : TypesOf) (objects : ObjectsOf) (plans : List Plan)
+    (types_are : AreTypesKept types)
+    (objects_are : AreObjectsKept (length types.names) objects)
+    (plans_are : ArePlansKept (record { sites = sites; types = types; objects = objects }) plans) where
+  right_at : all_certified 0 (all_names types.names types.list) (map (λ (t : TypeOf). t.kind) types.list)
+      (map (λ (t : TypeOf). t.triples) types.list) ≡ Ok tt
+      → (number : ℕ) (kind : Kind) → slice_get (map (λ (t : TypeOf). t.kind) types.list) number ≡ Some kind
+      → IsRight kind
   right_at shown number kind at =
       let ts : List TypeOf = types.list in
       let p : IsPart (λ (t : TypeOf). t.kind) ts number kind = part_at (λ (t : TypeOf). t.kind) ts number kind at in
@@ -226,34 +80,41 @@ module _ (sites clients : ℕ) (types : TypesOf) (objects : ObjectsOf) (plans : 
       let long : length (all_names types.names ts) ≡ length (map (λ (t : TypeOf). t.kind) ts) =
       names_long types.names ts types_are.names ∙ sym (length-map ts (λ (t : TypeOf). t.kind)) in
       let none : cert.fault_of kind p.type.triples ≡ None =
-      all_certified_none 0 (all_names types.names ts) (map (λ (t : TypeOf). t.kind) ts) (map (λ (t : TypeOf). t.triples) ts) long shown number kind p.type.triples at list_at in
+      all_certified_none 0 (all_names types.names ts) (map (λ (t : TypeOf). t.kind) ts)
+      (map (λ (t : TypeOf). t.triples) ts) long shown number kind p.type.triples at list_at in
       let sound : IsSound kind.table = subst (λ (k : Kind). IsSound k.table) p.is kept.table in
       record { sound = sound; exact = exact kind p.type.triples (inductive kind p.type.triples sound none) }
 
-  good_at : all_admitted (draft sites clients types objects plans).decl 1 plans ≡ Ok tt → (place : ℕ) (p : Plan) → slice_get plans place ≡ Some p
+  good_at : all_admitted (draft sites clients types objects plans).decl 1 plans ≡ Ok tt → (place : ℕ) (p : Plan)
+      → slice_get plans place ≡ Some p
       → IsGood (draft sites clients types objects plans).decl p
   good_at shown place p at =
       let whole : Declaration = (draft sites clients types objects plans).decl in
       let is : IsPlanOf (record { sites = sites; types = types; objects = objects }) p =
-      all_at (IsPlanOf (record { sites = sites; types = types; objects = objects })) plans place p plans_are.each_is at in
+      all_at (IsPlanOf (record { sites = sites; types = types; objects = objects })) plans place p plans_are.each_is at
+      in
       let kinds : length objects.kinds ≡ length objects.names = objects_are.kinds in
       let initial : length p.initial ≡ length objects.names = is.initial.objects in
       let last : length p.last ≡ length objects.names = is.last.objects in
       record {
         weights = is.weights.long;
-        admitted = plan_proofs.admitted p whole.kinds whole.objects (omega arith) (omega arith) (all_admitted_none whole 1 plans shown place p at);
+        admitted = plan_proofs.admitted p whole.kinds whole.objects (omega arith) (omega arith)
+            (all_admitted_none whole 1 plans shown place p at);
       }
 
-  typed_at : (object number : ℕ) → slice_get objects.kinds object ≡ Some number → number < length (map (λ (t : TypeOf). t.kind) types.list)
+  typed_at : (object number : ℕ) → slice_get objects.kinds object ≡ Some number
+      → number < length (map (λ (t : TypeOf). t.kind) types.list)
   typed_at object number at =
       subst (λ n. number < n) (types_are.names ∙ sym (length-map types.list (λ (t : TypeOf). t.kind)))
       (all_at (λ kind. kind < length types.names) objects.kinds object number objects_are.typed at)
 
   -- the type of an object is the one that was read
-  type_at : (object : ℕ) (kind : Kind) → kind_at (draft sites clients types objects plans).decl object ≡ Some kind → IsObjectOf types objects object kind
+  type_at : (object : ℕ) (kind : Kind) → kind_at (draft sites clients types objects plans).decl object ≡ Some kind
+      → IsObjectOf types objects object kind
   type_at object kind at =
       let c = found (slice_get objects.kinds object) (slice_get (map (λ (t : TypeOf). t.kind) types.list)) kind at in
-      let p : IsPart (λ (t : TypeOf). t.kind) types.list c.value kind = part_at (λ (t : TypeOf). t.kind) types.list c.value kind c.rest in
+      let p : IsPart (λ (t : TypeOf). t.kind) types.list c.value kind =
+      part_at (λ (t : TypeOf). t.kind) types.list c.value kind c.rest in
       record {
         type = p.type;
         of = ap (option_and_then (slice_get types.list)) c.first ∙ p.at;
@@ -262,8 +123,10 @@ module _ (sites clients : ℕ) (types : TypesOf) (objects : ObjectsOf) (plans : 
       }
 
   -- the thresholds of a side
-  thresholds_at : (side : Side) (count : Kind → ℕ) (lists : List (List ℕ)) → AreLists (record { sites = sites; types = types; objects = objects }) side lists
-      → ((t : TypeOf) → IsTypeKept t → places side t ≡ count t.kind) → AreThresholds (draft sites clients types objects plans).decl count lists
+  thresholds_at : (side : Side) (count : Kind → ℕ) (lists : List (List ℕ))
+      → AreLists (record { sites = sites; types = types; objects = objects }) side lists
+      → ((t : TypeOf) → IsTypeKept t → places side t ≡ count t.kind)
+      → AreThresholds (draft sites clients types objects plans).decl count lists
   thresholds_at side count lists are same = record {
     objects = are.objects ∙ sym objects_are.kinds;
     each_is = λ object kind list at of.
@@ -272,49 +135,62 @@ module _ (sites clients : ℕ) (types : TypesOf) (objects : ObjectsOf) (plans : 
     numbers = are.numbers;
   }
 
-  listed_at : (place : ℕ) (p : Plan) → slice_get plans place ≡ Some p → HasThresholds (draft sites clients types objects plans).decl p
+  listed_at : (place : ℕ) (p : Plan) → slice_get plans place ≡ Some p
+      → HasThresholds (draft sites clients types objects plans).decl p
   listed_at place p at =
       let is : IsPlanOf (record { sites = sites; types = types; objects = objects }) p =
-      all_at (IsPlanOf (record { sites = sites; types = types; objects = objects })) plans place p plans_are.each_is at in
+      all_at (IsPlanOf (record { sites = sites; types = types; objects = objects })) plans place p plans_are.each_is at
+      in
       record {
         weights = is.weights.small;
         initial = thresholds_at Initial (λ kind. kind.table.invs) p.initial is.initial (λ t kept. kept.invs.count);
-        last = thresholds_at Final (λ kind. length (events_of kind.table.rows)) p.last is.last (λ t kept. ap length kept.events_are);
+        last = thresholds_at Final (λ kind. length (events_of kind.table.rows)) p.last is.last
+            (λ t kept. ap length kept.events_are);
       }
 
   -- names
 
-  types_named : AreNames (length (map (λ (t : TypeOf). t.kind) types.list)) (map (λ (n : KindNames). n.name) (all_names types.names types.list))
+  types_named : AreNames (length (map (λ (t : TypeOf). t.kind) types.list))
+      (map (λ (n : KindNames). n.name) (all_names types.names types.list))
   types_named =
-      subst (AreNames (length (map (λ (t : TypeOf). t.kind) types.list))) (sym (names_back types.names types.list types_are.names))
+      subst (AreNames (length (map (λ (t : TypeOf). t.kind) types.list)))
+      (sym (names_back types.names types.list types_are.names))
       (subst (λ n. AreNames n types.names) (sym (length-map types.list (λ (t : TypeOf). t.kind))) types_are.named)
 
   objects_named : AreNames (length objects.kinds) objects.names
   objects_named = subst (λ n. AreNames n objects.names) (sym objects_are.kinds) objects_are.named
 
-  parts_named : (number : ℕ) (kind : Kind) (names : KindNames) → slice_get (map (λ (t : TypeOf). t.kind) types.list) number ≡ Some kind
+  parts_named : (number : ℕ) (kind : Kind) (names : KindNames)
+      → slice_get (map (λ (t : TypeOf). t.kind) types.list) number ≡ Some kind
       → slice_get (all_names types.names types.list) number ≡ Some names → HasNames kind names
   parts_named number kind names at of =
-      let p : IsPart (λ (t : TypeOf). t.kind) types.list number kind = part_at (λ (t : TypeOf). t.kind) types.list number kind at in
+      let p : IsPart (λ (t : TypeOf). t.kind) types.list number kind =
+      part_at (λ (t : TypeOf). t.kind) types.list number kind at in
       let n : IsNamesOf types.list number names = names_of_type types.names types.list number names of in
       let both : Some p.type ≡ Some n.type = sym p.at ∙ n.at in
       let same : p.type ≡ n.type = cc in
       let kept : IsTypeKept p.type = all_at IsTypeKept types.list number p.type types_are.kept p.at in
-      let whole : HasNames p.type.kind (kind_names n.name p.type) = record { states = kept.states; invs = kept.invs; resps = kept.resps } in
+      let whole : HasNames p.type.kind (kind_names n.name p.type) =
+      record { states = kept.states; invs = kept.invs; resps = kept.resps } in
       subst (λ (k : Kind). HasNames k names) p.is
       (subst (HasNames p.type.kind) (ap (kind_names n.name) same ∙ n.is) whole)
 
 -- a draft whose certificates and plans are shown is an accepted declaration
-pub draft_accepted : (d : DraftOf) → IsDraft d → all_certified 0 d.decl.kind_names d.decl.kinds d.triples ≡ Ok tt → all_admitted d.decl 1 d.decl.plans ≡ Ok tt
+pub draft_accepted : (d : DraftOf) → IsDraft d → all_certified 0 d.decl.kind_names d.decl.kinds d.triples ≡ Ok tt
+    → all_admitted d.decl 1 d.decl.plans ≡ Ok tt
     → IsAccepted d.decl
 draft_accepted d i certs plans =
     let site : 1 ≤ i.sites = i.sites_are.0 in
     let client : 1 ≤ i.clients = i.clients_are.0 in
-    let kinds : length (map (λ (t : TypeOf). t.kind) i.types.list) ≡ length i.types.list = length-map i.types.list (λ (t : TypeOf). t.kind) in
-    let some_type : 0 < length (map (λ (t : TypeOf). t.kind) i.types.list) = subst (λ n. 0 < n) (sym kinds) i.types_are.some in
-    let few_types : length (map (λ (t : TypeOf). t.kind) i.types.list) ≤ most_types = subst (λ n. n ≤ most_types) (sym kinds) i.types_are.few in
+    let kinds : length (map (λ (t : TypeOf). t.kind) i.types.list) ≡ length i.types.list =
+    length-map i.types.list (λ (t : TypeOf). t.kind) in
+    let some_type : 0 < length (map (λ (t : TypeOf). t.kind) i.types.list) =
+    subst (λ n. 0 < n) (sym kinds) i.types_are.some in
+    let few_types : length (map (λ (t : TypeOf). t.kind) i.types.list) ≤ most_types =
+    subst (λ n. n ≤ most_types) (sym kinds) i.types_are.few in
     let some_object : 0 < length i.objects.kinds = subst (λ n. 0 < n) (sym i.objects_are.kinds) i.objects_are.some in
-    let few_objects : length i.objects.kinds ≤ most_objects = subst (λ n. n ≤ most_objects) (sym i.objects_are.kinds) i.objects_are.few in
+    let few_objects : length i.objects.kinds ≤ most_objects =
+    subst (λ n. n ≤ most_objects) (sym i.objects_are.kinds) i.objects_are.few in
     subst (λ (x : DraftOf). IsAccepted x.decl) i.is (record {
       has_site = omega arith;
       sites = i.sites_are.1;
@@ -351,11 +227,18 @@ shown bytes d is =
     let b = came (draft_of a.value) _ d a.rest in
     let c = came (all_certified 0 b.value.decl.kind_names b.value.decl.kinds b.value.triples) _ d b.rest in
     let e = came (all_admitted b.value.decl 1 b.value.decl.plans) _ d c.rest in
-    record { whole = b.value; is = same_ok b.value.decl d e.rest; drafted = draft_is a.value b.value b.first; certified = c.first; admitted = e.first }
+    record {
+      whole = b.value;
+      is = same_ok b.value.decl d e.rest;
+      drafted = draft_is a.value b.value b.first;
+      certified = c.first;
+      admitted = e.first;
+    }
 
 pub accepted_is : (bytes : List ℕ) (d : Declaration) → accepted bytes ≡ Ok d → IsAccepted d
 accepted_is bytes d is =
-    let s : IsShown d = shown bytes d is in subst IsAccepted s.is (draft_accepted s.whole s.drafted s.certified s.admitted)
+    let s : IsShown d = shown bytes d is in subst IsAccepted s.is
+    (draft_accepted s.whole s.drafted s.certified s.admitted)
 
 pub accepted_named : (bytes : List ℕ) (d : Declaration) → accepted bytes ≡ Ok d → IsNamed d
 accepted_named bytes d is = few_names d (accepted_is bytes d is)

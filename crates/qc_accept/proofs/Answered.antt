@@ -1,5 +1,6 @@
 -- What an answer without a fault came from.
-use Rattle.std.proofs.Common.{◌≡◌, ℕ, suc, ◌+◌, ◌≤◌, Bool, true, false, cond, ◌&&◌, List, [], ◌∷◌, ◌++◌, length, Option, Some, None, Ok, Err, refl, subst, arith}
+use Rattle.std.proofs.Common.{◌≡◌, ℕ, suc, ◌+◌, ◌≤◌, Bool, true, false, cond, ◌&&◌, List, [], ◌∷◌, ◌++◌, length, Option}
+use Rattle.std.proofs.Common.{Some, None, Ok, Err, refl, subst, arith}
 use Rattle.std.specs.Prelude.{All, nat_le, option_map, option_and_then}
 use Rattle.std.proofs.lemmas.Bool.{leb-true}
 use Rattle.std.proofs.lemmas.List.Elements.{All-append, All-cons, All-nil}
@@ -16,7 +17,8 @@ pub record Came {A B : Type 0} (answer : Answer A) (next : A → Answer B) (b : 
   pub first : answer ≡ Ok value
   pub rest : next value ≡ Ok b
 
-pub came : {A B : Type 0} (answer : Answer A) (next : A → Answer B) (b : B) → (answer >>= next) ≡ Ok b → Came answer next b
+pub came : {A B : Type 0} (answer : Answer A) (next : A → Answer B) (b : B) → (answer >>= next) ≡ Ok b
+    → Came answer next b
 came (Ok a) next b is = record { value = a; first = refl; rest = is }
 came (Err fault) next b is = absurd (let never : ⊥ = cc in never)
 
@@ -26,7 +28,8 @@ pub record Found {A B : Type 0} (o : Option A) (next : A → Option B) (b : B) :
   pub first : o ≡ Some value
   pub rest : next value ≡ Some b
 
-pub found : {A B : Type 0} (o : Option A) (next : A → Option B) (b : B) → option_and_then next o ≡ Some b → Found o next b
+pub found : {A B : Type 0} (o : Option A) (next : A → Option B) (b : B) → option_and_then next o ≡ Some b
+    → Found o next b
 found (Some a) next b is = record { value = a; first = refl; rest = is }
 found None next b is = absurd (let never : ⊥ = cc in never)
 
@@ -63,9 +66,11 @@ pub read_each_keeps : {A B : Type 0} (P : ℕ → A → Type 0) (add : A → B �
     → ((n : ℕ) (a : A) (b : B) (next : A) → P n a → add a b ≡ Some next → P (suc n) next)
     → (n : ℕ) (a : A) (bs : List B) (last : A) → P n a → read_each add a bs ≡ Some last → P (n + length bs) last
 read_each_keeps P add keeps n a [] last holds is =
-    subst (λ m. P m last) (let same : n ≡ n + 0 = omega arith in same) (subst (P n) (let same : a ≡ last = cc in same) holds)
+    subst (λ m. P m last) (let same : n ≡ n + 0 = omega arith in same)
+    (subst (P n) (let same : a ≡ last = cc in same) holds)
 read_each_keeps P add keeps n a (b ∷ bs) last holds is =
-    let c : Found (add a b) (λ next. read_each add next bs) last = found (add a b) (λ next. read_each add next bs) last is in
+    let c : Found (add a b) (λ next. read_each add next bs) last =
+    found (add a b) (λ next. read_each add next bs) last is in
     subst (λ m. P m last) (let same : suc n + length bs ≡ n + length (b ∷ bs) = omega arith in same)
     (read_each_keeps P add keeps (suc n) c.value bs last (keeps n a b c.value holds c.first) c.rest)
 
@@ -81,15 +86,18 @@ between least most n is =
     (leb-true least n parts.0, leb-true n most parts.1)
 
 -- an array that is there has so many items
-pub so_many : (path : List ℕ) (table : Members) (key : List ℕ) (least most : ℕ) (ds : List Data) → items path table key least most ≡ Ok ds
+pub so_many : (path : List ℕ) (table : Members) (key : List ℕ) (least most : ℕ) (ds : List Data)
+    → items path table key least most ≡ Ok ds
     → (least ≤ length ds) × (length ds ≤ most)
 so_many path table key least most ds is =
     let c : Came (required path table key) (λ d. told (path ++ key) (items_between least most d)) ds =
     came (required path table key) (λ d. told (path ++ key) (items_between least most d)) ds is in
-    let f = found (as_array c.value) (λ ds. cond (is_between least most (length (listed ds))) (Some (listed ds)) None) ds
+    let f = found (as_array c.value) (λ ds. cond (is_between least most (length (listed ds))) (Some (listed ds)) None)
+    ds
     (told_some (path ++ key) (items_between least most c.value) ds c.rest) in
     let t = cond_some (is_between least most (length (listed f.value))) (listed f.value) ds f.rest in
-    subst (λ (xs : List Data). (least ≤ length xs) × (length xs ≤ most)) t.1 (between least most (length (listed f.value)) t.0)
+    subst (λ (xs : List Data). (least ≤ length xs) × (length xs ≤ most)) t.1
+    (between least most (length (listed f.value)) t.0)
 
 -- one more of the same kind
 pub one_more : {A : Type 0} (P : A → Type 0) (xs : List A) (x : A) → All P xs → P x → All P (xs ++ x ∷ [])

@@ -12,14 +12,17 @@ use Rattle.qc_decl.specs.Names.{is_name}
 use Rattle.qc_accept.proofs.Answered.{came, found, same_ok, told_some}
 
 -- a name more is one more
-one_name_more : (names known : List (List ℕ)) (d : Data) → with_name names d ≡ Some known → length known ≡ length names + 1
+one_name_more : (names known : List (List ℕ)) (d : Data) → with_name names d ≡ Some known
+    → length known ≡ length names + 1
 one_name_more names known d is =
     let f = found (as_str d) (with_text names) known is in
-    let longer = cond_some (is_name f.value && not (list_any (bytes_eq f.value) names)) (names ++ f.value ∷ []) known f.rest in
+    let longer = cond_some (is_name f.value && not (list_any (bytes_eq f.value) names))
+    (names ++ f.value ∷ []) known f.rest in
     ap length (sym longer.1) ∙ length_push names f.value
 
 -- so an object more is one more
-pub object_counted : (types : List (List ℕ)) (objects : ObjectsOf) (d : Data) (next : ObjectsOf) → with_object types objects d ≡ Ok next
+pub object_counted : (types : List (List ℕ)) (objects : ObjectsOf) (d : Data) (next : ObjectsOf)
+    → with_object types objects d ≡ Ok next
     → length next.names ≡ length objects.names + 1
 object_counted types objects d next is =
     let path : List ℕ = keys_path (codes "object") (length objects.names) in
@@ -29,5 +32,7 @@ object_counted types objects d next is =
     let e = came (required path a.value (codes "type")) _ next c.rest in
     let f = came (told (path ++ codes "type") (name_among types e.value)) _ next e.rest in
     let g = came (no_others path a.value object_keys) _ next f.rest in
-    ap (λ (o : ObjectsOf). length o.names) (sym (same_ok (record { names = c.value; kinds = objects.kinds ++ f.value ∷ [] }) next g.rest))
-    ∙ one_name_more objects.names c.value b.value (told_some (path ++ codes "name") (with_name objects.names b.value) c.value c.first)
+    ap (λ (o : ObjectsOf). length o.names) (sym
+    (same_ok (record { names = c.value; kinds = objects.kinds ++ f.value ∷ [] }) next g.rest))
+    ∙ one_name_more objects.names c.value b.value
+    (told_some (path ++ codes "name") (with_name objects.names b.value) c.value c.first)

@@ -1,5 +1,6 @@
 -- How large the number is that a few digits write.
-use Rattle.std.proofs.Common.{◌≡◌, ◌≢◌, ℕ, zero, suc, ◌+◌, ◌-◌, ◌*◌, ◌<◌, ◌≤◌, Bool, true, false, List, Some, None, Result, Ok, Err, length, get_or, refl, sym, ap, subst, ◌∙◌, arith}
+use Rattle.std.proofs.Common.{◌≡◌, ◌≢◌, ℕ, zero, suc, ◌+◌, ◌-◌, ◌*◌, ◌<◌, ◌≤◌, Bool, true, false, List, Some, None}
+use Rattle.std.proofs.Common.{Result, Ok, Err, length, get_or, refl, sym, ap, subst, ◌∙◌, arith}
 use Rattle.std.specs.List.{list_all}
 use Rattle.std.specs.Prelude.{◌==◌, ◌&&◌, nat_le, if◌then◌else◌, OkIff}
 use Rattle.std.specs.Result.{result_ok}
@@ -30,10 +31,12 @@ few_small n v l h = let k : limit n ≤ 100000 = up n 5 l in omega arith
 
 -- one digit more
 pub digit_more : (n v d : ℕ) → v < limit n → d ≤ 57 → 10 * v + (d - 48) < limit (n + 1)
-digit_more n v d h l = let next : suc n ≡ n + 1 = omega arith in subst (λ k. 10 * v + (d - 48) < limit k) next (let m : 10 * v + (d - 48) < 10 * limit n = omega arith in m)
+digit_more n v d h l = let next : suc n ≡ n + 1 = omega arith in
+    subst (λ k. 10 * v + (d - 48) < limit k) next (let m : 10 * v + (d - 48) < 10 * limit n = omega arith in m)
 
 -- a digit is at most 57
-pub digit_at : (digits : List ℕ) (i : ℕ) → i < length digits → list_all (is_between 48 57) digits ≡ true → get_or digits i 0 ≤ 57
+pub digit_at : (digits : List ℕ) (i : ℕ) → i < length digits → list_all (is_between 48 57) digits ≡ true
+    → get_or digits i 0 ≤ 57
 digit_at digits i l all = by (is_between 48 57 (get_or digits i 0)) refl
   where
     right : (a b : Bool) → (a && b) ≡ true → b ≡ true
@@ -42,23 +45,31 @@ digit_at digits i l all = by (is_between 48 57 (get_or digits i 0)) refl
 
     by : (t : Bool) → is_between 48 57 (get_or digits i 0) ≡ t → get_or digits i 0 ≤ 57
     by true e = leb-true _ 57 (right (nat_le 48 (get_or digits i 0)) (nat_le (get_or digits i 0) 57) e)
-    by false e = absurd (let other : list_all (is_between 48 57) digits ≡ false = list_all_at (is_between 48 57) digits i 0 l e in let never : ⊥ = cc in never)
+    by false e = absurd (let other : list_all (is_between 48 57) digits ≡ false =
+        list_all_at (is_between 48 57) digits i 0 l e in let never : ⊥ = cc in never)
 
 -- what a conversion of a digits' value to 16 bits answers is the number that the digits write
-pub read_number : {E : Type 0} (text : List ℕ) (v : ℕ) (r : Result ℕ E) → (length text == 0) ≡ false → length text ≤ 5 → list_all (is_between 48 57) text ≡ true → v ≡ value_of text
+pub read_number : {E : Type 0} (text : List ℕ) (v : ℕ) (r : Result ℕ E) → (length text == 0) ≡ false → length text ≤ 5
+    → list_all (is_between 48 57) text ≡ true → v ≡ value_of text
     → OkIff r (v < 65536) v → result_ok r ≡ number_in text
 read_number {E = E} text v r some few all is h = by r (nat_le (value_of text) greatest_threshold) refl h
   where
     long : is_between 1 5 (length text) ≡ true
-    long = rw (le-leb 1 (length text) (let n : length text ≢ 0 = eqb-false _ 0 some in omega arith), le-leb (length text) 5 few)
+    long = rw (
+      le-leb 1 (length text) (let n : length text ≢ 0 = eqb-false _ 0 some in omega arith),
+      le-leb (length text) 5 few,
+    )
 
-    by_value : (b : Bool) → nat_le (value_of text) greatest_threshold ≡ b → number_in text ≡ (if b then Some (value_of text) else None)
+    by_value : (b : Bool) → nat_le (value_of text) greatest_threshold ≡ b
+        → number_in text ≡ (if b then Some (value_of text) else None)
     by_value b e =
-        ap (λ t. if t && (list_all (is_between 48 57) text && nat_le (value_of text) greatest_threshold) then Some (value_of text) else None) long
+        ap (λ t. if t && (list_all (is_between 48 57) text && nat_le (value_of text) greatest_threshold) then Some
+        (value_of text) else None) long
         ∙ ap (λ t. if t && nat_le (value_of text) greatest_threshold then Some (value_of text) else None) all
         ∙ ap (λ t. if t then Some (value_of text) else None) e
 
-    by : (r : Result ℕ E) (b : Bool) → nat_le (value_of text) greatest_threshold ≡ b → OkIff r (v < 65536) v → result_ok r ≡ number_in text
+    by : (r : Result ℕ E) (b : Bool) → nat_le (value_of text) greatest_threshold ≡ b → OkIff r (v < 65536) v
+        → result_ok r ≡ number_in text
     by (Ok x) true e h = ap Some (h.1 ∙ is) ∙ sym (by_value true e)
     by (Ok x) false e h =
         let over : greatest_threshold < value_of text = leb-false _ greatest_threshold e in

@@ -15,9 +15,11 @@ abbrev parsed : Option Members → Answer Members
 parsed found = option_map_or (λ t. Ok t) found (Err NotToml)
 
 -- UTF-8 that is TOML
-pub document_read : (bytes : List ℕ) (table : Members) → IsUtf8 bytes → parse_document bytes ≡ Some table → document_of bytes ≡ Ok table
+pub document_read : (bytes : List ℕ) (table : Members) → IsUtf8 bytes → parse_document bytes ≡ Some table
+    → document_of bytes ≡ Ok table
 document_read bytes table utf8 is =
-    ap (λ (b : Bool). let answer : Answer Members = if b then parsed (parse_document bytes) else Err NotToml in answer) (is_utf8-from_IsUtf8 bytes utf8) ∙ ap parsed is
+    ap (λ (b : Bool). let answer : Answer Members = if b then parsed (parse_document bytes) else Err NotToml in answer)
+    (is_utf8-from_IsUtf8 bytes utf8) ∙ ap parsed is
 
 -- bytes that aren't
 pub no_document : (bytes : List ℕ) → (IsUtf8 bytes → parse_document bytes ≡ None) → document_of bytes ≡ Err NotToml
@@ -25,6 +27,8 @@ no_document bytes none = by (is_utf8 bytes) refl
   where
     by : (t : Bool) → is_utf8 bytes ≡ t → document_of bytes ≡ Err NotToml
     by true is =
-        ap (λ (b : Bool). let answer : Answer Members = if b then parsed (parse_document bytes) else Err NotToml in answer) is
+        ap (λ (b : Bool). let answer : Answer Members = if b then parsed (parse_document bytes) else Err NotToml in
+        answer) is
         ∙ ap parsed (none (IsUtf8-from_is_utf8 bytes is))
-    by false is = ap (λ (b : Bool). let answer : Answer Members = if b then parsed (parse_document bytes) else Err NotToml in answer) is
+    by false is = ap (λ (b : Bool). let answer : Answer Members =
+        if b then parsed (parse_document bytes) else Err NotToml in answer) is

@@ -1,7 +1,9 @@
+pub mod CheckedDrafts
 pub mod Accepting
 pub mod Alike
 pub mod Answered
 pub mod Counted
+pub mod ItemLists
 pub mod Declaring
 pub mod Digits
 pub mod Documents

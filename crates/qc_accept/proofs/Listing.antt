@@ -1,5 +1,6 @@
 -- Thresholds that are listed, and those that aren't.
-use Rattle.std.proofs.Common.{◌≡◌, ℕ, ◌<◌, Bool, true, false, cond, List, [], ◌∷◌, ◌++◌, zero, suc, length, Option, Some, None, Ok, refl, sym, ap, ◌∙◌, subst}
+use Rattle.std.proofs.Common.{◌≡◌, ℕ, ◌<◌, Bool, true, false, cond, List, [], ◌∷◌, ◌++◌, zero, suc, length, Option}
+use Rattle.std.proofs.Common.{Some, None, Ok, refl, sym, ap, ◌∙◌, subst}
 use Rattle.std.specs.Prelude.{◌==◌, ◌||◌, codes, find, nat_le, slice_get}
 use Rattle.std.specs.List.{list_any}
 use Rattle.std.specs.Option.{option_map_or}
@@ -12,7 +13,8 @@ use Rattle.qc_table.specs.Rules.{event, same_event}
 use Rattle.qc_accept.specs.declared.epochs.Side.{Side}
 use Rattle.qc_accept.specs.declared.epochs.Side.TheVariants.{Initial, Final}
 use Rattle.qc_accept.specs.Answers.{read_each}
-use Rattle.qc_accept.specs.Epochs.{EntryOf, StoreOf, entries_in, entry_in, epoch_keys, is_at, needs, needs_of, place_in, places, places_of, plan_of, threshold_of, weights, with_item}
+use Rattle.qc_accept.specs.Epochs.{EntryOf, StoreOf, entries_in, entry_in, epoch_keys, is_at, needs, needs_of, place_in}
+use Rattle.qc_accept.specs.Epochs.{places, places_of, plan_of, threshold_of, weights, with_item}
 use Rattle.qc_accept.specs.Fields.{no_others, optional, told}
 use Rattle.qc_accept.specs.Objects.{kind_of}
 use Rattle.qc_accept.specs.Spelled.{AreListed, IsListed, array_at}
@@ -28,25 +30,30 @@ find_before : {A : Type 0} (p : A → Bool) (xs ys : List A) (x : A) → find p 
 find_before p [] ys x is = absurd (let never : ⊥ = cc in never)
 find_before p (y ∷ xs) ys x is = by (p y) is (find_before p xs ys x)
   where
-    by : (b : Bool) → cond b (Some y) (find p xs) ≡ Some x → (find p xs ≡ Some x → find p (xs ++ ys) ≡ Some x) → cond b (Some y) (find p (xs ++ ys)) ≡ Some x
+    by : (b : Bool) → cond b (Some y) (find p xs) ≡ Some x → (find p xs ≡ Some x → find p (xs ++ ys) ≡ Some x)
+        → cond b (Some y) (find p (xs ++ ys)) ≡ Some x
     by true is more = is
     by false is more = more is
 
 -- a new item is found at the end
-find_new : {A : Type 0} (p : A → Bool) (xs : List A) (x : A) → list_any p xs ≡ false → p x ≡ true → find p (xs ++ x ∷ []) ≡ Some x
+find_new : {A : Type 0} (p : A → Bool) (xs : List A) (x : A) → list_any p xs ≡ false → p x ≡ true
+    → find p (xs ++ x ∷ []) ≡ Some x
 find_new p [] x none is = ap (λ b. cond b (Some x) None) is
 find_new p (y ∷ xs) x none is = by (p y) none (λ none. find_new p xs x none is)
   where
-    by : (b : Bool) → (b || list_any p xs) ≡ false → (list_any p xs ≡ false → find p (xs ++ x ∷ []) ≡ Some x) → cond b (Some y) (find p (xs ++ x ∷ [])) ≡ Some x
+    by : (b : Bool) → (b || list_any p xs) ≡ false → (list_any p xs ≡ false → find p (xs ++ x ∷ []) ≡ Some x)
+        → cond b (Some y) (find p (xs ++ x ∷ [])) ≡ Some x
     by true none more = absurd (let never : ⊥ = cc in never)
     by false none more = more none
 
 -- and none where neither the list nor the new item has one
-find_none : {A : Type 0} (p : A → Bool) (xs : List A) (x : A) → find p xs ≡ None → p x ≡ false → find p (xs ++ x ∷ []) ≡ None
+find_none : {A : Type 0} (p : A → Bool) (xs : List A) (x : A) → find p xs ≡ None → p x ≡ false
+    → find p (xs ++ x ∷ []) ≡ None
 find_none p [] x none is = ap (λ b. cond b (Some x) None) is
 find_none p (y ∷ xs) x none is = by (p y) none (λ none. find_none p xs x none is)
   where
-    by : (b : Bool) → cond b (Some y) (find p xs) ≡ None → (find p xs ≡ None → find p (xs ++ x ∷ []) ≡ None) → cond b (Some y) (find p (xs ++ x ∷ [])) ≡ None
+    by : (b : Bool) → cond b (Some y) (find p xs) ≡ None → (find p xs ≡ None → find p (xs ++ x ∷ []) ≡ None)
+        → cond b (Some y) (find p (xs ++ x ∷ [])) ≡ None
     by true none more = absurd (let never : ⊥ = cc in never)
     by false none more = more none
 
@@ -54,17 +61,22 @@ itself_at : (e : EntryOf) → is_at e.object e.place e ≡ true
 itself_at e = rw (eq-eqb e.object e.object refl, eq-eqb e.place e.place refl) refl
 
 module _ (store : StoreOf) (side : Side) where
-  stays : (p : EntryOf → Bool) (x : EntryOf) (before : List EntryOf) (ds : List Data) (entries : List EntryOf) → read_each (with_item store side) before ds ≡ Some entries
+  stays : (p : EntryOf → Bool) (x : EntryOf) (before : List EntryOf) (ds : List Data) (entries : List EntryOf)
+      → read_each (with_item store side) before ds ≡ Some entries
       → find p before ≡ Some x → find p entries ≡ Some x
-  stays p x before [] entries is found_it = subst (λ (es : List EntryOf). find p es ≡ Some x) (let same : before ≡ entries = cc in same) found_it
+  stays p x before [] entries is found_it =
+      subst (λ (es : List EntryOf). find p es ≡ Some x) (let same : before ≡ entries = cc in same) found_it
   stays p x before (d ∷ ds) entries is found_it =
       let c = found (with_item store side before d) (λ next. read_each (with_item store side) next ds) entries is in
       let e : IsEntry store side before d c.value = entry_more store side before d c.value c.first in
-      stays p x c.value ds entries c.rest (subst (λ (es : List EntryOf). find p es ≡ Some x) e.grown (find_before p before (e.entry ∷ []) x found_it))
+      stays p x c.value ds entries c.rest (subst (λ (es : List EntryOf). find p es ≡ Some x) e.grown
+      (find_before p before (e.entry ∷ []) x found_it))
 
   -- the entry that a text lists is found
-  is_found : (before : List EntryOf) (ds : List Data) (entries : List EntryOf) → read_each (with_item store side) before ds ≡ Some entries
-      → (k : ℕ) (d : Data) (text : List ℕ) (entry : EntryOf) → slice_get ds k ≡ Some d → as_str d ≡ Some text → entry_in store side text ≡ Some entry
+  is_found : (before : List EntryOf) (ds : List Data) (entries : List EntryOf)
+      → read_each (with_item store side) before ds ≡ Some entries
+      → (k : ℕ) (d : Data) (text : List ℕ) (entry : EntryOf) → slice_get ds k ≡ Some d → as_str d ≡ Some text
+      → entry_in store side text ≡ Some entry
       → find (is_at entry.object entry.place) entries ≡ Some entry
   is_found before [] entries is k d text entry at is_text says = absurd (let never : ⊥ = cc in never)
   is_found before (x ∷ ds) entries is zero d text entry at is_text says =
@@ -85,18 +97,22 @@ module _ (store : StoreOf) (side : Side) where
       is_found c.value ds entries c.rest k d text entry at is_text says
 
   -- and where no text lists one, none is
-  is_missing : (object place : ℕ) (before : List EntryOf) (ds : List Data) (entries : List EntryOf) → read_each (with_item store side) before ds ≡ Some entries
+  is_missing : (object place : ℕ) (before : List EntryOf) (ds : List Data) (entries : List EntryOf)
+      → read_each (with_item store side) before ds ≡ Some entries
       → find (is_at object place) before ≡ None
-      → ((k : ℕ) (d : Data) (text : List ℕ) (entry : EntryOf) → slice_get ds k ≡ Some d → as_str d ≡ Some text → entry_in store side text ≡ Some entry
+      → ((k : ℕ) (d : Data) (text : List ℕ) (entry : EntryOf) → slice_get ds k ≡ Some d → as_str d ≡ Some text
+      → entry_in store side text ≡ Some entry
       → entry.object ≡ object → entry.place ≡ place → ⊥)
       → find (is_at object place) entries ≡ None
-  is_missing object place before [] entries is none never = subst (λ (es : List EntryOf). find (is_at object place) es ≡ None) (let same : before ≡ entries = cc in same) none
+  is_missing object place before [] entries is none never =
+      subst (λ (es : List EntryOf). find (is_at object place) es ≡ None) (let same : before ≡ entries = cc in same) none
   is_missing object place before (x ∷ ds) entries is none never =
       let c = found (with_item store side before x) (λ next. read_each (with_item store side) next ds) entries is in
       let e : IsEntry store side before x c.value = entry_more store side before x c.value c.first in
       is_missing object place c.value ds entries c.rest
       (subst (λ (es : List EntryOf). find (is_at object place) es ≡ None) e.grown
-      (find_none (is_at object place) before e.entry none (by e.entry (is_at object place e.entry) refl (never 0 x e.text e.entry refl e.is_text e.is_entry))))
+      (find_none (is_at object place) before e.entry none
+      (by e.entry (is_at object place e.entry) refl (never 0 x e.text e.entry refl e.is_text e.is_entry))))
       (λ k d text entry at. never (suc k) d text entry at)
     where
       by : (y : EntryOf) (b : Bool) → is_at object place y ≡ b → (y.object ≡ object → y.place ≡ place → ⊥) → b ≡ false
@@ -130,7 +146,8 @@ module _ (store : StoreOf) (side : Side) where
       let f = mapped (number_in a.value.2) _ entry d.rest in
       subst IsWithin f.rest (record {
         object = number_within store.objects.names a.value.0 b.value b.first;
-        place = subst (λ n. d.value < n) (sym (ap (λ (o : Option TypeOf). option_map_or (places side) o 0) c.first)) (event_within c.value a.value.1 d.value d.first);
+        place = subst (λ n. d.value < n) (sym (ap (λ (o : Option TypeOf). option_map_or (places side) o 0) c.first))
+            (event_within c.value a.value.1 d.value d.first);
       })
 
   -- so the thresholds are what the texts list
@@ -141,29 +158,38 @@ module _ (store : StoreOf) (side : Side) where
       n : ℕ
       n = length store.objects.names
 
-      listed : (entry : EntryOf) → IsListed store side ds entry → need_of (needs_of store side entries n) entry.object entry.place ≡ entry.threshold
+      listed : (entry : EntryOf) → IsListed store side ds entry
+          → need_of (needs_of store side entries n) entry.object entry.place ≡ entry.threshold
       listed entry l =
           let w : IsWithin entry = entry_within l.text entry l.says in
           need_is store side entries n entry.object entry.place w.object w.place
-          ∙ ap (λ (o : Option EntryOf). option_map_or (λ (e : EntryOf). e.threshold) o 0) (is_found [] ds entries is l.place l.item l.text entry l.at l.is_text l.says)
+          ∙ ap (λ (o : Option EntryOf). option_map_or (λ (e : EntryOf). e.threshold) o 0)
+          (is_found [] ds entries is l.place l.item l.text entry l.at l.is_text l.says)
 
-      missing : (object place : ℕ) → ((entry : EntryOf) → IsListed store side ds entry → entry.object ≡ object → entry.place ≡ place → ⊥) → threshold_of entries object place ≡ 0
+      missing : (object place : ℕ) → ((entry : EntryOf) → IsListed store side ds entry → entry.object ≡ object
+          → entry.place ≡ place → ⊥) → threshold_of entries object place ≡ 0
       missing object place never =
           ap (λ (o : Option EntryOf). option_map_or (λ (e : EntryOf). e.threshold) o 0)
           (is_missing object place [] ds entries is refl
-          (λ k d text entry at is_text says. never entry (record { place = k; item = d; text = text; at = at; is_text = is_text; says = says })))
+          (λ k d text entry at is_text says. never entry
+          (record { place = k; item = d; text = text; at = at; is_text = is_text; says = says })))
 
-      others : (object place : ℕ) → ((entry : EntryOf) → IsListed store side ds entry → entry.object ≡ object → entry.place ≡ place → ⊥)
+      others : (object place : ℕ) → ((entry : EntryOf) → IsListed store side ds entry → entry.object ≡ object
+          → entry.place ≡ place → ⊥)
           → need_of (needs_of store side entries n) object place ≡ 0
       others object place never = by (nat_le n object) refl (nat_le (places_of store side object) place) refl
         where
-          by : (b : Bool) → nat_le n object ≡ b → (c : Bool) → nat_le (places_of store side object) place ≡ c → need_of (needs_of store side entries n) object place ≡ 0
+          by : (b : Bool) → nat_le n object ≡ b → (c : Bool) → nat_le (places_of store side object) place ≡ c
+              → need_of (needs_of store side entries n) object place ≡ 0
           by true past c is_c = need_past_objects store side entries n object place (leb-true n object past)
-          by false within true past = need_past_places store side entries n object place (leb-false n object within) (leb-true (places_of store side object) place past)
+          by false within true past = need_past_places store side entries n object place (leb-false n object within)
+              (leb-true (places_of store side object) place past)
           by false within false inside =
-              need_is store side entries n object place (leb-false n object within) (leb-false (places_of store side object) place inside) ∙ missing object place never
+              need_is store side entries n object place (leb-false n object within)
+              (leb-false (places_of store side object) place inside) ∙ missing object place never
 
-pub needs_listed : (path : List ℕ) (table : Members) (store : StoreOf) (key : List ℕ) (side : Side) (ns : List (List ℕ)) → needs path table store key side ≡ Ok ns
+pub needs_listed : (path : List ℕ) (table : Members) (store : StoreOf) (key : List ℕ) (side : Side) (ns : List (List ℕ))
+    → needs path table store key side ≡ Ok ns
     → AreListed store side (array_at table key) ns
 needs_listed path table store key side ns is =
     let a = came (optional path table key) _ ns is in
@@ -173,12 +199,16 @@ needs_listed path table store key side ns is =
     (are_listed store side a.value b.value (told_some (path ++ key) (entries_in store side a.value) b.value b.first)))
 
 pub plan_listed : (path : List ℕ) (table : Members) (store : StoreOf) (plan : Plan) → plan_of path table store ≡ Ok plan
-    → AreListed store Initial (array_at table (codes "initial")) plan.initial × AreListed store Final (array_at table (codes "final")) plan.last
+    → AreListed store Initial (array_at table (codes "initial")) plan.initial
+    × AreListed store Final (array_at table (codes "final")) plan.last
 plan_listed path table store plan is =
     let a = came (weights path table store.sites) _ plan is in
     let b = came (needs path table store (codes "initial") Initial) _ plan a.rest in
     let c = came (needs path table store (codes "final") Final) _ plan b.rest in
     let d = came (no_others path table epoch_keys) _ plan c.rest in
-    subst (λ (p : Plan). AreListed store Initial (array_at table (codes "initial")) p.initial × AreListed store Final (array_at table (codes "final")) p.last)
-    (same_ok (record { weights = a.value; initial = b.value; last = c.value }) plan d.rest)
-    (needs_listed path table store (codes "initial") Initial b.value b.first, needs_listed path table store (codes "final") Final c.value c.first)
+    subst (λ (p : Plan). AreListed store Initial (array_at table (codes "initial")) p.initial
+    × AreListed store Final (array_at table (codes "final")) p.last)
+    (same_ok (record { weights = a.value; initial = b.value; last = c.value }) plan d.rest) (
+      needs_listed path table store (codes "initial") Initial b.value b.first,
+      needs_listed path table store (codes "final") Final c.value c.first,
+    )

@@ -1,5 +1,6 @@
 -- Sites as a set: of what is open, each site has its own bit.
-use Rattle.std.proofs.Common.{◌≡◌, ℕ, ◌+◌, ◌^◌, ◌≤◌, ◌<◌, ◌==◌, Bool, true, false, cond, not, List, [], ◌∷◌, ◌++◌, drop, get_or, length, Some, option_map, refl, ap, arith}
+use Rattle.std.proofs.Common.{◌≡◌, ℕ, ◌+◌, ◌^◌, ◌≤◌, ◌<◌, ◌==◌, Bool, true, false, cond, not, List, [], ◌∷◌, ◌++◌, drop}
+use Rattle.std.proofs.Common.{get_or, length, Some, option_map, refl, ap, arith}
 use Rattle.std.specs.List.{find}
 use Rattle.std.specs.Prelude.{nat_lt}
 use Rattle.std.proofs.Math.Nat.{pow-le-pow_right}
@@ -38,17 +39,20 @@ below_16 site low = by (nat_lt site 16) refl
 
 -- from a place on
 
-pub bits_from : (sites : List ℕ) (i d : ℕ) → i < length sites → site_set (drop i sites) ≡ 2 ^ (get_or sites i d) + site_set (drop (i + 1) sites)
+pub bits_from : (sites : List ℕ) (i d : ℕ) → i < length sites
+    → site_set (drop i sites) ≡ 2 ^ (get_or sites i d) + site_set (drop (i + 1) sites)
 bits_from sites i d inside = sum_by-drop_more (λ (s : ℕ). 2 ^ s) sites i d inside
 
 -- what is taken for an open request
 
-fewer_bits : (number : ℕ) (calls : List Call) → site_set (sites_called (without_call calls number)) ≤ site_set (sites_called calls)
+fewer_bits : (number : ℕ) (calls : List Call)
+    → site_set (sites_called (without_call calls number)) ≤ site_set (sites_called calls)
 fewer_bits number [] = omega arith
 fewer_bits number (c ∷ cs) = by (c.number == number) (fewer_bits number cs)
   where
     by : (t : Bool) → site_set (sites_called (without_call cs number)) ≤ site_set (sites_called cs)
-        → site_set (sites_called (cond (not t) (c ∷ without_call cs number) (without_call cs number))) ≤ site_set (sites_called (c ∷ cs))
+        → site_set (sites_called (cond (not t) (c ∷ without_call cs number) (without_call cs number))) ≤ site_set
+        (sites_called (c ∷ cs))
     by true rest =
         let more = first_bit c.site (sites_called cs) in
         omega (arith, rest, more)
@@ -62,9 +66,12 @@ pub taken_bit : (number site : ℕ) (calls : List Call) → site_called calls nu
 taken_bit number site [] called = absurd (let never : ⊥ = cc in never)
 taken_bit number site (c ∷ cs) called = by (c.number == number) called (taken_bit number site cs)
   where
-    by : (t : Bool) → option_map (λ (x : Call). x.site) (cond t (Some c) (find (λ (x : Call). x.number == number) cs)) ≡ Some site
-        → (site_called cs number ≡ Some site → 2 ^ site + site_set (sites_called (without_call cs number)) ≤ site_set (sites_called cs))
-        → 2 ^ site + site_set (sites_called (cond (not t) (c ∷ without_call cs number) (without_call cs number))) ≤ site_set (sites_called (c ∷ cs))
+    by : (t : Bool) → option_map (λ (x : Call). x.site) (cond t (Some c) (find (λ (x : Call). x.number == number) cs))
+        ≡ Some site
+        → (site_called cs number ≡ Some site → 2 ^ site + site_set (sites_called (without_call cs number)) ≤ site_set
+        (sites_called cs))
+        → 2 ^ site + site_set (sites_called (cond (not t) (c ∷ without_call cs number) (without_call cs number))) ≤
+        site_set (sites_called (c ∷ cs))
     by true is rest =
         let same : c.site ≡ site = cc in
         let here : 2 ^ c.site ≡ 2 ^ site = ap (λ (s : ℕ). 2 ^ s) same in

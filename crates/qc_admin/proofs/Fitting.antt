@@ -1,5 +1,6 @@
 -- What his calls rely on holds of him whatever he takes.
-use Rattle.std.proofs.Common.{◌≡◌, ℕ, ◌+◌, ◌^◌, ◌≤◌, ◌<◌, ◌==◌, Bool, true, false, cond, List, [], ◌∷◌, length, map, take, Option, Some, None, refl, sym, subst, eqb-true, arith}
+use Rattle.std.proofs.Common.{◌≡◌, ℕ, ◌+◌, ◌^◌, ◌≤◌, ◌<◌, ◌==◌, Bool, true, false, cond, List, [], ◌∷◌, length, map}
+use Rattle.std.proofs.Common.{take, Option, Some, None, refl, sym, subst, eqb-true, arith}
 use Rattle.std.specs.Prelude.{nat_le}
 use Rattle.qc_decl.specs.declared.declaration.Declaration.{Declaration}
 use Rattle.qc_decl.specs.Accepted.{IsAccepted}
@@ -11,8 +12,8 @@ use Rattle.qc_msg.specs.declared.message.Message.{Message}
 use Rattle.qc_msg.specs.declared.message.Message.TheVariants as messages
 use Rattle.qc_msg.specs.declared.step.Command.{Command}
 use Rattle.qc_msg.specs.declared.step.Command.TheVariants as commands
-use Rattle.qc_msg.specs.declared.step.Given.{Given}
-use Rattle.qc_msg.specs.declared.step.Given.TheVariants as given
+use Rattle.qc_msg.specs.declared.step.Input.{Input}
+use Rattle.qc_msg.specs.declared.step.Input.TheVariants as inputs
 use Rattle.qc_msg.specs.declared.reply.Reply.TheVariants as replies
 use Rattle.qc_msg.specs.Calls.{calls_from, site_called, without_call}
 use Rattle.qc_msg.specs.Turns.{quiet, sending}
@@ -23,10 +24,13 @@ use Rattle.qc_front.specs.Holds.{sites_called}
 use Rattle.qc_front.proofs.Awaited.{sites_stay}
 use Rattle.qc_epoch.specs.Admin.{Admin, Decided, Doing, Question, Resting, Closing, Asking, Installing, ShutSite, moved}
 use Rattle.qc_epoch.specs.Answers.{outcome_in, standing_of, taken_for, with_installed, with_shut_of}
-use Rattle.qc_epoch.specs.Conduct.{again, all_sites, answered_in, ask_of, asking_takes, asks, called, close_round, closes, closes_by, closing_takes, decide_turn, decides, doing, heard, installing, installing_takes, moves_to, replies_with, settles, settles_by, site_set, admin_takes}
+use Rattle.qc_epoch.specs.Conduct.{again, all_sites, answered_in, ask_of, asking_takes, asks, called, close_round}
+use Rattle.qc_epoch.specs.Conduct.{closes, closes_by, closing_takes, decide_turn, decides, doing, heard, installing}
+use Rattle.qc_epoch.specs.Conduct.{installing_takes, moves_to, replies_with, settles, settles_by, site_set, admin_takes}
 use Rattle.qc_epoch.specs.Deciding.{all_taken, decision, first_doubt, in_asked_order, most_asks, questions_of}
 use Rattle.qc_msg.specs.Lengths.{epoch_length}
-use Rattle.qc_admin.specs.Fits.{AdminFits, AnswerFits, AreSites, DoingFits, GivenFits, InstallsFit, MessageFits, ShutsFit, sites_in}
+use Rattle.qc_admin.specs.Fits.{AdminFits, AnswerFits, AreSites, DoingFits, GivenFits, InstallsFit, MessageFits}
+use Rattle.qc_admin.specs.Fits.{ShutsFit, sites_in}
 use Rattle.qc_admin.specs.Sent.{numbered, sent}
 use Rattle.qc_admin.proofs.Bits.{last_bit, taken_bit}
 use Rattle.qc_admin.proofs.Moves.{last_fits, shut_last}
@@ -35,7 +39,8 @@ use Rattle.qc_admin.proofs.RoundBits.{closed_bits, note_fits, round_begins, row_
 
 -- Installs begin
 
-installs_begin : (decl : Declaration) (closed : List ℕ) → IsAccepted decl → site_set closed < 2 ^ 16 → InstallsFit closed (all_sites decl) [] []
+installs_begin : (decl : Declaration) (closed : List ℕ) → IsAccepted decl → site_set closed < 2 ^ 16
+    → InstallsFit closed (all_sites decl) [] []
 installs_begin decl closed accepted set = record {
   closed_set = set;
   sites_are = row_sites decl.sites accepted.sites;
@@ -43,14 +48,18 @@ installs_begin decl closed accepted set = record {
   none = λ e. refl;
 }
 
-decides_fit : (decl : Declaration) (m : Admin) (d : Decided) (closed : List ℕ) → IsAccepted decl → site_set closed < 2 ^ 16 → AdminFits (decides decl m d closed).admin
+decides_fit : (decl : Declaration) (m : Admin) (d : Decided) (closed : List ℕ) → IsAccepted decl
+    → site_set closed < 2 ^ 16 → AdminFits (decides decl m d closed).admin
 decides_fit decl m d closed accepted set = by (nat_le (epoch_length d.lines) most_record_bytes)
   where
-    by : (t : Bool) → AdminFits (cond t (moved (record { epoch = d.epoch; decided = Some d; doing = installing decl closed }) (decide_turn decl d)) (replies_with m replies.Fault)).admin
+    by : (t : Bool) → AdminFits (cond t (moved
+        (record { epoch = d.epoch; decided = Some d; doing = installing decl closed }) (decide_turn decl d))
+        (replies_with m replies.Fault)).admin
     by true = installs_begin decl closed accepted set
     by false = tt
 
-settles_fit : (decl : Declaration) (m : Admin) (epoch : ℕ) (shuts : List ShutSite) (questions : List Question) → IsAccepted decl
+settles_fit : (decl : Declaration) (m : Admin) (epoch : ℕ) (shuts : List ShutSite) (questions : List Question)
+    → IsAccepted decl
     → site_set (map (λ (s : ShutSite). s.site) shuts) < 2 ^ 16 → AdminFits (settles decl m epoch shuts questions).admin
 settles_fit decl m epoch shuts questions accepted set = by (first_doubt questions)
   where
@@ -58,22 +67,26 @@ settles_fit decl m epoch shuts questions accepted set = by (first_doubt question
     by (Some q) = tt
     by None = decides_fit decl m (decision epoch shuts questions) (map (λ (s : ShutSite). s.site) shuts) accepted set
 
-asks_fit : (decl : Declaration) (m : Admin) (epoch : ℕ) (shuts : List ShutSite) (questions : List Question) → IsAccepted decl
+asks_fit : (decl : Declaration) (m : Admin) (epoch : ℕ) (shuts : List ShutSite) (questions : List Question)
+    → IsAccepted decl
     → site_set (map (λ (s : ShutSite). s.site) shuts) < 2 ^ 16 → AdminFits (asks decl m epoch shuts questions).admin
 asks_fit decl m epoch shuts questions accepted set = by (length questions == 0)
   where
-    by : (t : Bool) → AdminFits (cond t (settles decl m epoch shuts questions) (moved (doing m (Asking epoch shuts questions)) (sending (map (ask_of decl) (take most_asks questions))))).admin
+    by : (t : Bool) → AdminFits (cond t (settles decl m epoch shuts questions)
+        (moved (doing m (Asking epoch shuts questions)) (sending (map (ask_of decl) (take most_asks questions))))).admin
     by true = settles_fit decl m epoch shuts questions accepted set
     by false = set
 
 -- a round goes on, or ends
-closes_fit : (decl : Declaration) (m : Admin) (epoch : ℕ) (calls : List Call) (round : RoundState) (shuts : List ShutSite) → IsAccepted decl → AdminFits m
+closes_fit : (decl : Declaration) (m : Admin) (epoch : ℕ) (calls : List Call) (round : RoundState)
+    (shuts : List ShutSite) → IsAccepted decl → AdminFits m
     → AreSites (sites_in round) → ShutsFit shuts → AdminFits (closes decl m epoch calls round shuts).admin
 closes_fit decl m epoch calls round shuts accepted was are fit = by (verdict round)
   where
     by : (v : Verdict) → AdminFits (closes_by decl m epoch calls round shuts v).admin
     by verdicts.Waiting = (subst AreSites (sym (sites_stay round)) are, fit)
-    by verdicts.Met = asks_fit decl m epoch (in_asked_order round.asked shuts) (questions_of (in_asked_order round.asked shuts)) accepted (closed_bits round shuts are)
+    by verdicts.Met = asks_fit decl m epoch (in_asked_order round.asked shuts)
+        (questions_of (in_asked_order round.asked shuts)) accepted (closed_bits round shuts are)
     by (verdicts.Closed e site) = was
     by (verdicts.Clash tx site) = was
     by (verdicts.Short got need) = tt
@@ -84,15 +97,20 @@ again_fits : (decl : Declaration) (m : Admin) (o : Option Decided) → IsAccepte
 again_fits decl m None accepted = tt
 again_fits decl m (Some d) accepted = installs_begin decl [] accepted (omega arith)
 
-moves_fit : (decl : Declaration) (m : Admin) (number : ℕ) → IsAccepted decl → AdminFits m → AdminFits (moves_to decl m number).admin
+moves_fit : (decl : Declaration) (m : Admin) (number : ℕ) → IsAccepted decl → AdminFits m
+    → AdminFits (moves_to decl m number).admin
 moves_fit decl m number accepted was = by (number == m.epoch) (number == m.epoch + 1)
   where
-    by : (same next : Bool) → AdminFits (cond same (again decl m m.decided) (cond next (closes decl m number [] (close_round decl m.epoch) []) (replies_with m (replies.Order m.epoch)))).admin
+    by : (same next : Bool) → AdminFits (cond same (again decl m m.decided)
+        (cond next (closes decl m number [] (close_round decl m.epoch) [])
+        (replies_with m (replies.Order m.epoch)))).admin
     by true next = again_fits decl m m.decided accepted
-    by false true = closes_fit decl m number [] (close_round decl m.epoch) [] accepted was (round_begins decl m.epoch accepted) tt
+    by false true = closes_fit decl m number [] (close_round decl m.epoch) [] accepted was
+        (round_begins decl m.epoch accepted) tt
     by false false = tt
 
-called_fits : (decl : Declaration) (m : Admin) (command : Command) → IsAccepted decl → AdminFits m → AdminFits (called decl m command).admin
+called_fits : (decl : Declaration) (m : Admin) (command : Command) → IsAccepted decl → AdminFits m
+    → AdminFits (called decl m command).admin
 called_fits decl m commands.Begin accepted was = was
 called_fits decl m (commands.Do object inv) accepted was = was
 called_fits decl m commands.Commit accepted was = was
@@ -101,7 +119,8 @@ called_fits decl m (commands.Epoch number) accepted was = moves_fit decl m numbe
 
 -- answers
 
-installed_bits : (installed : List ℕ) (site : ℕ) (answer : Option Answer) → site_set (with_installed installed site answer) ≤ site_set installed + 2 ^ site
+installed_bits : (installed : List ℕ) (site : ℕ) (answer : Option Answer)
+    → site_set (with_installed installed site answer) ≤ site_set installed + 2 ^ site
 installed_bits installed site None = omega arith
 installed_bits installed site (Some (answers.Granted life clock log)) = omega arith
 installed_bits installed site (Some (answers.Clash holder inv event)) = omega arith
@@ -119,17 +138,22 @@ no_sites : (calls : List Call) → (length calls == 0) ≡ false → sites_calle
 no_sites [] some none = let never : ⊥ = cc in never
 no_sites (c ∷ cs) some none = let never : ⊥ = cc in never
 
-installing_fits : (m : Admin) (closed awaits : List ℕ) (calls : List Call) (installed : List ℕ) (number : ℕ) (answer : Option Answer) → AdminFits m
-    → InstallsFit closed awaits (sites_called calls) installed → AdminFits (installing_takes m closed awaits calls installed number answer (site_called calls number)).admin
+installing_fits : (m : Admin) (closed awaits : List ℕ) (calls : List Call) (installed : List ℕ) (number : ℕ)
+    (answer : Option Answer) → AdminFits m
+    → InstallsFit closed awaits (sites_called calls) installed
+    → AdminFits (installing_takes m closed awaits calls installed number answer (site_called calls number)).admin
 installing_fits m closed awaits calls installed number answer was fit = by (site_called calls number) refl
   where
-    by : (o : Option ℕ) → site_called calls number ≡ o → AdminFits (installing_takes m closed awaits calls installed number answer o).admin
+    by : (o : Option ℕ) → site_called calls number ≡ o
+        → AdminFits (installing_takes m closed awaits calls installed number answer o).admin
     by None is = was
     by (Some site) is = left (length (without_call calls number) == 0) refl
       where
         left : (t : Bool) → (length (without_call calls number) == 0) ≡ t
-            → AdminFits (cond t (replies_with m (replies.Moved (site_set closed) (site_set (with_installed installed site answer))))
-            (moved (doing m (Installing closed awaits (without_call calls number) (with_installed installed site answer))) quiet)).admin
+            → AdminFits (cond t (replies_with m (replies.Moved (site_set closed)
+            (site_set (with_installed installed site answer))))
+            (moved (doing m (Installing closed awaits (without_call calls number)
+            (with_installed installed site answer))) quiet)).admin
         left true none = tt
         left false some = record {
           closed_set = fit.closed_set;
@@ -142,41 +166,52 @@ installing_fits m closed awaits calls installed number answer was fit = by (site
           none = λ e. absurd (no_sites (without_call calls number) some e);
         }
 
-asking_fits : (decl : Declaration) (m : Admin) (epoch : ℕ) (shuts : List ShutSite) (questions : List Question) → IsAccepted decl
-    → site_set (map (λ (s : ShutSite). s.site) shuts) < 2 ^ 16 → AdminFits (asking_takes decl m epoch shuts questions).admin
+asking_fits : (decl : Declaration) (m : Admin) (epoch : ℕ) (shuts : List ShutSite) (questions : List Question)
+    → IsAccepted decl
+    → site_set (map (λ (s : ShutSite). s.site) shuts) < 2 ^ 16
+    → AdminFits (asking_takes decl m epoch shuts questions).admin
 asking_fits decl m epoch shuts questions accepted set = by (all_taken questions)
   where
-    by : (t : Bool) → AdminFits (cond t (settles decl m epoch shuts questions) (moved (doing m (Asking epoch shuts questions)) quiet)).admin
+    by : (t : Bool) → AdminFits (cond t (settles decl m epoch shuts questions)
+        (moved (doing m (Asking epoch shuts questions)) quiet)).admin
     by true = settles_fit decl m epoch shuts questions accepted set
     by false = set
 
-answered_fits : (decl : Declaration) (m : Admin) (runs : Doing) (number : ℕ) (answer : Option Answer) → IsAccepted decl → AdminFits m → DoingFits runs → AnswerFits answer
+answered_fits : (decl : Declaration) (m : Admin) (runs : Doing) (number : ℕ) (answer : Option Answer) → IsAccepted decl
+    → AdminFits m → DoingFits runs → AnswerFits answer
     → AdminFits (answered_in decl m runs number answer).admin
 answered_fits decl m Resting number answer accepted was fits told = was
-answered_fits decl m (Closing epoch calls round shuts) number answer accepted was fits told = by (site_called calls number)
+answered_fits decl m (Closing epoch calls round shuts) number answer accepted was fits told =
+    by (site_called calls number)
   where
     by : (o : Option ℕ) → AdminFits (closing_takes decl m epoch calls round shuts number answer o).admin
     by None = was
     by (Some site) =
-        closes_fit decl m epoch (without_call calls number) (note round site (standing_of answer)) (with_shut_of shuts site answer) accepted was
+        closes_fit decl m epoch (without_call calls number) (note round site (standing_of answer))
+        (with_shut_of shuts site answer) accepted was
         (note_fits round site (standing_of answer) fits.0)
         (subst ShutsFit (sym (shut_last shuts site answer)) (last_fits shuts site answer fits.1 told))
-answered_fits decl m (Asking epoch shuts questions) number answer accepted was fits told = asking_fits decl m epoch shuts (map (taken_for number (outcome_in answer)) questions) accepted fits
-answered_fits decl m (Installing closed awaits calls installed) number answer accepted was fits told = installing_fits m closed awaits calls installed number answer was fits
+answered_fits decl m (Asking epoch shuts questions) number answer accepted was fits told =
+    asking_fits decl m epoch shuts (map (taken_for number (outcome_in answer)) questions) accepted fits
+answered_fits decl m (Installing closed awaits calls installed) number answer accepted was fits told =
+    installing_fits m closed awaits calls installed number answer was fits
 
-heard_fits : (decl : Declaration) (m : Admin) (message : Message) → IsAccepted decl → AdminFits m → MessageFits message → AdminFits (heard decl m message).admin
+heard_fits : (decl : Declaration) (m : Admin) (message : Message) → IsAccepted decl → AdminFits m → MessageFits message
+    → AdminFits (heard decl m message).admin
 heard_fits decl m (messages.Request tx epoch life want) accepted was told = was
-heard_fits decl m (messages.Answer to answer) accepted was told = answered_fits decl m m.doing to (Some answer) accepted was was told
+heard_fits decl m (messages.Answer to answer) accepted was told =
+    answered_fits decl m m.doing to (Some answer) accepted was was told
 heard_fits decl m (messages.Decision tx verdict) accepted was told = was
 heard_fits decl m (messages.Inquiry tx) accepted was told = was
 heard_fits decl m (messages.Ask tx) accepted was told = was
 heard_fits decl m (messages.Close epoch) accepted was told = was
 heard_fits decl m (messages.Install epoch clock log) accepted was told = was
 
-pub takes_fit : (decl : Declaration) (m : Admin) (input : Given) → IsAccepted decl → AdminFits m → GivenFits input → AdminFits (admin_takes decl m input).admin
-takes_fit decl m (given.Called command) accepted was told = called_fits decl m command accepted was
-takes_fit decl m (given.Got envelope) accepted was told = heard_fits decl m envelope.message accepted was told
-takes_fit decl m (given.Lost number) accepted was told = answered_fits decl m m.doing number None accepted was was tt
+pub takes_fit : (decl : Declaration) (m : Admin) (input : Input) → IsAccepted decl → AdminFits m → GivenFits input
+    → AdminFits (admin_takes decl m input).admin
+takes_fit decl m (inputs.Called command) accepted was told = called_fits decl m command accepted was
+takes_fit decl m (inputs.Got envelope) accepted was told = heard_fits decl m envelope.message accepted was told
+takes_fit decl m (inputs.Lost number) accepted was told = answered_fits decl m m.doing number None accepted was was tt
 
 -- numbers
 
@@ -191,13 +226,16 @@ numbered_fits (Installing closed awaits [] installed) first fits =
     (record {
       closed_set = fits.closed_set;
       sites_are = fits.sites_are;
-      told = (let are : AreSites awaits = fits.sites_are in let set : site_set awaits < 2 ^ 16 = are.set in let none : ◌≡◌ {A = ℕ} (site_set []) 0 = refl in omega (arith, set, none));
+      told = (let are : AreSites awaits = fits.sites_are in let set : site_set awaits < 2 ^ 16 = are.set in
+          let none : ◌≡◌ {A = ℕ} (site_set []) 0 = refl in omega (arith, set, none));
       none = λ e. refl;
     }))
 numbered_fits (Installing closed awaits (c ∷ cs) installed) first fits = by (length (c ∷ cs) == 0) refl
   where
-    by : (t : Bool) → (length (c ∷ cs) == 0) ≡ t → InstallsFit closed awaits (sites_called (cond t (calls_from first awaits) (c ∷ cs))) installed
-    by true is = absurd (let none : length (c ∷ cs) ≡ 0 = eqb-true (length (c ∷ cs)) 0 is in let never : ⊥ = omega arith in never)
+    by : (t : Bool) → (length (c ∷ cs) == 0) ≡ t
+        → InstallsFit closed awaits (sites_called (cond t (calls_from first awaits) (c ∷ cs))) installed
+    by true is = absurd (let none : length (c ∷ cs) ≡ 0 = eqb-true (length (c ∷ cs)) 0 is in
+        let never : ⊥ = omega arith in never)
     by false is = fits
 
 pub sent_fits : (m : Admin) (first : ℕ) → AdminFits m → AdminFits (sent m first)

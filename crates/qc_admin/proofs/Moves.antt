@@ -1,5 +1,6 @@
 -- What becomes of him, from what the calls on its way give.
-use Rattle.std.proofs.Common.{◌≡◌, ◌==◌, ℕ, Bool, true, false, cond, List, [], ◌∷◌, map, Option, Some, None, refl, sym, ap, ◌∙◌}
+use Rattle.std.proofs.Common.{◌≡◌, ◌==◌, ℕ, Bool, true, false, cond, List, [], ◌∷◌, map, Option, Some, None, refl, sym}
+use Rattle.std.proofs.Common.{ap, ◌∙◌}
 use Rattle.std.specs.Prelude.{Result, Ok, Err, IfOk, length, nat_le}
 use Rattle.std.specs.declared.alloc.AllocError.{AllocError}
 use Rattle.std.proofs.lemmas.List.{append-nil}
@@ -20,7 +21,8 @@ use Rattle.qc_decl.specs.Lookup.{plan_in}
 use Rattle.qc_epoch.specs.Admin.{Admin, AdminMove, Doing, Question, ShutSite, moved}
 use Rattle.qc_epoch.specs.Admin as admins
 use Rattle.qc_epoch.specs.Answers.{outcome_in, standing_of, taken_for, with_shut_of}
-use Rattle.qc_epoch.specs.Conduct.{answered, answered_in, asks, close_need, close_round, close_round_by, closes, closes_by, closing_takes, doing, settles}
+use Rattle.qc_epoch.specs.Conduct.{answered, answered_in, asks, close_need, close_round, close_round_by, closes}
+use Rattle.qc_epoch.specs.Conduct.{closes_by, closing_takes, doing, settles}
 use Rattle.qc_epoch.specs.Deciding.{all_taken, in_asked_order, questions_of, shut_at, shut_list}
 use Rattle.qc_admin.specs.declared.asking.Asking.{Asking}
 use Rattle.qc_admin.specs.declared.closing.Closing.{Closing}
@@ -39,19 +41,24 @@ becomes_over m before d (nexts.Runs other turn) = refl
 becomes_over m before d (nexts.Decides decided other turn) = refl
 
 -- the last that is taken for an Ask
-pub asked_last : (decl : Declaration) (result : Result Next AllocError) (a : Asking) (number : ℕ) (answer : Option Answer) (outcome : Option Outcome)
-    (questions : List Question) (runs : Doing) → outcome ≡ outcome_in answer → questions ≡ map (taken_for number outcome) a.questions
+pub asked_last : (decl : Declaration) (result : Result Next AllocError) (a : Asking) (number : ℕ)
+    (answer : Option Answer) (outcome : Option Outcome)
+    (questions : List Question) (runs : Doing) → outcome ≡ outcome_in answer
+    → questions ≡ map (taken_for number outcome) a.questions
     → all_taken (map (taken_for number outcome) a.questions) ≡ true
     → IfOk result (λ next. (m : Admin) (d : Doing) → settles decl m a.epoch a.shuts questions ≡ becomes m d next)
-    → IfOk result (λ next. (m : Admin) → answered_in decl (doing m (asking_of a)) (asking_of a) number answer ≡ becomes m runs next)
+    → IfOk result (λ next. (m : Admin) → answered_in decl (doing m (asking_of a)) (asking_of a) number answer
+    ≡ becomes m runs next)
 asked_last decl (Err e) a number answer outcome questions runs told are all settled = tt
 asked_last decl (Ok next) a number answer outcome questions runs told are all settled = λ m.
     let taken : Option Outcome → List Question = λ o. map (taken_for number o) a.questions in
     let m' : Admin = doing m (asking_of a) in
     let by : Option Outcome → AdminMove = λ o.
-    cond (all_taken (taken o)) (settles decl m' a.epoch a.shuts (taken o)) (moved (doing m' (admins.Asking a.epoch a.shuts (taken o))) quiet) in
+    cond (all_taken (taken o)) (settles decl m' a.epoch a.shuts (taken o))
+    (moved (doing m' (admins.Asking a.epoch a.shuts (taken o))) quiet) in
     ap by (sym told)
-    ∙ ap (λ (b : Bool). cond b (settles decl m' a.epoch a.shuts (taken outcome)) (moved (doing m' (admins.Asking a.epoch a.shuts (taken outcome))) quiet)) all
+    ∙ ap (λ (b : Bool). cond b (settles decl m' a.epoch a.shuts (taken outcome))
+    (moved (doing m' (admins.Asking a.epoch a.shuts (taken outcome))) quiet)) all
     ∙ ap (settles decl m' a.epoch a.shuts) (sym are)
     ∙ settled m' runs
     ∙ becomes_over m (asking_of a) runs next
@@ -69,13 +76,17 @@ found_fits (s ∷ ss) site fit = by (s.site == site) (found_fits ss site fit.1)
 pub ordered_fit : (asked : List Asked) (shuts : List ShutSite) → ShutsFit shuts → ShutsFit (in_asked_order asked shuts)
 ordered_fit [] shuts fit = tt
 ordered_fit (a ∷ rest) shuts fit =
-    every-append (λ (s : ShutSite). AreOfClients s.prepared) (shut_list (shut_at shuts a.site)) (in_asked_order rest shuts) (found_fits shuts a.site fit) (ordered_fit rest shuts fit)
+    every-append (λ (s : ShutSite). AreOfClients s.prepared) (shut_list (shut_at shuts a.site))
+    (in_asked_order rest shuts) (found_fits shuts a.site fit) (ordered_fit rest shuts fit)
 
 -- a round that is met
-pub closed_met : (decl : Declaration) (result : Result Next AllocError) (c : Closing) (calls : List Call) (round : RoundState) (all ordered : List ShutSite) (runs : Doing)
+pub closed_met : (decl : Declaration) (result : Result Next AllocError) (c : Closing) (calls : List Call)
+    (round : RoundState) (all ordered : List ShutSite) (runs : Doing)
     → verdict round ≡ verdicts.Met → ordered ≡ in_asked_order round.asked all
-    → IfOk result (λ next. (m : Admin) (d : Doing) → asks decl m c.epoch ordered (questions_of ordered) ≡ becomes m d next)
-    → IfOk result (λ next. (m : Admin) → closes decl (doing m (closing_of c)) c.epoch calls round all ≡ becomes m runs next)
+    → IfOk result (λ next. (m : Admin) (d : Doing)
+    → asks decl m c.epoch ordered (questions_of ordered) ≡ becomes m d next)
+    → IfOk result (λ next. (m : Admin) → closes decl (doing m (closing_of c)) c.epoch calls round all
+    ≡ becomes m runs next)
 closed_met decl (Err e) c calls round all ordered runs met are asked = tt
 closed_met decl (Ok next) c calls round all ordered runs met are asked = λ m.
     ap (closes_by decl (doing m (closing_of c)) c.epoch calls round all) met
@@ -84,7 +95,8 @@ closed_met decl (Ok next) c calls round all ordered runs met are asked = λ m.
     ∙ becomes_over m (closing_of c) runs next
 
 -- what a site told joins what the others did
-pub shut_last : (shuts : List ShutSite) (site : ℕ) (answer : Option Answer) → with_shut_of shuts site answer ≡ with_last shuts (shut_in site answer)
+pub shut_last : (shuts : List ShutSite) (site : ℕ) (answer : Option Answer)
+    → with_shut_of shuts site answer ≡ with_last shuts (shut_in site answer)
 shut_last shuts site None = sym (append-nil shuts)
 shut_last shuts site (Some (answers.Granted life clock log)) = sym (append-nil shuts)
 shut_last shuts site (Some (answers.Clash holder inv event)) = sym (append-nil shuts)
@@ -112,33 +124,44 @@ shut_fits site (Some (answers.Shut clock log prepared)) fits = (fits, tt)
 shut_fits site (Some answers.Installed) fits = tt
 shut_fits site (Some (answers.Answered verdict)) fits = tt
 
-pub last_fits : (shuts : List ShutSite) (site : ℕ) (answer : Option Answer) → ShutsFit shuts → AnswerFits answer → ShutsFit (with_last shuts (shut_in site answer))
-last_fits shuts site answer fit fits = every-append (λ (s : ShutSite). AreOfClients s.prepared) shuts (shut_list (shut_in site answer)) fit (shut_fits site answer fits)
+pub last_fits : (shuts : List ShutSite) (site : ℕ) (answer : Option Answer) → ShutsFit shuts → AnswerFits answer
+    → ShutsFit (with_last shuts (shut_in site answer))
+last_fits shuts site answer fit fits = every-append (λ (s : ShutSite). AreOfClients s.prepared) shuts
+    (shut_list (shut_in site answer)) fit (shut_fits site answer fits)
 
 -- the first answer for an open request
-pub answered_on : (decl : Declaration) (result : Result Next AllocError) (c : Closing) (site number : ℕ) (answer : Option Answer) (calls : List Call) (round : RoundState)
-    (shut : Option ShutSite) (runs : Doing) → site_called c.calls number ≡ Some site → calls ≡ without_call c.calls number
+pub answered_on : (decl : Declaration) (result : Result Next AllocError) (c : Closing) (site number : ℕ)
+    (answer : Option Answer) (calls : List Call) (round : RoundState)
+    (shut : Option ShutSite) (runs : Doing) → site_called c.calls number ≡ Some site
+    → calls ≡ without_call c.calls number
     → round ≡ note c.round site (standing_of answer) → shut ≡ shut_in site answer
-    → IfOk result (λ next. (m : Admin) → closes decl (doing m (closing_of c)) c.epoch calls round (with_last c.shuts shut) ≡ becomes m runs next)
-    → IfOk result (λ next. (m : Admin) → answered_in decl (doing m (closing_of c)) (closing_of c) number answer ≡ becomes m runs next)
+    → IfOk result (λ next. (m : Admin) → closes decl (doing m (closing_of c)) c.epoch calls round
+    (with_last c.shuts shut) ≡ becomes m runs next)
+    → IfOk result (λ next. (m : Admin) → answered_in decl (doing m (closing_of c)) (closing_of c) number answer
+    ≡ becomes m runs next)
 answered_on decl (Err e) c site number answer calls round shut runs called left noted told goes = tt
 answered_on decl (Ok next) c site number answer calls round shut runs called left noted told goes = λ m.
     let m' : Admin = doing m (closing_of c) in
     ap (closing_takes decl m' c.epoch c.calls c.round c.shuts number answer) called
-    ∙ ap (closes decl m' c.epoch (without_call c.calls number) (note c.round site (standing_of answer))) (shut_last c.shuts site answer ∙ ap (with_last c.shuts) (sym told))
-    ∙ ap (λ (r : RoundState). closes decl m' c.epoch (without_call c.calls number) r (with_last c.shuts shut)) (sym noted)
+    ∙ ap (closes decl m' c.epoch (without_call c.calls number) (note c.round site (standing_of answer)))
+    (shut_last c.shuts site answer ∙ ap (with_last c.shuts) (sym told))
+    ∙ ap (λ (r : RoundState). closes decl m' c.epoch (without_call c.calls number) r (with_last c.shuts shut))
+    (sym noted)
     ∙ ap (λ (cs : List Call). closes decl m' c.epoch cs round (with_last c.shuts shut)) (sym left)
     ∙ goes m
 
 -- a round that has just begun
 
 starts_alike : (decl : Declaration) (m : Admin) (before : Doing) (epoch : ℕ) (weights : List ℕ) (from need : ℕ)
-    → closes decl (doing m before) epoch [] (start weights from need) [] ≡ closes decl m epoch [] (start weights from need) []
+    → closes decl (doing m before) epoch [] (start weights from need) [] ≡ closes decl m epoch []
+    (start weights from need) []
 starts_alike decl m before epoch weights from need =
     by (nat_le need (weight (has_granted []) weights)) (length (start weights from need).rest == 0)
   where
-    by : (met over : Bool) → closes_by decl (doing m before) epoch [] (start weights from need) [] (cond met verdicts.Met (cond over (verdicts.Short (weight (has_granted []) weights) need) verdicts.Waiting))
-        ≡ closes_by decl m epoch [] (start weights from need) [] (cond met verdicts.Met (cond over (verdicts.Short (weight (has_granted []) weights) need) verdicts.Waiting))
+    by : (met over : Bool) → closes_by decl (doing m before) epoch [] (start weights from need) []
+        (cond met verdicts.Met (cond over (verdicts.Short (weight (has_granted []) weights) need) verdicts.Waiting))
+        ≡ closes_by decl m epoch [] (start weights from need) []
+        (cond met verdicts.Met (cond over (verdicts.Short (weight (has_granted []) weights) need) verdicts.Waiting))
     by true over = refl
     by false true = refl
     by false false = refl
@@ -148,27 +171,34 @@ begins_alike : (decl : Declaration) (m : Admin) (before : Doing) (epoch : ℕ) (
 begins_alike decl m before epoch None = starts_alike decl m before epoch [] 0 0
 begins_alike decl m before epoch (Some plan) = starts_alike decl m before epoch plan.weights 0 (close_need plan)
 
-begun_is : (m : Admin) (d : Doing) (c : Closing) (next : Next) → becomes m (closing_of c) next ≡ becomes m d (begun (runs.Closing c) next)
+begun_is : (m : Admin) (d : Doing) (c : Closing) (next : Next)
+    → becomes m (closing_of c) next ≡ becomes m d (begun (runs.Closing c) next)
 begun_is m d c (nexts.GoesOn turn) = refl
 begun_is m d c (nexts.Runs other turn) = refl
 begun_is m d c (nexts.Decides decided other turn) = refl
 
-pub begins_on : (decl : Declaration) (m : Admin) (d : Doing) (decided epoch : ℕ) (c after : Closing) (calls : List Call) (round : RoundState) (next : Next)
+pub begins_on : (decl : Declaration) (m : Admin) (d : Doing) (decided epoch : ℕ) (c after : Closing) (calls : List Call)
+    (round : RoundState) (next : Next)
     → c.epoch ≡ epoch → c.shuts ≡ [] → calls ≡ [] → round ≡ close_round decl decided
-    → ((m : Admin) → closes decl (doing m (closing_of c)) c.epoch calls round (with_last c.shuts None) ≡ becomes m (closing_of after) next)
+    → ((m : Admin) → closes decl (doing m (closing_of c)) c.epoch calls round (with_last c.shuts None) ≡ becomes m
+    (closing_of after) next)
     → closes decl m epoch [] (close_round decl decided) [] ≡ becomes m d (begun (runs.Closing after) next)
 begins_on decl m d decided epoch c after calls round next for none few is goes =
     sym (begins_alike decl m (closing_of c) epoch (plan_in decl decided))
     ∙ ap (λ (k : ℕ). closes decl (doing m (closing_of c)) k [] (close_round decl decided) []) (sym for)
     ∙ ap (λ (cs : List Call). closes decl (doing m (closing_of c)) c.epoch cs (close_round decl decided) []) (sym few)
     ∙ ap (λ (r : RoundState). closes decl (doing m (closing_of c)) c.epoch calls r []) (sym is)
-    ∙ ap (λ (shuts : List ShutSite). closes decl (doing m (closing_of c)) c.epoch calls round (with_last shuts None)) (sym none)
+    ∙ ap (λ (shuts : List ShutSite). closes decl (doing m (closing_of c)) c.epoch calls round (with_last shuts None))
+    (sym none)
     ∙ goes m
     ∙ begun_is m d after next
 
 -- what runs takes what came of a request
-pub took : (decl : Declaration) (m : Admin) (number : ℕ) (answer : Option Answer) (before after : Doing) (next : Next) (now : AdminMove) → m.doing ≡ before
-    → ((n : Admin) → answered_in decl (doing n before) before number answer ≡ becomes n after next) → becomes (doing m after) after next ≡ now
+pub took : (decl : Declaration) (m : Admin) (number : ℕ) (answer : Option Answer) (before after : Doing) (next : Next)
+    (now : AdminMove) → m.doing ≡ before
+    → ((n : Admin) → answered_in decl (doing n before) before number answer ≡ becomes n after next)
+    → becomes (doing m after) after next ≡ now
     → answered decl m number answer ≡ now
 took decl m number answer before after next now is goes ends =
-    ap (λ (d : Doing). answered_in decl (doing m d) d number answer) is ∙ goes m ∙ sym (becomes_over m after after next) ∙ ends
+    ap (λ (d : Doing). answered_in decl (doing m d) d number answer) is ∙ goes m ∙ sym (becomes_over m after after next)
+    ∙ ends

@@ -1,5 +1,7 @@
 -- The sites of a round, and those that have closed in it, are a set of 16 bits.
-use Rattle.std.proofs.Common.{◌≡◌, ℕ, zero, suc, ◌+◌, ◌-◌, ◌*◌, ◌^◌, ◌≤◌, ◌<◌, ◌==◌, Bool, true, false, cond, List, [], ◌∷◌, ◌++◌, filter, length, map, Option, Some, None, refl, sym, ap, ◌∙◌, subst, eqb-true, arith}
+use Rattle.std.proofs.Common.{◌≡◌, ℕ, zero, suc, ◌+◌, ◌-◌, ◌*◌, ◌^◌, ◌≤◌, ◌<◌, ◌==◌, Bool, true, false, cond, List, []}
+use Rattle.std.proofs.Common.{◌∷◌, ◌++◌, filter, length, map, Option, Some, None, refl, sym, ap, ◌∙◌, subst, eqb-true}
+use Rattle.std.proofs.Common.{arith}
 use Rattle.std.specs.List.{range_with_len}
 use Rattle.std.specs.Prelude.{nat_lt, slice_get}
 use Rattle.std.proofs.Math.Nat.{pow-suc, pow-zero}
@@ -49,12 +51,14 @@ row_sites count few =
 
 -- fewer of them
 
-fewer_sites : (test : ℕ → Bool) (sites : List ℕ) → (length (filter test sites) ≤ length sites) × (site_set (filter test sites) ≤ site_set sites)
+fewer_sites : (test : ℕ → Bool) (sites : List ℕ)
+    → (length (filter test sites) ≤ length sites) × (site_set (filter test sites) ≤ site_set sites)
 fewer_sites test [] = (omega arith, omega arith)
 fewer_sites test (s ∷ ss) = by (test s) (fewer_sites test ss)
   where
     by : (t : Bool) → (length (filter test ss) ≤ length ss) × (site_set (filter test ss) ≤ site_set ss)
-        → (length (cond t (s ∷ filter test ss) (filter test ss)) ≤ length (s ∷ ss)) × (site_set (cond t (s ∷ filter test ss) (filter test ss)) ≤ site_set (s ∷ ss))
+        → (length (cond t (s ∷ filter test ss) (filter test ss)) ≤ length (s ∷ ss))
+        × (site_set (cond t (s ∷ filter test ss) (filter test ss)) ≤ site_set (s ∷ ss))
     by true rest =
         let whole = first_bit s ss in
         let part = first_bit s (filter test ss) in
@@ -67,7 +71,8 @@ fewer_sites test (s ∷ ss) = by (test s) (fewer_sites test ss)
         let less = rest.1 in
         (omega arith, omega (arith, whole, less))
 
-weighing_sites : (decl : Declaration) (weights : List ℕ) (need : ℕ) → length weights ≤ 16 → AreSites (sites_in (start weights 0 need))
+weighing_sites : (decl : Declaration) (weights : List ℕ) (need : ℕ) → length weights ≤ 16
+    → AreSites (sites_in (start weights 0 need))
 weighing_sites decl weights need few =
     let row : List ℕ = range_with_len 0 (length weights - 0) in
     let whole = row_sites (length weights - 0) (omega arith) in
@@ -76,10 +81,12 @@ weighing_sites decl weights need few =
     let bits = less.1 in
     let all : length row ≤ 16 = whole.few in
     let set : site_set row < 2 ^ 16 = whole.set in
-    subst (λ (sites : List ℕ). AreSites (filter (λ (site : ℕ). nat_lt 0 (weight_at weights site)) sites)) (sym (append-nil row))
+    subst (λ (sites : List ℕ). AreSites (filter (λ (site : ℕ). nat_lt 0 (weight_at weights site)) sites))
+    (sym (append-nil row))
     (record { few = omega (arith, count, all); set = omega (arith, bits, set) })
 
-plan_weights : (decl : Declaration) (epoch : ℕ) → IsAccepted decl → (p : Plan) → plan_in decl epoch ≡ Some p → length p.weights ≡ decl.sites
+plan_weights : (decl : Declaration) (epoch : ℕ) → IsAccepted decl → (p : Plan) → plan_in decl epoch ≡ Some p
+    → length p.weights ≡ decl.sites
 plan_weights decl epoch accepted p is = by (epoch == 0) is
   where
     by : (t : Bool) → cond t None (slice_get decl.plans (epoch - 1)) ≡ Some p → length p.weights ≡ decl.sites
@@ -98,25 +105,31 @@ round_begins decl epoch accepted = by (plan_in decl epoch) refl
 
 -- a round's sites stay
 
-noted_sites : (site : ℕ) (standing : Standing) (asked : List Asked) → sites_of (note_in site standing asked) ≡ sites_of asked
+noted_sites : (site : ℕ) (standing : Standing) (asked : List Asked)
+    → sites_of (note_in site standing asked) ≡ sites_of asked
 noted_sites site standing [] = refl
 noted_sites site standing (a ∷ rest) = by (a.site == site) refl (noted_sites site standing rest)
   where
     by : (b : Bool) → (a.site == site) ≡ b → sites_of (note_in site standing rest) ≡ sites_of rest
-        → sites_of (cond b (record { site = site; standing = Some standing } ∷ rest) (a ∷ note_in site standing rest)) ≡ a.site ∷ sites_of rest
+        → sites_of (cond b (record { site = site; standing = Some standing } ∷ rest) (a ∷ note_in site standing rest))
+        ≡ a.site ∷ sites_of rest
     by true is more = ap (λ (n : ℕ). n ∷ sites_of rest) (sym (eqb-true a.site site is))
     by false is more = ap (λ (ss : List ℕ). a.site ∷ ss) more
 
-pub note_fits : (round : RoundState) (site : ℕ) (standing : Standing) → AreSites (sites_in round) → AreSites (sites_in (note round site standing))
-note_fits round site standing are = subst (λ (ss : List ℕ). AreSites (ss ++ round.rest)) (sym (noted_sites site standing round.asked)) are
+pub note_fits : (round : RoundState) (site : ℕ) (standing : Standing) → AreSites (sites_in round)
+    → AreSites (sites_in (note round site standing))
+note_fits round site standing are = subst (λ (ss : List ℕ). AreSites (ss ++ round.rest))
+    (sym (noted_sites site standing round.asked)) are
 
 -- the closed sites are asked ones
 
-shut_bits : (shuts : List ShutSite) (site : ℕ) → site_set (map (λ (s : ShutSite). s.site) (shut_list (shut_at shuts site))) ≤ 2 ^ site
+shut_bits : (shuts : List ShutSite) (site : ℕ)
+    → site_set (map (λ (s : ShutSite). s.site) (shut_list (shut_at shuts site))) ≤ 2 ^ site
 shut_bits [] site = omega arith
 shut_bits (s ∷ ss) site = by (s.site == site) refl (shut_bits ss site)
   where
-    by : (t : Bool) → (s.site == site) ≡ t → site_set (map (λ (x : ShutSite). x.site) (shut_list (shut_at ss site))) ≤ 2 ^ site
+    by : (t : Bool) → (s.site == site) ≡ t → site_set
+        (map (λ (x : ShutSite). x.site) (shut_list (shut_at ss site))) ≤ 2 ^ site
         → site_set (map (λ (x : ShutSite). x.site) (shut_list (cond t (Some s) (shut_at ss site)))) ≤ 2 ^ site
     by true is rest =
         let same : 2 ^ s.site ≡ 2 ^ site = ap (λ (n : ℕ). 2 ^ n) (eqb-true s.site site is) in
@@ -125,19 +138,23 @@ shut_bits (s ∷ ss) site = by (s.site == site) refl (shut_bits ss site)
         omega (arith, same, one, none)
     by false is rest = rest
 
-ordered_bits : (asked : List Asked) (shuts : List ShutSite) → site_set (map (λ (s : ShutSite). s.site) (in_asked_order asked shuts)) ≤ site_set (sites_of asked)
+ordered_bits : (asked : List Asked) (shuts : List ShutSite)
+    → site_set (map (λ (s : ShutSite). s.site) (in_asked_order asked shuts)) ≤ site_set (sites_of asked)
 ordered_bits [] shuts = omega arith
 ordered_bits (a ∷ rest) shuts =
     let first : List ShutSite = shut_list (shut_at shuts a.site) in
     let more : List ShutSite = in_asked_order rest shuts in
-    let split : site_set (map (λ (s : ShutSite). s.site) (first ++ more)) ≡ site_set (map (λ (s : ShutSite). s.site) first) + site_set (map (λ (s : ShutSite). s.site) more) =
-    ap site_set (map-append (λ (s : ShutSite). s.site) first more) ∙ both_sets (map (λ (s : ShutSite). s.site) first) (map (λ (s : ShutSite). s.site) more) in
+    let split : site_set (map (λ (s : ShutSite). s.site) (first ++ more)) ≡ site_set
+    (map (λ (s : ShutSite). s.site) first) + site_set (map (λ (s : ShutSite). s.site) more) =
+    ap site_set (map-append (λ (s : ShutSite). s.site) first more)
+    ∙ both_sets (map (λ (s : ShutSite). s.site) first) (map (λ (s : ShutSite). s.site) more) in
     let here = shut_bits shuts a.site in
     let later = ordered_bits rest shuts in
     let whole = first_bit a.site (sites_of rest) in
     omega (arith, split, here, later, whole)
 
-pub closed_bits : (round : RoundState) (shuts : List ShutSite) → AreSites (sites_in round) → site_set (map (λ (s : ShutSite). s.site) (in_asked_order round.asked shuts)) < 2 ^ 16
+pub closed_bits : (round : RoundState) (shuts : List ShutSite) → AreSites (sites_in round)
+    → site_set (map (λ (s : ShutSite). s.site) (in_asked_order round.asked shuts)) < 2 ^ 16
 closed_bits round shuts are =
     let less = ordered_bits round.asked shuts in
     let both = both_sets (sites_of round.asked) round.rest in

@@ -7,8 +7,8 @@ use Rattle.qc_msg.specs.declared.message.Answer.{Answer}
 use Rattle.qc_msg.specs.declared.message.Answer.TheVariants as answers
 use Rattle.qc_msg.specs.declared.message.Message.{Message}
 use Rattle.qc_msg.specs.declared.message.Message.TheVariants as messages
-use Rattle.qc_msg.specs.declared.step.Given.{Given}
-use Rattle.qc_msg.specs.declared.step.Given.TheVariants as given
+use Rattle.qc_msg.specs.declared.step.Input.{Input}
+use Rattle.qc_msg.specs.declared.step.Input.TheVariants as inputs
 use Rattle.qc_msg.specs.declared.turn.Posting.{Posting}
 use Rattle.qc_msg.specs.declared.turn.Turn.{Turn}
 use Rattle.qc_plan.specs.Round.{RoundState}
@@ -75,10 +75,10 @@ MessageFits (messages.Ask tx) = Unit {0}
 MessageFits (messages.Close epoch) = Unit {0}
 MessageFits (messages.Install epoch clock log) = Unit {0}
 
-abbrev pub GivenFits : Given → Type 0
-GivenFits (given.Called command) = Unit {0}
-GivenFits (given.Got envelope) = MessageFits envelope.message
-GivenFits (given.Lost number) = Unit {0}
+abbrev pub GivenFits : Input → Type 0
+GivenFits (inputs.Called command) = Unit {0}
+GivenFits (inputs.Got envelope) = MessageFits envelope.message
+GivenFits (inputs.Lost number) = Unit {0}
 
 -- a turn goes to sites and clients, and has few messages: at most one for each site, or one for each question that is
 -- asked

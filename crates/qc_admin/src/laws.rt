@@ -7,7 +7,7 @@ ghost use Rattle.qc_decl.specs.declared.declaration.Declaration.{Declaration};
 ghost use Rattle.qc_epoch.specs.Admin.{Admin as AdminState, new_admin};
 ghost use Rattle.qc_epoch.specs.Conduct.{admin_takes};
 ghost use Rattle.qc_msg.specs.declared.record.Record.{Record as Written};
-ghost use Rattle.qc_msg.specs.declared.step.Given.{Given as Input};
+ghost use Rattle.qc_msg.specs.declared.step.Input.{Input};
 ghost use Rattle.qc_recover.specs.Admins.{admin_of};
 ghost use Rattle.qc_admin.specs.Fits.{AdminFits, GivenFits, GoesToActors};
 ghost use Rattle.qc_admin.specs.Holds.{AdminHolds, IsNumberedAtOnce};

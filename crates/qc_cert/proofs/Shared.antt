@@ -1,5 +1,7 @@
 -- Parts of a group: what is within a set, and how it grows as sets are added.
-use Rattle.std.proofs.Common.{◌≡◌, ◌⊎◌, inl, inr, ℕ, zero, suc, ◌+◌, ◌-◌, ◌^◌, ◌%◌, ◌*◌, ◌<◌, ◌≤◌, Bool, true, false, List, [], ◌∷◌, ◌++◌, All, length, get_or, set as put, bit_and, refl, sym, ap, subst, ◌∙◌, arith, w64}
+use Rattle.std.proofs.Common.{◌≡◌, ◌⊎◌, inl, inr, ℕ, zero, suc, ◌+◌, ◌-◌, ◌^◌, ◌%◌, ◌*◌, ◌<◌, ◌≤◌, Bool, true, false}
+use Rattle.std.proofs.Common.{List, [], ◌∷◌, ◌++◌, All, length, get_or, set as put, bit_and, refl, sym, ap, subst, ◌∙◌}
+use Rattle.std.proofs.Common.{arith, w64}
 use Rattle.std.specs.Prelude.{◌==◌, ◌||◌}
 use Rattle.std.specs.Int.{bit_at, bit_not, trailing_zeros}
 use Rattle.std.proofs.lemmas.Bool.{cases_lt, eqb-true, eqb-false, eq-eqb, false_from_ne_true, true≢false}
@@ -7,7 +9,8 @@ use Rattle.std.proofs.lemmas.Nat.{and_le_l}
 use Rattle.std.proofs.lemmas.List.{get_or_default, get_or_past, get_or-set_same, get_or-set_other}
 use Rattle.std.proofs.lemmas.List.Elements.{All-push}
 use Rattle.std.proofs.lemmas.List.Folds.{list_any-append, list_any_at, list_any_none}
-use Rattle.std.proofs.lemmas.Nat.Bits.{bit_at-lt, bit_at-zero, bit_at_above, bit_at_and, bit_at_not, bit_at_clear_same, bit_at_clear_other, bit_at-trailing_zeros}
+use Rattle.std.proofs.lemmas.Nat.Bits.{bit_at-lt, bit_at-zero, bit_at_above, bit_at_and, bit_at_not, bit_at_clear_same}
+use Rattle.std.proofs.lemmas.Nat.Bits.{bit_at_clear_other, bit_at-trailing_zeros}
 use Rattle.qc_cert.specs.Groups.{AreParted, any_within, parts_within, sets_of}
 use Rattle.qc_cert.proofs.Computed.{within_true}
 use Rattle.qc_table.specs.Sets.{has, is_within}
@@ -18,11 +21,13 @@ below_64 set k small here = by (cases_lt k 64)
   where
     by : (k < 64) ⊎ (64 ≤ k) → k < 64
     by (inl l) = l
-    by (inr past) = absurd (let zero_bit : bit_at set k ≡ 0 = bit_at_above set 64 k small past in let one : bit_at set k ≡ 1 = eqb-true (bit_at set k) 1 here in omega arith)
+    by (inr past) = absurd (let zero_bit : bit_at set k ≡ 0 = bit_at_above set 64 k small past in
+        let one : bit_at set k ≡ 1 = eqb-true (bit_at set k) 1 here in omega arith)
 
 -- ---- parts
 -- a part's sets have its event, so that none is within a set that hasn't
-pub passed_over : (sets : List ℕ) (event out : ℕ) → All (λ s. has s event ≡ true) sets → has out event ≡ false → any_within sets out ≡ false
+pub passed_over : (sets : List ℕ) (event out : ℕ) → All (λ s. has s event ≡ true) sets → has out event ≡ false
+    → any_within sets out ≡ false
 passed_over sets event out all lacks = list_any_none (λ s. is_within s out) sets (λ k d l.
     false_from_ne_true (is_within (get_or sets k d) out) (λ (here : is_within (get_or sets k d) out ≡ true).
     true≢false (sym (within_true (get_or sets k d) out here event (all k d l)) ∙ lacks)))
@@ -33,7 +38,8 @@ pub none_looked : (parts : List (List ℕ)) (out high : ℕ) → AreParted parts
     → ((k : ℕ) → has (bit_and out (bit_not w64 high)) k ≡ true → any_within (get_or parts k []) out ≡ false)
     → parts_within parts out ≡ false
 none_looked parts out high parted small fits first second =
-    list_any_none (λ sets. any_within sets out) parts (λ k d l. ap (λ sets. any_within sets out) (get_or_default parts k d [] l) ∙ at k)
+    list_any_none (λ sets. any_within sets out) parts
+    (λ k d l. ap (λ sets. any_within sets out) (get_or_default parts k d [] l) ∙ at k)
   where
     at : (k : ℕ) → any_within (get_or parts k []) out ≡ false
     at k = by (has out k) (has high k) refl refl where
@@ -46,11 +52,14 @@ none_looked parts out high parted small fits first second =
       by true false e f =
           let one : bit_at out k ≡ 1 = eqb-true (bit_at out k) 1 e in
           let other : bit_at high k ≡ 0 = grind (arith, bit_at-lt high k, eqb-false (bit_at high k) 1 f) in
-          let turned : bit_at (bit_not w64 high) k ≡ 1 - bit_at high k = bit_at_not w64 high k fits (below_64 out k small e) in
-          second k (eq-eqb (bit_at (bit_and out (bit_not w64 high)) k) 1 (omega (arith, bit_at_and out (bit_not w64 high) k)))
+          let turned : bit_at (bit_not w64 high) k ≡ 1 - bit_at high k =
+          bit_at_not w64 high k fits (below_64 out k small e) in
+          second k (eq-eqb (bit_at (bit_and out (bit_not w64 high)) k) 1
+          (omega (arith, bit_at_and out (bit_not w64 high) k)))
 
 -- a part with one that is within it
-pub some_looked : (parts : List (List ℕ)) (out event : ℕ) → any_within (get_or parts event []) out ≡ true → parts_within parts out ≡ true
+pub some_looked : (parts : List (List ℕ)) (out event : ℕ) → any_within (get_or parts event []) out ≡ true
+    → parts_within parts out ≡ true
 some_looked parts out event here = by (cases_lt event (length parts))
   where
     by : (event < length parts) ⊎ (length parts ≤ event) → parts_within parts out ≡ true
@@ -59,7 +68,8 @@ some_looked parts out event here = by (cases_lt event (length parts))
 
 -- a part more, without sets
 pub parted_more : (parts : List (List ℕ)) → AreParted parts → AreParted (parts ++ [] ∷ [])
-parted_more parts parted event = subst (λ sets. All (λ s. has s event ≡ true) sets) (sym (same parts event)) (parted event)
+parted_more parts parted event = subst (λ sets. All (λ s. has s event ≡ true) sets) (sym (same parts event))
+    (parted event)
   where
     same : (parts : List (List ℕ)) (event : ℕ) → get_or (parts ++ [] ∷ []) event [] ≡ get_or parts event []
     same [] zero = refl
@@ -68,7 +78,8 @@ parted_more parts parted event = subst (λ sets. All (λ s. has s event ≡ true
     same (sets ∷ parts) (suc event) = same parts event
 
 -- a set more in the part of one of its events
-pub parted_added : (parts : List (List ℕ)) (event set : ℕ) → AreParted parts → has set event ≡ true → event < length parts
+pub parted_added : (parts : List (List ℕ)) (event set : ℕ) → AreParted parts → has set event ≡ true
+    → event < length parts
     → AreParted (put parts event (get_or parts event [] ++ set ∷ []))
 parted_added parts event set parted here l other = by (event == other) refl
   where
@@ -79,10 +90,13 @@ parted_added parts event set parted here l other = by (event == other) refl
     by true e =
         let same : event ≡ other = eqb-true event other e in
         subst (λ k. All (λ s. has s k ≡ true) (get_or new k [])) same
-        (subst (λ sets. All (λ s. has s event ≡ true) sets) (sym (get_or-set_same parts event (get_or parts event [] ++ set ∷ []) [] l))
+        (subst (λ sets. All (λ s. has s event ≡ true) sets)
+        (sym (get_or-set_same parts event (get_or parts event [] ++ set ∷ []) [] l))
         (All-push (λ s. has s event ≡ true) (get_or parts event []) set (parted event) here))
     by false e =
-        subst (λ sets. All (λ s. has s other ≡ true) sets) (sym (get_or-set_other parts event other (get_or parts event [] ++ set ∷ []) [] (λ (same : other ≡ event). eqb-false event other e (sym same))))
+        subst (λ sets. All (λ s. has s other ≡ true) sets)
+        (sym (get_or-set_other parts event other (get_or parts event [] ++ set ∷ []) []
+        (λ (same : other ≡ event). eqb-false event other e (sym same))))
         (parted other)
 
 -- ---- the events of a set, lowest first
@@ -97,7 +111,8 @@ pub without_other : (rest event k : ℕ) → event < 64 → k < 64 → (k ≡ ev
 without_other rest event k l kl ne = ap (λ n. n == 1) (bit_at_clear_other w64 rest event l k kl ne)
 
 pub without_small : (rest event : ℕ) → rest < 2 ^ 64 → without rest event < 2 ^ 64
-without_small rest event small = let less : without rest event ≤ rest = and_le_l rest (bit_not w64 (1 * 2 ^ event % 2 ^ 64)) in omega (arith, less, small)
+without_small rest event small = let less : without rest event ≤ rest =
+    and_le_l rest (bit_not w64 (1 * 2 ^ event % 2 ^ 64)) in omega (arith, less, small)
 
 -- without its lowest event a set has only events that are higher
 pub left_more : (rest turn : ℕ) → 0 < rest → rest < 2 ^ 64 → ((k : ℕ) → has rest k ≡ true → turn ≤ k)
@@ -123,14 +138,16 @@ left_more rest turn some small left k here = by (k == low) refl
         above from old (cases_lt k low)
       where
         above : turn ≤ low → has rest k ≡ true → (k < low) ⊎ (low ≤ k) → turn + 1 ≤ k
-        above from old (inl l) = absurd (let one : bit_at rest k ≡ 1 = eqb-true (bit_at rest k) 1 old in let none : bit_at rest k ≡ 0 = lowest.2 k l in omega arith)
+        above from old (inl l) = absurd (let one : bit_at rest k ≡ 1 = eqb-true (bit_at rest k) 1 old in
+            let none : bit_at rest k ≡ 0 = lowest.2 k l in omega arith)
         above from old (inr past) = let ne : k ≡ low → ⊥ = eqb-false k low e in grind (arith, from, past, ne)
 
 -- the part of its lowest event was looked at
 pub looked_more : (parts : List (List ℕ)) (out events rest : ℕ) → events < 2 ^ 64 → 0 < rest → rest < 2 ^ 64
     → any_within (get_or parts (trailing_zeros w64 rest) []) out ≡ false
     → ((k : ℕ) → has events k ≡ true → has rest k ≡ false → any_within (get_or parts k []) out ≡ false)
-    → (k : ℕ) → has events k ≡ true → has (without rest (trailing_zeros w64 rest)) k ≡ false → any_within (get_or parts k []) out ≡ false
+    → (k : ℕ) → has events k ≡ true → has (without rest (trailing_zeros w64 rest)) k ≡ false
+    → any_within (get_or parts k []) out ≡ false
 looked_more parts out events rest small some fits here looked k has_it lacks = by (k == low) refl
   where
     low : ℕ
@@ -138,7 +155,8 @@ looked_more parts out events rest small some fits here looked k has_it lacks = b
 
     by : (b : Bool) → (k == low) ≡ b → any_within (get_or parts k []) out ≡ false
     by true e = ap (λ n. any_within (get_or parts n []) out) (eqb-true k low e) ∙ here
-    by false e = looked k has_it (sym (without_other rest low k (bit_at-trailing_zeros w64 rest some fits).0 (below_64 events k small has_it) (eqb-false k low e)) ∙ lacks)
+    by false e = looked k has_it (sym (without_other rest low k (bit_at-trailing_zeros w64 rest some fits).0
+        (below_64 events k small has_it) (eqb-false k low e)) ∙ lacks)
 
 -- the empty set has no event, nor has one whose events are past all
 pub none_left : (rest : ℕ) → rest ≡ 0 → (k : ℕ) → has rest k ≡ false
@@ -149,8 +167,10 @@ none_past rest small past k = false_from_ne_true (has rest k) (λ (here : has re
     let high : 64 ≤ k = past k here in let low : k < 64 = below_64 rest k small here in omega arith)
 
 -- the lowest event of a set is one of it
-pub lowest_has : (set : ℕ) → 0 < set → set < 2 ^ 64 → (trailing_zeros w64 set < 64) × (has set (trailing_zeros w64 set) ≡ true)
-lowest_has set some small = let low = bit_at-trailing_zeros w64 set some small in (low.0, eq-eqb (bit_at set (trailing_zeros w64 set)) 1 low.1)
+pub lowest_has : (set : ℕ) → 0 < set → set < 2 ^ 64
+    → (trailing_zeros w64 set < 64) × (has set (trailing_zeros w64 set) ≡ true)
+lowest_has set some small = let low = bit_at-trailing_zeros w64 set some small in
+    (low.0, eq-eqb (bit_at set (trailing_zeros w64 set)) 1 low.1)
 
 -- ---- parts of a group
 pub or_none : (b : Bool) → (b || false) ≡ b
@@ -166,11 +186,14 @@ or_deep true b c = refl
 or_deep false b c = refl
 
 pub any_more : (sets : List ℕ) (s out : ℕ) → any_within (sets ++ s ∷ []) out ≡ (any_within sets out || is_within s out)
-any_more sets s out = list_any-append (λ o. is_within o out) sets (s ∷ []) ∙ ap (λ b. any_within sets out || b) (or_none (is_within s out))
+any_more sets s out = list_any-append (λ o. is_within o out) sets (s ∷ [])
+    ∙ ap (λ b. any_within sets out || b) (or_none (is_within s out))
 
 -- one part more
-pub part_more : (parts : List (List ℕ)) (sets : List ℕ) (out : ℕ) → parts_within (parts ++ sets ∷ []) out ≡ (parts_within parts out || any_within sets out)
-part_more parts sets out = list_any-append (λ sets. any_within sets out) parts (sets ∷ []) ∙ ap (λ b. parts_within parts out || b) (or_none (any_within sets out))
+pub part_more : (parts : List (List ℕ)) (sets : List ℕ) (out : ℕ)
+    → parts_within (parts ++ sets ∷ []) out ≡ (parts_within parts out || any_within sets out)
+part_more parts sets out = list_any-append (λ sets. any_within sets out) parts (sets ∷ [])
+    ∙ ap (λ b. parts_within parts out || b) (or_none (any_within sets out))
 
 -- a set more in the rest of a group
 pub set_added : (blocks : List (List ℕ)) (rest : List ℕ) (s out : ℕ)
@@ -182,7 +205,8 @@ set_added blocks rest s out =
     ∙ ap (λ b. b || is_within s out) (sym (part_more blocks rest out))
 
 -- a block of the rest, where none is left
-pub rest_closed : (old new : List (List ℕ)) (rest left : List ℕ) (out : ℕ) → left ≡ [] → parts_within new out ≡ (parts_within old out || any_within rest out)
+pub rest_closed : (old new : List (List ℕ)) (rest left : List ℕ) (out : ℕ) → left ≡ []
+    → parts_within new out ≡ (parts_within old out || any_within rest out)
     → parts_within (sets_of new left) out ≡ parts_within (sets_of old rest) out
 rest_closed old new rest left out none closed =
     part_more new left out
@@ -206,6 +230,8 @@ or_later false false false = refl
 pub part_grown : (parts : List (List ℕ)) (place s out : ℕ) → place < length parts
     → parts_within (put parts place (get_or parts place [] ++ s ∷ [])) out ≡ (parts_within parts out || is_within s out)
 part_grown [] place s out l = absurd (omega (arith, l))
-part_grown (sets ∷ parts) zero s out l = ap (λ b. b || parts_within parts out) (any_more sets s out) ∙ or_later (any_within sets out) (parts_within parts out) (is_within s out)
+part_grown (sets ∷ parts) zero s out l = ap (λ b. b || parts_within parts out) (any_more sets s out)
+    ∙ or_later (any_within sets out) (parts_within parts out) (is_within s out)
 part_grown (sets ∷ parts) (suc place) s out l =
-    ap (λ b. any_within sets out || b) (part_grown parts place s out (omega (arith, l))) ∙ or_deep (any_within sets out) (parts_within parts out) (is_within s out)
+    ap (λ b. any_within sets out || b) (part_grown parts place s out (omega (arith, l)))
+    ∙ or_deep (any_within sets out) (parts_within parts out) (is_within s out)

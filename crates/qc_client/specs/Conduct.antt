@@ -13,8 +13,8 @@ use Rattle.qc_msg.specs.declared.message.Want.{Want}
 use Rattle.qc_msg.specs.declared.message.Want.TheVariants.{Read, Append, Prepare}
 use Rattle.qc_msg.specs.declared.step.Command.{Command}
 use Rattle.qc_msg.specs.declared.step.Command.TheVariants as commands
-use Rattle.qc_msg.specs.declared.step.Given.{Given}
-use Rattle.qc_msg.specs.declared.step.Given.TheVariants as given
+use Rattle.qc_msg.specs.declared.step.Input.{Input}
+use Rattle.qc_msg.specs.declared.step.Input.TheVariants as inputs
 use Rattle.qc_msg.specs.Deeds.{Deed, Takes, Writes, Sends, Tells, Falls, Rises}
 use Rattle.qc_msg.specs.Turns.{quiet, sending}
 use Rattle.qc_client.specs.declared.client.Client.{Client}
@@ -56,10 +56,10 @@ heard decl c from number (messages.Ask tx) =
 heard decl c from number (messages.Close epoch) = moved c quiet
 heard decl c from number (messages.Install epoch clock log) = moved c quiet
 
-abbrev pub client_takes : Declaration → Client → Given → ClientMove
-client_takes decl c (given.Called command) = called decl c command
-client_takes decl c (given.Got envelope) = heard decl c envelope.from envelope.number envelope.message
-client_takes decl c (given.Lost number) = answered decl c number None
+abbrev pub client_takes : Declaration → Client → Input → ClientMove
+client_takes decl c (inputs.Called command) = called decl c command
+client_takes decl c (inputs.Got envelope) = heard decl c envelope.from envelope.number envelope.message
+client_takes decl c (inputs.Lost number) = answered decl c number None
 
 -- a request of the client's was sent to a site under this number
 

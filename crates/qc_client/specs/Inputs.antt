@@ -6,21 +6,21 @@ use Rattle.qc_front.specs.declared.doing.Doing.TheVariants.{Idle}
 use Rattle.qc_front.specs.declared.transaction.Transaction.{Transaction}
 use Rattle.qc_msg.specs.declared.message.Message.{Message}
 use Rattle.qc_msg.specs.declared.message.Message.TheVariants as messages
-use Rattle.qc_msg.specs.declared.step.Given.{Given}
-use Rattle.qc_msg.specs.declared.step.Given.TheVariants as given
+use Rattle.qc_msg.specs.declared.step.Input.{Input}
+use Rattle.qc_msg.specs.declared.step.Input.TheVariants as given
 use Rattle.qc_client.specs.declared.client.Client.{Client}
 use Rattle.qc_client.specs.Client.{outcome_of}
 use Rattle.qc_client.specs.Conduct.{client_takes, sent}
 
 -- what a client takes, and the number of the first message of its turn
-pub record Input : Type 0 where
-  pub given : Given
+pub record NumberedInput : Type 0 where
+  pub given : Input
   pub first : ℕ
 
-abbrev pub after_input : Declaration → Client → Input → Client
+abbrev pub after_input : Declaration → Client → NumberedInput → Client
 after_input decl c i = sent (client_takes decl c i.given).client i.first
 
-abbrev pub after_inputs : Declaration → Client → List Input → Client
+abbrev pub after_inputs : Declaration → Client → List NumberedInput → Client
 after_inputs decl c inputs = fold (after_input decl) c inputs
 
 -- nothing runs: neither a `do` nor a commit
@@ -30,12 +30,12 @@ pub record IsFree (c : Client) : Type 0 where
 
 -- a command comes only once the last one has its reply
 
-abbrev pub IsReady : Client → Given → Type 0
+abbrev pub IsReady : Client → Input → Type 0
 IsReady c (given.Called command) = IsFree c
 IsReady c (given.Got envelope) = Unit {0}
 IsReady c (given.Lost number) = Unit {0}
 
-abbrev pub AreReady : Declaration → Client → List Input → Type 0
+abbrev pub AreReady : Declaration → Client → List NumberedInput → Type 0
 AreReady decl c [] = Unit {0}
 AreReady decl c (i ∷ inputs) = IsReady c i.given × AreReady decl (after_input decl c i) inputs
 

@@ -18,7 +18,7 @@ ghost use Rattle.qc_msg.specs.declared.message.Outcome.{Outcome};
 ghost use Rattle.qc_msg.specs.declared.message.Outcome.TheVariants as outcomes;
 ghost use Rattle.qc_msg.specs.declared.message.Want.{Want};
 ghost use Rattle.qc_msg.specs.declared.step.Command.TheVariants as commands;
-ghost use Rattle.qc_msg.specs.declared.step.Given.{Given};
+ghost use Rattle.qc_msg.specs.declared.step.Input.{Input};
 ghost use Rattle.qc_msg.specs.declared.turn.Posting.{Posting};
 ghost use Rattle.qc_msg.specs.Turns.{quiet, sending};
 ghost use Rattle.qc_stamp.specs.declared.stamp.Stamp.{Stamp};
@@ -27,7 +27,7 @@ ghost use Rattle.qc_stamp.specs.Order.{same_tx};
 ghost use Rattle.qc_client.specs.declared.client.Client.{Client};
 ghost use Rattle.qc_client.specs.Client.{is_begun, moved, new_client, outcome_of};
 ghost use Rattle.qc_client.specs.Conduct.{called, client_takes, heard};
-ghost use Rattle.qc_client.specs.Inputs.{AreReady, Input, TellsOutcome, after_inputs, name_of};
+ghost use Rattle.qc_client.specs.Inputs.{AreReady, NumberedInput, TellsOutcome, after_inputs, name_of};
 
 /// An Inquiry and an Ask are answered by how the transaction stands: Committed
 /// with its record's stamp, Active while it is begun, Aborted otherwise. A
@@ -45,7 +45,7 @@ pub fn outcomes_are_told()
         → is_begun tx c.front.transaction ≡ true → outcome_of c tx ≡ outcomes.Active }
     ensures aborted { (c : Client) (tx : TxId) → known c.desk tx ≡ knowns.Uncommitted
         → is_begun tx c.front.transaction ≡ false → outcome_of c tx ≡ outcomes.Aborted }
-    ensures stays { (decl : Declaration) (c : Client) (inputs : List Input) (tx : TxId) (stamp : Stamp)
+    ensures stays { (decl : Declaration) (c : Client) (inputs : List NumberedInput) (tx : TxId) (stamp : Stamp)
         → outcome_of c tx ≡ outcomes.Committed stamp
         → outcome_of (after_inputs decl c inputs) tx ≡ outcomes.Committed stamp }
 {}
@@ -54,7 +54,7 @@ pub fn outcomes_are_told()
 /// so Committed only of one that has a record, with its stamp, and Aborted only
 /// of one that has none and isn't begun (any more).
 pub fn decisions_tell_outcomes()
-    ensures { (decl : Declaration) (number : ℕ) (inputs : List Input) (given : Given)
+    ensures { (decl : Declaration) (number : ℕ) (inputs : List NumberedInput) (given : Input)
         → AreReady decl (new_client number) inputs
         → Every (λ (p : Posting). TellsOutcome
         (client_takes decl (after_inputs decl (new_client number) inputs) given).client p.message)
@@ -64,10 +64,10 @@ pub fn decisions_tell_outcomes()
 /// No two records of a client are of one transaction, and the transaction that
 /// is begun has none.
 pub fn transactions_commit_once()
-    ensures apart { (decl : Declaration) (number : ℕ) (inputs : List Input) → AreReady decl (new_client number) inputs
+    ensures apart { (decl : Declaration) (number : ℕ) (inputs : List NumberedInput) → AreReady decl (new_client number) inputs
         → AllPairs (λ (c d : Commit). same_tx c.tx d.tx ≡ false)
         (after_inputs decl (new_client number) inputs).desk.commits }
-    ensures begun { (decl : Declaration) (number : ℕ) (inputs : List Input) (tx : TxId)
+    ensures begun { (decl : Declaration) (number : ℕ) (inputs : List NumberedInput) (tx : TxId)
         → AreReady decl (new_client number) inputs
         → name_of (after_inputs decl (new_client number) inputs).front.transaction ≡ Some tx
         → known (after_inputs decl (new_client number) inputs).desk tx ≡ knowns.Uncommitted }

@@ -1,5 +1,6 @@
 -- What a desk's move is: it waits, it commits the transaction in hand, or it aborts it.
-use Rattle.std.proofs.Common.{◌≡◌, ℕ, ◌<◌, ◌≤◌, ◌==◌, ◌⊎◌, Bool, true, false, cond, List, [], ◌∷◌, ◌++◌, map, length, Option, Some, None, option_map, inl, inr, refl, sym, ap, arith}
+use Rattle.std.proofs.Common.{◌≡◌, ℕ, ◌<◌, ◌≤◌, ◌==◌, ◌⊎◌, Bool, true, false, cond, List, [], ◌∷◌, ◌++◌, map, length}
+use Rattle.std.proofs.Common.{Option, Some, None, option_map, inl, inr, refl, sym, ap, arith}
 use Rattle.std.specs.List.{AllByRecursion as Every}
 use Rattle.qc_decl.specs.declared.declaration.Declaration.{Declaration}
 use Rattle.qc_stamp.specs.declared.stamp.Stamp.{Stamp}
@@ -12,14 +13,15 @@ use Rattle.qc_msg.specs.declared.message.Message.{Message}
 use Rattle.qc_msg.specs.declared.message.Message.TheVariants as messages
 use Rattle.qc_msg.specs.declared.message.Want.{Want}
 use Rattle.qc_msg.specs.declared.message.Want.TheVariants.{Read, Append, Prepare}
-use Rattle.qc_msg.specs.declared.reply.Why.{Why}
+use Rattle.qc_msg.specs.declared.reply.AbortCause.{AbortCause}
 use Rattle.qc_msg.specs.declared.turn.Posting.{Posting}
 use Rattle.qc_msg.specs.Calls.{site_called, without_call}
 use Rattle.qc_msg.specs.Turns.{quiet, sending}
 use Rattle.qc_commit.specs.declared.ballot.Ballot.{Ballot}
 use Rattle.qc_commit.specs.declared.desk.Desk.{Desk}
 use Rattle.qc_commit.specs.declared.desk.Voting.{Voting}
-use Rattle.qc_commit.specs.Conduct.{abort_turn, commit_of, commit_turn, counted_out, counts, decides, learns, next_stamp, passed, prepare, vote, votes_at, votes_in}
+use Rattle.qc_commit.specs.Conduct.{abort_turn, commit_of, commit_turn, counted_out, counts, decides, learns}
+use Rattle.qc_commit.specs.Conduct.{next_stamp, passed, prepare, vote, votes_at, votes_in}
 use Rattle.qc_commit.specs.Desk.{DeskMove, moved}
 use Rattle.qc_commit.specs.Votes.{are_cast, blank, cast, first_against, participants, prepares, vote_of}
 use Rattle.qc_commit.proofs.Learned.{learned-above, learned-client, learned-commits}
@@ -70,7 +72,7 @@ pub record Commits (desk : Desk) (hand : Option TxId) (m : DeskMove) : Type 0 wh
 -- it aborts
 pub record Aborts (desk : Desk) (hand : Option TxId) (m : DeskMove) : Type 0 where
   pub begun : Begun
-  pub why : Why
+  pub why : AbortCause
   pub handed : hand ≡ Some begun.tx
   pub turn : m.turn ≡ abort_turn begun why
   pub commits : m.desk.commits ≡ desk.commits
@@ -82,10 +84,19 @@ abbrev pub IsMove : Desk → Option TxId → DeskMove → Type 0
 IsMove desk hand m = Waits desk hand m ⊎ (Commits desk hand m ⊎ Aborts desk hand m)
 
 stands : (desk : Desk) → IsMove desk (tx_of desk.voting) (moved desk quiet)
-stands desk = inl (record { told = refl; write = refl; sends = tt; commits = refl; clock = omega arith; client = refl; voting = refl })
+stands desk = inl (record {
+  told = refl;
+  write = refl;
+  sends = tt;
+  commits = refl;
+  clock = omega arith;
+  client = refl;
+  voting = refl;
+})
 
 -- a desk that has learned more decides
-decides-moves : (desk learned : Desk) (b : Begun) (hand : Option TxId) → desk.clock.value ≤ learned.clock.value → learned.client ≡ desk.client → learned.commits ≡ desk.commits → hand ≡ Some b.tx
+decides-moves : (desk learned : Desk) (b : Begun) (hand : Option TxId) → desk.clock.value ≤ learned.clock.value
+    → learned.client ≡ desk.client → learned.commits ≡ desk.commits → hand ≡ Some b.tx
     → IsMove desk hand (decides learned b)
 decides-moves desk learned b hand clock client commits handed = inr (inl (record {
   begun = b;
@@ -100,7 +111,8 @@ decides-moves desk learned b hand clock client commits handed = inr (inl (record
   voting = refl;
 }))
 
-counted-moves : (desk : Desk) (answer : Option Answer) (b : Begun) (hand : Option TxId) (o : Option Why) → hand ≡ Some b.tx → IsMove desk hand (counted_out (learns desk answer) b o)
+counted-moves : (desk : Desk) (answer : Option Answer) (b : Begun) (hand : Option TxId) (o : Option AbortCause)
+    → hand ≡ Some b.tx → IsMove desk hand (counted_out (learns desk answer) b o)
 counted-moves desk answer b hand (Some why) handed = inr (inr (record {
   begun = b;
   why = why;
@@ -112,12 +124,16 @@ counted-moves desk answer b hand (Some why) handed = inr (inr (record {
   voting = refl;
 }))
 counted-moves desk answer b hand None handed =
-    decides-moves desk (learns desk answer) b hand (learned-above desk answer) (learned-client desk answer) (learned-commits desk answer) handed
+    decides-moves desk (learns desk answer) b hand (learned-above desk answer) (learned-client desk answer)
+    (learned-commits desk answer) handed
 
-counts-moves : (desk : Desk) (answer : Option Answer) (b : Begun) (calls : List Call) (ballots : List Ballot) (hand : Option TxId) → hand ≡ Some b.tx
+counts-moves : (desk : Desk) (answer : Option Answer) (b : Begun) (calls : List Call) (ballots : List Ballot)
+    (hand : Option TxId) → hand ≡ Some b.tx
     → IsMove desk hand (counts (learns desk answer) b calls ballots)
 counts-moves desk answer b calls ballots hand handed = by (are_cast ballots) where
-  by : (t : Bool) → IsMove desk hand (cond t (counted_out (learns desk answer) b (first_against ballots)) (moved (record (learns desk answer) { voting = Some (record { begun = b; calls = calls; ballots = ballots }) }) quiet))
+  by : (t : Bool) → IsMove desk hand (cond t (counted_out (learns desk answer) b (first_against ballots))
+      (moved (record (learns desk answer) { voting = Some (record { begun = b; calls = calls; ballots = ballots }) })
+      quiet))
   by true = counted-moves desk answer b hand (first_against ballots) handed
   by false = inl (record {
     told = refl;
@@ -129,11 +145,14 @@ counts-moves desk answer b calls ballots hand handed = by (are_cast ballots) whe
     voting = sym handed;
   })
 
-pub vote-moves : (desk : Desk) (number : ℕ) (answer : Option Answer) → IsMove desk (tx_of desk.voting) (vote desk number answer)
+pub vote-moves : (desk : Desk) (number : ℕ) (answer : Option Answer)
+    → IsMove desk (tx_of desk.voting) (vote desk number answer)
 vote-moves desk number answer = by desk.voting refl where
-  at : (v : Voting) → desk.voting ≡ Some v → (o : Option ℕ) → IsMove desk (tx_of desk.voting) (votes_at desk v number answer o)
+  at : (v : Voting) → desk.voting ≡ Some v → (o : Option ℕ)
+      → IsMove desk (tx_of desk.voting) (votes_at desk v number answer o)
   at v is None = stands desk
-  at v is (Some site) = counts-moves desk answer v.begun (without_call v.calls number) (cast v.ballots site (vote_of v.begun site answer)) (tx_of desk.voting) (ap tx_of is)
+  at v is (Some site) = counts-moves desk answer v.begun (without_call v.calls number)
+      (cast v.ballots site (vote_of v.begun site answer)) (tx_of desk.voting) (ap tx_of is)
 
   by : (o : Option Voting) → desk.voting ≡ o → IsMove desk (tx_of desk.voting) (votes_in desk o number answer)
   by None is = stands desk
@@ -143,11 +162,26 @@ asked : (b : Begun) (sites : List ℕ) → Every (λ (p : Posting). IsPrepare p.
 asked b [] = tt
 asked b (site ∷ sites) = (tt, asked b sites)
 
-pub prepare-moves : (decl : Declaration) (desk : Desk) (b : Begun) (clock : ℕ) → IsMove desk (Some b.tx) (prepare decl desk b clock)
+pub prepare-moves : (decl : Declaration) (desk : Desk) (b : Begun) (clock : ℕ)
+    → IsMove desk (Some b.tx) (prepare decl desk b clock)
 prepare-moves decl desk b clock = by (length (participants decl desk.client b) == 0) where
   above : desk.clock.value ≤ (passed desk clock).clock.value
   above = omega arith
 
-  by : (t : Bool) → IsMove desk (Some b.tx) (cond t (decides (passed desk clock) b) (moved (record (passed desk clock) { voting = Some (record { begun = b; calls = []; ballots = blank (participants decl desk.client b) }) }) (sending (map (prepares b) (participants decl desk.client b)))))
+  by : (t : Bool) → IsMove desk (Some b.tx)
+      (cond t (decides (passed desk clock) b) (moved
+      (record (passed desk clock) {
+        voting = Some
+            (record { begun = b; calls = []; ballots = blank (participants decl desk.client b) });
+      })
+      (sending (map (prepares b) (participants decl desk.client b)))))
   by true = decides-moves desk (passed desk clock) b (Some b.tx) above refl refl refl
-  by false = inl (record { told = refl; write = refl; sends = asked b (participants decl desk.client b); commits = refl; clock = above; client = refl; voting = refl })
+  by false = inl (record {
+    told = refl;
+    write = refl;
+    sends = asked b (participants decl desk.client b);
+    commits = refl;
+    clock = above;
+    client = refl;
+    voting = refl;
+  })

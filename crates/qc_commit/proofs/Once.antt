@@ -1,5 +1,6 @@
 -- Lists of numbers in which each stands once, and ranges of numbers.
-use Rattle.std.proofs.Common.{◌≡◌, ℕ, zero, suc, ◌+◌, ◌<◌, ◌≤◌, ◌≢◌, ◌⊎◌, Bool, true, false, cond, List, [], ◌∷◌, ◌++◌, length, get_or, filter, inl, inr, refl, sym, subst, arith}
+use Rattle.std.proofs.Common.{◌≡◌, ℕ, zero, suc, ◌+◌, ◌<◌, ◌≤◌, ◌≢◌, ◌⊎◌, Bool, true, false, cond, List, [], ◌∷◌, ◌++◌}
+use Rattle.std.proofs.Common.{length, get_or, filter, inl, inr, refl, sym, subst, arith}
 use Rattle.std.specs.List.{range_with_len, AllPairs}
 use Rattle.std.proofs.lemmas.Bool.{cases_eq}
 use Rattle.qc_list.specs.Members.{In}
@@ -19,7 +20,8 @@ In-get_or (x ∷ xs) (suc i) d l = inr (In-get_or xs i d (omega arith))
 pub once-pairs : (xs : List ℕ) → Once xs → AllPairs (λ a b. a ≢ b) xs
 once-pairs [] once i j d l m = absurd (omega arith)
 once-pairs (x ∷ xs) once i zero d l m = absurd (omega arith)
-once-pairs (x ∷ xs) once zero (suc j) d l m = λ same. once.0 (subst (λ v. In v xs) (sym same) (In-get_or xs j d (omega arith)))
+once-pairs (x ∷ xs) once zero (suc j) d l m =
+    λ same. once.0 (subst (λ v. In v xs) (sym same) (In-get_or xs j d (omega arith)))
 once-pairs (x ∷ xs) once (suc i) (suc j) d l m = once-pairs xs once.1 i j d (omega arith) (omega arith)
 
 pub once-filter : (test : ℕ → Bool) (xs : List ℕ) → Once xs → Once (filter test xs)
@@ -39,11 +41,13 @@ In-split x (y ∷ xs) ys (inr rest) = by (In-split x xs ys rest) where
 
 pub once-append : (xs ys : List ℕ) → Once xs → Once ys → ((x : ℕ) → In x xs → In x ys → ⊥) → Once (xs ++ ys)
 once-append [] ys first second apart = second
-once-append (x ∷ xs) ys first second apart =
-    (λ member. by (In-split x xs ys member), once-append xs ys first.1 second (λ y there here. apart y (inr there) here)) where
-      by : In x xs ⊎ In x ys → ⊥
-      by (inl member) = first.0 member
-      by (inr member) = apart x (inl refl) member
+once-append (x ∷ xs) ys first second apart = (
+  λ member. by (In-split x xs ys member),
+  once-append xs ys first.1 second (λ y there here. apart y (inr there) here),
+) where
+  by : In x xs ⊎ In x ys → ⊥
+  by (inl member) = first.0 member
+  by (inr member) = apart x (inl refl) member
 
 -- the numbers of a range
 
@@ -66,4 +70,7 @@ range-in k a (suc n) low high = by (cases_eq k a) (λ above. range-in k (a + 1) 
 
 pub range-once : (a n : ℕ) → Once (range_with_len a n)
 range-once a zero = tt
-range-once a (suc n) = (λ member. let low : a + 1 ≤ a = range-low a (a + 1) n member in omega arith, range-once (a + 1) n)
+range-once a (suc n) = (
+  λ member. let low : a + 1 ≤ a = range-low a (a + 1) n member in omega arith,
+  range-once (a + 1) n,
+)

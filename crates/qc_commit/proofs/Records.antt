@@ -43,7 +43,8 @@ stands : (desk : Desk) → Goes desk desk (tx_of desk.voting)
 stands desk = inl (record { commits = refl; clock = omega arith; client = refl; voting = inr refl })
 
 move-goes : (desk : Desk) (hand : Option TxId) (m : DeskMove) → IsMove desk hand m → Goes desk m.desk hand
-move-goes desk hand m (inl w) = inl (record { commits = w.commits; clock = w.clock; client = w.client; voting = inr w.voting })
+move-goes desk hand m (inl w) = inl (record
+    { commits = w.commits; clock = w.clock; client = w.client; voting = inr w.voting })
 move-goes desk hand m (inr (inl c)) = inr (record {
   begun = c.begun;
   stamp = c.stamp;
@@ -55,11 +56,14 @@ move-goes desk hand m (inr (inl c)) = inr (record {
   voting = ap tx_of c.voting;
   handed = c.handed;
 })
-move-goes desk hand m (inr (inr a)) = inl (record { commits = a.commits; clock = a.clock; client = a.client; voting = inl (ap tx_of a.voting) })
+move-goes desk hand m (inr (inr a)) = inl
+    (record { commits = a.commits; clock = a.clock; client = a.client; voting = inl (ap tx_of a.voting) })
 
 pub goes : (desk : Desk) (call : DeskCall) → Goes desk (after_call desk call) (in_hand call desk.voting)
-goes desk (Prepares decl b clock) = move-goes desk (Some b.tx) (prepare decl desk b clock) (prepare-moves decl desk b clock)
-goes desk (Votes number answer) = move-goes desk (tx_of desk.voting) (vote desk number answer) (vote-moves desk number answer)
+goes desk (Prepares decl b clock) = move-goes desk (Some b.tx) (prepare decl desk b clock)
+    (prepare-moves decl desk b clock)
+goes desk (Votes number answer) = move-goes desk (tx_of desk.voting) (vote desk number answer)
+    (vote-moves desk number answer)
 goes desk (Numbers first) = by desk.voting refl where
   by : (o : Option Voting) → desk.voting ≡ o → Goes desk (sent_in desk o first) (tx_of desk.voting)
   by None is = stands desk

@@ -1,5 +1,6 @@
 -- Over any calls of a desk: stamps rise, what a record tells stays, no two records are of one transaction.
-use Rattle.std.proofs.Common.{◌==◌, ◌&&◌, ◌≡◌, ℕ, ◌<◌, ◌≤◌, ◌≢◌, Bool, true, List, [], ◌∷◌, ◌++◌, get_or, Option, Some, None, inl, inr, refl, sym, ap, ◌∙◌, subst, arith}
+use Rattle.std.proofs.Common.{◌==◌, ◌&&◌, ◌≡◌, ℕ, ◌<◌, ◌≤◌, ◌≢◌, Bool, true, List, [], ◌∷◌, ◌++◌, get_or, Option, Some}
+use Rattle.std.proofs.Common.{None, inl, inr, refl, sym, ap, ◌∙◌, subst, arith}
 use Rattle.std.specs.List.{All, AllPairs}
 use Rattle.std.specs.Option.{option_or}
 use Rattle.std.proofs.lemmas.Bool.{eq-eqb}
@@ -32,29 +33,37 @@ none-rise clock client = record {
   clients = All-nil (λ (c : Commit). c.stamp.client ≡ client);
 }
 
-rise-later : (commits : List Commit) (clock later client : ℕ) → clock ≤ later → Rise commits clock client → Rise commits later client
+rise-later : (commits : List Commit) (clock later client : ℕ) → clock ≤ later → Rise commits clock client
+    → Rise commits later client
 rise-later commits clock later client above r = record {
   rising = r.rising;
-  below = All-weaker (λ (c : Commit). c.stamp.clock ≤ clock) (λ (c : Commit). c.stamp.clock ≤ later) (λ c low. omega arith) commits r.below;
+  below = All-weaker (λ (c : Commit). c.stamp.clock ≤ clock) (λ (c : Commit). c.stamp.clock ≤ later)
+      (λ c low. omega arith) commits r.below;
   clients = r.clients;
 }
 
-rise-push : (commits : List Commit) (clock client : ℕ) (c : Commit) → clock < c.stamp.clock → c.stamp.client ≡ client → Rise commits clock client → Rise (commits ++ c ∷ []) c.stamp.clock client
+rise-push : (commits : List Commit) (clock client : ℕ) (c : Commit) → clock < c.stamp.clock → c.stamp.client ≡ client
+    → Rise commits clock client → Rise (commits ++ c ∷ []) c.stamp.clock client
 rise-push commits clock client c above mine r = record {
-  rising = all_pairs_push (λ (a b : Commit). a.stamp.clock < b.stamp.clock) commits c r.rising (λ k d l. let low : (get_or commits k d).stamp.clock ≤ clock = r.below k d l in omega arith);
-  below = All-push (λ (a : Commit). a.stamp.clock ≤ c.stamp.clock) commits c (rise-later commits clock c.stamp.clock client (omega arith) r).below (omega arith);
+  rising = all_pairs_push (λ (a b : Commit). a.stamp.clock < b.stamp.clock) commits c r.rising
+      (λ k d l. let low : (get_or commits k d).stamp.clock ≤ clock = r.below k d l in omega arith);
+  below = All-push (λ (a : Commit). a.stamp.clock ≤ c.stamp.clock) commits c
+      (rise-later commits clock c.stamp.clock client (omega arith) r).below (omega arith);
   clients = All-push (λ (a : Commit). a.stamp.client ≡ client) commits c r.clients mine;
 }
 
-rise-call : (desk : Desk) (call : DeskCall) → Rise desk.commits desk.clock.value desk.client → Rise (after_call desk call).commits (after_call desk call).clock.value (after_call desk call).client
+rise-call : (desk : Desk) (call : DeskCall) → Rise desk.commits desk.clock.value desk.client
+    → Rise (after_call desk call).commits (after_call desk call).clock.value (after_call desk call).client
 rise-call desk call r = by (goes desk call) where
   next : Desk
   next = after_call desk call
 
   by : Goes desk next (in_hand call desk.voting) → Rise next.commits next.clock.value next.client
-  by (inl s) = subst (λ cs. Rise cs next.clock.value next.client) (sym s.commits) (subst (λ n. Rise desk.commits next.clock.value n) (sym s.client)
+  by (inl s) = subst (λ cs. Rise cs next.clock.value next.client) (sym s.commits)
+      (subst (λ n. Rise desk.commits next.clock.value n) (sym s.client)
       (rise-later desk.commits desk.clock.value next.clock.value desk.client s.clock r))
-  by (inr s) = subst (λ cs. Rise cs next.clock.value next.client) (sym s.commits) (subst (λ k. Rise (desk.commits ++ commit_of s.stamp s.begun ∷ []) k next.client) (sym s.passed)
+  by (inr s) = subst (λ cs. Rise cs next.clock.value next.client) (sym s.commits)
+      (subst (λ k. Rise (desk.commits ++ commit_of s.stamp s.begun ∷ []) k next.client) (sym s.passed)
       (subst (λ n. Rise (desk.commits ++ commit_of s.stamp s.begun ∷ []) s.stamp.clock n) (sym s.client)
       (rise-push desk.commits desk.clock.value desk.client (commit_of s.stamp s.begun) s.clock s.stamped r)))
 
@@ -70,33 +79,44 @@ same-client desk (call ∷ calls) = same-client (after_call desk call) calls ∙
   by (inl s) = s.client
   by (inr s) = s.client
 
-pub all-rise : (client : ℕ) (calls : List DeskCall) → Rise (after_calls (new_desk client) calls).commits (after_calls (new_desk client) calls).clock.value client
+pub all-rise : (client : ℕ) (calls : List DeskCall)
+    → Rise (after_calls (new_desk client) calls).commits (after_calls (new_desk client) calls).clock.value client
 all-rise client calls =
-    subst (λ n. Rise (after_calls (new_desk client) calls).commits (after_calls (new_desk client) calls).clock.value n) (same-client (new_desk client) calls)
+    subst (λ n. Rise (after_calls (new_desk client) calls).commits (after_calls (new_desk client) calls).clock.value n)
+    (same-client (new_desk client) calls)
     (rise-calls (new_desk client) calls (none-rise 0 client))
 
 -- so no two have one stamp
-pub stamps-apart : (commits : List Commit) (clock client : ℕ) → Rise commits clock client → AllPairs (λ (c d : Commit). c.stamp ≢ d.stamp) commits
-stamps-apart commits clock client r i j d l m = λ same. (let up : (get_or commits i d).stamp.clock < (get_or commits j d).stamp.clock = r.rising i j d l m in
-    let level : (get_or commits i d).stamp.clock ≡ (get_or commits j d).stamp.clock = ap (λ (s : Stamp). s.clock) same in omega arith)
+pub stamps-apart : (commits : List Commit) (clock client : ℕ) → Rise commits clock client
+    → AllPairs (λ (c d : Commit). c.stamp ≢ d.stamp) commits
+stamps-apart commits clock client r i j d l m =
+    λ same. (let up : (get_or commits i d).stamp.clock < (get_or commits j d).stamp.clock = r.rising i j d l m in
+    let level : (get_or commits i d).stamp.clock ≡ (get_or commits j d).stamp.clock =
+    ap (λ (s : Stamp). s.clock) same in omega arith)
 
 -- what the records tell of a transaction stays
 
-known-more : (commits more : List Commit) (tx : TxId) (stamp : Stamp) → known_by (record_of commits tx) ≡ Committed stamp → known_by (record_of (commits ++ more) tx) ≡ Committed stamp
-known-more commits more tx stamp is = rw (find-append (λ (c : Commit). same_tx c.tx tx) commits more) (by (record_of commits tx) is) where
-  by : (o : Option Commit) → known_by o ≡ Committed stamp → known_by (option_or o (record_of more tx)) ≡ Committed stamp
-  by None never = absurd (let no : ⊥ = cc in no)
-  by (Some c) told = told
+known-more : (commits more : List Commit) (tx : TxId) (stamp : Stamp)
+    → known_by (record_of commits tx) ≡ Committed stamp → known_by (record_of (commits ++ more) tx) ≡ Committed stamp
+known-more commits more tx stamp is = rw (find-append (λ (c : Commit). same_tx c.tx tx) commits more)
+    (by (record_of commits tx) is) where
+      by : (o : Option Commit) → known_by o ≡ Committed stamp → known_by (option_or o (record_of more tx)) ≡ Committed stamp
+      by None never = absurd (let no : ⊥ = cc in no)
+      by (Some c) told = told
 
-pub known-call : (desk : Desk) (call : DeskCall) (tx : TxId) (stamp : Stamp) → known desk tx ≡ Committed stamp → known (after_call desk call) tx ≡ Committed stamp
+pub known-call : (desk : Desk) (call : DeskCall) (tx : TxId) (stamp : Stamp) → known desk tx ≡ Committed stamp
+    → known (after_call desk call) tx ≡ Committed stamp
 known-call desk call tx stamp is = by (goes desk call) where
   by : Goes desk (after_call desk call) (in_hand call desk.voting) → known (after_call desk call) tx ≡ Committed stamp
   by (inl s) = ap (λ (cs : List Commit). known_by (record_of cs tx)) s.commits ∙ is
-  by (inr s) = ap (λ (cs : List Commit). known_by (record_of cs tx)) s.commits ∙ known-more desk.commits (commit_of s.stamp s.begun ∷ []) tx stamp is
+  by (inr s) = ap (λ (cs : List Commit). known_by (record_of cs tx)) s.commits
+      ∙ known-more desk.commits (commit_of s.stamp s.begun ∷ []) tx stamp is
 
-pub known-calls : (desk : Desk) (calls : List DeskCall) (tx : TxId) (stamp : Stamp) → known desk tx ≡ Committed stamp → known (after_calls desk calls) tx ≡ Committed stamp
+pub known-calls : (desk : Desk) (calls : List DeskCall) (tx : TxId) (stamp : Stamp) → known desk tx ≡ Committed stamp
+    → known (after_calls desk calls) tx ≡ Committed stamp
 known-calls desk [] tx stamp is = is
-known-calls desk (call ∷ calls) tx stamp is = known-calls (after_call desk call) calls tx stamp (known-call desk call tx stamp is)
+known-calls desk (call ∷ calls) tx stamp is =
+    known-calls (after_call desk call) calls tx stamp (known-call desk call tx stamp is)
 
 -- and it is told once a transaction without a record commits
 
@@ -105,18 +125,25 @@ and-true x y first second = rw (first, second) refl
 
 same-self : (tx : TxId) → same_tx tx tx ≡ true
 same-self tx =
-    and-true (tx.client == tx.client) ((tx.life == tx.life) && (tx.number == tx.number)) (eq-eqb tx.client tx.client refl)
-    (and-true (tx.life == tx.life) (tx.number == tx.number) (eq-eqb tx.life tx.life refl) (eq-eqb tx.number tx.number refl))
+    and-true (tx.client == tx.client) ((tx.life == tx.life) && (tx.number == tx.number))
+    (eq-eqb tx.client tx.client refl)
+    (and-true (tx.life == tx.life) (tx.number == tx.number) (eq-eqb tx.life tx.life refl)
+    (eq-eqb tx.number tx.number refl))
 
-pub known-new : (old : Desk) (b : Begun) (stamp : Stamp) (move : DeskMove) → IsCommitted old b stamp move → known old b.tx ≡ Uncommitted → known move.desk b.tx ≡ Committed stamp
+pub known-new : (old : Desk) (b : Begun) (stamp : Stamp) (move : DeskMove) → IsCommitted old b stamp move
+    → known old b.tx ≡ Uncommitted → known move.desk b.tx ≡ Committed stamp
 known-new old b stamp move is none = ap (λ (cs : List Commit). known_by (record_of cs b.tx)) is.kept
-    ∙ rw (find-append (λ (c : Commit). same_tx c.tx b.tx) old.commits (commit_of stamp b ∷ [])) (by (record_of old.commits b.tx) none) where
-      by : (o : Option Commit) → known_by o ≡ Uncommitted → known_by (option_or o (record_of (commit_of stamp b ∷ []) b.tx)) ≡ Committed stamp
+    ∙ rw (find-append (λ (c : Commit). same_tx c.tx b.tx) old.commits (commit_of stamp b ∷ []))
+    (by (record_of old.commits b.tx) none) where
+      by : (o : Option Commit) → known_by o ≡ Uncommitted
+          → known_by (option_or o (record_of (commit_of stamp b ∷ []) b.tx)) ≡ Committed stamp
       by None none = rw (same-self b.tx) refl
       by (Some c) never = absurd (let no : ⊥ = cc in no)
 
 pub clock-rises : (desk : Desk) (call : DeskCall) → desk.clock.value ≤ (after_call desk call).clock.value
 clock-rises desk call = by (goes desk call) where
-  by : Goes desk (after_call desk call) (in_hand call desk.voting) → desk.clock.value ≤ (after_call desk call).clock.value
+  by : Goes desk (after_call desk call) (in_hand call desk.voting)
+      → desk.clock.value ≤ (after_call desk call).clock.value
   by (inl s) = s.clock
-  by (inr s) = let passed : (after_call desk call).clock.value ≡ s.stamp.clock = s.passed in let above : desk.clock.value < s.stamp.clock = s.clock in omega arith
+  by (inr s) = let passed : (after_call desk call).clock.value ≡ s.stamp.clock = s.passed in
+      let above : desk.clock.value < s.stamp.clock = s.clock in omega arith

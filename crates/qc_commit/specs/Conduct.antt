@@ -11,7 +11,7 @@ use Rattle.qc_msg.specs.declared.message.Answer.TheVariants as answers
 use Rattle.qc_msg.specs.declared.message.Outcome.TheVariants as outcomes
 use Rattle.qc_msg.specs.declared.record.Record.TheVariants as records
 use Rattle.qc_msg.specs.declared.reply.Reply.TheVariants as replies
-use Rattle.qc_msg.specs.declared.reply.Why.{Why}
+use Rattle.qc_msg.specs.declared.reply.AbortCause.{AbortCause}
 use Rattle.qc_msg.specs.declared.turn.Appended.TheVariants.{Done}
 use Rattle.qc_msg.specs.declared.turn.Turn.{Turn}
 use Rattle.qc_msg.specs.Calls.{site_called, without_call, with_call, numbered_from}
@@ -63,10 +63,10 @@ decides desk b =
 
 -- the transaction doesn't commit
 
-abbrev pub abort_turn : Begun → Why → Turn
+abbrev pub abort_turn : Begun → AbortCause → Turn
 abort_turn b why = ending (decisions b outcomes.Aborted) (replies.Aborted why)
 
-abbrev pub gives_up : Desk → Begun → Why → DeskMove
+abbrev pub gives_up : Desk → Begun → AbortCause → DeskMove
 gives_up desk b why = moved (with_voting desk None) (abort_turn b why)
 
 -- a commit of a begun transaction: each participant is asked for its promise; where there is none, it commits
@@ -96,7 +96,7 @@ learns desk (Some (answers.Answered verdict)) = desk
 
 -- once all votes are in, the first against decides; where there is none, the transaction commits
 
-abbrev pub counted_out : Desk → Begun → Option Why → DeskMove
+abbrev pub counted_out : Desk → Begun → Option AbortCause → DeskMove
 counted_out desk b (Some why) = gives_up desk b why
 counted_out desk b None = decides desk b
 

@@ -8,7 +8,7 @@ use Rattle.qc_decl.specs.declared.declaration.Declaration.{Declaration}
 use Rattle.qc_msg.specs.declared.begun.Begun.{Begun}
 use Rattle.qc_msg.specs.declared.call.Call.{Call}
 use Rattle.qc_msg.specs.declared.message.Answer.{Answer}
-use Rattle.qc_msg.specs.declared.reply.Why.{Why}
+use Rattle.qc_msg.specs.declared.reply.AbortCause.{AbortCause}
 use Rattle.qc_commit.specs.declared.ballot.Ballot.{Ballot}
 use Rattle.qc_commit.specs.declared.ballot.Vote.TheVariants.{For, Against}
 use Rattle.qc_commit.specs.declared.desk.Desk.{Desk}
@@ -79,7 +79,7 @@ AreFor [] = Unit {0}
 AreFor (b ∷ bs) = (b.vote ≡ Some For) × AreFor bs
 
 -- all votes before the first against are for, and that one has this cause
-pub record IsRefused (ballots : List Ballot) (why : Why) : Type 0 where
+pub record IsRefused (ballots : List Ballot) (why : AbortCause) : Type 0 where
   pub before : List Ballot
   pub site : ℕ
   pub after : List Ballot
@@ -102,7 +102,7 @@ pub record IsCommitted (old : Desk) (b : Begun) (stamp : Stamp) (move : DeskMove
   pub ended : move.desk.voting ≡ None
 
 -- it doesn't commit
-pub record IsAborted (old : Desk) (b : Begun) (why : Why) (move : DeskMove) : Type 0 where
+pub record IsAborted (old : Desk) (b : Begun) (why : AbortCause) (move : DeskMove) : Type 0 where
   pub turn : move.turn ≡ abort_turn b why
   pub kept : move.desk.commits ≡ old.commits
   pub ended : move.desk.voting ≡ None

@@ -10,8 +10,8 @@ use Rattle.qc_msg.specs.declared.message.Answer.{Answer}
 use Rattle.qc_msg.specs.declared.message.Answer.TheVariants as answers
 use Rattle.qc_msg.specs.declared.message.Message.TheVariants as messages
 use Rattle.qc_msg.specs.declared.message.Want.TheVariants as wants
-use Rattle.qc_msg.specs.declared.reply.Why.{Why}
-use Rattle.qc_msg.specs.declared.reply.Why.TheVariants as causes
+use Rattle.qc_msg.specs.declared.reply.AbortCause.{AbortCause}
+use Rattle.qc_msg.specs.declared.reply.AbortCause.TheVariants as causes
 use Rattle.qc_msg.specs.declared.turn.Posting.{Posting}
 use Rattle.qc_msg.specs.Begun.{has_granted, life_of}
 use Rattle.qc_commit.specs.declared.ballot.Ballot.{Ballot}
@@ -58,11 +58,11 @@ are_cast ballots = list_all (λ (b : Ballot). is_some b.vote) ballots
 
 -- the first vote against, in the client's order, decides
 
-abbrev pub against : Option Vote → Option Why
+abbrev pub against : Option Vote → Option AbortCause
 against None = None
 against (Some For) = None
 against (Some (Against why)) = Some why
 
-abbrev pub first_against : List Ballot → Option Why
+abbrev pub first_against : List Ballot → Option AbortCause
 first_against [] = None
 first_against (b ∷ bs) = option_or (against b.vote) (first_against bs)

@@ -5,7 +5,7 @@ ghost use Rattle.std.specs.Option.{option_copied};
 ghost use Rattle.qc_commit.specs.Votes.{are_cast, blank, cast, first_against, vote_of};
 
 use qc_list::{List, OutOfMemory};
-use qc_msg::{Answer, Begun, Why, life_of};
+use qc_msg::{AbortCause, Answer, Begun, life_of};
 use std::alloc::Global;
 
 /// What a participant's answer to a Prepare comes to.
@@ -14,7 +14,7 @@ pub enum Vote {
     /// It promises.
     For,
     /// It doesn't, for this cause.
-    Against { why: Why },
+    Against { why: AbortCause },
 }
 
 /// A participant with its vote, once it is known.
@@ -37,18 +37,18 @@ impl Vote {
     {
         let why = match answer {
             Some(Answer::Yes { .. }) => return Vote::For,
-            None => Why::NoAnswer { site },
-            Some(Answer::Closed { epoch }) => Why::Closed {
+            None => AbortCause::NoAnswer { site },
+            Some(Answer::Closed { epoch }) => AbortCause::Closed {
                 epoch: *epoch,
                 site,
             },
-            Some(Answer::Restarted { life }) => Why::Restarted {
+            Some(Answer::Restarted { life }) => AbortCause::Restarted {
                 site,
                 old: life_of(&begun.lives, site),
                 new: *life,
             },
-            Some(Answer::Fault) => Why::Fault { site },
-            Some(_) => Why::Forgot { site },
+            Some(Answer::Fault) => AbortCause::Fault { site },
+            Some(_) => AbortCause::Forgot { site },
         };
         Vote::Against { why }
     }
@@ -101,7 +101,7 @@ pub(crate) fn are_cast(ballots: &Ballots) -> bool
 }
 
 /// The cause of the first vote against, in the client's order of sites.
-pub(crate) fn first_against(ballots: &Ballots) -> Option<Why>
+pub(crate) fn first_against(ballots: &Ballots) -> Option<AbortCause>
     ensures { result ≡ first_against ballots.now }
 {
     'ballots: for b in ballots.items() {

@@ -16,7 +16,7 @@ use crate::participants::{participants, prepares};
 use qc_decl::Declaration;
 use qc_entry::Commit;
 use qc_list::{List, OutOfMemory};
-use qc_msg::{Answer, Appended, Begun, Calls, Outcome, Record, Reply, Turn, Why};
+use qc_msg::{AbortCause, Answer, Appended, Begun, Calls, Outcome, Record, Reply, Turn};
 use qc_stamp::{Clock, Stamp};
 use std::alloc::Global;
 
@@ -231,7 +231,7 @@ fn record_of(begun: &Begun, stamp: Stamp) -> Result<Commit, OutOfMemory>
 }
 
 /// The turn that aborts a transaction for this cause.
-fn abort_turn(alloc: Global, begun: &Begun, why: Why) -> Result<Turn, OutOfMemory>
+fn abort_turn(alloc: Global, begun: &Begun, why: AbortCause) -> Result<Turn, OutOfMemory>
     ensures { IfOk result (λ turn. turn ≡ abort_turn begun.now why) }
 {
     let sends = begun.decisions(alloc, Outcome::Aborted)?;

@@ -17,7 +17,7 @@ ghost use Rattle.qc_msg.specs.declared.begun.Begun.{Begun};
 ghost use Rattle.qc_msg.specs.declared.message.Answer.{Answer};
 ghost use Rattle.qc_msg.specs.declared.message.Message.TheVariants.{Request};
 ghost use Rattle.qc_msg.specs.declared.message.Want.TheVariants.{Prepare};
-ghost use Rattle.qc_msg.specs.declared.reply.Why.{Why};
+ghost use Rattle.qc_msg.specs.declared.reply.AbortCause.{AbortCause};
 ghost use Rattle.qc_msg.specs.Begun.{has_granted, life_of};
 ghost use Rattle.qc_msg.specs.Calls.{site_called};
 ghost use Rattle.qc_msg.specs.Turns.{quiet, sending};
@@ -77,13 +77,13 @@ pub fn first_answers_decide()
         → IsCommitted desk b (stamp_after (course_clock decl desk b clock first (takes ++ t ∷ [])) desk.client)
         (vote (course_desk decl desk b clock first takes) t.number t.answer) }
     ensures aborts { (decl : Declaration) (desk : Desk) (b : Begun) (clock first : ℕ) (takes : List Taken) (t : Taken)
-        (why : Why) → 0 < decl.sites → (length (participants decl desk.client b) == 0) ≡ false
+        (why : AbortCause) → 0 < decl.sites → (length (participants decl desk.client b) == 0) ≡ false
         → are_cast (course_ballots decl desk b first takes) ≡ false
         → are_cast (course_ballots decl desk b first (takes ++ t ∷ [])) ≡ true
         → IsRefused (course_ballots decl desk b first (takes ++ t ∷ [])) why
         → IsAborted desk b why (vote (course_desk decl desk b clock first takes) t.number t.answer) }
     ensures either { (ballots : List Ballot) → are_cast ballots ≡ true
-        → AreFor ballots ⊎ ((why : Why) × IsRefused ballots why) }
+        → AreFor ballots ⊎ ((why : AbortCause) × IsRefused ballots why) }
 {}
 
 /// What is taken second for a request is put aside, and so is all that is for

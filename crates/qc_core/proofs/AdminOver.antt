@@ -7,15 +7,16 @@ use Rattle.qc_epoch.specs.Admin.{new_admin}
 use Rattle.qc_msg.specs.declared.message.Message.{Message}
 use Rattle.qc_msg.specs.declared.record.Record.{Record}
 use Rattle.qc_msg.specs.declared.record.Record.TheVariants as records
-use Rattle.qc_msg.specs.declared.step.Given.{Given}
-use Rattle.qc_msg.specs.declared.step.Given.TheVariants as given
+use Rattle.qc_msg.specs.declared.step.Input.{Input}
+use Rattle.qc_msg.specs.declared.step.Input.TheVariants as inputs
 use Rattle.qc_msg.specs.declared.turn.Turn.{Turn}
 use Rattle.qc_msg.specs.Deeds.{Deed, Takes, Writes, Sends, Tells, Falls, Rises}
 use Rattle.qc_msg.specs.Turns.{quiet}
 use Rattle.qc_recover.specs.Admins.{admin_rises}
 use Rattle.qc_core.specs.declared.actor.Actor.{Actor}
 use Rattle.qc_core.specs.declared.actor.Actor.TheVariants.{Site, Client, Admin, Down}
-use Rattle.qc_core.specs.Actors.{ActorMove, actor_after, actor_does, actor_rises, actor_sends, actor_takes, by_admin, moved, new_actor}
+use Rattle.qc_core.specs.Actors.{ActorMove, actor_after, actor_does, actor_rises, actor_sends, actor_takes, by_admin}
+use Rattle.qc_core.specs.Actors.{moved, new_actor}
 use Rattle.qc_core.proofs.AdminWrites.{IsAdminTurn, SaysAsAdmin, WritesDecision, admin_written}
 use Rattle.qc_core.proofs.ByNumber.{admin_new, admin_no_client, admin_no_site, admin_risen}
 
@@ -55,17 +56,23 @@ decision_his (Some (records.Commit commit)) is = absurd is
 decision_his (Some (records.Decide epoch clock lines)) is = tt
 
 module _ (decl : Declaration) where
-  takes : (v : Actor) (g : Given) → IsAdminOrDown v → IsAdminMove (actor_takes decl v g)
+  takes : (v : Actor) (g : Input) → IsAdminOrDown v → IsAdminMove (actor_takes decl v g)
   takes (Site s) g never = absurd never
   takes (Client c) g never = absurd never
   takes (Admin m) g is =
       let w : IsAdminTurn (actor_takes decl (Admin m) g).turn = admin_written decl m g in
-      record { actor = tt; says = w.says; fails_say = w.fails_say; writes = decision_his (actor_takes decl (Admin m) g).turn.write w.writes }
-  takes Down (given.Called command) is = record { actor = tt; says = tt; fails_say = tt; writes = tt }
-  takes Down (given.Got e) is = record { actor = tt; says = tt; fails_say = tt; writes = tt }
-  takes Down (given.Lost number) is = record { actor = tt; says = tt; fails_say = tt; writes = tt }
+      record {
+        actor = tt;
+        says = w.says;
+        fails_say = w.fails_say;
+        writes = decision_his (actor_takes decl (Admin m) g).turn.write w.writes;
+      }
+  takes Down (inputs.Called command) is = record { actor = tt; says = tt; fails_say = tt; writes = tt }
+  takes Down (inputs.Got e) is = record { actor = tt; says = tt; fails_say = tt; writes = tt }
+  takes Down (inputs.Lost number) is = record { actor = tt; says = tt; fails_say = tt; writes = tt }
 
-  sends : (v : Actor) (number to : ℕ) (message : Message) → IsAdminOrDown v → IsAdminOrDown (actor_sends v number to message)
+  sends : (v : Actor) (number to : ℕ) (message : Message) → IsAdminOrDown v
+      → IsAdminOrDown (actor_sends v number to message)
   sends (Site s) number to message never = absurd never
   sends (Client c) number to message never = absurd never
   sends (Admin m) number to message is = tt
@@ -76,22 +83,30 @@ module _ (decl : Declaration) where
       subst IsAdminMove (sym (admin_risen decl (administrator decl) (admin_no_site decl) (admin_no_client decl) rs))
       (record { actor = tt; says = tt; fails_say = tt; writes = tt })
 
-  over : (ds : List Deed) (m : ActorMove) → IsAdminMove m → IsAdminMove (fold (actor_does decl (administrator decl)) m ds)
+  over : (ds : List Deed) (m : ActorMove) → IsAdminMove m
+      → IsAdminMove (fold (actor_does decl (administrator decl)) m ds)
   over [] m is = is
   over (Takes g ∷ ds) m is = over ds (actor_takes decl m.actor g) (takes m.actor g is.actor)
   over (Writes written ∷ ds) m is = over ds m is
   over (Sends number to message ∷ ds) m is =
       over ds (record m { actor = actor_sends m.actor number to message })
-      (record { actor = sends m.actor number to message is.actor; says = is.says; fails_say = is.fails_say; writes = is.writes })
+      (record {
+        actor = sends m.actor number to message is.actor;
+        says = is.says;
+        fails_say = is.fails_say;
+        writes = is.writes;
+      })
   over (Tells reply ∷ ds) m is = over ds m is
-  over (Falls cause pending ∷ ds) m is = over ds (moved Down quiet) (record { actor = tt; says = tt; fails_say = tt; writes = tt })
+  over (Falls cause pending ∷ ds) m is = over ds (moved Down quiet)
+      (record { actor = tt; says = tt; fails_say = tt; writes = tt })
   over (Rises rs ∷ ds) m is = over ds (actor_rises decl (administrator decl) rs) (rises rs)
 
   pub admin_over : (ds : List Deed) → IsAdminMove (actor_after decl (administrator decl) ds)
   admin_over ds =
       over ds (moved (new_actor decl (administrator decl)) quiet)
       (record {
-        actor = subst IsAdminOrDown (sym (admin_new decl (administrator decl) (admin_no_site decl) (admin_no_client decl))) tt;
+        actor = subst IsAdminOrDown (sym (admin_new decl (administrator decl) (admin_no_site decl)
+            (admin_no_client decl))) tt;
         says = tt;
         fails_say = tt;
         writes = tt;

@@ -24,8 +24,8 @@ use Rattle.qc_msg.specs.declared.reply.Reply.{Reply}
 use Rattle.qc_msg.specs.declared.reply.Reply.TheVariants as replies
 use Rattle.qc_msg.specs.declared.step.Command.{Command}
 use Rattle.qc_msg.specs.declared.step.Command.TheVariants as commands
-use Rattle.qc_msg.specs.declared.step.Given.{Given}
-use Rattle.qc_msg.specs.declared.step.Given.TheVariants as given
+use Rattle.qc_msg.specs.declared.step.Input.{Input}
+use Rattle.qc_msg.specs.declared.step.Input.TheVariants as inputs
 use Rattle.qc_msg.specs.declared.turn.Appended.TheVariants.{Done}
 use Rattle.qc_msg.specs.declared.turn.Posting.{Posting}
 use Rattle.qc_msg.specs.declared.turn.Turn.{Turn}
@@ -252,7 +252,7 @@ module _ (decl : Declaration) (m : Admin) where
   heard_well (messages.Close epoch) = quiet_well
   heard_well (messages.Install epoch clock log) = quiet_well
 
-  pub admin_written : (g : Given) → IsAdminTurn (admins.admin_takes decl m g).turn
-  admin_written (given.Called command) = called_well command
-  admin_written (given.Got e) = heard_well e.message
-  admin_written (given.Lost number) = answered_well number None
+  pub admin_written : (g : Input) → IsAdminTurn (admins.admin_takes decl m g).turn
+  admin_written (inputs.Called command) = called_well command
+  admin_written (inputs.Got e) = heard_well e.message
+  admin_written (inputs.Lost number) = answered_well number None

@@ -1,12 +1,13 @@
 -- What an actor answers it was asked for by what it took last, whatever became of its record; as it rises it answers
 -- nothing.
-use Rattle.std.proofs.Common.{◌≡◌, ℕ, ◌-◌, Bool, true, false, cond, List, [], ◌∷◌, ◌++◌, map, take, refl, sym, ap, ◌∙◌, subst}
+use Rattle.std.proofs.Common.{◌≡◌, ℕ, ◌-◌, Bool, true, false, cond, List, [], ◌∷◌, ◌++◌, map, take, refl, sym, ap, ◌∙◌}
+use Rattle.std.proofs.Common.{subst}
 use Rattle.std.specs.List.{AllByRecursion as Every}
 use Rattle.qc_decl.specs.declared.declaration.Declaration.{Declaration}
 use Rattle.qc_decl.specs.Actors.{is_client, is_site}
 use Rattle.qc_msg.specs.declared.record.Record.{Record}
-use Rattle.qc_msg.specs.declared.step.Given.{Given}
-use Rattle.qc_msg.specs.declared.step.Given.TheVariants as given
+use Rattle.qc_msg.specs.declared.step.Input.{Input}
+use Rattle.qc_msg.specs.declared.step.Input.TheVariants as inputs
 use Rattle.qc_msg.specs.declared.turn.Appended.{Appended}
 use Rattle.qc_msg.specs.declared.turn.Appended.TheVariants.{Done, Failed, Stopped}
 use Rattle.qc_msg.specs.declared.turn.Posting.{Posting}
@@ -49,18 +50,28 @@ with_any P t are = posted_answers P t.append t (record { sends = are.sends; fail
 nothing_sent : (P : Posting → Type 0) (ps : List Posting) → ps ≡ [] → Every P ps
 nothing_sent P ps none = subst (Every P) (sym none) tt
 
-takes_answer : (decl : Declaration) (v : Actor) (g : Given) → Answering (IsAnswerTo g) (actor_takes decl v g).turn
-takes_answer decl (actor.Site s) g = let well : IsSiteTurn g _ = site_written decl s g in record { sends = well.sends; failed_sends = well.failed_sends }
-takes_answer decl (actor.Client c) g = record { sends = client_answers decl c g; failed_sends = nothing_sent (IsAnswerTo g) _ (client_written decl c g).failed_sends }
-takes_answer decl (actor.Admin m) g = record { sends = none_answers g _ (no_answers _ (admin_written decl m g).sends); failed_sends = nothing_sent (IsAnswerTo g) _ (admin_written decl m g).failed_sends }
-takes_answer decl actor.Down (given.Called command) = record { sends = tt; failed_sends = tt }
-takes_answer decl actor.Down (given.Got e) = record { sends = tt; failed_sends = tt }
-takes_answer decl actor.Down (given.Lost number) = record { sends = tt; failed_sends = tt }
+takes_answer : (decl : Declaration) (v : Actor) (g : Input) → Answering (IsAnswerTo g) (actor_takes decl v g).turn
+takes_answer decl (actor.Site s) g = let well : IsSiteTurn g _ = site_written decl s g in
+    record { sends = well.sends; failed_sends = well.failed_sends }
+takes_answer decl (actor.Client c) g = record {
+  sends = client_answers decl c g;
+  failed_sends =
+      nothing_sent (IsAnswerTo g) _ (client_written decl c g).failed_sends;
+}
+takes_answer decl (actor.Admin m) g = record {
+  sends = none_answers g _ (no_answers _ (admin_written decl m g).sends);
+  failed_sends = nothing_sent (IsAnswerTo g) _ (admin_written decl m g).failed_sends;
+}
+takes_answer decl actor.Down (inputs.Called command) = record { sends = tt; failed_sends = tt }
+takes_answer decl actor.Down (inputs.Got e) = record { sends = tt; failed_sends = tt }
+takes_answer decl actor.Down (inputs.Lost number) = record { sends = tt; failed_sends = tt }
 
-pub answers_taken : (decl : Declaration) (a : ℕ) (before : List Deed) (g : Given) (turn : Turn) → IsLawfulWithFalls decl a (before ++ Takes g ∷ []) turn → Every (IsAnswerTo g) (sends_as turn.append turn)
+pub answers_taken : (decl : Declaration) (a : ℕ) (before : List Deed) (g : Input) (turn : Turn)
+    → IsLawfulWithFalls decl a (before ++ Takes g ∷ []) turn → Every (IsAnswerTo g) (sends_as turn.append turn)
 answers_taken decl a before g turn lawful =
     with_any (IsAnswerTo g) turn
-    (subst (Answering (IsAnswerTo g)) (ap (λ (m : ActorMove). m.turn) (sym (after_takes decl a before g)) ∙ called_turn decl a (before ++ Takes g ∷ []) turn lawful)
+    (subst (Answering (IsAnswerTo g)) (ap (λ (m : ActorMove). m.turn) (sym (after_takes decl a before g))
+    ∙ called_turn decl a (before ++ Takes g ∷ []) turn lawful)
     (takes_answer decl (actor_after decl a before).actor g))
 
 -- as it rises
@@ -72,14 +83,21 @@ inquiries_ask decl (tx ∷ txs) = (refl, inquiries_ask decl txs)
 rises_answer : (decl : Declaration) (a : ℕ) (rs : List Record) → Answering NoAnswer (actor_rises decl a rs).turn
 rises_answer decl a rs = by (is_site decl a) (is_client decl a)
   where
-    by : (x y : Bool) → Answering NoAnswer (cond x (by_site (site_rises decl a rs)) (cond y (by_client (client_rises (a - decl.sites) rs)) (by_admin (admin_rises rs)))).turn
+    by : (x y : Bool) → Answering NoAnswer (cond x (by_site (site_rises decl a rs))
+        (cond y (by_client (client_rises (a - decl.sites) rs)) (by_admin (admin_rises rs)))).turn
     by true y =
-        record { sends = inquiries_ask decl (take most_inquiries (in_order (map (λ (p : Prepared). p.tx) (kept_by rs).promises))); failed_sends = tt }
+        record {
+          sends = inquiries_ask decl (take most_inquiries
+              (in_order (map (λ (p : Prepared). p.tx) (kept_by rs).promises)));
+          failed_sends = tt;
+        }
     by false true = record { sends = tt; failed_sends = tt }
     by false false = record { sends = tt; failed_sends = tt }
 
-pub answers_rising : (decl : Declaration) (a : ℕ) (before : List Deed) (rs : List Record) (turn : Turn) → IsLawfulWithFalls decl a (before ++ Rises rs ∷ []) turn → Every NoAnswer (sends_as turn.append turn)
+pub answers_rising : (decl : Declaration) (a : ℕ) (before : List Deed) (rs : List Record) (turn : Turn)
+    → IsLawfulWithFalls decl a (before ++ Rises rs ∷ []) turn → Every NoAnswer (sends_as turn.append turn)
 answers_rising decl a before rs turn lawful =
     with_any NoAnswer turn
-    (subst (Answering NoAnswer) (ap (λ (m : ActorMove). m.turn) (sym (rises decl a before rs)) ∙ called_turn decl a (before ++ Rises rs ∷ []) turn lawful)
+    (subst (Answering NoAnswer) (ap (λ (m : ActorMove). m.turn) (sym (rises decl a before rs))
+    ∙ called_turn decl a (before ++ Rises rs ∷ []) turn lawful)
     (rises_answer decl a rs))

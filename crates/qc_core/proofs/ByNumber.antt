@@ -1,5 +1,6 @@
 -- What a new actor is, and what one is that rises, by its number; the administrator is no site and no client.
-use Rattle.std.proofs.Common.{◌≡◌, ◌≤◌, ◌&&◌, ℕ, ◌-◌, nat_le, nat_lt, Bool, true, false, cond, List, refl, ap, ◌∙◌, arith}
+use Rattle.std.proofs.Common.{◌≡◌, ◌≤◌, ◌&&◌, ℕ, ◌-◌, nat_le, nat_lt, Bool, true, false, cond, List, refl, ap, ◌∙◌}
+use Rattle.std.proofs.Common.{arith}
 use Rattle.std.proofs.lemmas.Bool.{le-ltb}
 use Rattle.qc_client.specs.Client.{new_client}
 use Rattle.qc_decl.proofs.Clients.{client_no_site}
@@ -17,10 +18,12 @@ use Rattle.qc_core.specs.Actors.{ActorMove, actor_rises, by_admin, by_client, by
 
 module _ (decl : Declaration) (a : ℕ) where
   abbrev pub new_by : Bool → Bool → Actor
-  new_by site client = cond site (Site (new_site a)) (cond client (Client (new_client (a - decl.sites))) (Admin new_admin))
+  new_by site client = cond site (Site (new_site a))
+      (cond client (Client (new_client (a - decl.sites))) (Admin new_admin))
 
   abbrev pub rises_by : List Record → Bool → Bool → ActorMove
-  rises_by rs site client = cond site (by_site (site_rises decl a rs)) (cond client (by_client (client_rises (a - decl.sites) rs)) (by_admin (admin_rises rs)))
+  rises_by rs site client = cond site (by_site (site_rises decl a rs))
+      (cond client (by_client (client_rises (a - decl.sites) rs)) (by_admin (admin_rises rs)))
 
   pub site_new : is_site decl a ≡ true → new_actor decl a ≡ Site (new_site a)
   site_new site = ap (λ (x : Bool). new_by x (is_client decl a)) site
@@ -29,16 +32,21 @@ module _ (decl : Declaration) (a : ℕ) where
   site_risen site rs = ap (λ (x : Bool). rises_by rs x (is_client decl a)) site
 
   pub client_new : is_client decl a ≡ true → new_actor decl a ≡ Client (new_client (a - decl.sites))
-  client_new client = ap (λ (x : Bool). new_by x (is_client decl a)) (client_no_site decl a client) ∙ ap (λ (y : Bool). new_by false y) client
+  client_new client = ap (λ (x : Bool). new_by x (is_client decl a)) (client_no_site decl a client)
+      ∙ ap (λ (y : Bool). new_by false y) client
 
-  pub client_risen : is_client decl a ≡ true → (rs : List Record) → actor_rises decl a rs ≡ by_client (client_rises (a - decl.sites) rs)
-  client_risen client rs = ap (λ (x : Bool). rises_by rs x (is_client decl a)) (client_no_site decl a client) ∙ ap (λ (y : Bool). rises_by rs false y) client
+  pub client_risen : is_client decl a ≡ true → (rs : List Record)
+      → actor_rises decl a rs ≡ by_client (client_rises (a - decl.sites) rs)
+  client_risen client rs = ap (λ (x : Bool). rises_by rs x (is_client decl a)) (client_no_site decl a client)
+      ∙ ap (λ (y : Bool). rises_by rs false y) client
 
   pub admin_new : is_site decl a ≡ false → is_client decl a ≡ false → new_actor decl a ≡ Admin new_admin
   admin_new site client = ap (λ (x : Bool). new_by x (is_client decl a)) site ∙ ap (λ (y : Bool). new_by false y) client
 
-  pub admin_risen : is_site decl a ≡ false → is_client decl a ≡ false → (rs : List Record) → actor_rises decl a rs ≡ by_admin (admin_rises rs)
-  admin_risen site client rs = ap (λ (x : Bool). rises_by rs x (is_client decl a)) site ∙ ap (λ (y : Bool). rises_by rs false y) client
+  pub admin_risen : is_site decl a ≡ false → is_client decl a ≡ false → (rs : List Record)
+      → actor_rises decl a rs ≡ by_admin (admin_rises rs)
+  admin_risen site client rs = ap (λ (x : Bool). rises_by rs x (is_client decl a)) site
+      ∙ ap (λ (y : Bool). rises_by rs false y) client
 
 -- whose number is the administrator's, or past it
 

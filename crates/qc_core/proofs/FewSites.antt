@@ -21,7 +21,8 @@ above : (x : ℕ) (ys : List ℕ) → IsBelowAll nat_cmp x ys → Every (λ y. x
 above x [] is = tt
 above x (y ∷ ys) is = (let low : x < y = less x y is.0 in omega arith, above x ys is.1)
 
-few_between : (m n : ℕ) (xs : List ℕ) → Every (λ x. m ≤ x) xs → Every (λ x. x < n) xs → Ascends nat_cmp xs → length xs ≤ n - m
+few_between : (m n : ℕ) (xs : List ℕ) → Every (λ x. m ≤ x) xs → Every (λ x. x < n) xs → Ascends nat_cmp xs
+    → length xs ≤ n - m
 few_between m n [] low high order = omega arith
 few_between m n (x ∷ xs) low high order =
     let rest : length xs ≤ n - (x + 1) = few_between (x + 1) n xs (above x xs order.0) high.1 order.1 in
@@ -40,12 +41,17 @@ with_below : (n : ℕ) (xs : List ℕ) (x : ℕ) → x < n → Every (λ y. y < 
 with_below n [] x low all = (low, tt)
 with_below n (y ∷ ys) x low all = by (nat_cmp x y) (with_below n ys x low all.1)
   where
-    by : (o : Ordering) → Every (λ z. z < n) (with_site ys x) → Every (λ z. z < n) (by_order o (x ∷ y ∷ ys) (x ∷ ys) (y ∷ inserted nat_cmp ys x))
+    by : (o : Ordering) → Every (λ z. z < n) (with_site ys x)
+        → Every (λ z. z < n) (by_order o (x ∷ y ∷ ys) (x ∷ ys) (y ∷ inserted nat_cmp ys x))
     by Less rest = (low, all)
     by Equal rest = (low, all.1)
     by Greater rest = (all.0, rest)
 
-pub more_sites : (n : ℕ) (xs sites : List ℕ) → AreSites n xs → Every (λ x. x < n) sites → AreSites n (fold with_site xs sites)
+pub more_sites : (n : ℕ) (xs sites : List ℕ) → AreSites n xs → Every (λ x. x < n) sites
+    → AreSites n (fold with_site xs sites)
 more_sites n xs [] are low = are
 more_sites n xs (x ∷ sites) are low =
-    more_sites n (with_site xs x) sites (record { below = with_below n xs x low.0 are.below; ascends = ascends-inserted nat_cmp nat_cmp_total xs x are.ascends }) low.1
+    more_sites n (with_site xs x) sites (record {
+      below = with_below n xs x low.0 are.below;
+      ascends = ascends-inserted nat_cmp nat_cmp_total xs x are.ascends;
+    }) low.1

@@ -1,5 +1,6 @@
 -- What a turn of a client writes and tells; and the turns of a front end, which answer nothing.
-use Rattle.std.proofs.Common.{◌≡◌, ℕ, nat_le, Bool, true, false, cond, List, [], ◌∷◌, length, map, Option, Some, None, refl}
+use Rattle.std.proofs.Common.{◌≡◌, ℕ, nat_le, Bool, true, false, cond, List, [], ◌∷◌, length, map, Option, Some, None}
+use Rattle.std.proofs.Common.{refl}
 use Rattle.qc_stamp.specs.declared.stamp.Stamp.{Stamp}
 use Rattle.qc_stamp.specs.declared.stamp.TxId.{TxId}
 use Rattle.qc_decl.specs.declared.declaration.Declaration.{Declaration}
@@ -27,7 +28,7 @@ use Rattle.qc_msg.specs.declared.message.Want.{Want}
 use Rattle.qc_msg.specs.declared.message.Want.TheVariants.{Read, Append}
 use Rattle.qc_msg.specs.declared.record.Record.{Record}
 use Rattle.qc_msg.specs.declared.reply.Reply.TheVariants as replies
-use Rattle.qc_msg.specs.declared.reply.Why.TheVariants as causes
+use Rattle.qc_msg.specs.declared.reply.AbortCause.TheVariants as causes
 use Rattle.qc_msg.specs.declared.step.Command.{Command}
 use Rattle.qc_msg.specs.declared.step.Command.TheVariants as commands
 use Rattle.qc_msg.specs.declared.turn.Appended.TheVariants.{Done}
@@ -97,12 +98,15 @@ quiet_asks = record { turn = says_well [] None refl; sends = tt }
 tells_asks : (reply : Reply) → says_neither (saying_of reply) ≡ true → IsAsking (telling reply)
 tells_asks reply neither = record { turn = says_well [] (Some reply) neither; sends = tt }
 
-decisions_ask : (tx : TxId) (outcome : Outcome) (sites : List ℕ) → Every NoAnswer (map (λ (site : ℕ). record { to = site; message = messages.Decision tx outcome }) sites)
+decisions_ask : (tx : TxId) (outcome : Outcome) (sites : List ℕ)
+    → Every NoAnswer (map (λ (site : ℕ). record { to = site; message = messages.Decision tx outcome }) sites)
 decisions_ask tx outcome [] = tt
 decisions_ask tx outcome (site ∷ sites) = (refl, decisions_ask tx outcome sites)
 
-pub ends_asks : (b : Begun) (outcome : Outcome) (reply : Reply) → says_neither (saying_of reply) ≡ true → IsAsking (ending (decisions b outcome) reply)
-ends_asks b outcome reply neither = record { turn = says_well (decisions b outcome) (Some reply) neither; sends = decisions_ask b.tx outcome b.asked }
+pub ends_asks : (b : Begun) (outcome : Outcome) (reply : Reply) → says_neither (saying_of reply) ≡ true
+    → IsAsking (ending (decisions b outcome) reply)
+ends_asks b outcome reply neither = record
+    { turn = says_well (decisions b outcome) (Some reply) neither; sends = decisions_ask b.tx outcome b.asked }
 
 requests_ask : (b : Begun) (want : Want) (sites : List ℕ) → Every NoAnswer (map (request_of b want) sites)
 requests_ask b want [] = tt
@@ -113,41 +117,66 @@ prepares_ask b [] = tt
 prepares_ask b (site ∷ sites) = (refl, prepares_ask b sites)
 
 wants_asks : (b : Begun) (want : Want) (sites : List ℕ) → IsAsking (sending (map (request_of b want) sites))
-wants_asks b want sites = record { turn = says_well (map (request_of b want) sites) None refl; sends = requests_ask b want sites }
+wants_asks b want sites = record {
+  turn = says_well (map (request_of b want) sites) None refl;
+  sends = requests_ask b want sites;
+}
 
 pub commits_asks : (stamp : Stamp) (b : Begun) → IsAsking (desks.commit_turn stamp b)
-commits_asks stamp b = record { turn = record { append = refl; told = refl; writes = refl; fails = (refl, refl); failed_sends = refl }; sends = decisions_ask b.tx (Committed stamp) b.asked }
+commits_asks stamp b = record {
+  turn = record
+      { append = refl; told = refl; writes = refl; fails = (refl, refl); failed_sends = refl };
+  sends = decisions_ask b.tx (Committed stamp) b.asked;
+}
 
 -- a front end
 
 module _ (decl : Declaration) where
-  append_written : (front : Front) (t : Transaction) (object inv event : ℕ) (calls : List Call) (r : RoundState) (v : Verdict) → IsAsking (append_by decl front t object inv event calls r v).turn
-  append_written front t object inv event calls r verdicts.Waiting = wants_asks t.begun (append_want decl t object event) (wanted r)
-  append_written front t object inv event calls r verdicts.Met = tells_asks (replies.Response (resp_of decl object event)) refl
-  append_written front t object inv event calls r (verdicts.Closed epoch site) = tells_asks (replies.Closed epoch site) refl
+  append_written : (front : Front) (t : Transaction) (object inv event : ℕ) (calls : List Call) (r : RoundState)
+      (v : Verdict) → IsAsking (append_by decl front t object inv event calls r v).turn
+  append_written front t object inv event calls r verdicts.Waiting =
+      wants_asks t.begun (append_want decl t object event) (wanted r)
+  append_written front t object inv event calls r verdicts.Met =
+      tells_asks (replies.Response (resp_of decl object event)) refl
+  append_written front t object inv event calls r (verdicts.Closed epoch site) =
+      tells_asks (replies.Closed epoch site) refl
   append_written front t object inv event calls r (verdicts.Clash tx site) = tells_asks (replies.Conflict tx site) refl
-  append_written front t object inv event calls r (verdicts.Short got need) = tells_asks (replies.Quorum halves.Append got need) refl
+  append_written front t object inv event calls r (verdicts.Short got need) =
+      tells_asks (replies.Quorum halves.Append got need) refl
 
-  answered_written : (front : Front) (t : Transaction) (object inv : ℕ) (event : Option ℕ) → IsAsking (answered decl front t object inv event).turn
+  answered_written : (front : Front) (t : Transaction) (object inv : ℕ) (event : Option ℕ)
+      → IsAsking (answered decl front t object inv event).turn
   answered_written front t object inv None = tells_asks replies.Absent refl
   answered_written front t object inv (Some event) =
-      append_written front t object inv event [] (round_for decl front t (append_need_of decl t.begun.epoch object event)) (verdict (round_for decl front t (append_need_of decl t.begun.epoch object event)))
+      append_written front t object inv event []
+      (round_for decl front t (append_need_of decl t.begun.epoch object event))
+      (verdict (round_for decl front t (append_need_of decl t.begun.epoch object event)))
 
-  read_written : (front : Front) (t : Transaction) (object inv : ℕ) (calls : List Call) (r : RoundState) (v : Verdict) → IsAsking (read_by decl front t object inv calls r v).turn
+  read_written : (front : Front) (t : Transaction) (object inv : ℕ) (calls : List Call) (r : RoundState) (v : Verdict)
+      → IsAsking (read_by decl front t object inv calls r v).turn
   read_written front t object inv calls r verdicts.Waiting = wants_asks t.begun (read_want object inv) (wanted r)
-  read_written front t object inv calls r verdicts.Met = answered_written front t object inv (answer_of decl t object inv)
+  read_written front t object inv calls r verdicts.Met =
+      answered_written front t object inv (answer_of decl t object inv)
   read_written front t object inv calls r (verdicts.Closed epoch site) = tells_asks (replies.Closed epoch site) refl
   read_written front t object inv calls r (verdicts.Clash tx site) = tells_asks (replies.Conflict tx site) refl
-  read_written front t object inv calls r (verdicts.Short got need) = tells_asks (replies.Quorum halves.Read got need) refl
+  read_written front t object inv calls r (verdicts.Short got need) =
+      tells_asks (replies.Quorum halves.Read got need) refl
 
-  performs_written : (front : Front) (t : Option Transaction) (object inv : ℕ) → IsAsking (performs decl front t object inv).turn
+  performs_written : (front : Front) (t : Option Transaction) (object inv : ℕ)
+      → IsAsking (performs decl front t object inv).turn
   performs_written front None object inv = tells_asks replies.NoTransaction refl
-  performs_written front (Some t) object inv = by t.begun.doomed (nat_le most_transaction_operations (length t.begun.ops))
+  performs_written front (Some t) object inv =
+      by t.begun.doomed (nat_le most_transaction_operations (length t.begun.ops))
     where
-      by : (doomed long : Bool) → IsAsking (cond doomed (front_moved front (telling replies.Doomed)) (cond long (front_moved front (telling replies.TooLong)) (reads decl front t object inv [] (round_for decl front t (read_need_of decl t.begun.epoch object inv))))).turn
+      by : (doomed long : Bool) → IsAsking (cond doomed (front_moved front (telling replies.Doomed))
+          (cond long (front_moved front (telling replies.TooLong))
+          (reads decl front t object inv [] (round_for decl front t
+          (read_need_of decl t.begun.epoch object inv))))).turn
       by true long = tells_asks replies.Doomed refl
       by false true = tells_asks replies.TooLong refl
-      by false false = read_written front t object inv [] (round_for decl front t (read_need_of decl t.begun.epoch object inv)) (verdict (round_for decl front t (read_need_of decl t.begun.epoch object inv)))
+      by false false = read_written front t object inv []
+          (round_for decl front t (read_need_of decl t.begun.epoch object inv))
+          (verdict (round_for decl front t (read_need_of decl t.begun.epoch object inv)))
 
   begins_written : (front : Front) (t : Option Transaction) → IsAsking (begins decl front t).turn
   begins_written front None = tells_asks (replies.Began (next_tx front)) refl
@@ -157,7 +186,8 @@ module _ (decl : Declaration) where
   commits_written front None = tells_asks replies.NoTransaction refl
   commits_written front (Some t) = by t.begun.doomed
     where
-      by : (doomed : Bool) → IsAsking (cond doomed (gives_up front t (replies.Aborted causes.Doomed)) (front_moved front quiet)).turn
+      by : (doomed : Bool) → IsAsking (cond doomed (gives_up front t (replies.Aborted causes.Doomed))
+          (front_moved front quiet)).turn
       by true = ends_asks t.begun Aborted (replies.Aborted causes.Doomed) refl
       by false = quiet_asks
 
@@ -172,16 +202,22 @@ module _ (decl : Declaration) where
   command_written front commands.Abort = aborts_written front front.transaction
   command_written front (commands.Epoch number) = quiet_asks
 
-  pub takes_in_written : (front : Front) (doing : Doing) (t : Option Transaction) (number : ℕ) (answer : Option Answer) → IsAsking (fronts.takes_in decl front doing t number answer).turn
+  pub takes_in_written : (front : Front) (doing : Doing) (t : Option Transaction) (number : ℕ) (answer : Option Answer)
+      → IsAsking (fronts.takes_in decl front doing t number answer).turn
   takes_in_written front doing None number answer = quiet_asks
   takes_in_written front Idle (Some t) number answer = quiet_asks
   takes_in_written front (Reading object inv calls round) (Some t) number answer = by (site_called calls number)
     where
       by : (o : Option ℕ) → IsAsking (fronts.reading_takes decl front t object inv calls round number answer o).turn
       by None = quiet_asks
-      by (Some site) = read_written (learns front answer) (read_with t site object answer) object inv (without_call calls number) (note round site (standing_of answer)) (verdict (note round site (standing_of answer)))
+      by (Some site) = read_written (learns front answer) (read_with t site object answer) object inv
+          (without_call calls number) (note round site (standing_of answer))
+          (verdict (note round site (standing_of answer)))
   takes_in_written front (Appending object inv event calls round) (Some t) number answer = by (site_called calls number)
     where
-      by : (o : Option ℕ) → IsAsking (fronts.appending_takes decl front t object inv event calls round number answer o).turn
+      by : (o : Option ℕ) → IsAsking (fronts.appending_takes decl front t object inv event calls round number answer
+          o).turn
       by None = quiet_asks
-      by (Some site) = append_written (learns front answer) (appended_with t site answer) object inv event (without_call calls number) (note round site (standing_of answer)) (verdict (note round site (standing_of answer)))
+      by (Some site) = append_written (learns front answer) (appended_with t site answer) object inv event
+          (without_call calls number) (note round site (standing_of answer))
+          (verdict (note round site (standing_of answer)))

@@ -1,5 +1,6 @@
 -- Where records are kept, each rise among an actor's deeds gives back what its journal holds then.
-use Rattle.std.proofs.Common.{◌≡◌, ℕ, ◌==◌, Bool, true, false, cond, List, [], ◌∷◌, ◌++◌, filter, fold, map, Option, Some, None, option_to_list, slice_get, refl, ap, ◌∙◌, subst, append_assoc, eqb-true}
+use Rattle.std.proofs.Common.{◌≡◌, ℕ, ◌==◌, Bool, true, false, cond, List, [], ◌∷◌, ◌++◌, filter, fold, map, Option}
+use Rattle.std.proofs.Common.{Some, None, option_to_list, slice_get, refl, ap, ◌∙◌, subst, append_assoc, eqb-true}
 use Rattle.std.proofs.lemmas.List.{map-append}
 use Rattle.std.proofs.lemmas.List.Elements.{filter-append}
 use Rattle.std.proofs.lemmas.List.Sums.{fold-append}
@@ -12,7 +13,9 @@ use Rattle.qc_msg.specs.Steps.{Entry}
 use Rattle.qc_promise.specs.Kept.{IsKeptAt, Journal, Kept, journal_of, journal_with, no_journal}
 use Rattle.qc_core.specs.GivenBack.{AreGivenBack}
 
-step_back : (before : List Step) (ms : List Envelope) (step : Step) (later : List Deed) → IsKeptAt before step → AreGivenBack (journal_with (journal_of before) step) later → AreGivenBack (journal_of before) (deed_at ms step ++ later)
+step_back : (before : List Step) (ms : List Envelope) (step : Step) (later : List Deed) → IsKeptAt before step
+    → AreGivenBack (journal_with (journal_of before) step) later
+    → AreGivenBack (journal_of before) (deed_at ms step ++ later)
 step_back before ms (steps.Phase k) later kept back = back
 step_back before ms (steps.Cut x y) later kept back = back
 step_back before ms (steps.Heal x y) later kept back = back
@@ -34,29 +37,41 @@ step_back before ms (steps.Damaged offset) later kept back = absurd kept
 own_more : (a : ℕ) (h : List Entry) (e : Entry) → own a (h ++ e ∷ []) ≡ own a h ++ cond (e.actor == a) (e.step ∷ []) []
 own_more a h e =
     ap (λ (es : List Entry). map (λ (k : Entry). k.step) es) (filter-append (λ (k : Entry). k.actor == a) h (e ∷ []))
-    ∙ map-append (λ (k : Entry). k.step) (filter (λ (k : Entry). k.actor == a) h) (filter (λ (k : Entry). k.actor == a) (e ∷ []))
+    ∙ map-append (λ (k : Entry). k.step) (filter (λ (k : Entry). k.actor == a) h)
+    (filter (λ (k : Entry). k.actor == a) (e ∷ []))
     ∙ ap (λ (xs : List Step). own a h ++ xs) (by (e.actor == a))
   where
     by : (t : Bool) → map (λ (k : Entry). k.step) (cond t (e ∷ []) []) ≡ cond t (e.step ∷ []) []
     by true = refl
     by false = refl
 
-journal_more : (a : ℕ) (h : List Entry) (e : Entry) → journal_of (own a (h ++ e ∷ [])) ≡ fold journal_with (journal_of (own a h)) (cond (e.actor == a) (e.step ∷ []) [])
-journal_more a h e = ap journal_of (own_more a h e) ∙ fold-append journal_with no_journal (own a h) (cond (e.actor == a) (e.step ∷ []) [])
+journal_more : (a : ℕ) (h : List Entry) (e : Entry)
+    → journal_of (own a (h ++ e ∷ [])) ≡ fold journal_with (journal_of (own a h)) (cond (e.actor == a) (e.step ∷ []) [])
+journal_more a h e = ap journal_of (own_more a h e)
+    ∙ fold-append journal_with no_journal (own a h) (cond (e.actor == a) (e.step ∷ []) [])
 
-pub kept_back : (a : ℕ) (ms : List Envelope) (past rest h : List Entry) → past ++ rest ≡ h → Kept h → AreGivenBack (journal_of (own a past)) (deeds a ms rest)
+pub kept_back : (a : ℕ) (ms : List Envelope) (past rest h : List Entry) → past ++ rest ≡ h → Kept h
+    → AreGivenBack (journal_of (own a past)) (deeds a ms rest)
 kept_back a ms past [] h is kept = tt
 kept_back a ms past (e ∷ rest) h is kept =
-    by (e.actor == a) refl (subst (λ (j : Journal). AreGivenBack j (deeds a (ms ++ option_to_list (envelope_of e)) rest)) (journal_more a past e) (kept_back a (ms ++ option_to_list (envelope_of e)) (past ++ e ∷ []) rest h (append_assoc past (e ∷ []) rest ∙ is) kept))
+    by (e.actor == a) refl (subst (λ (j : Journal). AreGivenBack j
+    (deeds a (ms ++ option_to_list (envelope_of e)) rest)) (journal_more a past e)
+    (kept_back a (ms ++ option_to_list (envelope_of e)) (past ++ e ∷ []) rest h
+    (append_assoc past (e ∷ []) rest ∙ is) kept))
   where
     later : List Deed
     later = deeds a (ms ++ option_to_list (envelope_of e)) rest
 
-    by : (t : Bool) → (e.actor == a) ≡ t → AreGivenBack (fold journal_with (journal_of (own a past)) (cond (e.actor == a) (e.step ∷ []) [])) later → AreGivenBack (journal_of (own a past)) (cond t (deed_at ms e.step) [] ++ later)
+    by : (t : Bool) → (e.actor == a) ≡ t → AreGivenBack
+        (fold journal_with (journal_of (own a past)) (cond (e.actor == a) (e.step ∷ []) [])) later
+        → AreGivenBack (journal_of (own a past)) (cond t (deed_at ms e.step) [] ++ later)
     by true same back =
-        step_back (own a past) ms e.step later (subst (λ (k : ℕ). IsKeptAt (own k past) e.step) (eqb-true e.actor a same) (kept past rest e is))
-        (subst (λ (t : Bool). AreGivenBack (fold journal_with (journal_of (own a past)) (cond t (e.step ∷ []) [])) later) same back)
-    by false other back = subst (λ (t : Bool). AreGivenBack (fold journal_with (journal_of (own a past)) (cond t (e.step ∷ []) [])) later) other back
+        step_back (own a past) ms e.step later (subst (λ (k : ℕ). IsKeptAt (own k past) e.step)
+        (eqb-true e.actor a same) (kept past rest e is))
+        (subst (λ (t : Bool). AreGivenBack (fold journal_with (journal_of (own a past)) (cond t (e.step ∷ []) []))
+        later) same back)
+    by false other back = subst (λ (t : Bool). AreGivenBack
+        (fold journal_with (journal_of (own a past)) (cond t (e.step ∷ []) [])) later) other back
 
 pub kept_given_back : (h : List Entry) → Kept h → (a : ℕ) → AreGivenBack no_journal (deeds a [] h)
 kept_given_back h kept a = kept_back a [] [] h h refl kept

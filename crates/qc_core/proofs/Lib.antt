@@ -36,6 +36,9 @@ pub mod AdminOver
 pub mod Written
 pub mod LivesLaws
 pub mod SiteLives
+pub mod RestingPlaces
+pub mod ActorKinds
+pub mod OpenedInputs
 pub mod ByTurns
 pub mod Answers
 pub mod KeptBack

@@ -9,8 +9,8 @@ use Rattle.qc_msg.specs.declared.message.Envelope.{Envelope}
 use Rattle.qc_msg.specs.declared.record.Record.{Record}
 use Rattle.qc_msg.specs.declared.step.Fall.{Fall}
 use Rattle.qc_msg.specs.declared.step.Fall.TheVariants as causes
-use Rattle.qc_msg.specs.declared.step.Given.{Given}
-use Rattle.qc_msg.specs.declared.step.Given.TheVariants as given
+use Rattle.qc_msg.specs.declared.step.Input.{Input}
+use Rattle.qc_msg.specs.declared.step.Input.TheVariants as inputs
 use Rattle.qc_msg.specs.declared.step.Step.{Step}
 use Rattle.qc_msg.specs.declared.step.Step.TheVariants as steps
 use Rattle.qc_msg.specs.declared.turn.Appended.{Appended}
@@ -56,7 +56,7 @@ is_down (actor.Client c) = false
 is_down (actor.Admin m) = false
 is_down actor.Down = true
 
-takes_stays : (decl : Declaration) (v : Actor) (g : Given) → is_down (actor_takes decl v g).actor ≡ is_down v
+takes_stays : (decl : Declaration) (v : Actor) (g : Input) → is_down (actor_takes decl v g).actor ≡ is_down v
 takes_stays decl (actor.Site s) g = refl
 takes_stays decl (actor.Client c) g = refl
 takes_stays decl (actor.Admin m) g = refl
@@ -118,10 +118,10 @@ steady_from u (Tells reply ∷ ds) steady = steady_from u ds steady.1
 steady_from u (Falls cause pending ∷ ds) steady = absurd steady.0
 steady_from u (Rises records ∷ ds) steady = absurd steady.0
 
-reaches : (ds : List Deed) (g : Given) → AreSteady ds → MayReach (is_up ds) g
-reaches ds (given.Called command) steady = tt
-reaches ds (given.Got e) steady = steady_from true ds steady
-reaches ds (given.Lost number) steady = steady_from true ds steady
+reaches : (ds : List Deed) (g : Input) → AreSteady ds → MayReach (is_up ds) g
+reaches ds (inputs.Called command) steady = tt
+reaches ds (inputs.Got e) steady = steady_from true ds steady
+reaches ds (inputs.Lost number) steady = steady_from true ds steady
 
 -- a site's or a client's turn is that of the actor
 

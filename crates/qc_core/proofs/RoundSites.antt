@@ -1,5 +1,6 @@
 -- The sites that a round may still ask are sites, and no more than there are.
-use Rattle.std.proofs.Common.{◌≡◌, ℕ, zero, suc, ◌+◌, ◌-◌, ◌%◌, ◌<◌, ◌≤◌, ◌==◌, nat_lt, Bool, true, false, cond, List, [], ◌∷◌, ◌++◌, filter, length, Option, Some, None, refl, sym, ap, subst, arith}
+use Rattle.std.proofs.Common.{◌≡◌, ℕ, zero, suc, ◌+◌, ◌-◌, ◌%◌, ◌<◌, ◌≤◌, ◌==◌, nat_lt, Bool, true, false, cond, List}
+use Rattle.std.proofs.Common.{[], ◌∷◌, ◌++◌, filter, length, Option, Some, None, refl, sym, ap, subst, arith}
 use Rattle.std.specs.Prelude.{slice_get, slice_index}
 use Rattle.std.specs.List.{AllByRecursion as Every, range_with_len}
 use Rattle.std.specs.Option.{option_map_or}
@@ -29,12 +30,14 @@ last_below n [] ys all = all
 last_below n (x ∷ xs) ys all = last_below n xs ys all.1
 
 pub wanted_below : (n : ℕ) (r : RoundState) → RestFits n r → Every (λ site. site < n) (wanted r)
-wanted_below n r f = first_below n (wanted r) (wanted_is r).more (subst (Every (λ site. site < n)) (sym (wanted_is r).is) f.below)
+wanted_below n r f = first_below n (wanted r) (wanted_is r).more
+    (subst (Every (λ site. site < n)) (sym (wanted_is r).is) f.below)
 
 pub wanted_few : (n : ℕ) (r : RoundState) → RestFits n r → length (wanted r) ≤ n
 wanted_few n r f =
     let whole : length (wanted r ++ (wanted_is r).more) ≡ length r.rest = ap length (wanted_is r).is in
-    let both : length (wanted r ++ (wanted_is r).more) ≡ length (wanted r) + length (wanted_is r).more = length-append (wanted r) (wanted_is r).more in
+    let both : length (wanted r ++ (wanted_is r).more) ≡ length (wanted r) + length (wanted_is r).more =
+    length-append (wanted r) (wanted_is r).more in
     let few : length r.rest ≤ n = f.few in
     omega arith
 
@@ -42,13 +45,15 @@ pub length_filter : (test : ℕ → Bool) (xs : List ℕ) → length (filter tes
 length_filter test [] = omega arith
 length_filter test (x ∷ xs) = by (test x) (length_filter test xs)
   where
-    by : (t : Bool) → length (filter test xs) ≤ length xs → length (cond t (x ∷ filter test xs) (filter test xs)) ≤ length (x ∷ xs)
+    by : (t : Bool) → length (filter test xs) ≤ length xs
+        → length (cond t (x ∷ filter test xs) (filter test xs)) ≤ length (x ∷ xs)
     by true few = omega arith
     by false few = omega arith
 
 pub cyclic_length : (sites from : ℕ) → from ≤ sites → length (cyclic sites from) ≡ sites
 cyclic_length sites from low =
-    let whole : length (cyclic sites from) ≡ length (range_with_len from (sites - from)) + length (range_with_len 0 from) = length-append (range_with_len from (sites - from)) (range_with_len 0 from) in
+    let whole : length (cyclic sites from) ≡ length (range_with_len from (sites - from)) + length
+    (range_with_len 0 from) = length-append (range_with_len from (sites - from)) (range_with_len 0 from) in
     let a : length (range_with_len from (sites - from)) ≡ sites - from = length-range_with_len from (sites - from) in
     let b : length (range_with_len 0 from) ≡ from = length-range_with_len 0 from in
     omega arith
@@ -63,42 +68,57 @@ no_weights : (xs : List ℕ) → weighing [] xs ≡ []
 no_weights [] = refl
 no_weights (x ∷ xs) = no_weights xs
 
-plan_weights : (decl : Declaration) (epoch : ℕ) → IsAccepted decl → (p : Plan) → plan_in decl epoch ≡ Some p → length p.weights ≡ decl.sites
+plan_weights : (decl : Declaration) (epoch : ℕ) → IsAccepted decl → (p : Plan) → plan_in decl epoch ≡ Some p
+    → length p.weights ≡ decl.sites
 plan_weights decl epoch accepted p is = by (epoch == 0) is
   where
     by : (t : Bool) → cond t None (slice_get decl.plans (epoch - 1)) ≡ Some p → length p.weights ≡ decl.sites
     by true never = absurd (let no : ⊥ = cc in no)
     by false at = let good : IsGood decl p = accepted.good (epoch - 1) p at in good.weights
 
-start_fits_at : (decl : Declaration) (client need : ℕ) (weights : List ℕ) → IsAccepted decl → length weights ≡ decl.sites → RestFits decl.sites (start weights (first_site decl client) need)
+start_fits_at : (decl : Declaration) (client need : ℕ) (weights : List ℕ) → IsAccepted decl
+    → length weights ≡ decl.sites → RestFits decl.sites (start weights (first_site decl client) need)
 start_fits_at decl client need weights accepted same = record {
   below = every-from_In (λ site. site < decl.sites) (weighing weights around) (λ site among.
-      let low : site < length weights = weighs_below weights site (In-passes (λ s. nat_lt 0 (weight_at weights s)) site around among) in omega arith);
+      let low : site < length weights = weighs_below weights site
+      (In-passes (λ s. nat_lt 0 (weight_at weights s)) site around among) in omega arith);
   few =
       let some : 0 < decl.sites = accepted.has_site in
       let low : client % decl.sites < decl.sites = omega arith in
-      let whole : length around ≡ length weights = cyclic_length (length weights) (first_site decl client) (omega arith) in
-      let fewer : length (weighing weights around) ≤ length around = length_filter (λ s. nat_lt 0 (weight_at weights s)) around in
+      let whole : length around ≡ length weights =
+      cyclic_length (length weights) (first_site decl client) (omega arith) in
+      let fewer : length (weighing weights around) ≤ length around =
+      length_filter (λ s. nat_lt 0 (weight_at weights s)) around in
       omega arith;
 } where
   around : List ℕ
   around = cyclic (length weights) (first_site decl client)
 
-pub start_fits : (decl : Declaration) (client epoch need : ℕ) → IsAccepted decl → RestFits decl.sites (start (weights_of decl epoch) (first_site decl client) need)
+pub start_fits : (decl : Declaration) (client epoch need : ℕ) → IsAccepted decl
+    → RestFits decl.sites (start (weights_of decl epoch) (first_site decl client) need)
 start_fits decl client epoch need accepted = by (plan_in decl epoch) refl
   where
-    by : (o : Option Plan) → plan_in decl epoch ≡ o → RestFits decl.sites (start (option_map_or (λ (p : Plan). p.weights) o []) (first_site decl client) need)
-    by None is = subst (λ (rest : List ℕ). RestFits decl.sites (record { weights = []; need = need; asked = []; rest = rest })) (sym (no_weights (cyclic 0 (first_site decl client)))) (record { below = tt; few = omega arith })
+    by : (o : Option Plan) → plan_in decl epoch ≡ o
+        → RestFits decl.sites (start (option_map_or (λ (p : Plan). p.weights) o []) (first_site decl client) need)
+    by None is = subst (λ (rest : List ℕ). RestFits decl.sites
+        (record { weights = []; need = need; asked = []; rest = rest }))
+        (sym (no_weights (cyclic 0 (first_site decl client)))) (record { below = tt; few = omega arith })
     by (Some p) is = start_fits_at decl client need p.weights accepted (plan_weights decl epoch accepted p is)
 
-pub round_fits : (decl : Declaration) (client epoch need : ℕ) (r : RoundState) → IsAccepted decl → IsRound decl client epoch need r → RestFits decl.sites r
+pub round_fits : (decl : Declaration) (client epoch need : ℕ) (r : RoundState) → IsAccepted decl
+    → IsRound decl client epoch need r → RestFits decl.sites r
 round_fits decl client epoch need r accepted is =
-    let first : RestFits decl.sites (start (weights_of decl epoch) (first_site decl client) need) = start_fits decl client epoch need accepted in
+    let first : RestFits decl.sites (start (weights_of decl epoch) (first_site decl client) need) =
+    start_fits decl client epoch need accepted in
     record {
-      below = last_below decl.sites (sites_of r.asked) r.rest (subst (Every (λ site. site < decl.sites)) (sym is.sites) first.below);
+      below = last_below decl.sites (sites_of r.asked) r.rest
+          (subst (Every (λ site. site < decl.sites)) (sym is.sites) first.below);
       few =
-          let whole : length (sites_of r.asked ++ r.rest) ≡ length (start (weights_of decl epoch) (first_site decl client) need).rest = ap length is.sites in
-          let both : length (sites_of r.asked ++ r.rest) ≡ length (sites_of r.asked) + length r.rest = length-append (sites_of r.asked) r.rest in
-          let most : length (start (weights_of decl epoch) (first_site decl client) need).rest ≤ decl.sites = first.few in
+          let whole : length (sites_of r.asked ++ r.rest) ≡ length
+          (start (weights_of decl epoch) (first_site decl client) need).rest = ap length is.sites in
+          let both : length (sites_of r.asked ++ r.rest) ≡ length (sites_of r.asked) + length r.rest =
+          length-append (sites_of r.asked) r.rest in
+          let most : length (start (weights_of decl epoch) (first_site decl client) need).rest ≤ decl.sites =
+          first.few in
           omega arith;
     }

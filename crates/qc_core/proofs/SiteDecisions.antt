@@ -1,5 +1,6 @@
 -- A site's step for a promise and for a Decision.
-use Rattle.std.proofs.Common.{◌≡◌, ℕ, ◌==◌, ◌&&◌, ◌||◌, not, Bool, true, false, cond, List, [], ◌∷◌, ◌++◌, Option, Some, None, is_some, refl, sym, ap, ◌∙◌}
+use Rattle.std.proofs.Common.{◌≡◌, ℕ, ◌==◌, ◌&&◌, ◌||◌, not, Bool, true, false, cond, List, [], ◌∷◌, ◌++◌, Option, Some}
+use Rattle.std.proofs.Common.{None, is_some, refl, sym, ap, ◌∙◌}
 use Rattle.std.specs.Prelude.{filter, fold}
 use Rattle.std.specs.Option.{option_map_or}
 use Rattle.std.proofs.lemmas.List.{append-nil}
@@ -18,7 +19,7 @@ use Rattle.qc_msg.specs.declared.message.Outcome.{Outcome}
 use Rattle.qc_msg.specs.declared.message.Outcome.TheVariants.{Committed, Aborted, Active}
 use Rattle.qc_msg.specs.declared.message.Want.TheVariants.{Prepare}
 use Rattle.qc_msg.specs.declared.record.Record.TheVariants as records
-use Rattle.qc_msg.specs.declared.step.Given.{Given}
+use Rattle.qc_msg.specs.declared.step.Input.{Input}
 use Rattle.qc_msg.specs.declared.turn.Appended.TheVariants.{Done}
 use Rattle.qc_msg.specs.declared.turn.Turn.{Turn}
 use Rattle.qc_msg.specs.Deeds.{Deed, Takes, turn_deeds}
@@ -74,50 +75,67 @@ finishing tx clock =
 
 module _ (site : ℕ) (ds : List Deed) (n number from to : ℕ) where
   module _ (tx : TxId) (epoch life : ℕ) where
-    abbrev preparing : Given
+    abbrev preparing : Input
     preparing = letter number from to (messages.Request tx epoch life Prepare)
 
     -- a promise of a transaction that has none
     pub promise : (clock : ℕ) (p : Prepared) → p.tx ≡ tx → is_prepared (shown site ds).prepared tx ≡ false
         → IsStep site ds (letter number from to (messages.Request tx epoch life Prepare)) n
-        (moved (record (passed site ds (messages.Request tx epoch life Prepare)) { recorded = union (shown site ds).recorded p.lines; prepared = (shown site ds).prepared ++ p ∷ [] }) (promising from number clock p))
+        (moved (record (passed site ds (messages.Request tx epoch life Prepare))
+        { recorded = union (shown site ds).recorded p.lines; prepared = (shown site ds).prepared ++ p ∷ [] })
+        (promising from number clock p))
     promise clock p its none =
         sym (shown-more site ds preparing n (promising from number clock p)
         ∙ same_state (grown site ds preparing n (promising from number clock p))
-        (record (passed site ds (messages.Request tx epoch life Prepare)) { recorded = union (shown site ds).recorded p.lines; prepared = (shown site ds).prepared ++ p ∷ [] })
+        (record (passed site ds (messages.Request tx epoch life Prepare))
+        { recorded = union (shown site ds).recorded p.lines; prepared = (shown site ds).prepared ++ p ∷ [] })
         refl refl refl refl refl
-        (ap (λ (l : Lines). l.since) (learning-nil (learning (lines_shown ds) (view_given preparing (turn_deeds n (promising from number clock p))))) ∙ ap (λ (v : List Line). (learning (lines_shown ds) v).since) (none_seen ((number == number) && false || false)) ∙ union-nil (shown site ds).log)
+        (ap (λ (l : Lines). l.since) (learning-nil
+        (learning (lines_shown ds) (view_given preparing (turn_deeds n (promising from number clock p)))))
+        ∙ ap (λ (v : List Line). (learning (lines_shown ds) v).since)
+        (none_seen ((number == number) && false || false)) ∙ union-nil (shown site ds).log)
         refl
         (stays_held ds preparing n (promising from number clock p) (λ t. refl, λ t. refl) []
-        (ap (λ (b : Bool). cond ((b || false) && true) (record { tx = tx; want = Prepare } ∷ []) []) (and_false (number == number))))
-        (ap (λ (v : List Prepared). v ++ p ∷ []) (filter_same (lasts (Takes preparing ∷ turn_deeds n (promising from number clock p))) (λ (q : Prepared). not (same_tx q.tx tx)) apart (shown site ds).prepared ∙ none_prepared (shown site ds).prepared tx none))
+        (ap (λ (b : Bool). cond ((b || false) && true) (record { tx = tx; want = Prepare } ∷ []) [])
+        (and_false (number == number))))
+        (ap (λ (v : List Prepared). v ++ p ∷ [])
+        (filter_same (lasts (Takes preparing ∷ turn_deeds n (promising from number clock p)))
+        (λ (q : Prepared). not (same_tx q.tx tx)) apart (shown site ds).prepared
+        ∙ none_prepared (shown site ds).prepared tx none))
         refl)
       where
         none_seen : (b : Bool) → cond b (view_in Prepare) [] ≡ []
         none_seen true = refl
         none_seen false = refl
 
-        apart : (q : Prepared) → lasts (Takes preparing ∷ turn_deeds n (promising from number clock p)) q ≡ not (same_tx q.tx tx)
-        apart q = ap (λ (b : Bool). not b) (or_false (same_tx p.tx q.tx) ∙ ap (λ (t : TxId). same_tx t q.tx) its ∙ sym_tx tx q.tx)
+        apart : (q : Prepared) → lasts (Takes preparing ∷ turn_deeds n (promising from number clock p)) q ≡ not
+            (same_tx q.tx tx)
+        apart q = ap (λ (b : Bool). not b) (or_false (same_tx p.tx q.tx) ∙ ap (λ (t : TxId). same_tx t q.tx) its
+            ∙ sym_tx tx q.tx)
 
   -- Decisions
 
-  abbrev pub deciding : TxId → Outcome → Given
+  abbrev pub deciding : TxId → Outcome → Input
   deciding tx verdict = letter number from to (messages.Decision tx verdict)
 
   abbrev pub with_clock : TxId → Outcome → SiteState
   with_clock tx verdict = passed site ds (messages.Decision tx verdict)
 
   pub active : (tx : TxId) → IsStep site ds (deciding tx Active) n (moved (with_clock tx Active) quiet)
-  active tx = still site ds n number from to (messages.Decision tx Active) [] None (λ t. and_false (same_tx tx t), λ t. and_false (same_tx tx t)) refl refl
+  active tx = still site ds n number from to (messages.Decision tx Active) [] None
+      (λ t. and_false (same_tx tx t), λ t. and_false (same_tx tx t)) refl refl
 
   -- what is held once a Decision that ends a transaction is taken
   ended : (tx : TxId) (verdict : Outcome) (turn : Turn) → is_final verdict ≡ true
-      → fold hold (fold hold (fold with_promise [] (filter (remains (Takes (deciding tx verdict) ∷ turn_deeds n turn)) (remaining (last_cut ds)))) (filter (stays (Takes (deciding tx verdict) ∷ turn_deeds n turn)) (standing (last_cut ds).since))) []
+      → fold hold (fold hold (fold with_promise []
+      (filter (remains (Takes (deciding tx verdict) ∷ turn_deeds n turn)) (remaining (last_cut ds))))
+      (filter (stays (Takes (deciding tx verdict) ∷ turn_deeds n turn)) (standing (last_cut ds).since))) []
       ≡ without_held (shown site ds).held tx
   ended tx verdict turn final =
-      ap (λ (v : List Held). fold hold v (filter (stays done) (standing (last_cut ds).since))) (drops_promises tx (remains done) (λ (p : Prepared). others p.tx) [] (remaining (last_cut ds)))
-      ∙ drops tx (stays done) (λ (r : Grant). others r.tx) (fold with_promise [] (remaining (last_cut ds))) (standing (last_cut ds).since)
+      ap (λ (v : List Held). fold hold v (filter (stays done) (standing (last_cut ds).since)))
+      (drops_promises tx (remains done) (λ (p : Prepared). others p.tx) [] (remaining (last_cut ds)))
+      ∙ drops tx (stays done) (λ (r : Grant). others r.tx) (fold with_promise [] (remaining (last_cut ds)))
+      (standing (last_cut ds).since)
     where
       done : List Deed
       done = Takes (deciding tx verdict) ∷ turn_deeds n turn
@@ -136,47 +154,69 @@ module _ (site : ℕ) (ds : List Deed) (n number from to : ℕ) where
       (union-nil (shown site ds).log)
       refl
       (ended tx Aborted quiet refl)
-      (append-nil (filter (lasts (Takes (deciding tx Aborted) ∷ [])) (shown site ds).prepared) ∙ filter_same (lasts (Takes (deciding tx Aborted) ∷ [])) (λ (q : Prepared). not (same_tx q.tx tx)) apart (shown site ds).prepared)
+      (append-nil (filter (lasts (Takes (deciding tx Aborted) ∷ [])) (shown site ds).prepared)
+      ∙ filter_same (lasts (Takes (deciding tx Aborted) ∷ [])) (λ (q : Prepared). not (same_tx q.tx tx)) apart
+      (shown site ds).prepared)
       refl)
     where
       apart : (q : Prepared) → lasts (Takes (deciding tx Aborted) ∷ []) q ≡ not (same_tx q.tx tx)
-      apart q = ap (λ (b : Bool). not b) (or_false (same_tx tx q.tx && true) ∙ and_true (same_tx tx q.tx) ∙ sym_tx tx q.tx)
+      apart q = ap (λ (b : Bool). not b) (or_false (same_tx tx q.tx && true) ∙ and_true (same_tx tx q.tx)
+          ∙ sym_tx tx q.tx)
 
-  pub committed : (tx : TxId) (stamp : Stamp) → stamp.client ≡ tx.client → IsStep site ds (deciding tx (Committed stamp)) n (finishes (with_clock tx (Committed stamp)) tx (Committed stamp))
+  pub committed : (tx : TxId) (stamp : Stamp) → stamp.client ≡ tx.client
+      → IsStep site ds (deciding tx (Committed stamp)) n
+      (finishes (with_clock tx (Committed stamp)) tx (Committed stamp))
   committed tx stamp client = by (prepared_of (shown site ds).prepared tx) refl
     where
       not_aborted : (q : Prepared) → lasts (Takes (deciding tx (Committed stamp)) ∷ []) q ≡ true
       not_aborted q = ap (λ (b : Bool). not (b || false)) (and_false (same_tx tx q.tx))
 
-      apart : (q : Prepared) → lasts (Takes (deciding tx (Committed stamp)) ∷ turn_deeds n (finishing tx stamp.clock)) q ≡ not (same_tx q.tx tx)
-      apart q = ap (λ (b : Bool). not (b || (same_tx tx q.tx || false))) (and_false (same_tx tx q.tx)) ∙ ap (λ (b : Bool). not b) (or_false (same_tx tx q.tx) ∙ sym_tx tx q.tx)
+      apart : (q : Prepared) → lasts (Takes (deciding tx (Committed stamp)) ∷ turn_deeds n (finishing tx stamp.clock)) q
+          ≡ not (same_tx q.tx tx)
+      apart q = ap (λ (b : Bool). not (b || (same_tx tx q.tx || false))) (and_false (same_tx tx q.tx))
+          ∙ ap (λ (b : Bool). not b) (or_false (same_tx tx q.tx) ∙ sym_tx tx q.tx)
 
       done : Finished
       done = record { tx = tx; clock = stamp.clock }
 
-      lines_are : (p : Prepared) → prepared_of (shown site ds).prepared tx ≡ Some p → done_lines (records_in ds) done ≡ lines_of stamp tx p.own
+      lines_are : (p : Prepared) → prepared_of (shown site ds).prepared tx ≡ Some p
+          → done_lines (records_in ds) done ≡ lines_of stamp tx p.own
       lines_are p is =
-          ap (λ (o : Option Prepared). option_map_or (λ (q : Prepared). lines_of (record { clock = stamp.clock; client = tx.client }) tx q.own) o []) (last_of tx p ds is)
+          ap (λ (o : Option Prepared). option_map_or
+          (λ (q : Prepared). lines_of (record { clock = stamp.clock; client = tx.client }) tx q.own) o [])
+          (last_of tx p ds is)
           ∙ ap (λ (c : ℕ). lines_of (record { clock = stamp.clock; client = c }) tx p.own) (sym client)
 
-      by : (o : Option Prepared) → prepared_of (shown site ds).prepared tx ≡ o → IsStep site ds (deciding tx (Committed stamp)) n (joins (with_clock tx (Committed stamp)) tx stamp o)
+      by : (o : Option Prepared) → prepared_of (shown site ds).prepared tx ≡ o
+          → IsStep site ds (deciding tx (Committed stamp)) n (joins (with_clock tx (Committed stamp)) tx stamp o)
       by None is =
           sym (shown-more site ds (deciding tx (Committed stamp)) n quiet
-          ∙ same_state (grown site ds (deciding tx (Committed stamp)) n quiet) (dropped (with_clock tx (Committed stamp)) tx)
+          ∙ same_state (grown site ds (deciding tx (Committed stamp)) n quiet)
+          (dropped (with_clock tx (Committed stamp)) tx)
           refl refl refl refl refl
           (union-nil (shown site ds).log)
           refl
           (ended tx (Committed stamp) quiet refl)
-          (append-nil (filter (lasts (Takes (deciding tx (Committed stamp)) ∷ [])) (shown site ds).prepared) ∙ filter_all (lasts (Takes (deciding tx (Committed stamp)) ∷ [])) not_aborted (shown site ds).prepared
+          (append-nil (filter (lasts (Takes (deciding tx (Committed stamp)) ∷ [])) (shown site ds).prepared)
+          ∙ filter_all (lasts (Takes (deciding tx (Committed stamp)) ∷ [])) not_aborted (shown site ds).prepared
           ∙ sym (none_prepared (shown site ds).prepared tx (ap (λ (o : Option Prepared). is_some o) is)))
           refl)
       by (Some p) is =
           sym (shown-more site ds (deciding tx (Committed stamp)) n (finishing tx stamp.clock)
-          ∙ same_state (grown site ds (deciding tx (Committed stamp)) n (finishing tx stamp.clock)) (record (dropped (with_clock tx (Committed stamp)) tx) { log = union (shown site ds).log (without (lines_of stamp tx p.own) (shown site ds).began); recorded = union (shown site ds).recorded (without (lines_of stamp tx p.own) (shown site ds).began) })
+          ∙ same_state (grown site ds (deciding tx (Committed stamp)) n (finishing tx stamp.clock))
+          (record (dropped (with_clock tx (Committed stamp)) tx) {
+            log = union (shown site ds).log (without (lines_of stamp tx p.own) (shown site ds).began);
+            recorded = union (shown site ds).recorded (without (lines_of stamp tx p.own) (shown site ds).began);
+          })
           refl refl refl refl refl
-          (ap (λ (l : Lines). (learning l (done_lines (records_in ds) done)).since) (learning-nil (lines_shown ds)) ∙ ap (λ (v : List Line). (learning (lines_shown ds) v).since) (lines_are p is))
-          (ap (λ (v : List Line). union (shown site ds).recorded (without (done_lines (records_in ds) done) v)) (sym (began_shows ds)) ∙ ap (λ (v : List Line). union (shown site ds).recorded (without v (shown site ds).began)) (lines_are p is))
+          (ap (λ (l : Lines). (learning l (done_lines (records_in ds) done)).since) (learning-nil (lines_shown ds))
+          ∙ ap (λ (v : List Line). (learning (lines_shown ds) v).since) (lines_are p is))
+          (ap (λ (v : List Line). union (shown site ds).recorded (without (done_lines (records_in ds) done) v))
+          (sym (began_shows ds)) ∙ ap (λ (v : List Line). union (shown site ds).recorded
+          (without v (shown site ds).began)) (lines_are p is))
           (ended tx (Committed stamp) (finishing tx stamp.clock) refl)
-          (append-nil (filter (lasts (Takes (deciding tx (Committed stamp)) ∷ turn_deeds n (finishing tx stamp.clock))) (shown site ds).prepared)
-          ∙ filter_same (lasts (Takes (deciding tx (Committed stamp)) ∷ turn_deeds n (finishing tx stamp.clock))) (λ (q : Prepared). not (same_tx q.tx tx)) apart (shown site ds).prepared)
+          (append-nil (filter (lasts (Takes (deciding tx (Committed stamp)) ∷ turn_deeds n (finishing tx stamp.clock)))
+          (shown site ds).prepared)
+          ∙ filter_same (lasts (Takes (deciding tx (Committed stamp)) ∷ turn_deeds n (finishing tx stamp.clock)))
+          (λ (q : Prepared). not (same_tx q.tx tx)) apart (shown site ds).prepared)
           refl)

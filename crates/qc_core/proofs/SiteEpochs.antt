@@ -1,5 +1,6 @@
 -- A site's step for a Close and for an Install.
-use Rattle.std.proofs.Common.{◌≡◌, ℕ, ◌+◌, max, not, nat_le, nat_lt, Bool, true, false, cond, List, [], ◌∷◌, None, refl, sym, ap, ◌∙◌}
+use Rattle.std.proofs.Common.{◌≡◌, ℕ, ◌+◌, max, not, nat_le, nat_lt, Bool, true, false, cond, List, [], ◌∷◌, None, refl}
+use Rattle.std.proofs.Common.{sym, ap, ◌∙◌}
 use Rattle.std.specs.Prelude.{filter, fold}
 use Rattle.std.proofs.lemmas.List.{append-nil}
 use Rattle.qc_entry.specs.declared.line.Line.{Line}
@@ -9,7 +10,7 @@ use Rattle.qc_msg.specs.declared.message.Answer.{Answer}
 use Rattle.qc_msg.specs.declared.message.Answer.TheVariants as answers
 use Rattle.qc_msg.specs.declared.message.Message.TheVariants as messages
 use Rattle.qc_msg.specs.declared.record.Record.TheVariants as records
-use Rattle.qc_msg.specs.declared.step.Given.{Given}
+use Rattle.qc_msg.specs.declared.step.Input.{Input}
 use Rattle.qc_msg.specs.declared.turn.Turn.{Turn}
 use Rattle.qc_msg.specs.Deeds.{Deed}
 use Rattle.qc_msg.specs.Lengths.{epoch_length}
@@ -28,22 +29,25 @@ use Rattle.qc_core.proofs.SiteTalks.{clock_passes, filter_all}
 
 filter_none : {A : Type 0} (f : A → Bool) → ((x : A) → f x ≡ false) → (xs : List A) → filter f xs ≡ []
 filter_none f none [] = refl
-filter_none {A = A} f none (x ∷ xs) = ap (λ (b : Bool). cond b (x ∷ filter f xs) (filter f xs)) (none x) ∙ filter_none f none xs
+filter_none {A = A} f none (x ∷ xs) = ap (λ (b : Bool). cond b (x ∷ filter f xs) (filter f xs)) (none x)
+    ∙ filter_none f none xs
 
 module _ (site : ℕ) (ds : List Deed) (n number from to : ℕ) where
   -- a Close
 
   module _ (k : ℕ) where
-    abbrev closing : Given
+    abbrev closing : Input
     closing = letter number from to (messages.Close k)
 
     abbrev at_close : SiteState
     at_close = passed site ds (messages.Close k)
 
     told : (x : Answer) → IsStep site ds closing n (moved at_close (answered from number x))
-    told x = still site ds n number from to (messages.Close k) (answering from number x ∷ []) None (λ t. refl, λ t. refl) refl refl
+    told x = still site ds n number from to (messages.Close k) (answering from number x ∷ []) None
+        (λ t. refl, λ t. refl) refl refl
 
-    writes_close : IsStep site ds closing n (moved (closed at_close k) (recording from number (records.Close k) (shut_answer (closed at_close k))))
+    writes_close : IsStep site ds closing n (moved (closed at_close k)
+        (recording from number (records.Close k) (shut_answer (closed at_close k))))
     writes_close =
         sym (shown-more site ds closing n turn
         ∙ same_state (grown site ds closing n turn) (closed at_close k)
@@ -61,13 +65,18 @@ module _ (site : ℕ) (ds : List Deed) (n number from to : ℕ) where
         last p = ap (λ (b : Bool). not b) (post_frees n turn p.tx)
 
         all_last : prepared_then ds closing n turn ≡ prepared_shown ds
-        all_last = append-nil (filter (lasts (posted ds closing n turn)) (prepared_shown ds)) ∙ filter_all (lasts (posted ds closing n turn)) last (prepared_shown ds)
+        all_last = append-nil (filter (lasts (posted ds closing n turn)) (prepared_shown ds))
+            ∙ filter_all (lasts (posted ds closing n turn)) last (prepared_shown ds)
 
     pub close : IsStep site ds closing n (closes at_close from number k)
     close = by (nat_lt (at_close.epoch + 1) k) (nat_le k at_close.epoch) (is_closed_for k at_close.closed_for)
       where
-        by : (far past shut : Bool) → IsStep site ds closing n (cond far (moved at_close (answered from number (answers.Behind at_close.epoch))) (cond past (moved at_close (answered from number (answers.Closed at_close.epoch)))
-            (cond shut (moved at_close (answered from number (shut_answer at_close))) (moved (closed at_close k) (recording from number (records.Close k) (shut_answer (closed at_close k)))))))
+        by : (far past shut : Bool) → IsStep site ds closing n
+            (cond far (moved at_close (answered from number (answers.Behind at_close.epoch)))
+            (cond past (moved at_close (answered from number (answers.Closed at_close.epoch)))
+            (cond shut (moved at_close (answered from number (shut_answer at_close)))
+            (moved (closed at_close k) (recording from number (records.Close k)
+            (shut_answer (closed at_close k)))))))
         by true past shut = told (answers.Behind at_close.epoch)
         by false true shut = told (answers.Closed at_close.epoch)
         by false false true = told (shut_answer at_close)
@@ -76,16 +85,19 @@ module _ (site : ℕ) (ds : List Deed) (n number from to : ℕ) where
   -- an Install
 
   module _ (k clock : ℕ) (lines : List Line) where
-    abbrev installing : Given
+    abbrev installing : Input
     installing = letter number from to (messages.Install k clock lines)
 
     abbrev at_install : SiteState
     at_install = passed site ds (messages.Install k clock lines)
 
     answers_install : (x : Answer) → IsStep site ds installing n (moved at_install (answered from number x))
-    answers_install x = still site ds n number from to (messages.Install k clock lines) (answering from number x ∷ []) None (λ t. refl, λ t. refl) refl refl
+    answers_install x = still site ds n number from to (messages.Install k clock lines)
+        (answering from number x ∷ []) None (λ t. refl, λ t. refl) refl refl
 
-    writes_install : IsStep site ds installing n (moved (installed at_install k clock lines) (recording from number (records.Install k clock lines) answers.Installed))
+    writes_install : IsStep site ds installing n
+        (moved (installed at_install k clock lines)
+        (recording from number (records.Install k clock lines) answers.Installed))
     writes_install =
         sym (shown-more site ds installing n turn
         ∙ same_state (grown site ds installing n turn) (installed at_install k clock lines)
@@ -101,13 +113,17 @@ module _ (site : ℕ) (ds : List Deed) (n number from to : ℕ) where
         freed p = ap (λ (b : Bool). not b) (post_frees n turn p.tx)
 
         none_last : prepared_then ds installing n turn ≡ []
-        none_last = append-nil (filter (lasts (posted ds installing n turn)) (prepared_shown ds)) ∙ filter_none (lasts (posted ds installing n turn)) freed (prepared_shown ds)
+        none_last = append-nil (filter (lasts (posted ds installing n turn)) (prepared_shown ds))
+            ∙ filter_none (lasts (posted ds installing n turn)) freed (prepared_shown ds)
 
     pub install : IsStep site ds installing n (installs at_install from number k clock lines)
     install = by (nat_le k at_install.epoch) (nat_le (epoch_length lines) most_record_bytes)
       where
-        by : (past short : Bool) → IsStep site ds installing n (cond past (moved at_install (answered from number answers.Installed))
-            (cond short (moved (installed at_install k clock lines) (recording from number (records.Install k clock lines) answers.Installed)) (moved at_install (answered from number (answers.Behind at_install.epoch)))))
+        by : (past short : Bool) → IsStep site ds installing n
+            (cond past (moved at_install (answered from number answers.Installed))
+            (cond short (moved (installed at_install k clock lines)
+            (recording from number (records.Install k clock lines) answers.Installed))
+            (moved at_install (answered from number (answers.Behind at_install.epoch)))))
         by true short = answers_install answers.Installed
         by false true = writes_install
         by false false = answers_install (answers.Behind at_install.epoch)

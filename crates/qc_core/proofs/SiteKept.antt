@@ -1,5 +1,6 @@
 -- The records of a rise: what the promise reads off them is what the conduct's site has of them.
-use Rattle.std.proofs.Common.{◌≡◌, ℕ, max, Bool, true, false, cond, List, [], ◌∷◌, ◌++◌, fold, Option, Some, None, refl, ap, sym, subst, ◌∙◌}
+use Rattle.std.proofs.Common.{◌≡◌, ℕ, max, Bool, true, false, cond, List, [], ◌∷◌, ◌++◌, fold, Option, Some, None, refl}
+use Rattle.std.proofs.Common.{ap, sym, subst, ◌∙◌}
 use Rattle.std.specs.List.{flat_map}
 use Rattle.std.specs.Option.{option_map_or, option_or}
 use Rattle.std.proofs.lemmas.List.Sums.{fold-append}
@@ -71,14 +72,16 @@ clock_kept k [] = refl
 clock_kept k (journals.Life ∷ rs) = clock_kept (keeps k journals.Life) rs
 clock_kept k (journals.Prepare p ∷ rs) =
     fold-append max k.clock (clocks_of p.lines) (flat_map clocks_in_record rs)
-    ∙ ap (λ (c : ℕ). fold max c (flat_map clocks_in_record rs)) (fold-map max (λ (l : Line). l.stamp.clock) k.clock p.lines)
+    ∙ ap (λ (c : ℕ). fold max c (flat_map clocks_in_record rs))
+    (fold-map max (λ (l : Line). l.stamp.clock) k.clock p.lines)
     ∙ clock_kept (keeps k (journals.Prepare p)) rs
 clock_kept k (journals.Done tx clock ∷ rs) = clock_kept (keeps k (journals.Done tx clock)) rs
 clock_kept k (journals.Close epoch ∷ rs) = clock_kept (keeps k (journals.Close epoch)) rs
 clock_kept k (journals.Install epoch clock lines ∷ rs) =
     fold-append max k.clock (clocks_of lines ++ clock ∷ []) (flat_map clocks_in_record rs)
     ∙ ap (λ (c : ℕ). fold max c (flat_map clocks_in_record rs))
-    (fold-append max k.clock (clocks_of lines) (clock ∷ []) ∙ ap (λ (c : ℕ). max c clock) (fold-map max (λ (l : Line). l.stamp.clock) k.clock lines))
+    (fold-append max k.clock (clocks_of lines) (clock ∷ [])
+    ∙ ap (λ (c : ℕ). max c clock) (fold-map max (λ (l : Line). l.stamp.clock) k.clock lines))
     ∙ clock_kept (keeps k (journals.Install epoch clock lines)) rs
 clock_kept k (journals.Commit c ∷ rs) = clock_kept (keeps k (journals.Commit c)) rs
 clock_kept k (journals.Decide epoch clock lines ∷ rs) = clock_kept (keeps k (journals.Decide epoch clock lines)) rs
@@ -91,7 +94,8 @@ clock_by_records rs = clock_kept nothing_kept rs
 abbrev Agrees : Kept → List Record → Type 0
 Agrees k before = (tx : TxId) → last_prepare tx before ≡ prepared_of k.prepares tx
 
-last_after : (tx : TxId) (before : List Record) (r : Record) → last_prepare tx (before ++ r ∷ []) ≡ prepare_by tx (last_prepare tx before) r
+last_after : (tx : TxId) (before : List Record) (r : Record)
+    → last_prepare tx (before ++ r ∷ []) ≡ prepare_by tx (last_prepare tx before) r
 last_after tx before r = fold-append (prepare_by tx) None before (r ∷ [])
 
 or_none : (o : Option Prepared) → option_or o None ≡ o
@@ -101,14 +105,18 @@ or_none (Some p) = refl
 promised_last : (ps : List Prepared) (p : Prepared) (tx : TxId) (last : Option Prepared) → last ≡ prepared_of ps tx
     → option_or (cond (same_tx p.tx tx) (Some p) None) last ≡ prepared_of (without_prepared ps p.tx ++ p ∷ []) tx
 promised_last ps p tx last agree =
-    by (same_tx p.tx tx) refl ∙ sym (find-append (λ (q : Prepared). same_tx q.tx tx) (without_prepared ps p.tx) (p ∷ []))
+    by (same_tx p.tx tx) refl ∙ sym (find-append (λ (q : Prepared). same_tx q.tx tx) (without_prepared ps p.tx)
+    (p ∷ []))
   where
-    by : (b : Bool) → same_tx p.tx tx ≡ b → option_or (cond b (Some p) None) last ≡ option_or (prepared_of (without_prepared ps p.tx) tx) (cond b (Some p) None)
+    by : (b : Bool) → same_tx p.tx tx ≡ b → option_or (cond b (Some p) None) last ≡ option_or
+        (prepared_of (without_prepared ps p.tx) tx) (cond b (Some p) None)
     by true is =
         let none : prepared_of (without_prepared ps p.tx) tx ≡ None =
-        subst (λ (t : TxId). prepared_of (without_prepared ps p.tx) t ≡ None) (same_tx_is p.tx tx is) (prepared-without ps p.tx) in
+        subst (λ (t : TxId). prepared_of (without_prepared ps p.tx) t ≡ None) (same_tx_is p.tx tx is)
+        (prepared-without ps p.tx) in
         sym (ap (λ (o : Option Prepared). option_or o (Some p)) none)
-    by false is = agree ∙ sym (or_none (prepared_of (without_prepared ps p.tx) tx) ∙ prepared-without_other ps p.tx tx is)
+    by false is = agree ∙ sym (or_none (prepared_of (without_prepared ps p.tx) tx)
+        ∙ prepared-without_other ps p.tx tx is)
 
 agrees_after : (k : Kept) (before : List Record) (r : Record) → Agrees k before → Agrees (keeps k r) (before ++ r ∷ [])
 agrees_after k before journals.Life agree tx = last_after tx before journals.Life ∙ agree tx
@@ -116,38 +124,51 @@ agrees_after k before (journals.Prepare p) agree tx =
     last_after tx before (journals.Prepare p) ∙ promised_last k.prepares p tx (last_prepare tx before) (agree tx)
 agrees_after k before (journals.Done t clock) agree tx = last_after tx before (journals.Done t clock) ∙ agree tx
 agrees_after k before (journals.Close epoch) agree tx = last_after tx before (journals.Close epoch) ∙ agree tx
-agrees_after k before (journals.Install epoch clock lines) agree tx = last_after tx before (journals.Install epoch clock lines)
+agrees_after k before (journals.Install epoch clock lines) agree tx =
+    last_after tx before (journals.Install epoch clock lines)
 agrees_after k before (journals.Commit c) agree tx = last_after tx before (journals.Commit c) ∙ agree tx
-agrees_after k before (journals.Decide epoch clock lines) agree tx = last_after tx before (journals.Decide epoch clock lines) ∙ agree tx
+agrees_after k before (journals.Decide epoch clock lines) agree tx =
+    last_after tx before (journals.Decide epoch clock lines) ∙ agree tx
 
 -- the lines
 
 abbrev lines_in : Kept → Lines
 lines_in k = record { began = k.began; since = k.lines }
 
-lines_kept : (k : Kept) (before rs : List Record) → Agrees k before → recorded_from (lines_in k) before rs ≡ lines_in (fold keeps k rs)
+lines_kept : (k : Kept) (before rs : List Record) → Agrees k before
+    → recorded_from (lines_in k) before rs ≡ lines_in (fold keeps k rs)
 lines_kept k before [] agree = refl
 lines_kept k before (journals.Life ∷ rs) agree =
     ap (λ (l : Lines). recorded_from l (before ++ journals.Life ∷ []) rs) (learning-nil (lines_in k))
     ∙ lines_kept (keeps k journals.Life) (before ++ journals.Life ∷ []) rs (agrees_after k before journals.Life agree)
 lines_kept k before (journals.Prepare p ∷ rs) agree =
-    lines_kept (keeps k (journals.Prepare p)) (before ++ journals.Prepare p ∷ []) rs (agrees_after k before (journals.Prepare p) agree)
+    lines_kept (keeps k (journals.Prepare p)) (before ++ journals.Prepare p ∷ []) rs
+    (agrees_after k before (journals.Prepare p) agree)
 lines_kept k before (journals.Done tx clock ∷ rs) agree =
-    ap (λ (o : Option Prepared). recorded_from (learning (lines_in k) (option_map_or (λ (p : Prepared). lines_of (done_stamp tx clock) tx p.own) o [])) (before ++ journals.Done tx clock ∷ []) rs) (agree tx)
-    ∙ lines_kept (keeps k (journals.Done tx clock)) (before ++ journals.Done tx clock ∷ []) rs (agrees_after k before (journals.Done tx clock) agree)
+    ap (λ (o : Option Prepared). recorded_from
+    (learning (lines_in k) (option_map_or (λ (p : Prepared). lines_of (done_stamp tx clock) tx p.own) o []))
+    (before ++ journals.Done tx clock ∷ []) rs) (agree tx)
+    ∙ lines_kept (keeps k (journals.Done tx clock)) (before ++ journals.Done tx clock ∷ []) rs
+    (agrees_after k before (journals.Done tx clock) agree)
 lines_kept k before (journals.Close epoch ∷ rs) agree =
     ap (λ (l : Lines). recorded_from l (before ++ journals.Close epoch ∷ []) rs) (learning-nil (lines_in k))
-    ∙ lines_kept (keeps k (journals.Close epoch)) (before ++ journals.Close epoch ∷ []) rs (agrees_after k before (journals.Close epoch) agree)
+    ∙ lines_kept (keeps k (journals.Close epoch)) (before ++ journals.Close epoch ∷ []) rs
+    (agrees_after k before (journals.Close epoch) agree)
 lines_kept k before (journals.Install epoch clock lines ∷ rs) agree =
-    lines_kept (keeps k (journals.Install epoch clock lines)) (before ++ journals.Install epoch clock lines ∷ []) rs (agrees_after k before (journals.Install epoch clock lines) agree)
+    lines_kept (keeps k (journals.Install epoch clock lines)) (before ++ journals.Install epoch clock lines ∷ []) rs
+    (agrees_after k before (journals.Install epoch clock lines) agree)
 lines_kept k before (journals.Commit c ∷ rs) agree =
     ap (λ (l : Lines). recorded_from l (before ++ journals.Commit c ∷ []) rs) (learning-nil (lines_in k))
-    ∙ lines_kept (keeps k (journals.Commit c)) (before ++ journals.Commit c ∷ []) rs (agrees_after k before (journals.Commit c) agree)
+    ∙ lines_kept (keeps k (journals.Commit c)) (before ++ journals.Commit c ∷ []) rs
+    (agrees_after k before (journals.Commit c) agree)
 lines_kept k before (journals.Decide epoch clock lines ∷ rs) agree =
-    ap (λ (l : Lines). recorded_from l (before ++ journals.Decide epoch clock lines ∷ []) rs) (learning-nil (lines_in k))
-    ∙ lines_kept (keeps k (journals.Decide epoch clock lines)) (before ++ journals.Decide epoch clock lines ∷ []) rs (agrees_after k before (journals.Decide epoch clock lines) agree)
+    ap (λ (l : Lines). recorded_from l (before ++ journals.Decide epoch clock lines ∷ []) rs)
+    (learning-nil (lines_in k))
+    ∙ lines_kept (keeps k (journals.Decide epoch clock lines)) (before ++ journals.Decide epoch clock lines ∷ []) rs
+    (agrees_after k before (journals.Decide epoch clock lines) agree)
 
-pub lines_by_records : (rs : List Record) → recorded_by rs ≡ record { began = (kept_by rs).began; since = (kept_by rs).lines }
+pub lines_by_records : (rs : List Record)
+    → recorded_by rs ≡ record { began = (kept_by rs).began; since = (kept_by rs).lines }
 lines_by_records rs = lines_kept nothing_kept [] rs (λ tx. refl)
 
 -- promises
@@ -158,9 +179,11 @@ same_promises k (journals.Life ∷ rs) = same_promises (keeps k journals.Life) r
 same_promises k (journals.Prepare p ∷ rs) = same_promises (keeps k (journals.Prepare p)) rs
 same_promises k (journals.Done tx clock ∷ rs) = same_promises (keeps k (journals.Done tx clock)) rs
 same_promises k (journals.Close epoch ∷ rs) = same_promises (keeps k (journals.Close epoch)) rs
-same_promises k (journals.Install epoch clock lines ∷ rs) = same_promises (keeps k (journals.Install epoch clock lines)) rs
+same_promises k (journals.Install epoch clock lines ∷ rs) =
+    same_promises (keeps k (journals.Install epoch clock lines)) rs
 same_promises k (journals.Commit c ∷ rs) = same_promises (keeps k (journals.Commit c)) rs
-same_promises k (journals.Decide epoch clock lines ∷ rs) = same_promises (keeps k (journals.Decide epoch clock lines)) rs
+same_promises k (journals.Decide epoch clock lines ∷ rs) =
+    same_promises (keeps k (journals.Decide epoch clock lines)) rs
 
 pub promises_by_records : (rs : List Record) → promises_of rs ≡ (kept_by rs).promises
 promises_by_records rs = promises_by_record rs ∙ same_promises nothing_kept rs

@@ -1,5 +1,6 @@
 -- A site by its conduct, through falls and rises, is what its deeds show; and all that it posts is due.
-use Rattle.std.proofs.Common.{◌≡◌, ℕ, ◌+◌, ◌<◌, Bool, true, false, List, [], ◌∷◌, ◌++◌, Option, Some, None, refl, sym, ap, subst, append_assoc}
+use Rattle.std.proofs.Common.{◌≡◌, ℕ, ◌+◌, ◌<◌, Bool, true, false, List, [], ◌∷◌, ◌++◌, Option, Some, None, refl, sym}
+use Rattle.std.proofs.Common.{ap, subst, append_assoc}
 use Rattle.std.proofs.lemmas.Bool.{lt-ltb}
 use Rattle.std.proofs.lemmas.List.{append-nil}
 use Rattle.qc_decl.specs.declared.declaration.Declaration.{Declaration}
@@ -48,19 +49,24 @@ module _ (decl : Declaration) (site : ℕ) (is : is_site decl site ≡ true) whe
 
   -- deeds that begin behind the post before
 
-  served_more : (before : List Deed) (d : Deed) (xs ys : List Deed) → posted_next ys ≡ [] → IsServed before d xs → IsServed before d (xs ++ ys)
-  served_more before (Takes given) xs ys ends fits = post_more (turn_due decl (before ++ Takes given ∷ []) given) xs ys ends fits
+  served_more : (before : List Deed) (d : Deed) (xs ys : List Deed) → posted_next ys ≡ [] → IsServed before d xs
+      → IsServed before d (xs ++ ys)
+  served_more before (Takes given) xs ys ends fits =
+      post_more (turn_due decl (before ++ Takes given ∷ []) given) xs ys ends fits
   served_more before (Writes w) xs ys ends fits = tt
   served_more before (Sends n to m) xs ys ends fits = tt
   served_more before (Tells r) xs ys ends fits = tt
   served_more before (Falls cause pending) xs ys ends fits = tt
-  served_more before (Rises records) xs ys ends fits = post_more (rising_turn decl (before ++ Rises records ∷ [])) xs ys ends fits
+  served_more before (Rises records) xs ys ends fits =
+      post_more (rising_turn decl (before ++ Rises records ∷ [])) xs ys ends fits
 
-  all_more : (before xs ys : List Deed) → posted_next ys ≡ [] → AreServed before xs → AreServed (before ++ xs) ys → AreServed before (xs ++ ys)
+  all_more : (before xs ys : List Deed) → posted_next ys ≡ [] → AreServed before xs → AreServed (before ++ xs) ys
+      → AreServed before (xs ++ ys)
   all_more before [] ys ends old new = subst (λ (v : List Deed). AreServed v ys) (append-nil before) new
   all_more before (d ∷ xs) ys ends old new = (
     served_more before d xs ys ends old.0,
-    all_more (before ++ d ∷ []) xs ys ends old.1 (subst (λ (v : List Deed). AreServed v ys) (sym (append_assoc before (d ∷ []) xs)) new),
+    all_more (before ++ d ∷ []) xs ys ends old.1
+        (subst (λ (v : List Deed). AreServed v ys) (sym (append_assoc before (d ∷ []) xs)) new),
   )
 
   -- deeds behind a fall: who is down did nothing since it fell
@@ -89,25 +95,31 @@ module _ (decl : Declaration) (site : ℕ) (is : is_site decl site ≡ true) whe
   fallen_posted (Sends n to m ∷ []) ys fell = absurd fell
   fallen_posted (Tells r ∷ []) ys fell = absurd fell
   fallen_posted (Writes w ∷ e ∷ xs) ys fell = ap (λ (v : List Act). Wrote w ∷ v) (fallen_posted (e ∷ xs) ys fell)
-  fallen_posted (Sends n to m ∷ e ∷ xs) ys fell = ap (λ (v : List Act). Sent (record { to = to; message = m }) ∷ v) (fallen_posted (e ∷ xs) ys fell)
+  fallen_posted (Sends n to m ∷ e ∷ xs) ys fell =
+      ap (λ (v : List Act). Sent (record { to = to; message = m }) ∷ v) (fallen_posted (e ∷ xs) ys fell)
   fallen_posted (Tells r ∷ e ∷ xs) ys fell = ap (λ (v : List Act). Told r ∷ v) (fallen_posted (e ∷ xs) ys fell)
 
   fits_behind : (t : TurnDue) (xs ys : List Deed) → EndByFall xs → IsPostOf t xs → IsPostOf t (xs ++ ys)
   fits_behind t xs ys fell fits = subst (IsFit t) (sym (fallen_posted xs ys fell)) fits
 
-  served_behind : (before : List Deed) (d : Deed) (xs ys : List Deed) → EndByFall (d ∷ xs) → IsServed before d xs → IsServed before d (xs ++ ys)
+  served_behind : (before : List Deed) (d : Deed) (xs ys : List Deed) → EndByFall (d ∷ xs) → IsServed before d xs
+      → IsServed before d (xs ++ ys)
   served_behind before (Takes g) [] ys fell fits = absurd fell
-  served_behind before (Takes g) (x ∷ xs) ys fell fits = fits_behind (turn_due decl (before ++ Takes g ∷ []) g) (x ∷ xs) ys fell fits
+  served_behind before (Takes g) (x ∷ xs) ys fell fits =
+      fits_behind (turn_due decl (before ++ Takes g ∷ []) g) (x ∷ xs) ys fell fits
   served_behind before (Writes w) xs ys fell fits = tt
   served_behind before (Sends n to m) xs ys fell fits = tt
   served_behind before (Tells r) xs ys fell fits = tt
   served_behind before (Falls cause pending) xs ys fell fits = tt
   served_behind before (Rises records) [] ys fell fits = absurd fell
-  served_behind before (Rises records) (x ∷ xs) ys fell fits = fits_behind (rising_turn decl (before ++ Rises records ∷ [])) (x ∷ xs) ys fell fits
+  served_behind before (Rises records) (x ∷ xs) ys fell fits =
+      fits_behind (rising_turn decl (before ++ Rises records ∷ [])) (x ∷ xs) ys fell fits
 
-  all_behind : (before xs : List Deed) (cause : Fall) (pending : Option Record) → EndByFall xs → AreServed before xs → AreServed before (xs ++ Falls cause pending ∷ [])
+  all_behind : (before xs : List Deed) (cause : Fall) (pending : Option Record) → EndByFall xs → AreServed before xs
+      → AreServed before (xs ++ Falls cause pending ∷ [])
   all_behind before [] cause pending fell old = absurd fell
-  all_behind before (d ∷ []) cause pending fell old = (served_behind before d [] (Falls cause pending ∷ []) fell old.0, (tt, tt))
+  all_behind before (d ∷ []) cause pending fell old =
+      (served_behind before d [] (Falls cause pending ∷ []) fell old.0, (tt, tt))
   all_behind before (d ∷ e ∷ xs) cause pending fell old = (
     served_behind before d (e ∷ xs) (Falls cause pending ∷ []) fell old.0,
     all_behind (before ++ d ∷ []) (e ∷ xs) cause pending fell old.1,
@@ -115,11 +127,13 @@ module _ (decl : Declaration) (site : ℕ) (is : is_site decl site ≡ true) whe
 
   -- the deeds of a post take nothing, and nobody rises in them
 
-  sends_served : (before : List Deed) (n : ℕ) (ps : List Posting) (xs : List Deed) → ((v : List Deed) → AreServed v xs) → AreServed before (sends_of n ps ++ xs)
+  sends_served : (before : List Deed) (n : ℕ) (ps : List Posting) (xs : List Deed) → ((v : List Deed) → AreServed v xs)
+      → AreServed before (sends_of n ps ++ xs)
   sends_served before n [] xs rest = rest before
   sends_served before n (p ∷ ps) xs rest = (tt, sends_served (before ++ Sends n p.to p.message ∷ []) (n + 1) ps xs rest)
 
-  tells_served : (before : List Deed) (told : Option Reply) (xs : List Deed) → ((v : List Deed) → AreServed v xs) → AreServed before (tells_of told ++ xs)
+  tells_served : (before : List Deed) (told : Option Reply) (xs : List Deed) → ((v : List Deed) → AreServed v xs)
+      → AreServed before (tells_of told ++ xs)
   tells_served before None xs rest = rest before
   tells_served before (Some r) xs rest = (tt, rest (before ++ Tells r ∷ []))
 
@@ -132,9 +146,16 @@ module _ (decl : Declaration) (site : ℕ) (is : is_site decl site ≡ true) whe
     where
       by : (w : Option Record) → AreServed before (writes_of w ++ talk n turn.sends turn.told)
       by None = sends_served before n turn.sends (tells_of turn.told) (λ v. told_served v turn.told)
-      by (Some w) = (tt, sends_served (before ++ Writes w ∷ []) n turn.sends (tells_of turn.told) (λ v. told_served v turn.told))
-  post_served before Failed n turn = sends_served before n turn.failed_sends (tells_of turn.failed_told ++ Falls causes.Disk turn.write ∷ []) (λ v. tells_served v turn.failed_told (Falls causes.Disk turn.write ∷ []) (λ u. (tt, tt)))
-  post_served before Stopped n turn = tells_served before turn.failed_told (Falls causes.Stop turn.write ∷ []) (λ v. (tt, tt))
+      by (Some w) = (
+        tt,
+        sends_served (before ++ Writes w ∷ []) n turn.sends (tells_of turn.told)
+            (λ v. told_served v turn.told),
+      )
+  post_served before Failed n turn = sends_served before n turn.failed_sends
+      (tells_of turn.failed_told ++ Falls causes.Disk turn.write ∷ [])
+      (λ v. tells_served v turn.failed_told (Falls causes.Disk turn.write ∷ []) (λ u. (tt, tt)))
+  post_served before Stopped n turn = tells_served before turn.failed_told (Falls causes.Stop turn.write ∷ [])
+      (λ v. (tt, tt))
 
   -- where a turn leaves its site down, its deeds end by a fall
 
@@ -146,20 +167,27 @@ module _ (decl : Declaration) (site : ℕ) (is : is_site decl site ≡ true) whe
 
   post_ended : (end : Appended) → stays_up end ≡ false → (n : ℕ) (turn : Turn) → EndByFall (deeds_as end n turn)
   post_ended Done off n turn = absurd (let never : ⊥ = cc in never)
-  post_ended Failed off n turn = ended_more (sends_of n turn.failed_sends) (tells_of turn.failed_told ++ Falls causes.Disk turn.write ∷ []) (ended_more (tells_of turn.failed_told) (Falls causes.Disk turn.write ∷ []) tt)
+  post_ended Failed off n turn = ended_more (sends_of n turn.failed_sends)
+      (tells_of turn.failed_told ++ Falls causes.Disk turn.write ∷ [])
+      (ended_more (tells_of turn.failed_told) (Falls causes.Disk turn.write ∷ []) tt)
   post_ended Stopped off n turn = ended_more (tells_of turn.failed_told) (Falls causes.Stop turn.write ∷ []) tt
 
   -- a site that is down has done nothing, or fell last
   down_ended : (ds : List Deed) (up : Bool) → Serves decl site ds up → up ≡ false → EndByFall ds
   down_ended ds up starts off = absurd (let never : ⊥ = cc in never)
-  down_ended ds up (serves before g turn n served ok lawful) off = ended_more before (Takes g ∷ deeds_as turn.append n turn) (ended_more (Takes g ∷ []) (deeds_as turn.append n turn) (post_ended turn.append off n turn))
+  down_ended ds up (serves before g turn n served ok lawful) off =
+      ended_more before (Takes g ∷ deeds_as turn.append n turn)
+      (ended_more (Takes g ∷ []) (deeds_as turn.append n turn) (post_ended turn.append off n turn))
   down_ended ds up (crashes before served) off = ended_more before (Falls causes.Script None ∷ []) tt
-  down_ended ds up (rises before rs turn n served lawful) off = ended_more before (Rises rs ∷ deeds_as turn.append n turn) (ended_more (Rises rs ∷ []) (deeds_as turn.append n turn) (post_ended turn.append off n turn))
+  down_ended ds up (rises before rs turn n served lawful) off =
+      ended_more before (Rises rs ∷ deeds_as turn.append n turn)
+      (ended_more (Rises rs ∷ []) (deeds_as turn.append n turn) (post_ended turn.append off n turn))
   down_ended ds up (unopened before cause served) off = ended_more before (Falls cause None ∷ []) tt
 
   -- the turn that was posted is the one that is due
 
-  due_turn : (turn : Turn) (due : TurnDue) (move : SiteMove) → move.turn ≡ with_record turn → Does move.turn due → Does turn due
+  due_turn : (turn : Turn) (due : TurnDue) (move : SiteMove) → move.turn ≡ with_record turn → Does move.turn due
+      → Does turn due
   due_turn turn due move same does =
       let mine : Does (with_record turn) due = subst (λ (t : Turn). Does t due) same does in
       record { same = mine.same; untold = mine.untold; failed_untold = mine.failed_untold }
@@ -170,20 +198,24 @@ module _ (decl : Declaration) (site : ℕ) (is : is_site decl site ≡ true) whe
       all_more [] before (Takes g ∷ deeds_as turn.append n turn) refl (are_served before true served) (
         post_fits turn.append n turn (turn_due decl (before ++ Takes g ∷ []) g)
             (due_turn turn (turn_due decl (before ++ Takes g ∷ []) g) (site_takes decl (shown site before) g)
-            (called decl site is (before ++ Takes g ∷ []) turn (site_takes decl (shown site before) g) (took decl site is before g (is_shown decl site is before true served refl)) lawful)
+            (called decl site is (before ++ Takes g ∷ []) turn (site_takes decl (shown site before) g)
+            (took decl site is before g (is_shown decl site is before true served refl)) lawful)
             (turns_are_due decl site before g)) lawful.may_end,
         post_served (before ++ Takes g ∷ []) turn.append n turn,
       )
-  are_served ds up (crashes before served) = all_more [] before (Falls causes.Script None ∷ []) refl (are_served before true served) (tt, tt)
+  are_served ds up (crashes before served) =
+      all_more [] before (Falls causes.Script None ∷ []) refl (are_served before true served) (tt, tt)
   are_served ds up (rises before rs turn n served lawful) =
       all_more [] before (Rises rs ∷ deeds_as turn.append n turn) refl (are_served before false served) (
         post_fits turn.append n turn (rising_turn decl (before ++ Rises rs ∷ []))
             (due_turn turn (rising_turn decl (before ++ Rises rs ∷ [])) (site_rises decl site rs)
-            (called decl site is (before ++ Rises rs ∷ []) turn (site_rises decl site rs) (rose decl site is before rs) lawful)
+            (called decl site is (before ++ Rises rs ∷ []) turn (site_rises decl site rs)
+            (rose decl site is before rs) lawful)
             (rising_does decl site before rs)) lawful.may_end,
         post_served (before ++ Rises rs ∷ []) turn.append n turn,
       )
-  are_served ds up (unopened before cause served) = all_behind [] before cause None (down_ended before false served refl) (are_served before false served)
+  are_served ds up (unopened before cause served) =
+      all_behind [] before cause None (down_ended before false served refl) (are_served before false served)
 
   -- so all is due
 
@@ -200,12 +232,25 @@ module _ (decl : Declaration) (site : ℕ) (is : is_site decl site ≡ true) whe
   all_due before [] fits = tt
   all_due before (d ∷ after) fits = (due_of before d after fits.0, all_due (before ++ d ∷ []) after fits.1)
 
-pub are_due : (decl : Declaration) (site : ℕ) (ds : List Deed) (up : Bool) → site < decl.sites → Serves decl site ds up → AreDue decl [] ds
-are_due decl site ds up below served = let is : is_site decl site ≡ true = lt-ltb site decl.sites below in all_due decl site is [] ds (are_served decl site is ds up served)
+pub are_due : (decl : Declaration) (site : ℕ) (ds : List Deed) (up : Bool) → site < decl.sites → Serves decl site ds up
+    → AreDue decl [] ds
+are_due decl site ds up below served = let is : is_site decl site ≡ true = lt-ltb site decl.sites below in
+    all_due decl site is [] ds (are_served decl site is ds up served)
 
-pub shows : (decl : Declaration) (site : ℕ) (ds : List Deed) → site < decl.sites → Serves decl site ds true → (s : SiteState) × ((actor_after decl site ds).actor ≡ Site s) × IsShown ds s
+pub shows : (decl : Declaration) (site : ℕ) (ds : List Deed) → site < decl.sites → Serves decl site ds true
+    → (s : SiteState) × ((actor_after decl site ds).actor ≡ Site s) × IsShown ds s
 shows decl site ds below served = (
   shown site ds,
   is_shown decl site (lt-ltb site decl.sites below) ds true served refl,
-  record { life = refl; epoch = refl; closed_for = refl; began = began_shows ds; log = refl; recorded = refl; held = refl; prepared = refl; clock = refl },
+  record {
+    life = refl;
+    epoch = refl;
+    closed_for = refl;
+    began = began_shows ds;
+    log = refl;
+    recorded = refl;
+    held = refl;
+    prepared = refl;
+    clock = refl;
+  },
 )

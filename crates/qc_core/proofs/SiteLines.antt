@@ -8,54 +8,64 @@ use Rattle.qc_entry.specs.declared.line.Line.{Line}
 use Rattle.qc_entry.specs.declared.record.Prepared.{Prepared}
 use Rattle.qc_entry.specs.Log.{union}
 use Rattle.qc_msg.specs.declared.record.Record.{Record}
-use Rattle.qc_msg.specs.declared.step.Given.{Given}
+use Rattle.qc_msg.specs.declared.step.Input.{Input}
 use Rattle.qc_msg.specs.declared.turn.Turn.{Turn}
 use Rattle.qc_msg.specs.Deeds.{Deed, turn_deeds}
-use Rattle.qc_msg.specs.Readings.{Installing, heard_in, install_in, prepare_in, written_in}
+use Rattle.qc_msg.specs.InputReadings.{heard_in, written_in}
+use Rattle.qc_msg.specs.Readings.{Installing, install_in, prepare_in}
 use Rattle.qc_promise.specs.Lifetimes.{Lifetime, lifetime, records_in}
-use Rattle.qc_promise.specs.SiteLogs.{Lines, begun_with_lines, joining, learning, lines_done, lines_from, lines_shown, no_lines, recorded_by, recorded_from, view_by, with_given, with_written}
+use Rattle.qc_promise.specs.SiteLogs.{Lines, begun_with_lines, joining, learning, lines_done, lines_from, lines_shown}
+use Rattle.qc_promise.specs.SiteLogs.{no_lines, recorded_by, recorded_from, view_by, with_given, with_written}
 use Rattle.qc_core.proofs.SiteGrowth.{lines-more, recorded-more, written_then}
 use Rattle.qc_core.proofs.SitePosts.{lines_written, post_lines}
 use Rattle.qc_core.proofs.SiteRecorded.{all_records, life_goes_on, posted}
 
 -- the view that an input brings, where it is granted
-abbrev pub view_given : Given → List Deed → List Line
+abbrev pub view_given : Input → List Deed → List Line
 view_given g after = option_map_or (view_by after) (heard_in g) []
 
-module _ (ds : List Deed) (g : Given) (n : ℕ) (turn : Turn) where
+module _ (ds : List Deed) (g : Input) (n : ℕ) (turn : Turn) where
   abbrev pub lines_then : Lines
   lines_then =
-      option_map_or (lines_written (learning (lines_shown ds) (view_given g (turn_deeds n turn))) (records_in ds)) turn.write
+      option_map_or (lines_written (learning (lines_shown ds) (view_given g (turn_deeds n turn))) (records_in ds))
+      turn.write
       (learning (lines_shown ds) (view_given g (turn_deeds n turn)))
 
   pub more_lines : lines_shown (ds ++ posted ds g n turn) ≡ lines_then
   more_lines =
       ap (λ (l : Lifetime). lines_from (recorded_by l.kept) l.kept l.since) (life_goes_on ds g n turn)
       ∙ lines-more (posted ds g n turn) refl (recorded_by (lifetime ds).kept) (lifetime ds).kept (lifetime ds).since
-      ∙ ap (λ (v : List Record). lines_from (lines_shown ds) v (posted ds g n turn)) (written_then (lifetime ds).kept (lifetime ds).since)
+      ∙ ap (λ (v : List Record). lines_from (lines_shown ds) v (posted ds g n turn))
+      (written_then (lifetime ds).kept (lifetime ds).since)
       ∙ post_lines n turn (learning (lines_shown ds) (view_given g (turn_deeds n turn))) (records_in ds)
 
   -- those that the records give
   abbrev pub recorded_then : Lines
-  recorded_then = option_map_or (with_given (recorded_by (records_in ds)) (records_in ds)) turn.write (recorded_by (records_in ds))
+  recorded_then = option_map_or (with_given (recorded_by (records_in ds)) (records_in ds)) turn.write
+      (recorded_by (records_in ds))
 
   pub more_recorded : recorded_by (records_in (ds ++ posted ds g n turn)) ≡ recorded_then
   more_recorded =
-      ap recorded_by (all_records ds g n turn) ∙ recorded-more no_lines [] (records_in ds) (option_to_list turn.write) ∙ by turn.write
+      ap recorded_by (all_records ds g n turn) ∙ recorded-more no_lines [] (records_in ds) (option_to_list turn.write)
+      ∙ by turn.write
     where
-      by : (w : Option Record) → recorded_from (recorded_by (records_in ds)) (records_in ds) (option_to_list w) ≡ option_map_or (with_given (recorded_by (records_in ds)) (records_in ds)) w (recorded_by (records_in ds))
+      by : (w : Option Record) → recorded_from (recorded_by (records_in ds)) (records_in ds) (option_to_list w)
+          ≡ option_map_or (with_given (recorded_by (records_in ds)) (records_in ds)) w (recorded_by (records_in ds))
       by None = refl
       by (Some w) = refl
 
 -- what the log began with
 
 given_began : (l m : Lines) (w : Record) (before : List Record) (lines : List Line) → l.began ≡ m.began
-    → (option_map_or (λ (i : Installing). begun_with_lines i.lines) (install_in w) (learning l lines)).began ≡ (with_given m before w).began
+    → (option_map_or (λ (i : Installing). begun_with_lines i.lines) (install_in w) (learning l lines)).began ≡
+    (with_given m before w).began
 given_began l m w before lines same = by (install_in w) (prepare_in w)
   where
     by : (o : Option Installing) (p : Option Prepared)
         → (option_map_or (λ (i : Installing). begun_with_lines i.lines) o (learning l lines)).began
-        ≡ (option_map_or (λ (i : Installing). begun_with_lines i.lines) o (option_map_or (λ (q : Prepared). record m { since = union m.since q.lines }) p (learning m (lines_done before w)))).began
+        ≡ (option_map_or (λ (i : Installing). begun_with_lines i.lines) o
+        (option_map_or (λ (q : Prepared). record m { since = union m.since q.lines }) p
+        (learning m (lines_done before w)))).began
     by (Some i) p = refl
     by None None = same
     by None (Some q) = same
@@ -63,15 +73,22 @@ given_began l m w before lines same = by (install_in w) (prepare_in w)
 began_from : (l m : Lines) (before rs : List Record) (xs : List Deed) → l.began ≡ m.began
     → (lines_from l before xs).began ≡ (recorded_from m rs (filter_map written_in xs)).began
 began_from l m before rs [] same = same
-began_from l m before rs (d ∷ xs) same = by (written_in d) (λ (u v : Lines) (us vs : List Record). began_from u v us vs xs)
+began_from l m before rs (d ∷ xs) same =
+    by (written_in d) (λ (u v : Lines) (us vs : List Record). began_from u v us vs xs)
   where
-    by : (o : Option Record) → ((u v : Lines) (us vs : List Record) → u.began ≡ v.began → (lines_from u us xs).began ≡ (recorded_from v vs (filter_map written_in xs)).began)
-        → (lines_from (option_map_or (λ (i : Installing). begun_with_lines i.lines) (option_and_then install_in o) (learning l (joining before d xs))) (with_written before d) xs).began
+    by : (o : Option Record) → ((u v : Lines) (us vs : List Record) → u.began ≡ v.began
+        → (lines_from u us xs).began ≡ (recorded_from v vs (filter_map written_in xs)).began)
+        → (lines_from (option_map_or (λ (i : Installing). begun_with_lines i.lines) (option_and_then install_in o)
+        (learning l (joining before d xs))) (with_written before d) xs).began
         ≡ (recorded_from m rs (cons_option o (filter_map written_in xs))).began
     by None rest = rest (learning l (joining before d xs)) m (with_written before d) rs same
-    by (Some w) rest = rest (option_map_or (λ (i : Installing). begun_with_lines i.lines) (install_in w) (learning l (joining before d xs))) (with_given m rs w) (with_written before d) (rs ++ w ∷ []) (given_began l m w rs (joining before d xs) same)
+    by (Some w) rest = rest (option_map_or (λ (i : Installing). begun_with_lines i.lines) (install_in w)
+        (learning l (joining before d xs))) (with_given m rs w) (with_written before d) (rs ++ w ∷ [])
+        (given_began l m w rs (joining before d xs) same)
 
 pub began_shows : (ds : List Deed) → (lines_shown ds).began ≡ (recorded_by (records_in ds)).began
 began_shows ds =
-    began_from (recorded_by (lifetime ds).kept) (recorded_by (lifetime ds).kept) (lifetime ds).kept (lifetime ds).kept (lifetime ds).since refl
-    ∙ ap (λ (l : Lines). l.began) (sym (recorded-more no_lines [] (lifetime ds).kept (filter_map written_in (lifetime ds).since)))
+    began_from (recorded_by (lifetime ds).kept) (recorded_by (lifetime ds).kept) (lifetime ds).kept (lifetime ds).kept
+    (lifetime ds).since refl
+    ∙ ap (λ (l : Lines). l.began) (sym (recorded-more no_lines [] (lifetime ds).kept
+    (filter_map written_in (lifetime ds).since)))

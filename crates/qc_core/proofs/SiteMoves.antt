@@ -1,5 +1,6 @@
 -- A site's step for each input.
-use Rattle.std.proofs.Common.{◌≡◌, ℕ, ◌==◌, not, nat_le, nat_lt, Bool, true, false, cond, List, [], ◌∷◌, ◌++◌, Option, Some, None, is_some, refl, sym, ◌∙◌}
+use Rattle.std.proofs.Common.{◌≡◌, ℕ, ◌==◌, not, nat_le, nat_lt, Bool, true, false, cond, List, [], ◌∷◌, ◌++◌, Option}
+use Rattle.std.proofs.Common.{Some, None, is_some, refl, sym, ◌∙◌}
 use Rattle.qc_stamp.specs.declared.stamp.TxId.{TxId}
 use Rattle.qc_entry.specs.Log.{union}
 use Rattle.qc_decl.specs.declared.declaration.Declaration.{Declaration}
@@ -14,14 +15,15 @@ use Rattle.qc_msg.specs.declared.message.Message.TheVariants as messages
 use Rattle.qc_msg.specs.declared.message.Outcome.TheVariants.{Committed, Aborted, Active}
 use Rattle.qc_msg.specs.declared.message.Want.{Want}
 use Rattle.qc_msg.specs.declared.message.Want.TheVariants.{Read, Append, Prepare}
-use Rattle.qc_msg.specs.declared.step.Given.{Given}
-use Rattle.qc_msg.specs.declared.step.Given.TheVariants as given
+use Rattle.qc_msg.specs.declared.step.Input.{Input}
+use Rattle.qc_msg.specs.declared.step.Input.TheVariants as inputs
 use Rattle.qc_msg.specs.Deeds.{Deed}
 use Rattle.qc_msg.specs.Readings.{granted_in}
 use Rattle.qc_msg.specs.Turns.{quiet}
 use Rattle.qc_site.specs.Conduct.{site_at, site_on, site_takes}
 use Rattle.qc_site.specs.Promise.{is_prepared, prepare_length, promise_of, promises}
-use Rattle.qc_site.specs.Requests.{appends_by, closed_fault, fault_of, grants, names_declared, reads_by, relation_at, requested}
+use Rattle.qc_site.specs.Requests.{appends_by, closed_fault, fault_of, grants, names_declared, reads_by, relation_at}
+use Rattle.qc_site.specs.Requests.{requested}
 use Rattle.qc_site.specs.Site.{SiteState, answers as answered, moved}
 use Rattle.qc_core.specs.Sites.{IsInput, IsStamped}
 use Rattle.qc_core.proofs.SiteDecisions.{aborted, active, committed, promise, promising}
@@ -48,7 +50,8 @@ fault_is_no_grant s epoch life = by (nat_lt s.epoch epoch) (nat_lt epoch s.epoch
     by_closed (Some k) = refl
     by_closed None = by_life (life == 0) (life == s.life)
 
-    by : (x y : Bool) → IsNoGrant (cond x (Some (answers.Behind s.epoch)) (cond y (Some (answers.Closed s.epoch)) (closed_fault s life s.closed_for)))
+    by : (x y : Bool) → IsNoGrant (cond x (Some (answers.Behind s.epoch))
+        (cond y (Some (answers.Closed s.epoch)) (closed_fault s life s.closed_for)))
     by true y = refl
     by false true = refl
     by false false = by_closed s.closed_for
@@ -58,60 +61,82 @@ module _ (decl : Declaration) (site : ℕ) (ds : List Deed) (n : ℕ) where
     abbrev state : Want → SiteState
     state want = passed site ds (messages.Request tx epoch life want)
 
-    abbrev given_want : Want → Given
+    abbrev given_want : Want → Input
     given_want want = letter number from to (messages.Request tx epoch life want)
 
     grant : (want : Want) → IsStep site ds (given_want want) n (grants decl (state want) from number tx want)
     grant (Read object inv) = by (read_clash (relation_at decl object) (shown site ds).held tx object inv)
       where
-        by : (o : Option Conflict) → IsStep site ds (given_want (Read object inv)) n (reads_by decl (state (Read object inv)) from number tx object inv o)
+        by : (o : Option Conflict) → IsStep site ds (given_want (Read object inv)) n
+            (reads_by decl (state (Read object inv)) from number tx object inv o)
         by None = read site ds n number from to tx epoch life object inv
         by (Some c) = clashes site ds n number from to tx epoch life decl (Read object inv) c
     grant (Append object view own) = by (append_clash (relation_at decl object) (shown site ds).held tx own)
       where
-        by : (o : Option Conflict) → IsStep site ds (given_want (Append object view own)) n (appends_by decl (state (Append object view own)) from number tx view own o)
+        by : (o : Option Conflict) → IsStep site ds (given_want (Append object view own)) n
+            (appends_by decl (state (Append object view own)) from number tx view own o)
         by None = append site ds n number from to tx epoch life object view own
         by (Some c) = clashes site ds n number from to tx epoch life decl (Append object view own) c
     grant Prepare = by (is_held (shown site ds).held tx) (is_prepared (shown site ds).prepared tx) refl
       where
         by_bytes : (b : Bool) → is_prepared (shown site ds).prepared tx ≡ false
             → IsStep site ds (given_want Prepare) n (cond b
-            (moved (record (state Prepare) { recorded = union (shown site ds).recorded (promise_of (state Prepare) tx).lines; prepared = (shown site ds).prepared ++ promise_of (state Prepare) tx ∷ [] }) (promising from number (state Prepare).clock (promise_of (state Prepare) tx)))
+            (moved (record (state Prepare) {
+              recorded =
+                  union (shown site ds).recorded (promise_of (state Prepare) tx).lines;
+              prepared = (shown site ds).prepared ++ promise_of (state Prepare) tx ∷ [];
+            })
+            (promising from number (state Prepare).clock (promise_of (state Prepare) tx)))
             (moved (state Prepare) (answered from number answers.Stale)))
-        by_bytes true none = promise site ds n number from to tx epoch life (state Prepare).clock (promise_of (state Prepare) tx) refl none
+        by_bytes true none = promise site ds n number from to tx epoch life (state Prepare).clock
+            (promise_of (state Prepare) tx) refl none
         by_bytes false none = refused site ds n number from to tx epoch life Prepare answers.Stale refl
 
         by : (h p : Bool) → is_prepared (shown site ds).prepared tx ≡ p
-            → IsStep site ds (given_want Prepare) n (cond (not h) (moved (state Prepare) (answered from number answers.Stale)) (cond p (moved (state Prepare) (answered from number (answers.Yes (state Prepare).clock))) (promises (state Prepare) from number (promise_of (state Prepare) tx))))
+            → IsStep site ds (given_want Prepare) n (cond (not h)
+            (moved (state Prepare) (answered from number answers.Stale))
+            (cond p (moved (state Prepare) (answered from number (answers.Yes (state Prepare).clock)))
+            (promises (state Prepare) from number (promise_of (state Prepare) tx))))
         by false p is = refused site ds n number from to tx epoch life Prepare answers.Stale refl
-        by true true is = refused site ds n number from to tx epoch life Prepare (answers.Yes (state Prepare).clock) refl
+        by true true is = refused site ds n number from to tx epoch life Prepare
+            (answers.Yes (state Prepare).clock) refl
         by true false is = by_bytes (nat_le (prepare_length (promise_of (state Prepare) tx)) most_record_bytes) is
 
-    request : (want : Want) → IsStep site ds (given_want want) n (site_at decl (state want) from number (messages.Request tx epoch life want))
+    request : (want : Want) → IsStep site ds (given_want want) n
+        (site_at decl (state want) from number (messages.Request tx epoch life want))
     request want = by_name (names_declared decl tx want)
       where
-        by : (o : Option Answer) → IsNoGrant o → IsStep site ds (given_want want) n (requested decl (state want) from number tx want o)
+        by : (o : Option Answer) → IsNoGrant o → IsStep site ds (given_want want) n
+            (requested decl (state want) from number tx want o)
         by (Some x) never = refused site ds n number from to tx epoch life want x never
         by None never = grant want
 
-        by_name : (b : Bool) → IsStep site ds (given_want want) n (cond b (requested decl (state want) from number tx want (fault_of (state want) epoch life)) (moved (state want) quiet))
+        by_name : (b : Bool) → IsStep site ds (given_want want) n
+            (cond b (requested decl (state want) from number tx want (fault_of (state want) epoch life))
+            (moved (state want) quiet))
         by_name true = by (fault_of (state want) epoch life) (fault_is_no_grant (state want) epoch life)
         by_name false = ignored site ds n number from to tx epoch life want
 
   module _ (number from to : ℕ) where
-    hear : (m : Message) → IsStamped m → IsStep site ds (letter number from to m) n (site_on decl (shown site ds) from number m)
+    hear : (m : Message) → IsStamped m → IsStep site ds (letter number from to m) n
+        (site_on decl (shown site ds) from number m)
     hear (messages.Request tx epoch life want) ok = request number from to tx epoch life want
-    hear (messages.Answer k answer) ok = still site ds n number from to (messages.Answer k answer) [] None (λ t. refl, λ t. refl) refl refl
+    hear (messages.Answer k answer) ok = still site ds n number from to (messages.Answer k answer) [] None
+        (λ t. refl, λ t. refl) refl refl
     hear (messages.Decision tx (Committed stamp)) ok = committed site ds n number from to tx stamp ok
     hear (messages.Decision tx Aborted) ok = aborted site ds n number from to tx
     hear (messages.Decision tx Active) ok = active site ds n number from to tx
-    hear (messages.Inquiry tx) ok = still site ds n number from to (messages.Inquiry tx) [] None (λ t. refl, λ t. refl) refl refl
-    hear (messages.Ask tx) ok = still site ds n number from to (messages.Ask tx) [] None (λ t. refl, λ t. refl) refl refl
+    hear (messages.Inquiry tx) ok = still site ds n number from to (messages.Inquiry tx) [] None
+        (λ t. refl, λ t. refl) refl refl
+    hear (messages.Ask tx) ok = still site ds n number from to (messages.Ask tx) [] None
+        (λ t. refl, λ t. refl) refl refl
     hear (messages.Close epoch) ok = close site ds n number from to epoch
     hear (messages.Install epoch clock lines) ok = install site ds n number from to epoch clock lines
 
   -- each input
-  pub steps : (g : Given) → IsInput g → IsStep site ds g n (site_takes decl (shown site ds) g)
-  steps (given.Called command) ok = sym (shown-more site ds (given.Called command) n quiet ∙ stands_still site ds (given.Called command) n [] None (λ t. refl, λ t. refl) refl refl)
-  steps (given.Got e) ok = hear e.number e.from e.to e.message ok
-  steps (given.Lost number) ok = sym (shown-more site ds (given.Lost number) n quiet ∙ stands_still site ds (given.Lost number) n [] None (λ t. refl, λ t. refl) refl refl)
+  pub steps : (g : Input) → IsInput g → IsStep site ds g n (site_takes decl (shown site ds) g)
+  steps (inputs.Called command) ok = sym (shown-more site ds (inputs.Called command) n quiet
+      ∙ stands_still site ds (inputs.Called command) n [] None (λ t. refl, λ t. refl) refl refl)
+  steps (inputs.Got e) ok = hear e.number e.from e.to e.message ok
+  steps (inputs.Lost number) ok = sym (shown-more site ds (inputs.Lost number) n quiet
+      ∙ stands_still site ds (inputs.Lost number) n [] None (λ t. refl, λ t. refl) refl refl)

@@ -1,5 +1,6 @@
 -- What the deeds of one turn show: its record, its messages, and nothing that is taken.
-use Rattle.std.proofs.Common.{◌≡◌, ℕ, ◌+◌, ◌||◌, Bool, true, false, List, [], ◌∷◌, ◌++◌, Option, Some, None, refl, ap, ◌∙◌}
+use Rattle.std.proofs.Common.{◌≡◌, ℕ, ◌+◌, ◌||◌, Bool, true, false, List, [], ◌∷◌, ◌++◌, Option, Some, None, refl, ap}
+use Rattle.std.proofs.Common.{◌∙◌}
 use Rattle.std.specs.Prelude.{cond, map, option_to_list}
 use Rattle.std.specs.List.{filter_map, flat_map}
 use Rattle.std.specs.Option.{option_map_or}
@@ -13,7 +14,8 @@ use Rattle.qc_msg.specs.declared.reply.Reply.{Reply}
 use Rattle.qc_msg.specs.declared.turn.Posting.{Posting}
 use Rattle.qc_msg.specs.declared.turn.Turn.{Turn}
 use Rattle.qc_msg.specs.Deeds.{Deed, sends_of, tells_of, turn_deeds, writes_of}
-use Rattle.qc_msg.specs.Readings.{Installing, install_in, prepare_in, written_in}
+use Rattle.qc_msg.specs.InputReadings.{written_in}
+use Rattle.qc_msg.specs.Readings.{Installing, install_in, prepare_in}
 use Rattle.qc_promise.specs.Posts.{Act, Sent, Told, Wrote, posted_next, sent_by}
 use Rattle.qc_promise.specs.SiteClocks.{clocks_at, clocks_written}
 use Rattle.qc_promise.specs.SiteEnds.{is_ended, is_over, redeems}
@@ -69,13 +71,16 @@ pub learning-nil : (l : Lines) → learning l [] ≡ l
 learning-nil l = ap (λ (v : List Line). record l { since = v }) (union-nil l.since)
 
 abbrev pub lines_written : Lines → List Record → Record → Lines
-lines_written l before w = option_map_or (λ (i : Installing). begun_with_lines i.lines) (install_in w) (learning l (lines_done before w))
+lines_written l before w = option_map_or (λ (i : Installing). begun_with_lines i.lines) (install_in w)
+    (learning l (lines_done before w))
 
-talk_lines : (l : Lines) (before : List Record) (n : ℕ) (ps : List Posting) (told : Option Reply) → lines_from l before (talk n ps told) ≡ l
+talk_lines : (l : Lines) (before : List Record) (n : ℕ) (ps : List Posting) (told : Option Reply)
+    → lines_from l before (talk n ps told) ≡ l
 talk_lines l before n [] None = refl
 talk_lines l before n [] (Some r) = learning-nil l
 talk_lines l before n (p ∷ ps) told =
-    ap (λ (v : Lines). lines_from v before (talk (n + 1) ps told)) (learning-nil l) ∙ talk_lines l before (n + 1) ps told
+    ap (λ (v : Lines). lines_from v before (talk (n + 1) ps told)) (learning-nil l)
+    ∙ talk_lines l before (n + 1) ps told
 
 -- the acts of a reply
 
@@ -132,7 +137,8 @@ module _ (n : ℕ) (turn : Turn) where
     where
       by : (w : Option Record) → flat_map clocks_at (writes_of w ++ talk n turn.sends turn.told) ≡ clocks_by w
       by None = talk_clocks n turn.sends turn.told
-      by (Some w) = ap (λ (v : List ℕ). clocks_written w ++ v) (talk_clocks n turn.sends turn.told) ∙ append-nil (clocks_written w)
+      by (Some w) = ap (λ (v : List ℕ). clocks_written w ++ v) (talk_clocks n turn.sends turn.told)
+          ∙ append-nil (clocks_written w)
 
   pub post_records : filter_map written_in post ≡ option_to_list turn.write
   post_records = by turn.write
@@ -146,9 +152,11 @@ module _ (n : ℕ) (turn : Turn) where
   post_acts = by turn.write
     where
       talked : posted_next (talk n turn.sends turn.told) ≡ map Sent turn.sends ++ told_of turn.told
-      talked = posted_sends n turn.sends (tells_of turn.told) ∙ ap (λ (v : List Act). map Sent turn.sends ++ v) (posted_tells turn.told)
+      talked = posted_sends n turn.sends (tells_of turn.told)
+          ∙ ap (λ (v : List Act). map Sent turn.sends ++ v) (posted_tells turn.told)
 
-      by : (w : Option Record) → posted_next (writes_of w ++ talk n turn.sends turn.told) ≡ map Wrote (option_to_list w) ++ (map Sent turn.sends ++ told_of turn.told)
+      by : (w : Option Record) → posted_next (writes_of w ++ talk n turn.sends turn.told) ≡ map Wrote (option_to_list w)
+          ++ (map Sent turn.sends ++ told_of turn.told)
       by None = talked
       by (Some w) = ap (λ (v : List Act). Wrote w ∷ v) talked
 
@@ -159,9 +167,11 @@ module _ (n : ℕ) (turn : Turn) where
       or_false true y e = refl
       or_false false y e = e
 
-      by : (w : Option Record) → is_over tx (writes_of w ++ talk n turn.sends turn.told) ≡ option_map_or (redeems tx) w false
+      by : (w : Option Record) → is_over tx (writes_of w ++ talk n turn.sends turn.told) ≡ option_map_or
+          (redeems tx) w false
       by None = talk_frees tx n turn.sends turn.told
-      by (Some w) = or_false (redeems tx w) (is_over tx (talk n turn.sends turn.told)) (talk_frees tx n turn.sends turn.told)
+      by (Some w) = or_false (redeems tx w) (is_over tx (talk n turn.sends turn.told))
+          (talk_frees tx n turn.sends turn.told)
 
   pub post_prepares : promises_since post ≡ promises_by turn.write
   post_prepares = by turn.write
@@ -172,7 +182,8 @@ module _ (n : ℕ) (turn : Turn) where
       kept : (p : Prepared) → unless_over (talk n turn.sends turn.told) p ≡ p ∷ []
       kept p = ap (λ (b : Bool). cond b [] (p ∷ [])) (talk_frees p.tx n turn.sends turn.told)
 
-      by_prepare : (o : Option Prepared) → option_map_or (unless_over (talk n turn.sends turn.told)) o [] ++ promises_since (talk n turn.sends turn.told) ≡ option_map_or (unless_over []) o []
+      by_prepare : (o : Option Prepared) → option_map_or (unless_over (talk n turn.sends turn.told)) o []
+          ++ promises_since (talk n turn.sends turn.told) ≡ option_map_or (unless_over []) o []
       by_prepare None = talked
       by_prepare (Some p) =
           ap (λ (v : List Prepared). v ++ promises_since (talk n turn.sends turn.told)) (kept p)
@@ -182,9 +193,11 @@ module _ (n : ℕ) (turn : Turn) where
       by None = talked
       by (Some w) = by_prepare (prepare_in w)
 
-  pub post_lines : (l : Lines) (before : List Record) → lines_from l before post ≡ option_map_or (lines_written l before) turn.write l
+  pub post_lines : (l : Lines) (before : List Record)
+      → lines_from l before post ≡ option_map_or (lines_written l before) turn.write l
   post_lines l before = by turn.write
     where
-      by : (w : Option Record) → lines_from l before (writes_of w ++ talk n turn.sends turn.told) ≡ option_map_or (lines_written l before) w l
+      by : (w : Option Record) → lines_from l before (writes_of w ++ talk n turn.sends turn.told) ≡ option_map_or
+          (lines_written l before) w l
       by None = talk_lines l before n turn.sends turn.told
       by (Some w) = talk_lines (lines_written l before w) (before ++ w ∷ []) n turn.sends turn.told

@@ -1,6 +1,7 @@
--- A site that rose, once its rising turn is posted: what its deeds show is what its records give, with that of the rise. And
--- that turn is due.
-use Rattle.std.proofs.Common.{◌≡◌, ℕ, ◌+◌, max, Bool, false, cond, List, [], ◌∷◌, ◌++◌, Option, Some, None, refl, sym, ap, ◌∙◌, subst}
+-- A site that rose, once its rising turn is posted: what its deeds show is what its records give, with that of the
+-- rise. And that turn is due.
+use Rattle.std.proofs.Common.{◌≡◌, ℕ, ◌+◌, max, Bool, false, cond, List, [], ◌∷◌, ◌++◌, Option, Some, None, refl, sym}
+use Rattle.std.proofs.Common.{ap, ◌∙◌, subst}
 use Rattle.std.specs.Prelude.{fold, option_to_list}
 use Rattle.std.specs.List.{filter_map, flat_map}
 use Rattle.std.specs.Option.{option_map_or}
@@ -15,7 +16,7 @@ use Rattle.qc_msg.specs.declared.record.Record.TheVariants as journals
 use Rattle.qc_msg.specs.declared.turn.Turn.{Turn}
 use Rattle.qc_msg.specs.Begun.{first_epoch}
 use Rattle.qc_msg.specs.Deeds.{Deed, Rises, turn_deeds, writes_of}
-use Rattle.qc_msg.specs.Readings.{written_in}
+use Rattle.qc_msg.specs.InputReadings.{written_in}
 use Rattle.qc_promise.specs.Lifetimes.{Lifetime, lifetime, records_in}
 use Rattle.qc_promise.specs.SiteClocks.{clock_shown, clocks_at, clocks_in_record}
 use Rattle.qc_promise.specs.SiteDue.{rising_turn}
@@ -29,16 +30,21 @@ use Rattle.qc_site.specs.Epochs.{held_by}
 use Rattle.qc_recover.specs.Sites.{inquiries, keeps, kept_by, nothing_kept, site_by, site_of, site_rises}
 use Rattle.qc_core.proofs.SiteFits.{Does}
 use Rattle.qc_core.proofs.SiteGrowth.{recorded-more}
-use Rattle.qc_core.proofs.SiteKept.{clock_by_records, closed_by_records, epoch_by_records, life_by_records, lines_by_records, promises_by_records}
+use Rattle.qc_core.proofs.SiteKept.{clock_by_records, closed_by_records, epoch_by_records, life_by_records}
+use Rattle.qc_core.proofs.SiteKept.{lines_by_records, promises_by_records}
 use Rattle.qc_core.proofs.SiteHolds.{AreNoCuts, held_in, hold, none_ended, remaining, talk_uncut, uncut, whole}
-use Rattle.qc_core.proofs.SitePosts.{clocks_by, learning-nil, lines_written, post_clocks, post_ends, post_frees, post_lines, post_prepares, post_records, post_rises, post_stands, promises_by, talk}
+use Rattle.qc_core.proofs.SitePosts.{clocks_by, learning-nil, lines_written, post_clocks, post_ends, post_frees}
+use Rattle.qc_core.proofs.SitePosts.{post_lines, post_prepares, post_records, post_rises, post_stands, promises_by}
+use Rattle.qc_core.proofs.SitePosts.{talk}
 use Rattle.qc_core.proofs.SiteShown.{same_state, shown}
 
 none_over : (ds : List Deed) → ((tx : TxId) → is_over tx ds ≡ false) → (ps : List Prepared) → left_of ds ps ≡ ps
 none_over ds none [] = refl
-none_over ds none (p ∷ ps) = ap (λ (b : Bool). cond b [] (p ∷ []) ++ left_of ds ps) (none p.tx) ∙ ap (λ (v : List Prepared). p ∷ v) (none_over ds none ps)
+none_over ds none (p ∷ ps) = ap (λ (b : Bool). cond b [] (p ∷ []) ++ left_of ds ps) (none p.tx)
+    ∙ ap (λ (v : List Prepared). p ∷ v) (none_over ds none ps)
 
-rise_promises : (before : List Deed) (rs : List Record) → prepared_shown (before ++ Rises rs ∷ []) ≡ (kept_by rs).promises
+rise_promises : (before : List Deed) (rs : List Record)
+    → prepared_shown (before ++ Rises rs ∷ []) ≡ (kept_by rs).promises
 rise_promises before rs =
     ap (λ (l : Lifetime). left_of l.since (promises_of l.kept) ++ promises_since l.since) (life_begins before rs)
     ∙ append-nil (left_of [] (promises_of rs))
@@ -46,7 +52,8 @@ rise_promises before rs =
     ∙ promises_by_records rs
 
 -- the turn of a rise, whose record is Life
-module _ (site : ℕ) (before : List Deed) (rs : List Record) (n : ℕ) (turn : Turn) (life : turn.write ≡ Some journals.Life) where
+module _ (site : ℕ) (before : List Deed) (rs : List Record) (n : ℕ) (turn : Turn)
+    (life : turn.write ≡ Some journals.Life) where
   abbrev post : List Deed
   post = turn_deeds n turn
 
@@ -61,17 +68,20 @@ module _ (site : ℕ) (before : List Deed) (rs : List Record) (n : ℕ) (turn : 
       ap (λ (l : Lifetime). l.kept ++ filter_map written_in l.since) life_now
       ∙ ap (λ (v : List Record). rs ++ v) (post_records n turn ∙ ap option_to_list life)
 
-  by_records : {A : Type 0} (f : A → Record → A) (a : A) → fold f a (records_in (before ++ Rises rs ∷ post)) ≡ f (fold f a rs) journals.Life
+  by_records : {A : Type 0} (f : A → Record → A) (a : A)
+      → fold f a (records_in (before ++ Rises rs ∷ post)) ≡ f (fold f a rs) journals.Life
   by_records f a = ap (λ (v : List Record). fold f a v) records_now ∙ fold-append f a rs (journals.Life ∷ [])
 
-  recorded_after : recorded_by (records_in (before ++ Rises rs ∷ post)) ≡ record { began = (kept_by rs).began; since = (kept_by rs).lines }
+  recorded_after : recorded_by (records_in (before ++ Rises rs ∷ post))
+      ≡ record { began = (kept_by rs).began; since = (kept_by rs).lines }
   recorded_after =
       ap recorded_by records_now
       ∙ recorded-more no_lines [] rs (journals.Life ∷ [])
       ∙ learning-nil (recorded_by rs)
       ∙ lines_by_records rs
 
-  lines_after : lines_shown (before ++ Rises rs ∷ post) ≡ record { began = (kept_by rs).began; since = (kept_by rs).lines }
+  lines_after : lines_shown (before ++ Rises rs ∷ post)
+      ≡ record { began = (kept_by rs).began; since = (kept_by rs).lines }
   lines_after =
       ap (λ (l : Lifetime). lines_from (recorded_by l.kept) l.kept l.since) life_now
       ∙ post_lines n turn (recorded_by rs) rs
@@ -80,14 +90,19 @@ module _ (site : ℕ) (before : List Deed) (rs : List Record) (n : ℕ) (turn : 
       ∙ lines_by_records rs
 
   post_uncut : AreNoCuts post
-  post_uncut = subst (λ (w : Option Record). AreNoCuts (writes_of w ++ talk n turn.sends turn.told)) (sym life) (refl, talk_uncut n turn.sends turn.told)
+  post_uncut = subst (λ (w : Option Record). AreNoCuts (writes_of w ++ talk n turn.sends turn.told)) (sym life)
+      (refl, talk_uncut n turn.sends turn.told)
 
   held_after : held_shown (before ++ Rises rs ∷ post) ≡ held_by (kept_by rs).promises
   held_after =
-      ap held_in (fold-append with_cut (record { before = []; since = [] }) before (Rises rs ∷ post) ∙ uncut cut post post_uncut)
-      ∙ ap (λ (v : List Grant). fold hold (fold with_promise [] (remaining (record { before = cut.before; since = post }))) v) (post_stands n turn)
-      ∙ ap (λ (v : List Prepared). fold with_promise [] v) (none_ended post (post_ends n turn) (prepared_shown cut.before))
-      ∙ ap (λ (v : List Deed). fold with_promise [] (prepared_shown v)) (ap (λ (v : List Deed). v ++ Rises rs ∷ []) (whole before))
+      ap held_in (fold-append with_cut (record { before = []; since = [] }) before (Rises rs ∷ post)
+      ∙ uncut cut post post_uncut)
+      ∙ ap (λ (v : List Grant). fold hold (fold with_promise []
+      (remaining (record { before = cut.before; since = post }))) v) (post_stands n turn)
+      ∙ ap (λ (v : List Prepared). fold with_promise [] v)
+      (none_ended post (post_ends n turn) (prepared_shown cut.before))
+      ∙ ap (λ (v : List Deed). fold with_promise [] (prepared_shown v))
+      (ap (λ (v : List Deed). v ++ Rises rs ∷ []) (whole before))
       ∙ ap (λ (v : List Prepared). fold with_promise [] v) (rise_promises before rs)
     where
       cut : Holding
@@ -123,10 +138,12 @@ module _ (site : ℕ) (before : List Deed) (rs : List Record) (n : ℕ) (turn : 
       held_after prepared_after clock_after
       ∙ ap (site_by site) (sym (fold-append keeps nothing_kept rs (journals.Life ∷ [])))
 
-pub rising_does : (decl : Declaration) (site : ℕ) (before : List Deed) (rs : List Record) → Does (site_rises decl site rs).turn (rising_turn decl (before ++ Rises rs ∷ []))
+pub rising_does : (decl : Declaration) (site : ℕ) (before : List Deed) (rs : List Record)
+    → Does (site_rises decl site rs).turn (rising_turn decl (before ++ Rises rs ∷ []))
 rising_does decl site before rs =
     record {
-      same = ap (λ (ps : List Prepared). record { write = Some journals.Life; sends = inquiries decl ps; failed_sends = [] }) (sym (rise_promises before rs));
+      same = ap (λ (ps : List Prepared). record
+          { write = Some journals.Life; sends = inquiries decl ps; failed_sends = [] }) (sym (rise_promises before rs));
       untold = refl;
       failed_untold = refl;
     }

@@ -1,7 +1,7 @@
 -- The state that a site's deeds show, whole, and what it becomes as the site takes one more input and posts a turn.
 use Rattle.std.proofs.Common.{◌≡◌, ℕ, List, ◌++◌, None, refl, ap, ◌∙◌}
 use Rattle.std.specs.Prelude.{fold, option_to_list}
-use Rattle.qc_msg.specs.declared.step.Given.{Given}
+use Rattle.qc_msg.specs.declared.step.Input.{Input}
 use Rattle.qc_msg.specs.declared.turn.Turn.{Turn}
 use Rattle.qc_msg.specs.Begun.{first_epoch}
 use Rattle.qc_msg.specs.Deeds.{Deed}
@@ -17,13 +17,16 @@ use Rattle.qc_core.proofs.SiteLines.{lines_then, more_lines, more_recorded, reco
 use Rattle.qc_core.proofs.SiteRecorded.{by_records, clock_then, more_clock, more_prepared, posted, prepared_then}
 
 -- states with the same parts are the same
-pub same_state : (a b : SiteState) → a.number ≡ b.number → a.life ≡ b.life → a.epoch ≡ b.epoch → a.closed_for ≡ b.closed_for → a.began ≡ b.began → a.log ≡ b.log → a.recorded ≡ b.recorded → a.held ≡ b.held → a.prepared ≡ b.prepared → a.clock ≡ b.clock → a ≡ b
+pub same_state : (a b : SiteState) → a.number ≡ b.number → a.life ≡ b.life → a.epoch ≡ b.epoch
+    → a.closed_for ≡ b.closed_for → a.began ≡ b.began → a.log ≡ b.log → a.recorded ≡ b.recorded → a.held ≡ b.held
+    → a.prepared ≡ b.prepared → a.clock ≡ b.clock → a ≡ b
 same_state a b number life epoch closed_for began log recorded held prepared clock =
     ap (λ v. record a { number = v }) number
     ∙ ap (λ v. record a { number = b.number; life = v }) life
     ∙ ap (λ v. record a { number = b.number; life = b.life; epoch = v }) epoch
     ∙ ap (λ v. record a { number = b.number; life = b.life; epoch = b.epoch; closed_for = v }) closed_for
-    ∙ ap (λ v. record a { number = b.number; life = b.life; epoch = b.epoch; closed_for = b.closed_for; began = v }) began
+    ∙ ap (λ v. record a { number = b.number; life = b.life; epoch = b.epoch; closed_for = b.closed_for; began = v })
+    began
     ∙ ap (λ v. record b { log = v; recorded = a.recorded; held = a.held; prepared = a.prepared; clock = a.clock }) log
     ∙ ap (λ v. record b { recorded = v; held = a.held; prepared = a.prepared; clock = a.clock }) recorded
     ∙ ap (λ v. record b { held = v; prepared = a.prepared; clock = a.clock }) held
@@ -47,7 +50,7 @@ shown site ds =
       clock = clock_shown ds;
     }
 
-module _ (site : ℕ) (ds : List Deed) (g : Given) (n : ℕ) (turn : Turn) where
+module _ (site : ℕ) (ds : List Deed) (g : Input) (n : ℕ) (turn : Turn) where
   -- the state that the deeds show once the turn is posted
   abbrev pub grown : SiteState
   grown =

@@ -1,5 +1,6 @@
 -- A site's step: what it becomes for an input is what its deeds show once its turn is posted. Here for requests.
-use Rattle.std.proofs.Common.{◌≡◌, ℕ, ◌==◌, ◌&&◌, ◌||◌, Bool, true, false, cond, List, [], ◌∷◌, ◌++◌, Option, None, is_some, refl, sym, ap, ◌∙◌, eq-eqb}
+use Rattle.std.proofs.Common.{◌≡◌, ℕ, ◌==◌, ◌&&◌, ◌||◌, Bool, true, false, cond, List, [], ◌∷◌, ◌++◌, Option, None}
+use Rattle.std.proofs.Common.{is_some, refl, sym, ap, ◌∙◌, eq-eqb}
 use Rattle.qc_stamp.specs.declared.stamp.TxId.{TxId}
 use Rattle.qc_entry.specs.declared.line.Line.{Line}
 use Rattle.qc_entry.specs.declared.line.OwnLine.{OwnLine}
@@ -13,8 +14,8 @@ use Rattle.qc_msg.specs.declared.message.Message.TheVariants as messages
 use Rattle.qc_msg.specs.declared.message.Want.{Want}
 use Rattle.qc_msg.specs.declared.message.Want.TheVariants.{Read, Append}
 use Rattle.qc_msg.specs.declared.reply.Reply.{Reply}
-use Rattle.qc_msg.specs.declared.step.Given.{Given}
-use Rattle.qc_msg.specs.declared.step.Given.TheVariants as given
+use Rattle.qc_msg.specs.declared.step.Input.{Input}
+use Rattle.qc_msg.specs.declared.step.Input.TheVariants as inputs
 use Rattle.qc_msg.specs.declared.turn.Posting.{Posting}
 use Rattle.qc_msg.specs.Deeds.{Deed, Takes, turn_deeds}
 use Rattle.qc_msg.specs.Readings.{granted_in}
@@ -29,11 +30,11 @@ use Rattle.qc_core.proofs.SitePosts.{learning-nil}
 use Rattle.qc_core.proofs.SiteShown.{shown, shown-more}
 use Rattle.qc_core.proofs.SiteTalks.{DecidesNothing, clock_passes, stands_still, talks}
 
-abbrev pub letter : ℕ → ℕ → ℕ → Message → Given
-letter number from to m = given.Got (record { number = number; from = from; to = to; message = m })
+abbrev pub letter : ℕ → ℕ → ℕ → Message → Input
+letter number from to m = inputs.Got (record { number = number; from = from; to = to; message = m })
 
 -- the move's site is what the deeds show once its turn is posted
-abbrev pub IsStep : ℕ → List Deed → Given → ℕ → SiteMove → Type 0
+abbrev pub IsStep : ℕ → List Deed → Input → ℕ → SiteMove → Type 0
 IsStep site ds g n move = move.site ≡ shown site (ds ++ Takes g ∷ turn_deeds n move.turn)
 
 -- the state that the deeds show, the clock passed by a message
@@ -47,7 +48,8 @@ and_false false = refl
 module _ (site : ℕ) (ds : List Deed) (n number from to : ℕ) where
   -- a message that decides nothing and is granted nothing
   pub still : (m : Message) (sends : List Posting) (told : Option Reply) → DecidesNothing (letter number from to m)
-      → standing_given (letter number from to m) (turn_deeds n (says sends told)) ≡ [] → view_given (letter number from to m) (turn_deeds n (says sends told)) ≡ []
+      → standing_given (letter number from to m) (turn_deeds n (says sends told)) ≡ []
+      → view_given (letter number from to m) (turn_deeds n (says sends told)) ≡ []
       → IsStep site ds (letter number from to m) n (moved (passed site ds m) (says sends told))
   still m sends told nothing stand joins =
       sym (shown-more site ds (letter number from to m) n (says sends told)
@@ -58,7 +60,7 @@ module _ (site : ℕ) (ds : List Deed) (n number from to : ℕ) where
     abbrev pub asked : Want → Message
     asked want = messages.Request tx epoch life want
 
-    abbrev pub asking : Want → Given
+    abbrev pub asking : Want → Input
     asking want = letter number from to (asked want)
 
     nothing : (want : Want) → DecidesNothing (asking want)
@@ -66,38 +68,67 @@ module _ (site : ℕ) (ds : List Deed) (n number from to : ℕ) where
 
     -- an answer that grants nothing
 
-    ungranted : (want : Want) (x : Answer) → is_some (granted_in x) ≡ false → standing_given (asking want) (turn_deeds n (answered from number x)) ≡ []
-    ungranted want x never = ap (λ (b : Bool). cond (((number == number) && b || false) && true) (record { tx = tx; want = want } ∷ []) []) never ∙ ap (λ (b : Bool). cond ((b || false) && true) (record { tx = tx; want = want } ∷ []) []) (and_false (number == number))
+    ungranted : (want : Want) (x : Answer) → is_some (granted_in x) ≡ false
+        → standing_given (asking want) (turn_deeds n (answered from number x)) ≡ []
+    ungranted want x never = ap (λ (b : Bool). cond (((number == number) && b || false) && true)
+        (record { tx = tx; want = want } ∷ []) []) never
+        ∙ ap (λ (b : Bool). cond ((b || false) && true) (record { tx = tx; want = want } ∷ []) [])
+        (and_false (number == number))
 
-    unviewed : (want : Want) (x : Answer) → is_some (granted_in x) ≡ false → view_given (asking want) (turn_deeds n (answered from number x)) ≡ []
-    unviewed want x never = ap (λ (b : Bool). cond ((number == number) && b || false) (view_in want) []) never ∙ ap (λ (b : Bool). cond (b || false) (view_in want) []) (and_false (number == number))
+    unviewed : (want : Want) (x : Answer) → is_some (granted_in x) ≡ false
+        → view_given (asking want) (turn_deeds n (answered from number x)) ≡ []
+    unviewed want x never = ap (λ (b : Bool). cond ((number == number) && b || false) (view_in want) []) never
+        ∙ ap (λ (b : Bool). cond (b || false) (view_in want) []) (and_false (number == number))
 
-    pub refused : (want : Want) (x : Answer) → is_some (granted_in x) ≡ false → IsStep site ds (asking want) n (moved (passed site ds (asked want)) (answered from number x))
-    refused want x never = still (asked want) (answering from number x ∷ []) None (nothing want) (ungranted want x never) (unviewed want x never)
+    pub refused : (want : Want) (x : Answer) → is_some (granted_in x) ≡ false
+        → IsStep site ds (asking want) n (moved (passed site ds (asked want)) (answered from number x))
+    refused want x never = still (asked want) (answering from number x ∷ []) None (nothing want)
+        (ungranted want x never) (unviewed want x never)
 
     pub ignored : (want : Want) → IsStep site ds (asking want) n (moved (passed site ds (asked want)) quiet)
     ignored want = still (asked want) [] None (nothing want) refl refl
 
-    pub clashes : (decl : Declaration) (want : Want) (c : Conflict) → IsStep site ds (asking want) n (moved (passed site ds (asked want)) (clashing decl from number c))
+    pub clashes : (decl : Declaration) (want : Want) (c : Conflict)
+        → IsStep site ds (asking want) n (moved (passed site ds (asked want)) (clashing decl from number c))
     clashes decl want c = still (asked want) (clashing decl from number c).sends None (nothing want)
-        (ap (λ (b : Bool). cond ((b || false) && true) (record { tx = tx; want = want } ∷ []) []) (and_false (number == number)))
+        (ap (λ (b : Bool). cond ((b || false) && true) (record { tx = tx; want = want } ∷ []) [])
+        (and_false (number == number)))
         (ap (λ (b : Bool). cond (b || false) (view_in want) []) (and_false (number == number)))
 
     -- a grant
 
     pub granted : (want : Want) (l c : ℕ) (log : List Line) (r : SiteState)
-        → r ≡ record (passed site ds (asked want)) { log = learned (shown site ds) (view_in want); held = hold (shown site ds).held (record { tx = tx; want = want }) }
+        → r ≡ record (passed site ds (asked want)) {
+          log = learned (shown site ds) (view_in want);
+          held = hold (shown site ds).held (record { tx = tx; want = want });
+        }
         → IsStep site ds (asking want) n (moved r (answered from number (answers.Granted l c log)))
     granted want l c log r is =
         is ∙ sym (shown-more site ds (asking want) n (answered from number (answers.Granted l c log))
-        ∙ talks site ds (asking want) n (answering from number (answers.Granted l c log) ∷ []) None (nothing want) (record { tx = tx; want = want } ∷ []) (view_in want)
-        (ap (λ (b : Bool). cond ((b && true || false) && true) (record { tx = tx; want = want } ∷ []) []) (eq-eqb number number refl))
+        ∙ talks site ds (asking want) n (answering from number (answers.Granted l c log) ∷ []) None (nothing want)
+        (record { tx = tx; want = want } ∷ []) (view_in want)
+        (ap (λ (b : Bool). cond ((b && true || false) && true) (record { tx = tx; want = want } ∷ []) [])
+        (eq-eqb number number refl))
         (ap (λ (b : Bool). cond (b && true || false) (view_in want) []) (eq-eqb number number refl))
-        ∙ ap (λ (v : ℕ). record (shown site ds) { log = learned (shown site ds) (view_in want); held = hold (shown site ds).held (record { tx = tx; want = want }); clock = v }) (clock_passes (shown site ds).clock (asked want)))
+        ∙ ap (λ (v : ℕ). record (shown site ds) {
+          log = learned (shown site ds) (view_in want);
+          held = hold (shown site ds).held (record { tx = tx; want = want });
+          clock = v;
+        })
+        (clock_passes (shown site ds).clock (asked want)))
 
-    pub read : (object inv : ℕ) → IsStep site ds (asking (Read object inv)) n (reads (passed site ds (asked (Read object inv))) from number tx object inv)
-    read object inv = granted (Read object inv) (shown site ds).life (shown site ds).clock (of_object (known (shown site ds)) object) (reads (passed site ds (asked (Read object inv))) from number tx object inv).site
-        (ap (λ (l : Lines). record (shown site ds) { log = l.since; held = hold (shown site ds).held (record { tx = tx; want = Read object inv }) }) (sym (learning-nil (lines_shown ds))))
+    pub read : (object inv : ℕ) → IsStep site ds (asking (Read object inv)) n
+        (reads (passed site ds (asked (Read object inv))) from number tx object inv)
+    read object inv = granted (Read object inv) (shown site ds).life (shown site ds).clock
+        (of_object (known (shown site ds)) object)
+        (reads (passed site ds (asked (Read object inv))) from number tx object inv).site
+        (ap (λ (l : Lines). record (shown site ds)
+        { log = l.since; held = hold (shown site ds).held (record { tx = tx; want = Read object inv }) })
+        (sym (learning-nil (lines_shown ds))))
 
-    pub append : (object : ℕ) (view : List Line) (own : List OwnLine) → IsStep site ds (asking (Append object view own)) n (appends (passed site ds (asked (Append object view own))) from number tx view own)
-    append object view own = granted (Append object view own) (shown site ds).life (passed site ds (asked (Append object view own))).clock [] (appends (passed site ds (asked (Append object view own))) from number tx view own).site refl
+    pub append : (object : ℕ) (view : List Line) (own : List OwnLine)
+        → IsStep site ds (asking (Append object view own)) n
+        (appends (passed site ds (asked (Append object view own))) from number tx view own)
+    append object view own = granted (Append object view own) (shown site ds).life
+        (passed site ds (asked (Append object view own))).clock []
+        (appends (passed site ds (asked (Append object view own))) from number tx view own).site refl

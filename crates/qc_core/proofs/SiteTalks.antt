@@ -10,7 +10,7 @@ use Rattle.qc_msg.specs.declared.message.Message.TheVariants as messages
 use Rattle.qc_msg.specs.declared.message.Outcome.TheVariants.{Committed, Aborted, Active}
 use Rattle.qc_msg.specs.declared.message.Want.TheVariants.{Read, Append, Prepare}
 use Rattle.qc_msg.specs.declared.reply.Reply.{Reply}
-use Rattle.qc_msg.specs.declared.step.Given.{Given}
+use Rattle.qc_msg.specs.declared.step.Input.{Input}
 use Rattle.qc_msg.specs.declared.turn.Posting.{Posting}
 use Rattle.qc_msg.specs.declared.turn.Turn.{Turn}
 use Rattle.qc_msg.specs.Deeds.{Deed, Takes, turn_deeds}
@@ -30,13 +30,15 @@ use Rattle.qc_core.proofs.SiteShown.{grown, same_state, shown}
 
 pub filter_all : {A : Type 0} (f : A → Bool) → ((x : A) → f x ≡ true) → (xs : List A) → filter f xs ≡ xs
 filter_all f all [] = refl
-filter_all {A = A} f all (x ∷ xs) = ap (λ (b : Bool). cond b (x ∷ filter f xs) (filter f xs)) (all x) ∙ ap (λ (v : List A). x ∷ v) (filter_all f all xs)
+filter_all {A = A} f all (x ∷ xs) = ap (λ (b : Bool). cond b (x ∷ filter f xs) (filter f xs)) (all x)
+    ∙ ap (λ (v : List A). x ∷ v) (filter_all f all xs)
 
 -- nothing is decided by an input
-abbrev pub DecidesNothing : Given → Type 0
-DecidesNothing g = ((tx : TxId) → is_decision is_final tx (Takes g) ≡ false) × ((tx : TxId) → is_decision is_aborted tx (Takes g) ≡ false)
+abbrev pub DecidesNothing : Input → Type 0
+DecidesNothing g = ((tx : TxId) → is_decision is_final tx (Takes g) ≡ false)
+    × ((tx : TxId) → is_decision is_aborted tx (Takes g) ≡ false)
 
-module _ (ds : List Deed) (g : Given) (n : ℕ) (turn : Turn) (still : DecidesNothing g) where
+module _ (ds : List Deed) (g : Input) (n : ℕ) (turn : Turn) (still : DecidesNothing g) where
   abbrev done : List Deed
   done = Takes g ∷ turn_deeds n turn
 
@@ -44,28 +46,46 @@ module _ (ds : List Deed) (g : Given) (n : ℕ) (turn : Turn) (still : DecidesNo
   none_ends tx = ap (λ (b : Bool). b || is_ended tx (turn_deeds n turn)) (still.0 tx) ∙ post_ends n turn tx
 
   all_stand : filter (stays done) (standing (last_cut ds).since) ≡ standing (last_cut ds).since
-  all_stand = filter_all (stays done) (λ (r : Grant). ap (λ (b : Bool). not b) (none_ends r.tx)) (standing (last_cut ds).since)
+  all_stand = filter_all (stays done) (λ (r : Grant). ap (λ (b : Bool). not b) (none_ends r.tx))
+      (standing (last_cut ds).since)
 
   all_remain : filter (remains done) (remaining (last_cut ds)) ≡ remaining (last_cut ds)
-  all_remain = filter_all (remains done) (λ (p : Prepared). ap (λ (b : Bool). not b) (none_ends p.tx)) (remaining (last_cut ds))
+  all_remain = filter_all (remains done) (λ (p : Prepared). ap (λ (b : Bool). not b) (none_ends p.tx))
+      (remaining (last_cut ds))
 
-  pub stays_held : (gs : List Grant) → standing_given g (turn_deeds n turn) ≡ gs → held_on ds g n turn ≡ fold hold (held_shown ds) gs
+  pub stays_held : (gs : List Grant) → standing_given g (turn_deeds n turn) ≡ gs
+      → held_on ds g n turn ≡ fold hold (held_shown ds) gs
   stays_held gs is =
-      ap (λ (v : List Prepared). fold hold (fold hold (fold with_promise [] v) (filter (stays done) (standing (last_cut ds).since))) (standing_given g (turn_deeds n turn))) all_remain
-      ∙ ap (λ (v : List Grant). fold hold (fold hold (fold with_promise [] (remaining (last_cut ds))) v) (standing_given g (turn_deeds n turn))) all_stand
+      ap (λ (v : List Prepared). fold hold (fold hold (fold with_promise [] v)
+      (filter (stays done) (standing (last_cut ds).since))) (standing_given g (turn_deeds n turn))) all_remain
+      ∙ ap (λ (v : List Grant). fold hold (fold hold (fold with_promise [] (remaining (last_cut ds))) v)
+      (standing_given g (turn_deeds n turn))) all_stand
       ∙ ap (λ (v : List Grant). fold hold (held_shown ds) v) is
 
 -- a turn without a record
-module _ (site : ℕ) (ds : List Deed) (g : Given) (n : ℕ) (sends : List Posting) (told : Option Reply) (still : DecidesNothing g) where
-  pub talks : (gs : List Grant) (view : List Line) → standing_given g (turn_deeds n (says sends told)) ≡ gs → view_given g (turn_deeds n (says sends told)) ≡ view
-      → grown site ds g n (says sends told) ≡ record (shown site ds) { log = (learning (lines_shown ds) view).since; held = fold hold (held_shown ds) gs; clock = fold max (clock_shown ds) (clocks_given g) }
+module _ (site : ℕ) (ds : List Deed) (g : Input) (n : ℕ) (sends : List Posting) (told : Option Reply)
+    (still : DecidesNothing g) where
+  pub talks : (gs : List Grant) (view : List Line) → standing_given g (turn_deeds n (says sends told)) ≡ gs
+      → view_given g (turn_deeds n (says sends told)) ≡ view
+      → grown site ds g n (says sends told) ≡ record
+      (shown site ds) {
+        log = (learning (lines_shown ds) view).since;
+        held = fold hold (held_shown ds) gs;
+        clock = fold max (clock_shown ds) (clocks_given g);
+      }
   talks gs view stand joins =
-      same_state (grown site ds g n (says sends told)) (record (shown site ds) { log = (learning (lines_shown ds) view).since; held = fold hold (held_shown ds) gs; clock = fold max (clock_shown ds) (clocks_given g) })
+      same_state (grown site ds g n (says sends told))
+      (record (shown site ds) {
+        log = (learning (lines_shown ds) view).since;
+        held = fold hold (held_shown ds) gs;
+        clock = fold max (clock_shown ds) (clocks_given g);
+      })
       refl refl refl refl refl
       (ap (λ (v : List Line). (learning (lines_shown ds) v).since) joins)
       refl
       (stays_held ds g n (says sends told) still gs stand)
-      (append-nil (filter (lasts (Takes g ∷ turn_deeds n (says sends told))) (prepared_shown ds)) ∙ filter_all (lasts (Takes g ∷ turn_deeds n (says sends told))) last (prepared_shown ds))
+      (append-nil (filter (lasts (Takes g ∷ turn_deeds n (says sends told))) (prepared_shown ds))
+      ∙ filter_all (lasts (Takes g ∷ turn_deeds n (says sends told))) last (prepared_shown ds))
       refl
     where
       last : (p : Prepared) → lasts (Takes g ∷ turn_deeds n (says sends told)) p ≡ true
@@ -74,8 +94,13 @@ module _ (site : ℕ) (ds : List Deed) (g : Given) (n : ℕ) (sends : List Posti
           ∙ ap (λ (b : Bool). not b) (post_frees n (says sends told) p.tx)
 
   -- nothing is granted
-  pub stands_still : standing_given g (turn_deeds n (says sends told)) ≡ [] → view_given g (turn_deeds n (says sends told)) ≡ [] → grown site ds g n (says sends told) ≡ record (shown site ds) { clock = fold max (clock_shown ds) (clocks_given g) }
-  stands_still stand joins = talks [] [] stand joins ∙ ap (λ (l : Lines). record (shown site ds) { log = l.since; clock = fold max (clock_shown ds) (clocks_given g) }) (learning-nil (lines_shown ds))
+  pub stands_still : standing_given g (turn_deeds n (says sends told)) ≡ []
+      → view_given g (turn_deeds n (says sends told)) ≡ []
+      → grown site ds g n (says sends told) ≡ record
+      (shown site ds) { clock = fold max (clock_shown ds) (clocks_given g) }
+  stands_still stand joins = talks [] [] stand joins
+      ∙ ap (λ (l : Lines). record (shown site ds) { log = l.since; clock = fold max (clock_shown ds) (clocks_given g) })
+      (learning-nil (lines_shown ds))
 
 -- the clock
 

@@ -3,7 +3,7 @@ use Rattle.std.proofs.Common.{ℕ, ◌+◌, Bool, List, [], ◌∷◌, ◌++◌,
 use Rattle.qc_decl.specs.declared.declaration.Declaration.{Declaration}
 use Rattle.qc_msg.specs.declared.record.Record.{Record}
 use Rattle.qc_msg.specs.declared.reply.Reply.{Reply}
-use Rattle.qc_msg.specs.declared.step.Given.{Given}
+use Rattle.qc_msg.specs.declared.step.Input.{Input}
 use Rattle.qc_msg.specs.declared.turn.Posting.{Posting}
 use Rattle.qc_msg.specs.declared.turn.Turn.{Turn}
 use Rattle.qc_msg.specs.Deeds.{Deed, Takes, sends_of, tells_of, turn_deeds, writes_of}
@@ -27,11 +27,15 @@ turn_steady n turn = by turn.write
     by (Some written) = (tt, sends_steady n turn.sends turn.told)
 
 -- one input more, with its turn
-pub event_steady : (ds : List Deed) (given : Given) (n : ℕ) (turn : Turn) → AreSteady ds → AreSteady ((ds ++ Takes given ∷ []) ++ turn_deeds n turn)
-event_steady ds given n turn steady = both_steady (ds ++ Takes given ∷ []) (turn_deeds n turn) (both_steady ds (Takes given ∷ []) steady (tt, tt)) (turn_steady n turn)
+pub event_steady : (ds : List Deed) (given : Input) (n : ℕ) (turn : Turn) → AreSteady ds
+    → AreSteady ((ds ++ Takes given ∷ []) ++ turn_deeds n turn)
+event_steady ds given n turn steady = both_steady (ds ++ Takes given ∷ []) (turn_deeds n turn)
+    (both_steady ds (Takes given ∷ []) steady (tt, tt)) (turn_steady n turn)
 
 -- who only takes inputs and posts turns neither falls nor rises
 pub acts_steady : (decl : Declaration) (a : ℕ) (ds : List Deed) (b : Bool) (n : ℕ) → Acts decl a ds b n → AreSteady ds
 acts_steady decl a ds b n starts = tt
-acts_steady decl a ds b n (takes before given m acts may) = both_steady before (Takes given ∷ []) (acts_steady decl a before _ m acts) (tt, tt)
-acts_steady decl a ds b n (posts before turn m first acts above lawful) = both_steady before (turn_deeds first turn) (acts_steady decl a before _ m acts) (turn_steady first turn)
+acts_steady decl a ds b n (takes before given m acts may) =
+    both_steady before (Takes given ∷ []) (acts_steady decl a before _ m acts) (tt, tt)
+acts_steady decl a ds b n (posts before turn m first acts above lawful) =
+    both_steady before (turn_deeds first turn) (acts_steady decl a before _ m acts) (turn_steady first turn)

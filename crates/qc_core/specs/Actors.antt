@@ -1,5 +1,5 @@
--- An actor's state: a site's, a client's, or the administrator's, or none while it is down. What it becomes and does for
--- each input and as it rises, and over all its deeds.
+-- An actor's state: a site's, a client's, or the administrator's, or none while it is down. What it becomes and does
+-- for each input and as it rises, and over all its deeds.
 use Rattle.std.specs.Prelude.{ℕ, ◌-◌, ◌^◌, ◌<◌, ◌≤◌, if◌then◌else◌, List, fold, length}
 use Rattle.std.specs.List.{AllByRecursion as Every}
 use Rattle.qc_decl.specs.declared.declaration.Declaration.{Declaration}
@@ -17,8 +17,8 @@ use Rattle.qc_epoch.specs.Conduct as admins
 use Rattle.qc_msg.specs.declared.message.Message.{Message}
 use Rattle.qc_msg.specs.declared.record.Record.{Record}
 use Rattle.qc_msg.specs.declared.reply.Reply.TheVariants as replies
-use Rattle.qc_msg.specs.declared.step.Given.{Given}
-use Rattle.qc_msg.specs.declared.step.Given.TheVariants as given
+use Rattle.qc_msg.specs.declared.step.Input.{Input}
+use Rattle.qc_msg.specs.declared.step.Input.TheVariants as inputs
 use Rattle.qc_msg.specs.declared.turn.Posting.{Posting}
 use Rattle.qc_msg.specs.declared.turn.Turn.{Turn}
 use Rattle.qc_msg.specs.Deeds.{Deed, Takes, Writes, Sends, Tells, Falls, Rises}
@@ -56,13 +56,13 @@ new_actor decl a =
     else (if is_client decl a then Client (new_client (a - decl.sites)) else Admin new_admin)
 
 -- while it is down it tells so for a command, and nothing else comes to it
-abbrev pub down_takes : Given → Turn
-down_takes (given.Called command) = telling replies.Down
-down_takes (given.Got envelope) = quiet
-down_takes (given.Lost number) = quiet
+abbrev pub down_takes : Input → Turn
+down_takes (inputs.Called command) = telling replies.Down
+down_takes (inputs.Got envelope) = quiet
+down_takes (inputs.Lost number) = quiet
 
 -- what it takes
-abbrev pub actor_takes : Declaration → Actor → Given → ActorMove
+abbrev pub actor_takes : Declaration → Actor → Input → ActorMove
 actor_takes decl (Site s) given = by_site (site_takes decl s given)
 actor_takes decl (Client c) given = by_client (clients.client_takes decl c given)
 actor_takes decl (Admin m) given = by_admin (admins.admin_takes decl m given)
@@ -135,10 +135,10 @@ AsksFew (Admin m) = AdminFits m
 AsksFew Down = Unit {0}
 
 -- a message comes from an actor; actors are numbered below the most actors
-abbrev pub IsFrom : Given → Type 0
-IsFrom (given.Called command) = Unit {0}
-IsFrom (given.Got envelope) = envelope.from < most_actors
-IsFrom (given.Lost number) = Unit {0}
+abbrev pub IsFrom : Input → Type 0
+IsFrom (inputs.Called command) = Unit {0}
+IsFrom (inputs.Got envelope) = envelope.from < most_actors
+IsFrom (inputs.Lost number) = Unit {0}
 
 abbrev pub IsFromActor : Deed → Type 0
 IsFromActor (Takes given) = IsFrom given

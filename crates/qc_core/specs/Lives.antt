@@ -6,11 +6,11 @@ use Rattle.qc_decl.specs.declared.declaration.Declaration.{Declaration}
 use Rattle.qc_msg.specs.declared.record.Record.{Record}
 use Rattle.qc_msg.specs.declared.step.Fall.{Fall}
 use Rattle.qc_msg.specs.declared.step.Fall.TheVariants.{Script}
-use Rattle.qc_msg.specs.declared.step.Given.{Given}
-use Rattle.qc_msg.specs.declared.step.Given.TheVariants as given
+use Rattle.qc_msg.specs.declared.step.Input.{Input}
+use Rattle.qc_msg.specs.declared.step.Input.TheVariants as inputs
 use Rattle.qc_msg.specs.declared.turn.Turn.{Turn}
 use Rattle.qc_msg.specs.Deeds.{Deed, Takes, Writes, Sends, Tells, Falls, Rises, deeds_as}
-use Rattle.qc_msg.specs.Readings.{command_in}
+use Rattle.qc_msg.specs.InputReadings.{command_in}
 use Rattle.qc_msg.specs.Steps.{IsByDisk, sends_as}
 use Rattle.qc_core.specs.Acts.{MayTake}
 use Rattle.qc_core.specs.Conduct.{IsLawfulWithFalls}
@@ -29,10 +29,10 @@ abbrev pub is_up : List Deed → Bool
 is_up ds = fold up_at true ds
 
 -- an actor that is down takes commands alone
-abbrev pub MayReach : Bool → Given → Type 0
-MayReach up (given.Called command) = Unit {0}
-MayReach up (given.Got envelope) = up ≡ true
-MayReach up (given.Lost number) = up ≡ true
+abbrev pub MayReach : Bool → Input → Type 0
+MayReach up (inputs.Called command) = Unit {0}
+MayReach up (inputs.Got envelope) = up ≡ true
+MayReach up (inputs.Lost number) = up ≡ true
 
 -- The deeds of an actor through falls and rises, whether it has an open input, and a number above those of its
 -- messages. In a turn whose record isn't written it falls (`deeds_as`); by a line of the script only where no input is
@@ -40,7 +40,7 @@ MayReach up (given.Lost number) = up ≡ true
 -- rise gives isn't said here: `Journals` says what disks are trusted with.
 pub data Lives (decl : Declaration) (a : ℕ) : List Deed → Bool → ℕ → Type 0 where
   starts : Lives decl a [] false 0
-  takes : (ds : List Deed) (given : Given) (n : ℕ)
+  takes : (ds : List Deed) (given : Input) (n : ℕ)
       → Lives decl a ds false n
       → MayTake ds given
       → MayReach (is_up ds) given

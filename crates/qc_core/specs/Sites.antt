@@ -7,8 +7,8 @@ use Rattle.qc_msg.specs.declared.message.Message.{Message}
 use Rattle.qc_msg.specs.declared.message.Message.TheVariants as messages
 use Rattle.qc_msg.specs.declared.message.Outcome.{Outcome}
 use Rattle.qc_msg.specs.declared.message.Outcome.TheVariants.{Committed, Aborted, Active}
-use Rattle.qc_msg.specs.declared.step.Given.{Given}
-use Rattle.qc_msg.specs.declared.step.Given.TheVariants as given
+use Rattle.qc_msg.specs.declared.step.Input.{Input}
+use Rattle.qc_msg.specs.declared.step.Input.TheVariants as inputs
 use Rattle.qc_msg.specs.declared.record.Record.{Record}
 use Rattle.qc_msg.specs.declared.step.Fall.{Fall}
 use Rattle.qc_msg.specs.declared.step.Fall.TheVariants.{Script}
@@ -40,17 +40,17 @@ IsStamped (messages.Ask tx) = Unit {0}
 IsStamped (messages.Close epoch) = Unit {0}
 IsStamped (messages.Install epoch clock log) = Unit {0}
 
-abbrev pub IsInput : Given → Type 0
-IsInput (given.Called command) = Unit {0}
-IsInput (given.Got envelope) = IsStamped envelope.message
-IsInput (given.Lost number) = Unit {0}
+abbrev pub IsInput : Input → Type 0
+IsInput (inputs.Called command) = Unit {0}
+IsInput (inputs.Got envelope) = IsStamped envelope.message
+IsInput (inputs.Lost number) = Unit {0}
 
 -- what a site takes in a run: messages, and that a request is lost; nobody commands it
 
-abbrev pub IsSiteInput : Given → Type 0
-IsSiteInput (given.Called command) = ⊥
-IsSiteInput (given.Got envelope) = IsStamped envelope.message
-IsSiteInput (given.Lost number) = Unit {0}
+abbrev pub IsSiteInput : Input → Type 0
+IsSiteInput (inputs.Called command) = ⊥
+IsSiteInput (inputs.Got envelope) = IsStamped envelope.message
+IsSiteInput (inputs.Lost number) = Unit {0}
 
 abbrev pub IsSiteDeed : Deed → Type 0
 IsSiteDeed (Takes given) = IsSiteInput given
@@ -72,7 +72,7 @@ stays_up Stopped = false
 -- more fall.
 pub data Serves (decl : Declaration) (site : ℕ) : List Deed → Bool → Type 0 where
   starts : Serves decl site [] true
-  serves : (ds : List Deed) (given : Given) (turn : Turn) (first : ℕ)
+  serves : (ds : List Deed) (given : Input) (turn : Turn) (first : ℕ)
       → Serves decl site ds true
       → IsInput given
       → IsLawfulWithFalls decl site (ds ++ Takes given ∷ []) turn

@@ -6,7 +6,7 @@ ghost use Rattle.qc_decl.specs.Accepted.{IsAccepted};
 ghost use Rattle.qc_admin.specs.Fits.{MessageFits};
 ghost use Rattle.qc_decl.specs.Actors.{administrator};
 ghost use Rattle.qc_epoch.specs.Deciding.{most_asks};
-ghost use Rattle.qc_msg.specs.declared.step.Given.TheVariants as given;
+ghost use Rattle.qc_msg.specs.declared.step.Input.TheVariants as inputs;
 
 use qc_admin::Admin;
 use qc_client::Client;
@@ -55,7 +55,7 @@ impl Actor {
     ) -> Result<Turn, OutOfMemory>
         requires accepted { IsAccepted decl.now }
         requires fits { ActorFits self.old }
-        ensures ok { IfOk result (λ turn. actor_takes decl.now self.old (given.Called command)
+        ensures ok { IfOk result (λ turn. actor_takes decl.now self.old (inputs.Called command)
             ≡ moved self.new turn) }
         ensures err { OnErr result (self.new ≡ self.old) }
     {
@@ -103,7 +103,7 @@ impl Actor {
     ) -> Result<Turn, OutOfMemory>
         requires accepted { IsAccepted decl.now }
         requires fits { ActorFits self.old }
-        ensures ok { IfOk result (λ turn. actor_takes decl.now self.old (given.Lost number) ≡ moved self.new turn) }
+        ensures ok { IfOk result (λ turn. actor_takes decl.now self.old (inputs.Lost number) ≡ moved self.new turn) }
         ensures err { OnErr result (self.new ≡ self.old) }
     {
         match self {

@@ -17,8 +17,8 @@ ghost use Rattle.qc_decl.specs.Limits.{most_sites};
 ghost use Rattle.qc_decl.specs.declared.declaration.Declaration.{Declaration};
 ghost use Rattle.qc_msg.specs.Deeds.{Deed, Takes, turn_deeds};
 ghost use Rattle.qc_msg.specs.declared.message.Envelope.{Envelope};
-ghost use Rattle.qc_msg.specs.declared.step.Given.{Given};
-ghost use Rattle.qc_msg.specs.declared.step.Given.TheVariants as given;
+ghost use Rattle.qc_msg.specs.declared.step.Input.{Input};
+ghost use Rattle.qc_msg.specs.declared.step.Input.TheVariants as inputs;
 ghost use Rattle.qc_promise.specs.SiteDue.{AreDue};
 ghost use Rattle.qc_site.specs.Site.{SiteState};
 
@@ -53,10 +53,10 @@ pub fn sites_that_live_serve()
 /// writes and tells.
 #[tactic(auto, using(crate::proofs::ActorLaws::input, crate::proofs::ActorLaws::message))]
 pub fn actors_are_folds()
-    ensures input { (decl : Declaration) (a : ℕ) (ds : List Deed) (given : Given)
+    ensures input { (decl : Declaration) (a : ℕ) (ds : List Deed) (given : Input)
         → actor_after decl a (ds ++ Takes given ∷ []) ≡ actor_takes decl (actor_after decl a ds).actor given }
     ensures message { (decl : Declaration) (actor : Actor) (envelope : Envelope)
-        → actor_takes decl actor (given.Got envelope)
+        → actor_takes decl actor (inputs.Got envelope)
         ≡ actor_hears decl actor envelope.from envelope.number envelope.message }
 {}
 
@@ -73,7 +73,7 @@ pub fn turns_are_those_of_actors()
 /// another.
 #[tactic(auto, using(crate::proofs::ActorSent::actor_sent_at_once))]
 pub fn requests_are_numbered_at_once()
-    ensures { (decl : Declaration) (a : ℕ) (ds : List Deed) (n : ℕ) (given : Given) (first : ℕ)
+    ensures { (decl : Declaration) (a : ℕ) (ds : List Deed) (n : ℕ) (given : Input) (first : ℕ)
         → 0 < decl.sites → decl.sites ≤ most_sites → a < administrator decl → Acts decl a ds false n → MayTake ds given
         → (actor_after decl a ((ds ++ Takes given ∷ [])
         ++ turn_deeds first (actor_takes decl (actor_after decl a ds).actor given).turn)).actor
@@ -87,7 +87,7 @@ pub fn actors_fit()
     ensures fits { (decl : Declaration) (a : ℕ) (ds : List Deed) (m n : ℕ) → IsAccepted decl → a < administrator decl
         → Acts decl a ds false m → n < 2 ^ 31 → ActorWithin n (actor_after decl a ds).actor
         → ActorFits (actor_after decl a ds).actor }
-    ensures few { (decl : Declaration) (a : ℕ) (ds : List Deed) (m : ℕ) (given : Given) → IsAccepted decl
+    ensures few { (decl : Declaration) (a : ℕ) (ds : List Deed) (m : ℕ) (given : Input) → IsAccepted decl
         → a < administrator decl → Acts decl a ds false m → MayTake ds given
         → AsksFew (actor_takes decl (actor_after decl a ds).actor given).actor }
 {}
@@ -96,7 +96,7 @@ pub fn actors_fit()
 /// it took came from actors.
 #[tactic(auto, using(crate::proofs::ActorFits::actor_short))]
 pub fn turns_are_short()
-    ensures { (decl : Declaration) (a : ℕ) (ds : List Deed) (m : ℕ) (given : Given) → IsAccepted decl
+    ensures { (decl : Declaration) (a : ℕ) (ds : List Deed) (m : ℕ) (given : Input) → IsAccepted decl
         → a < administrator decl → Acts decl a ds false m → Every IsFromActor ds → IsFrom given
         → IsShort (actor_takes decl (actor_after decl a ds).actor given).turn }
 {}

@@ -1,5 +1,6 @@
 -- The built-in declarations keep the rules: the register's triples show its relation exact, and the quorums meet.
-use Rattle.std.proofs.Common.{◌≡◌, ◌<◌, ◌≤◌, ℕ, zero, suc, List, [], ◌∷◌, length, Some, None, refl, subst, arith, slice_get}
+use Rattle.std.proofs.Common.{◌≡◌, ◌<◌, ◌≤◌, ℕ, zero, suc, List, [], ◌∷◌, length, Some, None, refl, subst, arith}
+use Rattle.std.proofs.Common.{slice_get}
 use Rattle.std.specs.Prelude.{All, codes}
 use Rattle.std.proofs.lemmas.List.Elements.{All-cons, All-nil}
 use Rattle.qc_cert.proofs.Faultless.{inductive}
@@ -65,11 +66,14 @@ module _ (actors : ℕ) (weights : List ℕ) (need : ℕ) (small : need ≤ grea
     objects = refl;
     each_is = places;
     numbers = All-cons (All IsThreshold) (need ∷ 0 ∷ 0 ∷ []) []
-        (All-cons IsThreshold need (0 ∷ 0 ∷ []) small (All-cons IsThreshold 0 (0 ∷ []) (omega arith) (All-cons IsThreshold 0 [] (omega arith) (All-nil IsThreshold))))
+        (All-cons IsThreshold need (0 ∷ 0 ∷ []) small
+        (All-cons IsThreshold 0 (0 ∷ []) (omega arith)
+        (All-cons IsThreshold 0 [] (omega arith) (All-nil IsThreshold))))
         (All-nil (All IsThreshold));
   }
     where
-      places : (object : ℕ) (kind : Kind) (list : List ℕ) → kind_at (register_store actors weights need) object ≡ Some kind
+      places : (object : ℕ) (kind : Kind) (list : List ℕ)
+          → kind_at (register_store actors weights need) object ≡ Some kind
           → slice_get ((need ∷ 0 ∷ 0 ∷ []) ∷ []) object ≡ Some list → length list ≡ kind.table.invs
       places zero kind list at of =
           let same : register_kind ≡ kind = cc in
@@ -77,26 +81,32 @@ module _ (actors : ℕ) (weights : List ℕ) (need : ℕ) (small : need ≤ grea
           subst (λ (k : Kind). length list ≡ k.table.invs) same (subst (λ (ns : List ℕ). length ns ≡ 3) one refl)
       places (suc object) kind list at of = absurd (let never : ⊥ = cc in never)
 
-  last : AreThresholds (register_store actors weights need) (λ kind. length (events_of kind.table.rows)) ((0 ∷ 0 ∷ need ∷ need ∷ []) ∷ [])
+  last : AreThresholds (register_store actors weights need) (λ kind. length (events_of kind.table.rows))
+      ((0 ∷ 0 ∷ need ∷ need ∷ []) ∷ [])
   last = record {
     objects = refl;
     each_is = places;
     numbers = All-cons (All IsThreshold) (0 ∷ 0 ∷ need ∷ need ∷ []) []
-        (All-cons IsThreshold 0 (0 ∷ need ∷ need ∷ []) (omega arith) (All-cons IsThreshold 0 (need ∷ need ∷ []) (omega arith)
+        (All-cons IsThreshold 0 (0 ∷ need ∷ need ∷ []) (omega arith)
+        (All-cons IsThreshold 0 (need ∷ need ∷ []) (omega arith)
         (All-cons IsThreshold need (need ∷ []) small (All-cons IsThreshold need [] small (All-nil IsThreshold)))))
         (All-nil (All IsThreshold));
   }
     where
-      places : (object : ℕ) (kind : Kind) (list : List ℕ) → kind_at (register_store actors weights need) object ≡ Some kind
-          → slice_get ((0 ∷ 0 ∷ need ∷ need ∷ []) ∷ []) object ≡ Some list → length list ≡ length (events_of kind.table.rows)
+      places : (object : ℕ) (kind : Kind) (list : List ℕ)
+          → kind_at (register_store actors weights need) object ≡ Some kind
+          → slice_get ((0 ∷ 0 ∷ need ∷ need ∷ []) ∷ []) object ≡ Some list
+          → length list ≡ length (events_of kind.table.rows)
       places zero kind list at of =
           let same : register_kind ≡ kind = cc in
           let one : (0 ∷ 0 ∷ need ∷ need ∷ []) ≡ list = cc in
-          subst (λ (k : Kind). length list ≡ length (events_of k.table.rows)) same (subst (λ (ns : List ℕ). length ns ≡ 4) one refl)
+          subst (λ (k : Kind). length list ≡ length (events_of k.table.rows)) same
+          (subst (λ (ns : List ℕ). length ns ≡ 4) one refl)
       places (suc object) kind list at of = absurd (let never : ⊥ = cc in never)
 
   store_accepted : 0 < actors → actors ≤ most_sites → length weights ≡ actors → All (λ w. w ≤ greatest_weight) weights
-      → fault_of (register_plan weights need) (register_kind ∷ []) (0 ∷ []) ≡ None → IsAccepted (register_store actors weights need)
+      → fault_of (register_plan weights need) (register_kind ∷ []) (0 ∷ []) ≡ None
+      → IsAccepted (register_store actors weights need)
   store_accepted some few weighed light faultless = record {
     has_site = some;
     sites = few;
@@ -122,20 +132,28 @@ module _ (actors : ℕ) (weights : List ℕ) (need : ℕ) (small : need ≤ grea
       typed (suc object) number is = absurd (let never : ⊥ = cc in never)
 
       right : (number : ℕ) (kind : Kind) → slice_get (register_kind ∷ []) number ≡ Some kind → IsRight kind
-      right zero kind is = let same : register_kind ≡ kind = cc in subst IsRight same (record { sound = register_sound; exact = register_exact })
+      right zero kind is = let same : register_kind ≡ kind = cc in
+          subst IsRight same (record { sound = register_sound; exact = register_exact })
       right (suc number) kind is = absurd (let never : ⊥ = cc in never)
 
-      good : (place : ℕ) (plan : Plan) → slice_get (register_plan weights need ∷ []) place ≡ Some plan → IsGood (register_store actors weights need) plan
+      good : (place : ℕ) (plan : Plan) → slice_get (register_plan weights need ∷ []) place ≡ Some plan
+          → IsGood (register_store actors weights need) plan
       good zero plan is =
           let same : register_plan weights need ≡ plan = cc in
           subst (IsGood (register_store actors weights need)) same
-          (record { weights = weighed; admitted = plan_proofs.admitted (register_plan weights need) (register_kind ∷ []) (0 ∷ []) (omega arith) (omega arith) faultless })
+          (record {
+            weights = weighed;
+            admitted = plan_proofs.admitted (register_plan weights need) (register_kind ∷ [])
+                (0 ∷ []) (omega arith) (omega arith) faultless;
+          })
       good (suc place) plan is = absurd (let never : ⊥ = cc in never)
 
-      listed : (place : ℕ) (plan : Plan) → slice_get (register_plan weights need ∷ []) place ≡ Some plan → HasThresholds (register_store actors weights need) plan
+      listed : (place : ℕ) (plan : Plan) → slice_get (register_plan weights need ∷ []) place ≡ Some plan
+          → HasThresholds (register_store actors weights need) plan
       listed zero plan is =
           let same : register_plan weights need ≡ plan = cc in
-          subst (HasThresholds (register_store actors weights need)) same (record { weights = light; initial = initial; last = last })
+          subst (HasThresholds (register_store actors weights need)) same
+          (record { weights = light; initial = initial; last = last })
       listed (suc place) plan is = absurd (let never : ⊥ = cc in never)
 
       named : (number : ℕ) (kind : Kind) (names : KindNames) → slice_get (register_kind ∷ []) number ≡ Some kind
@@ -150,9 +168,11 @@ abbrev IsWeight : ℕ → Type 0
 IsWeight n = n ≤ greatest_weight
 
 pub one_accepted : IsAccepted one
-one_accepted = store_accepted 1 (1 ∷ []) 1 (omega arith) (omega arith) (omega arith) refl (All-cons IsWeight 1 [] (omega arith) (All-nil IsWeight)) refl
+one_accepted = store_accepted 1 (1 ∷ []) 1 (omega arith) (omega arith) (omega arith) refl
+    (All-cons IsWeight 1 [] (omega arith) (All-nil IsWeight)) refl
 
 pub three_accepted : IsAccepted three
 three_accepted =
     store_accepted 3 (1 ∷ 1 ∷ 1 ∷ []) 2 (omega arith) (omega arith) (omega arith) refl
-    (All-cons IsWeight 1 (1 ∷ 1 ∷ []) (omega arith) (All-cons IsWeight 1 (1 ∷ []) (omega arith) (All-cons IsWeight 1 [] (omega arith) (All-nil IsWeight)))) refl
+    (All-cons IsWeight 1 (1 ∷ 1 ∷ []) (omega arith)
+    (All-cons IsWeight 1 (1 ∷ []) (omega arith) (All-cons IsWeight 1 [] (omega arith) (All-nil IsWeight)))) refl

@@ -25,4 +25,5 @@ module _ (decl : Declaration) (a : ℕ) (client : is_client decl a ≡ true) whe
     where
       by : (t : Bool) → is_site decl a ≡ t → t ≡ false
       by false is = refl
-      by true is = absurd (let low : a < decl.sites = ltb-true a decl.sites is in let past : decl.sites ≤ a = client_past in let never : ⊥ = omega arith in never)
+      by true is = absurd (let low : a < decl.sites = ltb-true a decl.sites is in
+          let past : decl.sites ≤ a = client_past in let never : ⊥ = omega arith in never)

@@ -1,5 +1,6 @@
 -- What others bring stands behind a list's lines, where both begin alike and the rest is above all of them.
-use Rattle.std.proofs.Common.{◌≡◌, ℕ, zero, suc, Some, None, length, take, drop, ◌-◌, List, [], ◌∷◌, ◌++◌, sym, ap, ◌∙◌, subst, append_assoc}
+use Rattle.std.proofs.Common.{◌≡◌, ℕ, zero, suc, Some, None, length, take, drop, ◌-◌, List, [], ◌∷◌, ◌++◌, sym, ap, ◌∙◌}
+use Rattle.std.proofs.Common.{subst, append_assoc}
 use Rattle.std.proofs.lemmas.List.{append-nil, take-append-drop}
 use Rattle.std.specs.List.{AllByRecursion as Every, slice_get}
 use Rattle.std.specs.declared.cmp.Ordering.TheVariants.{Less}
@@ -15,7 +16,8 @@ every-rest P (suc n) [] all = all
 every-rest P (suc n) (x ∷ xs) all = every-rest P n xs all.1
 
 -- the two lists, from their place on
-pub from : (lines others : List Line) (n : ℕ) → take n lines ≡ take n others → union lines others ≡ take n lines ++ union (drop n lines) (drop n others)
+pub from : (lines others : List Line) (n : ℕ) → take n lines ≡ take n others
+    → union lines others ≡ take n lines ++ union (drop n lines) (drop n others)
 from lines others n alike =
     let front : others ≡ take n lines ++ drop n others =
     sym (take-append-drop n others) ∙ ap (λ zs. zs ++ drop n others) (sym alike) in
@@ -37,7 +39,8 @@ pub none-behind : (lines others : List Line) (n : ℕ) → take n lines ≡ take
     → union lines others ≡ lines ++ take (length others - n) (drop n others)
 none-behind lines others n alike none =
     let at : None ≡ slice_get (drop n others) 0 = none ∙ ap (λ zs. slice_get zs 0) (whole-rest others n) in
-    rest-behind lines others n alike (ends (drop n lines) (drop n others) at) ∙ ap (λ zs. lines ++ zs) (sym (whole-rest others n)) where
+    rest-behind lines others n alike (ends (drop n lines) (drop n others) at)
+    ∙ ap (λ zs. lines ++ zs) (sym (whole-rest others n)) where
       ends : (xs ys : List Line) → None ≡ slice_get ys 0 → union xs ys ≡ xs ++ ys
       ends xs [] at = union-nil xs ∙ sym (append-nil xs)
       ends xs (y ∷ ys) at = absurd (let never : ⊥ = cc in never)
@@ -49,9 +52,11 @@ pub some-behind : (lines others : List Line) (n : ℕ) (first : Line) → take n
     → union lines others ≡ lines ++ take (length others - n) (drop n others)
 some-behind lines others n first alike some low =
     let at : Some first ≡ slice_get (drop n others) 0 = some ∙ ap (λ zs. slice_get zs 0) (whole-rest others n) in
-    rest-behind lines others n alike (after (drop n lines) (drop n others) at (every-rest (λ l. line_cmp l first ≡ Less) n lines low))
+    rest-behind lines others n alike (after (drop n lines) (drop n others) at
+    (every-rest (λ l. line_cmp l first ≡ Less) n lines low))
     ∙ ap (λ zs. lines ++ zs) (sym (whole-rest others n)) where
-      after : (xs ys : List Line) → Some first ≡ slice_get ys 0 → Every (λ l. line_cmp l first ≡ Less) xs → union xs ys ≡ xs ++ ys
+      after : (xs ys : List Line) → Some first ≡ slice_get ys 0 → Every (λ l. line_cmp l first ≡ Less) xs
+          → union xs ys ≡ xs ++ ys
       after xs [] at low = absurd (let never : ⊥ = cc in never)
       after xs (y ∷ ys) at low =
           let same : first ≡ y = cc in

@@ -10,7 +10,8 @@ use Rattle.qc_list.proofs.Order.{less_is}
 use Rattle.qc_entry.proofs.Orders.{line_order}
 
 -- where the last of an ascending list is below a line, each is
-below_last : (xs : List Line) (n : ℕ) (last y : Line) → IsAscending xs → suc n ≡ length xs → slice_get xs n ≡ Some last → line_cmp last y ≡ Less → Every (λ x. line_cmp x y ≡ Less) xs
+below_last : (xs : List Line) (n : ℕ) (last y : Line) → IsAscending xs → suc n ≡ length xs → slice_get xs n ≡ Some last
+    → line_cmp last y ≡ Less → Every (λ x. line_cmp x y ≡ Less) xs
 below_last [] n last y ascending size at less = absurd (omega arith)
 below_last (x ∷ []) zero last y ascending size at less =
     let same : last ≡ x = cc in
@@ -23,14 +24,16 @@ below_last (x ∷ z ∷ xs) (suc n) last y ascending size at less =
     (line_order.total.trans x z y ascending.0.0 rest.0, rest)
 
 -- where the last line of an ascending list is below a line, each is
-pub below-last : (xs : List Line) (last y : Line) → IsAscending xs → Some last ≡ slice_get xs (length xs - 1) → IsTrue (is_lt (line_cmp last y)) → Every (λ x. line_cmp x y ≡ Less) xs
+pub below-last : (xs : List Line) (last y : Line) → IsAscending xs → Some last ≡ slice_get xs (length xs - 1)
+    → IsTrue (is_lt (line_cmp last y)) → Every (λ x. line_cmp x y ≡ Less) xs
 below-last [] last y ascending at test = tt
 below-last (x ∷ xs) last y ascending at test =
     let place : length (x ∷ xs) - 1 ≡ length xs = omega arith in
     below_last (x ∷ xs) (length xs) last y ascending refl (sym (rw place at at)) (less_is (line_cmp last y) test)
 
 -- where each line is below a line, the last one is
-pub last-below : (xs : List Line) (last y : Line) → Some last ≡ slice_get xs (length xs - 1) → Every (λ x. line_cmp x y ≡ Less) xs → IsTrue (is_lt (line_cmp last y))
+pub last-below : (xs : List Line) (last y : Line) → Some last ≡ slice_get xs (length xs - 1)
+    → Every (λ x. line_cmp x y ≡ Less) xs → IsTrue (is_lt (line_cmp last y))
 last-below xs last y at every =
     let less : line_cmp last y ≡ Less = every-at (λ x. line_cmp x y ≡ Less) xs (length xs - 1) last every (sym at) in
     rw less refl

@@ -4,7 +4,8 @@ use Rattle.std.specs.List.{list_all}
 use Rattle.qc_entry.specs.declared.line.Line.{Line}
 use Rattle.qc_entry.specs.Log.{of_object}
 
-pub all_on : (lines : List Line) (object : ℕ) → list_all (λ (l : Line). l.object == object) lines ≡ true → lines ≡ of_object lines object
+pub all_on : (lines : List Line) (object : ℕ) → list_all (λ (l : Line). l.object == object) lines ≡ true
+    → lines ≡ of_object lines object
 all_on [] object all = refl
 all_on (l ∷ lines) object all = by (l.object == object) all (all_on lines object) where
   by : (t : Bool) → (t && list_all (λ (k : Line). k.object == object) lines) ≡ true

@@ -22,24 +22,30 @@ without-nil [] = refl
 without-nil (x ∷ xs) = ap (λ zs. x ∷ zs) (without-nil xs)
 
 -- a line below all of the first list takes nothing away
-pub without-below : (xs : List Line) (y : Line) (ys : List Line) → IsBelowAll line_cmp y xs → without xs (y ∷ ys) ≡ without xs ys
+pub without-below : (xs : List Line) (y : Line) (ys : List Line) → IsBelowAll line_cmp y xs
+    → without xs (y ∷ ys) ≡ without xs ys
 without-below [] y ys low = refl
-without-below (x ∷ xs) y ys low = rw low.0 (ap (λ zs. cond (not (has_line ys x)) (x ∷ zs) zs) (without-below xs y ys low.1))
+without-below (x ∷ xs) y ys low = rw low.0
+    (ap (λ zs. cond (not (has_line ys x)) (x ∷ zs) zs) (without-below xs y ys low.1))
 
 -- the first line stays where it is below all others
-pub without-Less : (x : Line) (xs : List Line) (y : Line) (ys : List Line) → line_cmp x y ≡ Less → IsBelowAll line_cmp y ys → without (x ∷ xs) (y ∷ ys) ≡ x ∷ without xs (y ∷ ys)
+pub without-Less : (x : Line) (xs : List Line) (y : Line) (ys : List Line) → line_cmp x y ≡ Less
+    → IsBelowAll line_cmp y ys → without (x ∷ xs) (y ∷ ys) ≡ x ∷ without xs (y ∷ ys)
 without-Less x xs y ys less low =
-    ap (λ has. cond (not has) (x ∷ without xs (y ∷ ys)) (without xs (y ∷ ys))) (absent x (y ∷ ys) (less, below_trans line_cmp line_order.total x y ys less low))
+    ap (λ has. cond (not has) (x ∷ without xs (y ∷ ys)) (without xs (y ∷ ys)))
+    (absent x (y ∷ ys) (less, below_trans line_cmp line_order.total x y ys less low))
 
 -- the first line goes where it is the first of the others
-pub without-Equal : (x : Line) (xs : List Line) (y : Line) (ys : List Line) → line_cmp x y ≡ Equal → IsBelowAll line_cmp x xs → without (x ∷ xs) (y ∷ ys) ≡ without xs ys
+pub without-Equal : (x : Line) (xs : List Line) (y : Line) (ys : List Line) → line_cmp x y ≡ Equal
+    → IsBelowAll line_cmp x xs → without (x ∷ xs) (y ∷ ys) ≡ without xs ys
 without-Equal x xs y ys equal low =
     let same : x ≡ y = line_order.apart x y equal in
     let found : line_cmp y x ≡ Equal = subst (λ l. line_cmp l x ≡ Equal) same (tied_itself line_order.total x) in
     rw found (without-below xs y ys (subst (λ l. IsBelowAll line_cmp l xs) same low))
 
 -- the first of the others takes nothing away where it is below the first line
-pub without-Greater : (x : Line) (xs : List Line) (y : Line) (ys : List Line) → line_cmp x y ≡ Greater → IsBelowAll line_cmp x xs → without (x ∷ xs) (y ∷ ys) ≡ without (x ∷ xs) ys
+pub without-Greater : (x : Line) (xs : List Line) (y : Line) (ys : List Line) → line_cmp x y ≡ Greater
+    → IsBelowAll line_cmp x xs → without (x ∷ xs) (y ∷ ys) ≡ without (x ∷ xs) ys
 without-Greater x xs y ys greater low =
     let less : line_cmp y x ≡ Less = above x y greater in
     without-below (x ∷ xs) y ys (less, below_trans line_cmp line_order.total y x xs less low)
@@ -67,15 +73,18 @@ absent-behind : (z : Line) (ys : List Line) → Every (λ l. line_cmp l z ≡ Le
 absent-behind z [] all = refl
 absent-behind z (y ∷ ys) all = rw all.0 (absent-behind z ys all.1)
 
-further : (x z : Line) (ys : List Line) → line_cmp x z ≡ Less → Every (λ l. line_cmp l x ≡ Less) ys → Every (λ l. line_cmp l z ≡ Less) ys
+further : (x z : Line) (ys : List Line) → line_cmp x z ≡ Less → Every (λ l. line_cmp l x ≡ Less) ys
+    → Every (λ l. line_cmp l z ≡ Less) ys
 further x z [] less all = tt
 further x z (y ∷ ys) less all = (line_order.total.trans y x z all.0 less, further x z ys less all.1)
 
-none-there : (x : Line) (xs ys : List Line) → IsBelowAll line_cmp x xs → Every (λ l. line_cmp l x ≡ Less) ys → Every (λ z. has_line ys z ≡ false) xs
+none-there : (x : Line) (xs ys : List Line) → IsBelowAll line_cmp x xs → Every (λ l. line_cmp l x ≡ Less) ys
+    → Every (λ z. has_line ys z ≡ false) xs
 none-there x [] ys low all = tt
 none-there x (z ∷ zs) ys low all = (absent-behind z ys (further x z ys low.0 all), none-there x zs ys low.1 all)
 
-pub without-behind : (first : Line) (xs ys : List Line) → IsAscending xs → Some first ≡ slice_get xs 0 → Every (λ l. line_cmp l first ≡ Less) ys → without xs ys ≡ xs
+pub without-behind : (first : Line) (xs ys : List Line) → IsAscending xs → Some first ≡ slice_get xs 0
+    → Every (λ l. line_cmp l first ≡ Less) ys → without xs ys ≡ xs
 without-behind first [] ys up at all = refl
 without-behind first (x ∷ xs) ys up at all =
     let same : first ≡ x = cc in

@@ -4,8 +4,8 @@ use Rattle.std.specs.Prelude.{◌||◌, if◌then◌else◌}
 use Rattle.qc_msg.specs.Steps.{Entry, step_of}
 use Rattle.qc_msg.specs.declared.step.Control.{Control}
 use Rattle.qc_msg.specs.declared.step.Control.TheVariants as controls
-use Rattle.qc_msg.specs.declared.step.Given.{Given}
-use Rattle.qc_msg.specs.declared.step.Given.TheVariants as given
+use Rattle.qc_msg.specs.declared.step.Input.{Input}
+use Rattle.qc_msg.specs.declared.step.Input.TheVariants as inputs
 use Rattle.qc_msg.specs.declared.step.Step.{Step}
 use Rattle.qc_msg.specs.declared.step.Step.TheVariants as steps
 use Rattle.qc_script.specs.Ready.{step_of_control}
@@ -16,20 +16,26 @@ or_true : (b : Bool) → (b || true) ≡ true
 or_true true = refl
 or_true false = refl
 
-stands : (h : List Entry) (e : Entry) (post : List Entry) → begins_event e.step ≡ true → has_event (h ++ e ∷ post) ≡ true
+stands : (h : List Entry) (e : Entry) (post : List Entry) → begins_event e.step ≡ true
+    → has_event (h ++ e ∷ post) ≡ true
 stands [] e post begins = ap (λ (b : Bool). b || has_event post) begins
-stands (x ∷ h) e post begins = ap (λ (b : Bool). begins_event x.step || b) (stands h e post begins) ∙ or_true (begins_event x.step)
+stands (x ∷ h) e post begins = ap (λ (b : Bool). begins_event x.step || b) (stands h e post begins)
+    ∙ or_true (begins_event x.step)
 
 -- before the last event is all that was there when it began
-pub before_event : (h : List Entry) (e : Entry) (post : List Entry) → begins_event e.step ≡ true → has_event post ≡ false → before_last_event (h ++ e ∷ post) ≡ h
-before_event [] e post begins none = ap (λ (b : Bool). let left : List Entry = if b then e ∷ before_last_event post else [] in left) none
+pub before_event : (h : List Entry) (e : Entry) (post : List Entry) → begins_event e.step ≡ true
+    → has_event post ≡ false → before_last_event (h ++ e ∷ post) ≡ h
+before_event [] e post begins none = ap (λ (b : Bool). let left : List Entry =
+    if b then e ∷ before_last_event post else [] in left) none
 before_event (x ∷ h) e post begins none =
-    ap (λ (b : Bool). let left : List Entry = if b then x ∷ before_last_event (h ++ e ∷ post) else [] in left) (stands h e post begins)
+    ap (λ (b : Bool). let left : List Entry = if b then x ∷ before_last_event (h ++ e ∷ post) else [] in left)
+    (stands h e post begins)
     ∙ ap (λ (left : List Entry). x ∷ left) (before_event h e post begins none)
 
 none_before : (h : List Entry) → has_event h ≡ false → before_last_event h ≡ []
 none_before [] none = refl
-none_before (e ∷ h) none = ap (λ (b : Bool). let left : List Entry = if b then e ∷ before_last_event h else [] in left) (later_none (begins_event e.step) (has_event h) none)
+none_before (e ∷ h) none = ap (λ (b : Bool). let left : List Entry = if b then e ∷ before_last_event h else [] in left)
+    (later_none (begins_event e.step) (has_event h) none)
   where
     later_none : (x y : Bool) → (x || y) ≡ false → y ≡ false
     later_none true y is = absurd (let no : ⊥ = cc in no)
@@ -43,20 +49,24 @@ has_more (x ∷ h) post none = ap (λ (b : Bool). begins_event x.step || b) (has
 pub before_more : (h post : List Entry) → has_event post ≡ false → before_last_event (h ++ post) ≡ before_last_event h
 before_more [] post none = none_before post none
 before_more (x ∷ h) post none =
-    ap (λ (b : Bool). let left : List Entry = if b then x ∷ before_last_event (h ++ post) else [] in left) (has_more h post none)
-    ∙ ap (λ (l : List Entry). let left : List Entry = if has_event h then x ∷ l else [] in left) (before_more h post none)
+    ap (λ (b : Bool). let left : List Entry = if b then x ∷ before_last_event (h ++ post) else [] in left)
+    (has_more h post none)
+    ∙ ap (λ (l : List Entry). let left : List Entry = if has_event h then x ∷ l else [] in left)
+    (before_more h post none)
 
 -- an event begins with each input that is taken, and with each control line that acts
 
-pub begins_input : (g : Given) → begins_event (step_of g) ≡ true
-begins_input (given.Called command) = refl
-begins_input (given.Got e) = refl
-begins_input (given.Lost number) = refl
+pub begins_input : (g : Input) → begins_event (step_of g) ≡ true
+begins_input (inputs.Called command) = refl
+begins_input (inputs.Got e) = refl
+begins_input (inputs.Lost number) = refl
 
 pub begins_control : (line : Control) (step : Step) → step_of_control line ≡ Some step → begins_event step ≡ true
 begins_control (controls.Phase k) step is = absurd (let no : ⊥ = cc in no)
-begins_control (controls.Cut a b) step is = let same : steps.Cut a b ≡ step = cc in subst (λ (s : Step). begins_event s ≡ true) same refl
-begins_control (controls.Heal a b) step is = let same : steps.Heal a b ≡ step = cc in subst (λ (s : Step). begins_event s ≡ true) same refl
+begins_control (controls.Cut a b) step is = let same : steps.Cut a b ≡ step = cc in
+    subst (λ (s : Step). begins_event s ≡ true) same refl
+begins_control (controls.Heal a b) step is = let same : steps.Heal a b ≡ step = cc in
+    subst (λ (s : Step). begins_event s ≡ true) same refl
 begins_control (controls.Armed actor kind n) step is = absurd (let no : ⊥ = cc in no)
 begins_control (controls.Crash a) step is = absurd (let no : ⊥ = cc in no)
 begins_control (controls.Restart a) step is = absurd (let no : ⊥ = cc in no)

@@ -1,5 +1,6 @@
 -- How passes, the right and the log go on as steps are added.
-use Rattle.std.proofs.Common.{◌≡◌, ℕ, zero, suc, ◌+◌, ◌<◌, ◌≤◌, Bool, true, false, List, [], ◌∷◌, ◌++◌, length, refl, ap, sym, ◌∙◌, subst, arith, length-append, append_assoc, Some, sum}
+use Rattle.std.proofs.Common.{◌≡◌, ℕ, zero, suc, ◌+◌, ◌<◌, ◌≤◌, Bool, true, false, List, [], ◌∷◌, ◌++◌, length, refl}
+use Rattle.std.proofs.Common.{ap, sym, ◌∙◌, subst, arith, length-append, append_assoc, Some, sum}
 use Rattle.std.specs.Prelude.{slice_get, slice_set}
 use Rattle.std.proofs.lemmas.List.{append-nil}
 use Rattle.std.proofs.lemmas.List.Sums.{sum_by-cons}
@@ -15,7 +16,8 @@ use Rattle.qc_msg.specs.declared.turn.Posting.{Posting}
 use Rattle.qc_msg.specs.declared.turn.Turn.{Turn}
 use Rattle.qc_msg.specs.Deeds.{deeds, own}
 use Rattle.qc_msg.specs.Steps.{Entry, by, fell, marked, posted_as, sends_as, sents, told, wrote}
-use Rattle.qc_msg.proofs.Growth.{by-append, same_deeds}
+use Rattle.qc_msg.proofs.GrownMail.{by-append}
+use Rattle.qc_msg.proofs.Growth.{same_deeds}
 use Rattle.qc_inbox.specs.Picks.{is_held}
 use Rattle.qc_fabric.specs.Logs.{Logged}
 use Rattle.qc_fabric.specs.Feeds.{CanFeed, Feeding, HasGrown}
@@ -28,8 +30,10 @@ sum_cons x l = sum_by-cons (λ n. n) x l
 
 pub sum-set : (l : List ℕ) (i x y : ℕ) → slice_get l i ≡ Some x → sum (slice_set l i y) + x ≡ sum l + y
 sum-set [] i x y e = absurd (let no : ⊥ = cc in no)
-sum-set (z ∷ l) zero x y e = let s : z ≡ x = cc in let a = sum_cons y l in let b = sum_cons z l in omega (arith, s, a, b)
-sum-set (z ∷ l) (suc i) x y e = let r = sum-set l i x y e in let a = sum_cons z (slice_set l i y) in let b = sum_cons z l in omega (arith, r, a, b)
+sum-set (z ∷ l) zero x y e = let s : z ≡ x = cc in let a = sum_cons y l in let b = sum_cons z l in
+    omega (arith, s, a, b)
+sum-set (z ∷ l) (suc i) x y e = let r = sum-set l i x y e in let a = sum_cons z (slice_set l i y) in
+    let b = sum_cons z l in omega (arith, r, a, b)
 
 pub set_again : {A : Type 0} (l : List A) (i : ℕ) (x : A) → slice_get l i ≡ Some x → slice_set l i x ≡ l
 set_again [] i x e = refl
@@ -72,35 +76,52 @@ deeds_of_front a h k e p =
 -- steps that were added
 
 pub fed_none : (p : Pass Step) (r : Right Step) → Fed p r p r []
-fed_none p r = record { same_table = refl; same_right = refl; same_number = refl; mine_is = sym (append-nil (mine p)); all_is = sym (append-nil (all r)); rooms_are = refl; others_end = λ b other. refl; room_is = refl }
+fed_none p r = record {
+  same_table = refl;
+  same_right = refl;
+  same_number = refl;
+  mine_is = sym (append-nil (mine p));
+  all_is = sym (append-nil (all r));
+  rooms_are = refl;
+  others_end = λ b other. refl;
+  room_is = refl;
+}
 
-pub fed_more : (p p1 q : Pass Step) (r r1 t : Right Step) (s : Step) (ss : List Step) → Met p r p1 r1 (s ∷ []) (room p) → all r1 ≡ all r ++ marked (number p) s ∷ [] → Fed p1 r1 q t ss → Fed p r q t (s ∷ ss)
+pub fed_more : (p p1 q : Pass Step) (r r1 t : Right Step) (s : Step) (ss : List Step) → Met p r p1 r1 (s ∷ []) (room p)
+    → all r1 ≡ all r ++ marked (number p) s ∷ [] → Fed p1 r1 q t ss → Fed p r q t (s ∷ ss)
 fed_more p p1 q r r1 t s ss m a f = record {
   same_table = f.same_table ∙ m.same_table;
   same_right = f.same_right ∙ m.same_right;
   same_number = f.same_number ∙ m.same_number;
   mine_is = f.mine_is ∙ (ap (λ (l : List Step). l ++ ss) m.mine_is ∙ append_assoc (mine p) (s ∷ []) ss);
-  all_is = f.all_is ∙ (ap (λ (k : ℕ). all r1 ++ by k ss) m.same_number ∙ (ap (λ (l : List Entry). l ++ by (number p) ss) a ∙ append_assoc (all r) (marked (number p) s ∷ []) (by (number p) ss)));
+  all_is = f.all_is ∙ (ap (λ (k : ℕ). all r1 ++ by k ss) m.same_number
+      ∙ (ap (λ (l : List Entry). l ++ by (number p) ss) a
+      ∙ append_assoc (all r) (marked (number p) s ∷ []) (by (number p) ss)));
   rooms_are = f.rooms_are ∙ rooms_kept p p1 r r1 (s ∷ []) m;
   others_end = λ b other.
-      f.others_end b (λ is. other (is ∙ m.same_number)) ∙ (ap (λ (l : List ℕ). slice_get l b) m.ends_are ∙ get_else (ends r) (number p) b (length (all r1)) other);
+      f.others_end b (λ is. other (is ∙ m.same_number))
+      ∙ (ap (λ (l : List ℕ). slice_get l b) m.ends_are ∙ get_else (ends r) (number p) b (length (all r1)) other);
   room_is = f.room_is ∙ m.room_is;
 }
 
-pub fed_join : (p p1 q : Pass Step) (r r1 t : Right Step) (xs ys : List Step) → Fed p r p1 r1 xs → Fed p1 r1 q t ys → Fed p r q t (xs ++ ys)
+pub fed_join : (p p1 q : Pass Step) (r r1 t : Right Step) (xs ys : List Step) → Fed p r p1 r1 xs → Fed p1 r1 q t ys
+    → Fed p r q t (xs ++ ys)
 fed_join p p1 q r r1 t xs ys e f = record {
   same_table = f.same_table ∙ e.same_table;
   same_right = f.same_right ∙ e.same_right;
   same_number = f.same_number ∙ e.same_number;
   mine_is = f.mine_is ∙ (ap (λ (l : List Step). l ++ ys) e.mine_is ∙ append_assoc (mine p) xs ys);
-  all_is = f.all_is ∙ (ap (λ (k : ℕ). all r1 ++ by k ys) e.same_number ∙ (ap (λ (l : List Entry). l ++ by (number p) ys) e.all_is
-      ∙ (append_assoc (all r) (by (number p) xs) (by (number p) ys) ∙ ap (λ (l : List Entry). all r ++ l) (sym (by-append (number p) xs ys)))));
+  all_is = f.all_is ∙ (ap (λ (k : ℕ). all r1 ++ by k ys) e.same_number
+      ∙ (ap (λ (l : List Entry). l ++ by (number p) ys) e.all_is
+      ∙ (append_assoc (all r) (by (number p) xs) (by (number p) ys)
+      ∙ ap (λ (l : List Entry). all r ++ l) (sym (by-append (number p) xs ys)))));
   rooms_are = f.rooms_are ∙ e.rooms_are;
   others_end = λ b other. f.others_end b (λ is. other (is ∙ e.same_number)) ∙ e.others_end b other;
   room_is = f.room_is ∙ e.room_is;
 }
 
-pub fed_one : (p q : Pass Step) (r t : Right Step) (s : Step) → Met p r q t (s ∷ []) (room p) → all t ≡ all r ++ marked (number p) s ∷ [] → Fed p r q t (s ∷ [])
+pub fed_one : (p q : Pass Step) (r t : Right Step) (s : Step) → Met p r q t (s ∷ []) (room p)
+    → all t ≡ all r ++ marked (number p) s ∷ [] → Fed p r q t (s ∷ [])
 fed_one p q r t s m a = fed_more p q q r t t s [] m a (fed_none q t)
 
 -- the log
@@ -114,12 +135,24 @@ length-sents n [] = refl
 length-sents n (p ∷ ps) = ap suc (length-sents (n + 1) ps)
 
 -- a turn's posts
-pub length-done : (n : ℕ) (t : Turn) → length (posted_as Done n t) ≡ length (wrote t.write) + (length t.sends + length (told t.told))
-length-done n t = omega (arith, length-append (wrote t.write) (sents n t.sends ++ told t.told), length-append (sents n t.sends) (told t.told), length-sents n t.sends)
+pub length-done : (n : ℕ) (t : Turn) → length (posted_as Done n t) ≡ length (wrote t.write) +
+    (length t.sends + length (told t.told))
+length-done n t = omega (
+  arith,
+  length-append (wrote t.write) (sents n t.sends ++ told t.told),
+  length-append (sents n t.sends) (told t.told),
+  length-sents n t.sends,
+)
 
-pub length-failed : (n : ℕ) (t : Turn) → length (posted_as Failed n t) ≡ length t.failed_sends + (length (told t.failed_told) + 1)
+pub length-failed : (n : ℕ) (t : Turn) → length (posted_as Failed n t) ≡ length t.failed_sends +
+    (length (told t.failed_told) + 1)
 length-failed n t =
-    omega (arith, length-append (sents n t.failed_sends) (told t.failed_told ++ fell causes.Disk t.write), length-append (told t.failed_told) (fell causes.Disk t.write), length-sents n t.failed_sends)
+    omega (
+      arith,
+      length-append (sents n t.failed_sends) (told t.failed_told ++ fell causes.Disk t.write),
+      length-append (told t.failed_told) (fell causes.Disk t.write),
+      length-sents n t.failed_sends,
+    )
 
 length-stopped : (n : ℕ) (t : Turn) → length (posted_as Stopped n t) ≡ length (told t.failed_told) + 1
 length-stopped n t = omega (arith, length-append (told t.failed_told) (fell causes.Stop t.write))
@@ -138,14 +171,19 @@ sends_few Stopped n t = omega arith
 pub grown_none : (log : Logged) → HasGrown log log []
 grown_none log = record { history = sym (append-nil log.history); room = omega arith }
 
-pub grown_join : (old mid new : Logged) (a b : ℕ) (xs ys : List Step) → b ≡ a → HasGrown old mid (by a xs) → HasGrown mid new (by b ys) → HasGrown old new (by a (xs ++ ys))
+pub grown_join : (old mid new : Logged) (a b : ℕ) (xs ys : List Step) → b ≡ a → HasGrown old mid (by a xs)
+    → HasGrown mid new (by b ys) → HasGrown old new (by a (xs ++ ys))
 grown_join old mid new a b xs ys same g h = record {
-  history = h.history ∙ (ap (λ (k : ℕ). mid.history ++ by k ys) same ∙ (ap (λ (l : List Entry). l ++ by a ys) g.history ∙ (append_assoc old.history (by a xs) (by a ys) ∙ ap (λ (l : List Entry). old.history ++ l) (sym (by-append a xs ys)))));
+  history = h.history ∙ (ap (λ (k : ℕ). mid.history ++ by k ys) same
+      ∙ (ap (λ (l : List Entry). l ++ by a ys) g.history
+      ∙ (append_assoc old.history (by a xs) (by a ys)
+      ∙ ap (λ (l : List Entry). old.history ++ l) (sym (by-append a xs ys)))));
   room = omega (arith, g.room, h.room, length-by a xs, length-by b ys, length-by a (xs ++ ys), length-append xs ys);
 }
 
 -- what is left of the room
-pub can_rest : (old new : Logged) (entries : List Entry) (left total : ℕ) → HasGrown old new entries → length entries + left ≡ total → CanFeed old total → CanFeed new left
+pub can_rest : (old new : Logged) (entries : List Entry) (left total : ℕ) → HasGrown old new entries
+    → length entries + left ≡ total → CanFeed old total → CanFeed new left
 can_rest old new entries left total g e f = record {
   room = omega (arith, g.room, e, f.room);
   bound = omega (arith, ap (λ (l : List Entry). length l) g.history, length-append old.history entries, e, f.bound);
@@ -157,11 +195,14 @@ can_start log some total f few = record { room = omega (arith, f.room, few); bou
 
 -- one step more of some
 
-pub feeding_first : (p : Pass Step) (r : Right Step) (steps : List Step) (log : Logged) → Feeding p r p r steps steps log log
+pub feeding_first : (p : Pass Step) (r : Right Step) (steps : List Step) (log : Logged)
+    → Feeding p r p r steps steps log log
 feeding_first p r steps log = record { done = []; fed = fed_none p r; split = refl; grown = grown_none log }
 
-pub feeding_more : (p q q' : Pass Step) (r t t' : Right Step) (steps rest : List Step) (x : Step) (old new new' : Logged) → Feeding p r q t steps (x ∷ rest) old new
-    → Met q t q' t' (x ∷ []) (room q) → all t' ≡ all t ++ marked (number q) x ∷ [] → HasGrown new new' (marked (number q) x ∷ []) → Feeding p r q' t' steps rest old new'
+pub feeding_more : (p q q' : Pass Step) (r t t' : Right Step) (steps rest : List Step) (x : Step)
+    (old new new' : Logged) → Feeding p r q t steps (x ∷ rest) old new
+    → Met q t q' t' (x ∷ []) (room q) → all t' ≡ all t ++ marked (number q) x ∷ []
+    → HasGrown new new' (marked (number q) x ∷ []) → Feeding p r q' t' steps rest old new'
 feeding_more p q q' r t t' steps rest x old new new' h m a g = record {
   done = h.done ++ x ∷ [];
   fed = fed_join p q q' r t t' h.done (x ∷ []) h.fed (fed_one q q' t t' x m a);
@@ -169,10 +210,13 @@ feeding_more p q q' r t t' steps rest x old new new' h m a g = record {
   grown = grown_join old new new' (number p) (number q) h.done (x ∷ []) h.fed.same_number h.grown g;
 }
 
-pub feeding_last : (p q : Pass Step) (r t : Right Step) (steps : List Step) (old new : Logged) → Feeding p r q t steps [] old new → Fed p r q t steps × HasGrown old new (by (number p) steps)
+pub feeding_last : (p q : Pass Step) (r t : Right Step) (steps : List Step) (old new : Logged)
+    → Feeding p r q t steps [] old new → Fed p r q t steps × HasGrown old new (by (number p) steps)
 feeding_last p q r t steps old new h =
-    let all_done : h.done ≡ steps = sym (append-nil h.done) ∙ h.split in
-    (subst (λ (l : List Step). Fed p r q t l) all_done h.fed, subst (λ (l : List Step). HasGrown old new (by (number p) l)) all_done h.grown)
+    let all_done : h.done ≡ steps = sym (append-nil h.done) ∙ h.split in (
+      subst (λ (l : List Step). Fed p r q t l) all_done h.fed,
+      subst (λ (l : List Step). HasGrown old new (by (number p) l)) all_done h.grown,
+    )
 
 -- bits
 

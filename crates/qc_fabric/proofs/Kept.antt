@@ -31,7 +31,7 @@ use Rattle.qc_fabric.specs.Events.{before_last_event, begins_event}
 use Rattle.qc_fabric.specs.Feeds.{HasGrown}
 use Rattle.qc_fabric.specs.Gains.{ArmsNone, ArmsNoneBehind}
 use Rattle.qc_fabric.specs.Logs.{Logged, full_of}
-use Rattle.qc_fabric.specs.Stills.{IsStill, most_history}
+use Rattle.qc_fabric.specs.FabricStates.{IsFabricState, most_history}
 use Rattle.qc_fabric.proofs.Events.{before_event}
 use Rattle.qc_fabric.proofs.Fed.{get_else, get_here, length_set, rooms_kept, sum-set, sum_cons}
 use Rattle.qc_fabric.proofs.Gains.{look_unarmed, met_unarmed}
@@ -48,24 +48,24 @@ pub unarmed_at : (t : Right Step) {h : List Entry} → all t ≡ h → ArmsNoneB
 unarmed_at t {h = h} is unarmed = subst (λ (l : List Entry). ArmsNoneBehind (ends t) l) is unarmed
 
 module _ {L : ℕ → List Deed → Turn → Type 0} {F : ℕ → List Record → Type 0} {D : Declaration} {S : Script} {z : TableId} {w : Script} {lg : Logged} {mb : Roomy} {op hd : List Bool} {ph rsv sp : ℕ} {tb : TableId} {ri : Option (Right Step)} where
-  held_is : (s : IsStill L F D S z w lg mb op hd ph rsv sp tb ri) (r : Right Step) → ri ≡ Some r → s.holder ≡ r
+  held_is : (s : IsFabricState L F D S z w lg mb op hd ph rsv sp tb ri) (r : Right Step) → ri ≡ Some r → s.holder ≡ r
   held_is s r e = let f = s.right_is in cc
 
-  pub all_of : (s : IsStill L F D S z w lg mb op hd ph rsv sp tb ri) (r : Right Step) → ri ≡ Some r → all r ≡ lg.history
+  pub all_of : (s : IsFabricState L F D S z w lg mb op hd ph rsv sp tb ri) (r : Right Step) → ri ≡ Some r → all r ≡ lg.history
   all_of s r e = ap (λ (x : Right Step). all x) (sym (held_is s r e)) ∙ s.all_is
 
-  pub rooms_of : (s : IsStill L F D S z w lg mb op hd ph rsv sp tb ri) (r : Right Step) → ri ≡ Some r → rooms s.holder ≡ rooms r
+  pub rooms_of : (s : IsFabricState L F D S z w lg mb op hd ph rsv sp tb ri) (r : Right Step) → ri ≡ Some r → rooms s.holder ≡ rooms r
   rooms_of s r e = ap (λ (x : Right Step). rooms x) (held_is s r e)
 
-  pub right_of : (s : IsStill L F D S z w lg mb op hd ph rsv sp tb ri) (r : Right Step) → ri ≡ Some r → right_table r ≡ z
+  pub right_of : (s : IsFabricState L F D S z w lg mb op hd ph rsv sp tb ri) (r : Right Step) → ri ≡ Some r → right_table r ≡ z
   right_of s r e = ap (λ (x : Right Step). right_table x) (sym (held_is s r e)) ∙ s.right_table_is
 
-  pub unarmed_of : (s : IsStill L F D S z w lg mb op hd ph rsv sp tb ri) (r : Right Step) → ri ≡ Some r → ArmsNoneBehind (ends r) (all r)
+  pub unarmed_of : (s : IsFabricState L F D S z w lg mb op hd ph rsv sp tb ri) (r : Right Step) → ri ≡ Some r → ArmsNoneBehind (ends r) (all r)
   unarmed_of s r e = subst (λ (l : List Entry). ArmsNoneBehind (ends r) l) (sym (all_of s r e)) (subst (λ (x : Right Step). ArmsNoneBehind (ends x) lg.history) (held_is s r e) s.unarmed)
 
   -- other memory, and others held
-  pub other_memory : (s : IsStill L F D S z w lg mb op hd ph rsv sp tb ri) (lg' : Logged) (mb' : Roomy) (hd' : List Bool) → lg'.history ≡ lg.history → mb'.inboxes ≡ mb.inboxes
-      → rsv + sp ≤ lg'.room → rsv + sp ≤ mb'.room → length hd' ≡ actors D → IsStill L F D S z w lg' mb' op hd' ph rsv sp tb ri
+  pub other_memory : (s : IsFabricState L F D S z w lg mb op hd ph rsv sp tb ri) (lg' : Logged) (mb' : Roomy) (hd' : List Bool) → lg'.history ≡ lg.history → mb'.inboxes ≡ mb.inboxes
+      → rsv + sp ≤ lg'.room → rsv + sp ≤ mb'.room → length hd' ≡ actors D → IsFabricState L F D S z w lg' mb' op hd' ph rsv sp tb ri
   other_memory s lg' mb' hd' es is lr mr len = record {
     script_is = s.script_is;
     holder = s.holder;
@@ -92,8 +92,8 @@ module _ {L : ℕ → List Deed → Turn → Type 0} {F : ℕ → List Record �
   }
 
   -- other spare room
-  pub other_spare : (s : IsStill L F D S z w lg mb op hd ph rsv sp tb ri) (lg' : Logged) (mb' : Roomy) (sp' : ℕ) → lg'.history ≡ lg.history → mb'.inboxes ≡ mb.inboxes
-      → rsv + sp' ≤ lg'.room → rsv + sp' ≤ mb'.room → length lg.history + (rsv + sp') ≤ most_history → IsStill L F D S z w lg' mb' op hd ph rsv sp' tb ri
+  pub other_spare : (s : IsFabricState L F D S z w lg mb op hd ph rsv sp tb ri) (lg' : Logged) (mb' : Roomy) (sp' : ℕ) → lg'.history ≡ lg.history → mb'.inboxes ≡ mb.inboxes
+      → rsv + sp' ≤ lg'.room → rsv + sp' ≤ mb'.room → length lg.history + (rsv + sp') ≤ most_history → IsFabricState L F D S z w lg' mb' op hd ph rsv sp' tb ri
   other_spare s lg' mb' sp' es is lr mr bd = record {
     script_is = s.script_is;
     holder = s.holder;
@@ -120,7 +120,7 @@ module _ {L : ℕ → List Deed → Turn → Type 0} {F : ℕ → List Record �
   }
 
   -- a look
-  pub looks_on : (s : IsStill L F D S z w lg mb op hd ph rsv sp tb ri) (r : Right Step) → ri ≡ Some r → (p q : Pass Step) (t : Right Step) → Met p r q t [] (room p) → all t ≡ all r → IsStill L F D S z w lg mb op hd ph rsv sp tb (Some t)
+  pub looks_on : (s : IsFabricState L F D S z w lg mb op hd ph rsv sp tb ri) (r : Right Step) → ri ≡ Some r → (p q : Pass Step) (t : Right Step) → Met p r q t [] (room p) → all t ≡ all r → IsFabricState L F D S z w lg mb op hd ph rsv sp tb (Some t)
   looks_on s r e p q t m a =
       let same : rooms t ≡ rooms s.holder = rooms_kept p q r t [] m ∙ sym (rooms_of s r e) in
       record {
@@ -149,12 +149,12 @@ module _ {L : ℕ → List Deed → Turn → Type 0} {F : ℕ → List Record �
       }
 
   -- one step more, with other inputs open
-  pub steps_on : (s : IsStill L F D S z w lg mb op hd ph rsv sp tb ri) (r : Right Step) → ri ≡ Some r → (p q : Pass Step) (t : Right Step) (x : Step) (op' : List Bool) (ph' : ℕ)
+  pub steps_on : (s : IsFabricState L F D S z w lg mb op hd ph rsv sp tb ri) (r : Right Step) → ri ≡ Some r → (p q : Pass Step) (t : Right Step) (x : Step) (op' : List Bool) (ph' : ℕ)
       → Met p r q t (x ∷ []) (room p) → all t ≡ all r ++ marked (number p) x ∷ []
       → (lg1 lg' : Logged) (mb' : Roomy) → lg1.history ≡ lg.history → (rsv + sp) + 1 ≤ lg1.room → length lg.history + ((rsv + sp) + 1) ≤ most_history → HasGrown lg1 lg' (marked (number p) x ∷ [])
       → rsv + sp ≤ mb'.room → IsKept S (lg.history ++ marked (number p) x ∷ []) mb'.inboxes → ph' ≡ phase_of (lg.history ++ marked (number p) x ∷ [])
       → RunsWithFalls L F D S (lg.history ++ marked (number p) x ∷ []) op' → length op' ≡ actors D → ((k : ℕ) → slice_get op k ≡ Some true → slice_get op' k ≡ Some true)
-      → full_of lg.history ≡ None → begins_event x ≡ true → ((b : ℕ) → arms_disk b x ≡ false) → IsStill L F D S z w lg' mb' op' hd ph' rsv sp tb (Some t)
+      → full_of lg.history ≡ None → begins_event x ≡ true → ((b : ℕ) → arms_disk b x ≡ false) → IsFabricState L F D S z w lg' mb' op' hd ph' rsv sp tb (Some t)
   steps_on s r e p q t x op' ph' m a lg1 lg' mb' hs lr bd g mr kept phs run len more under starts_one calm =
       let same : rooms t ≡ rooms s.holder = rooms_kept p q r t (x ∷ []) m ∙ sym (rooms_of s r e) in
       let es : lg'.history ≡ lg.history ++ marked (number p) x ∷ [] = g.history ∙ ap (λ (l : List Entry). l ++ marked (number p) x ∷ []) hs in
@@ -184,9 +184,9 @@ module _ {L : ℕ → List Deed → Turn → Type 0} {F : ℕ → List Record �
       }
 
   -- a room is set
-  pub reserves_on : (s : IsStill L F D S z w lg mb op hd ph rsv sp tb ri) (r : Right Step) → ri ≡ Some r → (p q : Pass Step) (t : Right Step) (k : ℕ) → slice_get op (number p) ≡ Some true → room p ≡ 0
+  pub reserves_on : (s : IsFabricState L F D S z w lg mb op hd ph rsv sp tb ri) (r : Right Step) → ri ≡ Some r → (p q : Pass Step) (t : Right Step) (k : ℕ) → slice_get op (number p) ≡ Some true → room p ≡ 0
       → Met p r q t [] k → all t ≡ all r → (lg' : Logged) (mb' : Roomy) → lg'.history ≡ lg.history → mb'.inboxes ≡ mb.inboxes → (rsv + sp) + k ≤ lg'.room → (rsv + sp) + k ≤ mb'.room → length lg.history + ((rsv + sp) + k) ≤ most_history
-      → IsStill L F D S z w lg' mb' op hd ph (rsv + k) sp tb (Some t)
+      → IsFabricState L F D S z w lg' mb' op hd ph (rsv + k) sp tb (Some t)
   reserves_on s r e p q t k is none m a lg' mb' es ib lr mr bd =
       let before : rooms s.holder ≡ rooms r = rooms_of s r e in
       let total = sum-set (rooms r) (number p) (room p) k m.had_room in
@@ -217,7 +217,7 @@ module _ {L : ℕ → List Deed → Turn → Type 0} {F : ℕ → List Record �
       }
 
   -- a room is given up, and the holding
-  pub leaves_on : (s : IsStill L F D S z w lg mb op hd ph rsv sp tb ri) (r : Right Step) → ri ≡ Some r → (p q : Pass Step) (t : Right Step) (b : ℕ) → Met p r q t [] 0 → all t ≡ all r → IsStill L F D S z w lg mb op (slice_set hd b false) ph (rsv - room p) sp tb (Some t)
+  pub leaves_on : (s : IsFabricState L F D S z w lg mb op hd ph rsv sp tb ri) (r : Right Step) → ri ≡ Some r → (p q : Pass Step) (t : Right Step) (b : ℕ) → Met p r q t [] 0 → all t ≡ all r → IsFabricState L F D S z w lg mb op (slice_set hd b false) ph (rsv - room p) sp tb (Some t)
   leaves_on s r e p q t b m a =
       let before : rooms s.holder ≡ rooms r = rooms_of s r e in
       let total = sum-set (rooms r) (number p) (room p) 0 m.had_room in
@@ -247,7 +247,7 @@ module _ {L : ℕ → List Deed → Turn → Type 0} {F : ℕ → List Record �
         down = s.down;
       }
 
-  pub room_kept : (s : IsStill L F D S z w lg mb op hd ph rsv sp tb ri) (r : Right Step) → ri ≡ Some r → (p : Pass Step) → slice_get (rooms r) (number p) ≡ Some (room p) → room p ≤ rsv
+  pub room_kept : (s : IsFabricState L F D S z w lg mb op hd ph rsv sp tb ri) (r : Right Step) → ri ≡ Some r → (p : Pass Step) → slice_get (rooms r) (number p) ≡ Some (room p) → room p ≤ rsv
   room_kept s r e p there =
       let total = sum-set (rooms r) (number p) (room p) 0 there in
       omega (arith, total, ap (λ (l : List ℕ). sum l) (rooms_of s r e), s.sum_is)
@@ -269,7 +269,7 @@ none_behind (suc end) a = tt
 
 pub starts : (L : ℕ → List Deed → Turn → Type 0) (F : ℕ → List Record → Type 0) (D : Declaration) (S : Script) (z : TableId) (w : Script) (lg : Logged) (mb : Roomy) (op hd : List Bool) (tb : TableId) (r : Right Step)
     → w ≡ S → lg.history ≡ [] → mb.inboxes ≡ empty_inboxes S → op ≡ replicate (actors D) false → hd ≡ replicate (actors D) false → tb ≡ z → IsFirst z (controller D + 1) r → IsScriptFor D S → controller D < most_actors → TellsWhereDown L
-    → IsStill L F D S z w lg mb op hd 0 0 0 tb (Some r)
+    → IsFabricState L F D S z w lg mb op hd 0 0 0 tb (Some r)
 starts L F D S z w lg mb op hd tb r ws none is oc hc te i so few down = record {
   script_is = ws;
   holder = r;

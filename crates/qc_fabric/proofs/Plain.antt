@@ -44,10 +44,13 @@ posted_plain Done n turn may =
     every-append IsPlain (wrote turn.write) (sents n turn.sends ++ told turn.told) (wrote_plain turn.write)
     (every-append IsPlain (sents n turn.sends) (told turn.told) (sents_plain n turn.sends) (told_plain turn.told))
 posted_plain Failed n turn may =
-    every-append IsPlain (sents n turn.failed_sends) (told turn.failed_told ++ fell causes.Disk turn.write) (sents_plain n turn.failed_sends)
-    (every-append IsPlain (told turn.failed_told) (fell causes.Disk turn.write) (told_plain turn.failed_told) (fell_plain causes.Disk turn.write may))
+    every-append IsPlain (sents n turn.failed_sends) (told turn.failed_told ++ fell causes.Disk turn.write)
+    (sents_plain n turn.failed_sends)
+    (every-append IsPlain (told turn.failed_told) (fell causes.Disk turn.write) (told_plain turn.failed_told)
+    (fell_plain causes.Disk turn.write may))
 posted_plain Stopped n turn may =
-    every-append IsPlain (told turn.failed_told) (fell causes.Stop turn.write) (told_plain turn.failed_told) (fell_plain causes.Stop turn.write may)
+    every-append IsPlain (told turn.failed_told) (fell causes.Stop turn.write) (told_plain turn.failed_told)
+    (fell_plain causes.Stop turn.write may)
 
 -- a turn with a record may end in any way
 pub may_end : (write : Option Record) (end : Appended) → HasRecord write → MayEnd write end
@@ -59,13 +62,16 @@ may_end write Stopped has = has
 
 pub plain_begins_none : (a : ℕ) (xs : List Step) → Every IsPlain xs → has_event (by a xs) ≡ false
 plain_begins_none a [] each = refl
-plain_begins_none a (x ∷ xs) each = ap (λ (b : Bool). b || has_event (by a xs)) each.0.begins ∙ plain_begins_none a xs each.1
+plain_begins_none a (x ∷ xs) each = ap (λ (b : Bool). b || has_event (by a xs)) each.0.begins
+    ∙ plain_begins_none a xs each.1
 
 pub plain_arms_none : (a b : ℕ) (xs : List Step) → Every IsPlain xs → ArmsNone b (by a xs)
 plain_arms_none a b [] each = tt
 plain_arms_none a b (x ∷ xs) each = (each.0.arms b, plain_arms_none a b xs each.1)
 
-pub plain_leaves_phase : (k a : ℕ) (xs : List Step) → Every IsPlain xs → fold (λ (n : ℕ) (e : Entry). phase_at n e.step) k (by a xs) ≡ k
+pub plain_leaves_phase : (k a : ℕ) (xs : List Step) → Every IsPlain xs
+    → fold (λ (n : ℕ) (e : Entry). phase_at n e.step) k (by a xs) ≡ k
 plain_leaves_phase k a [] each = refl
 plain_leaves_phase k a (x ∷ xs) each =
-    ap (λ (n : ℕ). fold (λ (m : ℕ) (e : Entry). phase_at m e.step) n (by a xs)) (each.0.phases k) ∙ plain_leaves_phase k a xs each.1
+    ap (λ (n : ℕ). fold (λ (m : ℕ) (e : Entry). phase_at m e.step) n (by a xs)) (each.0.phases k)
+    ∙ plain_leaves_phase k a xs each.1

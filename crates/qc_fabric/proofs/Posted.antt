@@ -1,6 +1,7 @@
 -- A post keeps what the state under the lock keeps, and tells that the history grew by its turn, by what became of its
 -- record.
-use Rattle.std.proofs.Common.{◌≡◌, ℕ, suc, ◌+◌, ◌-◌, ◌<◌, ◌≤◌, Bool, true, false, List, [], ◌++◌, length, ap, sym, ◌∙◌, subst, arith, Option, Some, sum}
+use Rattle.std.proofs.Common.{◌≡◌, ℕ, suc, ◌+◌, ◌-◌, ◌<◌, ◌≤◌, Bool, true, false, List, [], ◌++◌, length, ap, sym, ◌∙◌}
+use Rattle.std.proofs.Common.{subst, arith, Option, Some, sum}
 use Rattle.std.specs.Prelude.{slice_get, slice_set}
 use Rattle.std.specs.List.{AllByRecursion as Every}
 use mathlib.Core.Logic.{dite}
@@ -31,7 +32,7 @@ use Rattle.qc_script.specs.RunsWithFalls.{RunsWithFalls, posts}
 use Rattle.qc_script.specs.declared.script.Script.{Script}
 use Rattle.qc_fabric.specs.Feeds.{HasGrown}
 use Rattle.qc_fabric.specs.Logs.{Logged, full_of}
-use Rattle.qc_fabric.specs.Stills.{IsStill, most_history}
+use Rattle.qc_fabric.specs.FabricStates.{IsFabricState, most_history}
 use Rattle.qc_fabric.specs.Tells.{Fed, GoesToActors, Posts, size_of}
 use Rattle.qc_fabric.proofs.Events.{before_more}
 use Rattle.qc_fabric.proofs.Fed.{get_else, length-posted, length_set, sends_few, sum-set}
@@ -42,15 +43,21 @@ use Rattle.qc_fabric.proofs.Plain.{IsPlain, plain_arms_none, plain_begins_none, 
 use Rattle.qc_link.specs.Limits.{most_actors}
 
 -- who gets the messages of a post
-pub receivers_as : (end : Appended) (turn : Turn) → GoesToActors turn → Every (λ (p : Posting). p.to < most_actors) (sends_as end turn)
+pub receivers_as : (end : Appended) (turn : Turn) → GoesToActors turn
+    → Every (λ (p : Posting). p.to < most_actors) (sends_as end turn)
 receivers_as Done turn to = to.sends
 receivers_as Failed turn to = to.failed_sends
 receivers_as Stopped turn to = tt
 
-module _ {L : ℕ → List Deed → Turn → Type 0} {F : ℕ → List Record → Type 0} {D : Declaration} {S : Script} {z : TableId} {w : Script} {lg : Logged} {mb : Roomy} {op hd : List Bool} {ph rsv sp : ℕ} {tb : TableId} {ri : Option (Right Step)} where
-  module _ (s : IsStill L F D S z w lg mb op hd ph rsv sp tb ri) (r : Right Step) (e : ri ≡ Some r) (p p1 p2 q : Pass Step) (r1 r2 t : Right Step) (turn : Turn) (first k : ℕ)
-      (m1 : Met p r p1 r1 [] (room p)) (a1 : all r1 ≡ all r) (f : Fed p1 r1 p2 r2 (posted_as turn.append first turn)) (m2 : Met p2 r2 q t [] 0) (a2 : all t ≡ all r2)
-      (first_is : first ≡ length (mail lg.history)) (has : room p ≡ suc k) (low : number p < actors D) (ok : L (number p) (deeds (number p) [] (seen p)) turn) (to : GoesToActors turn) where
+module _ {L : ℕ → List Deed → Turn → Type 0} {F : ℕ → List Record → Type 0} {D : Declaration} {S : Script} {z : TableId}
+    {w : Script} {lg : Logged} {mb : Roomy} {op hd : List Bool} {ph rsv sp : ℕ} {tb : TableId}
+    {ri : Option (Right Step)} where
+  module _ (s : IsFabricState L F D S z w lg mb op hd ph rsv sp tb ri) (r : Right Step) (e : ri ≡ Some r)
+      (p p1 p2 q : Pass Step) (r1 r2 t : Right Step) (turn : Turn) (first k : ℕ)
+      (m1 : Met p r p1 r1 [] (room p)) (a1 : all r1 ≡ all r) (f : Fed p1 r1 p2 r2 (posted_as turn.append first turn))
+      (m2 : Met p2 r2 q t [] 0) (a2 : all t ≡ all r2)
+      (first_is : first ≡ length (mail lg.history)) (has : room p ≡ suc k) (low : number p < actors D)
+      (ok : L (number p) (deeds (number p) [] (seen p)) turn) (to : GoesToActors turn) where
     abbrev xs : List Step
     xs = posted_as turn.append first turn
 
@@ -79,31 +86,42 @@ module _ {L : ℕ → List Deed → Turn → Type 0} {F : ℕ → List Record �
     here = omega (arith, low, s.few)
 
     run_after : RunsWithFalls L F D S (lg.history ++ by (number p) xs) (slice_set op (number p) false)
-    run_after = subst (λ (x : ℕ). RunsWithFalls L F D S (lg.history ++ by (number p) (posted_as turn.append x turn)) (slice_set op (number p) false)) (sym first_is)
+    run_after = subst (λ (x : ℕ). RunsWithFalls L F D S (lg.history ++ by (number p) (posted_as turn.append x turn))
+        (slice_set op (number p) false)) (sym first_is)
         (posts (number p) turn op lg.history s.runs is_open law)
 
     may : MayPost (is_up mb.inboxes.up (number p)) turn.append turn.write
     may = may_post L F D S lg.history op mb.inboxes (omega (arith, s.few)) s.down s.runs s.kept (number p) turn here law
 
     kept_after : IsKept S (lg.history ++ by (number p) xs) (after_post_as turn.append mb.inboxes (number p) turn)
-    kept_after = subst (λ (x : ℕ). IsKept S (lg.history ++ by (number p) (posted_as turn.append x turn)) (after_post_as turn.append mb.inboxes (number p) turn)) (sym first_is)
+    kept_after = subst (λ (x : ℕ). IsKept S (lg.history ++ by (number p) (posted_as turn.append x turn))
+        (after_post_as turn.append mb.inboxes (number p) turn)) (sym first_is)
         (kept_post S lg.history mb.inboxes (number p) turn s.kept here (receivers_as turn.append turn to) may)
 
-    pub posts_on : (lg' : Logged) (mb' : Roomy) (b : ℕ) → HasGrown lg lg' (by (number p) xs) → suc k ≡ size_of turn → mb'.room + length (sends_as turn.append turn) ≡ mb.room
+    pub posts_on : (lg' : Logged) (mb' : Roomy) (b : ℕ) → HasGrown lg lg' (by (number p) xs) → suc k ≡ size_of turn
+        → mb'.room + length (sends_as turn.append turn) ≡ mb.room
         → mb'.inboxes ≡ after_post_as turn.append mb.inboxes (number p) turn
-        → IsStill L F D S z w lg' mb' (slice_set op (number p) false) (slice_set hd b false) ph (rsv - suc k) sp tb (Some t)
+        → IsFabricState L F D S z w lg' mb' (slice_set op (number p) false) (slice_set hd b false) ph
+        (rsv - suc k) sp tb (Some t)
     posts_on lg' mb' b g size mr is =
         let total = sum-set (rooms r) (number p) (suc k) 0 room_there in
         let enough : suc k ≤ rsv = omega (arith, total, ap (λ (l : List ℕ). sum l) before, s.sum_is) in
         let steps : length xs + 1 ≤ suc k = omega (arith, length-posted turn.append first turn, size) in
-        feeds_on s r e p p1 p2 q r1 r2 t xs 0 m1 a1 f m2 a2 lg' mb' (slice_set op (number p) false) (slice_set hd b false) (rsv - suc k) sp g
-        (λ c. plain_arms_none (number p) c xs plain) run_after (subst (λ (i : Inboxes). IsKept S (lg.history ++ by (number p) xs) i) (sym is) kept_after)
-        (phase_plain lg.history (number p) xs plain) (length_set op (number p) false ∙ s.opens) (length_set hd b false ∙ s.helds)
+        feeds_on s r e p p1 p2 q r1 r2 t xs 0 m1 a1 f m2 a2 lg' mb' (slice_set op (number p) false)
+        (slice_set hd b false) (rsv - suc k) sp g
+        (λ c. plain_arms_none (number p) c xs plain) run_after
+        (subst (λ (i : Inboxes). IsKept S (lg.history ++ by (number p) xs) i) (sym is) kept_after)
+        (phase_plain lg.history (number p) xs plain) (length_set op (number p) false ∙ s.opens)
+        (length_set hd b false ∙ s.helds)
         (omega (arith, total, ap (λ (l : List ℕ). sum l) rooms_now, ap (λ (l : List ℕ). sum l) before, s.sum_is))
         (omega (arith, enough, steps)) (omega (arith, enough, s.mail_room, mr, steps, sends_few turn.append first turn))
         (ap full_of (before_more lg.history (by (number p) xs) (plain_begins_none (number p) xs plain)) ∙ s.below)
-        (λ i j there. dite (ℕ_discrete i (number p)) (λ same. absurd (no_room_at (rooms r) (rooms t) (number p) i j m1.made rooms_now same there))
-        (λ ne. get_else op (number p) i false ne ∙ s.opened i j (ap (λ (l : List ℕ). slice_get l i) before ∙ (sym (get_else (rooms r) (number p) i 0 ne) ∙ (ap (λ (l : List ℕ). slice_get l i) (sym rooms_now) ∙ there)))))
+        (λ i j there. dite (ℕ_discrete i (number p))
+        (λ same. absurd (no_room_at (rooms r) (rooms t) (number p) i j m1.made rooms_now same there))
+        (λ ne. get_else op (number p) i false ne
+        ∙ s.opened i j (ap (λ (l : List ℕ). slice_get l i) before
+        ∙ (sym (get_else (rooms r) (number p) i 0 ne)
+        ∙ (ap (λ (l : List ℕ). slice_get l i) (sym rooms_now) ∙ there)))))
 
     pub posted_told : Posts L F D S p q turn first
     posted_told =
@@ -117,8 +135,14 @@ module _ {L : ℕ → List Deed → Turn → Type 0} {F : ℕ → List Record �
           few = subst (λ (l : List Entry). length l ≤ most_history) is (omega (arith, s.bound));
           first_is = first_is ∙ ap (λ (l : List Entry). length (mail l)) is;
           seen_is = now ∙ ap (λ (l : List Entry). l ++ by (number p) xs) is;
-          run = (slice_set op (number p) false, subst (λ (l : List Entry). RunsWithFalls L F D S l (slice_set op (number p) false)) (sym now) run_after);
+          run = (
+            slice_set op (number p) false,
+            subst
+                (λ (l : List Entry). RunsWithFalls L F D S l (slice_set op (number p) false)) (sym now) run_after,
+          );
           mine_is = mine_now s r e p p1 p2 q r1 r2 t xs 0 m1 a1 f m2 a2;
-          does = ap (λ (l : List Entry). deeds (number p) [] l) now ∙ (deeds-posted_as turn.append (number p) first lg.history turn ∙ ap (λ (l : List Deed). l ++ deeds_as turn.append first turn) deeds_here);
+          does = ap (λ (l : List Entry). deeds (number p) [] l) now
+              ∙ (deeds-posted_as turn.append (number p) first lg.history turn
+              ∙ ap (λ (l : List Deed). l ++ deeds_as turn.append first turn) deeds_here);
           room_is = m2.room_is;
         }

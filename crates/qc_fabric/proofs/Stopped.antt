@@ -1,6 +1,7 @@
 -- When nothing is left to do in a phase.
 use Rattle.std.specs.Prelude.{is_some, not}
-use Rattle.std.proofs.Common.{◌≡◌, ℕ, zero, suc, ◌≤◌, Bool, true, false, ◌||◌, List, [], ◌∷◌, Option, Some, None, refl, sym, ap, ◌∙◌, slice_get}
+use Rattle.std.proofs.Common.{◌≡◌, ℕ, zero, suc, ◌≤◌, Bool, true, false, ◌||◌, List, [], ◌∷◌, Option, Some, None, refl}
+use Rattle.std.proofs.Common.{sym, ap, ◌∙◌, slice_get}
 use Rattle.qc_decl.specs.Actors.{actors}
 use Rattle.qc_decl.specs.declared.declaration.Declaration.{Declaration}
 use Rattle.qc_inbox.specs.Inboxes.{Inboxes}
@@ -45,25 +46,34 @@ nothing_first : (cs : List Control) → slice_get cs 0 ≡ None → cs ≡ []
 nothing_first [] e = refl
 nothing_first (c ∷ cs) e = absurd (let no : ⊥ = cc in no)
 
-pub stops : (decl : Declaration) (script : Script) (h : List Entry) (inputs : List Bool) (kept : Inboxes) → IsKept script h kept → actors decl ≤ most_actors
-    → has_any inputs ≡ false → slice_get kept.controls 0 ≡ None → picked_in decl (either inputs inputs) kept ≡ None → IsStopped decl script h inputs
+pub stops : (decl : Declaration) (script : Script) (h : List Entry) (inputs : List Bool) (kept : Inboxes)
+    → IsKept script h kept → actors decl ≤ most_actors
+    → has_any inputs ≡ false → slice_get kept.controls 0 ≡ None → picked_in decl (either inputs inputs) kept ≡ None
+    → IsStopped decl script h inputs
 stops decl script h inputs kept is few none control picks =
-    let nobody : inboxes.picked decl script (either inputs inputs) h ≡ None = sym (picked_kept decl script (either inputs inputs) h kept is few) ∙ picks in
+    let nobody : inboxes.picked decl script (either inputs inputs) h ≡ None =
+    sym (picked_kept decl script (either inputs inputs) h kept is few) ∙ picks in
     record {
       none_open = none_open inputs none;
       none_left = sym (controls_shown script h kept is) ∙ nothing_first kept.controls control;
       none_ready = λ a low. none_ready decl script (either inputs inputs) h nobody a low (none_passed inputs none a);
     }
 
-pub stopped_inputs : (decl : Declaration) (script : Script) (h : List Entry) (inputs : List Bool) → IsStopped decl script h inputs → has_any inputs ≡ false
+pub stopped_inputs : (decl : Declaration) (script : Script) (h : List Entry) (inputs : List Bool)
+    → IsStopped decl script h inputs → has_any inputs ≡ false
 stopped_inputs decl script h inputs s = no_bit inputs s.none_open
 
-pub stopped_controls : (decl : Declaration) (script : Script) (h : List Entry) (inputs : List Bool) (kept : Inboxes) → IsKept script h kept → IsStopped decl script h inputs → slice_get kept.controls 0 ≡ None
-stopped_controls decl script h inputs kept is s = ap (λ (cs : List Control). slice_get cs 0) (controls_shown script h kept is ∙ s.none_left)
+pub stopped_controls : (decl : Declaration) (script : Script) (h : List Entry) (inputs : List Bool) (kept : Inboxes)
+    → IsKept script h kept → IsStopped decl script h inputs → slice_get kept.controls 0 ≡ None
+stopped_controls decl script h inputs kept is s =
+    ap (λ (cs : List Control). slice_get cs 0) (controls_shown script h kept is ∙ s.none_left)
 
-pub stopped_picks : (decl : Declaration) (script : Script) (h : List Entry) (inputs : List Bool) (kept : Inboxes) → IsKept script h kept → actors decl ≤ most_actors → IsStopped decl script h inputs → picked_in decl (either inputs inputs) kept ≡ None
+pub stopped_picks : (decl : Declaration) (script : Script) (h : List Entry) (inputs : List Bool) (kept : Inboxes)
+    → IsKept script h kept → actors decl ≤ most_actors → IsStopped decl script h inputs
+    → picked_in decl (either inputs inputs) kept ≡ None
 stopped_picks decl script h inputs kept is few s =
-    picked_kept decl script (either inputs inputs) h kept is few ∙ none_picked decl script (either inputs inputs) h (λ a low clear. s.none_ready a low)
+    picked_kept decl script (either inputs inputs) h kept is few
+    ∙ none_picked decl script (either inputs inputs) h (λ a low clear. s.none_ready a low)
 
 -- tests of options
 

@@ -6,7 +6,7 @@ use Rattle.qc_pass.specs.declared.token.Pass.{Pass}
 use Rattle.qc_pass.specs.declared.token.Right.{Right}
 use Rattle.qc_pass.specs.Tokens.{number}
 use Rattle.qc_fabric.specs.Logs.{Logged}
-use Rattle.qc_fabric.specs.Stills.{most_history}
+use Rattle.qc_fabric.specs.FabricStates.{most_history}
 use Rattle.qc_fabric.specs.Tells.{Fed}
 
 -- it has room for so many steps, and is far from the most steps of a history

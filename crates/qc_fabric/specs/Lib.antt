@@ -6,7 +6,7 @@ pub mod Brands
 pub mod Picks
 pub mod Controls
 pub mod Gains
-pub mod Stills
+pub mod FabricStates
 pub mod Tells
 pub mod Advances
 pub mod Inputs

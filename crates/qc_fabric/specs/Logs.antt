@@ -1,9 +1,10 @@
 -- The log: a history, what is counted in it, where its messages stand, and room.
-use Rattle.std.specs.Prelude.{ℕ, ◌≡◌, ◌+◌, ◌-◌, ◌^◌, ◌<◌, ◌≤◌, min, nat_le, List, Option, Some, None, get_or, length, if◌then◌else◌}
+use Rattle.std.specs.Prelude.{ℕ, ◌≡◌, ◌+◌, ◌-◌, ◌^◌, ◌<◌, ◌≤◌, min, nat_le, List, Option, Some, None, get_or, length}
+use Rattle.std.specs.Prelude.{if◌then◌else◌}
 use Rattle.qc_decl.specs.Limits.{most_carried_lines, most_committed_operations, most_steps}
 use Rattle.qc_msg.specs.Counts.{carried_of, operations_of, tally_of}
 use Rattle.qc_msg.specs.Steps.{Entry}
-use Rattle.qc_msg.specs.declared.step.What.TheVariants.{Steps, Operations, Carried}
+use Rattle.qc_msg.specs.declared.step.Quantity.TheVariants.{Steps, Operations, Carried}
 use Rattle.qc_fabric.specs.Places.{places_of}
 use Rattle.qc_fabric.specs.declared.full.Full.{Full}
 
@@ -24,7 +25,8 @@ stored n = min n (2 ^ 64 - 1)
 abbrev pub named_actors : ℕ
 named_actors = 256
 
-pub record IsLog (entries : List Entry) (entries_capacity : ℕ) (places : List ℕ) (places_capacity : ℕ) (standing : List ℕ)
+pub record IsLog (entries : List Entry) (entries_capacity : ℕ) (places : List ℕ) (places_capacity : ℕ)
+    (standing : List ℕ)
     (operations carried room : ℕ) : Type 0 where
   pub places_are : places ≡ places_of 0 entries
   pub each_actor : length standing ≡ named_actors

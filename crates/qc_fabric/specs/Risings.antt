@@ -15,7 +15,7 @@ use Rattle.qc_pass.specs.Tokens.{mine, number, room, seen}
 use Rattle.qc_promise.specs.Stores.{IsOfOthers}
 use Rattle.qc_script.specs.RunsWithFalls.{RunWithFalls}
 use Rattle.qc_script.specs.declared.script.Script.{Script}
-use Rattle.qc_fabric.specs.Stills.{most_history}
+use Rattle.qc_fabric.specs.FabricStates.{most_history}
 use Rattle.qc_fabric.specs.Tells.{GoesToActors, IsSame, size_of}
 use Rattle.qc_fabric.specs.declared.rising.Rising.{Rising}
 use Rattle.qc_fabric.specs.declared.rising.Rising.TheVariants.{Rose, Damaged, NotOpened}

@@ -9,7 +9,7 @@ use Rattle.qc_msg.specs.Deeds.{Deed, Takes as TakesInput, deeds, deeds_as, mail}
 use Rattle.qc_msg.specs.Steps.{Entry, by, marked, posted_as, step_of, told, wrote}
 use Rattle.qc_msg.specs.declared.record.Record.{Record}
 use Rattle.qc_msg.specs.declared.step.Control.{Control}
-use Rattle.qc_msg.specs.declared.step.Given.{Given}
+use Rattle.qc_msg.specs.declared.step.Input.{Input}
 use Rattle.qc_msg.specs.declared.step.Step.{Step}
 use Rattle.qc_msg.specs.declared.turn.Posting.{Posting}
 use Rattle.qc_msg.specs.declared.turn.Turn.{Turn}
@@ -22,7 +22,7 @@ use Rattle.qc_script.specs.RunsWithFalls.{RunWithFalls}
 use Rattle.qc_script.specs.declared.script.Script.{Script}
 use Rattle.qc_fabric.specs.Controls.{control_step}
 use Rattle.qc_fabric.specs.Logs.{full_of}
-use Rattle.qc_fabric.specs.Stills.{most_history}
+use Rattle.qc_fabric.specs.FabricStates.{most_history}
 use Rattle.qc_link.specs.Limits.{most_actors}
 
 -- the same pass
@@ -70,7 +70,7 @@ abbrev pub HasNone : Declaration → Script → List Bool → ℕ → List Entry
 HasNone decl script inputs a h =
     IsSome (full_of h) ⊎ ((slice_get inputs a ≡ Some true) ⊎ (ready decl script a h ≡ None))
 
-pub record HasNext (decl : Declaration) (script : Script) (inputs : List Bool) (a : ℕ) (h : List Entry) (given : Given)
+pub record HasNext (decl : Declaration) (script : Script) (inputs : List Bool) (a : ℕ) (h : List Entry) (given : Input)
     : Type 0 where
   pub below : full_of h ≡ None
   pub closed : slice_get inputs a ≡ Some false
@@ -87,7 +87,7 @@ module _ (lawful : ℕ → List Deed → Turn → Type 0) (fits : ℕ → List R
 
   -- its actor took an input: what the pass has seen is a run that ends with this step. What stood there before is a run
   -- below each limit, in which the actor had no open input and has done what the pass had seen
-  pub record Takes (p q : Pass Step) (given : Given) : Type 0 where
+  pub record Takes (p q : Pass Step) (given : Input) : Type 0 where
     pub pass : IsSame p q
     pub others : List Entry
     pub not_own : IsOfOthers (number p) others

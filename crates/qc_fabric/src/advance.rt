@@ -8,14 +8,14 @@ ghost use Rattle.qc_pass.specs.Tokens.{number, pass_table};
 ghost use Rattle.qc_fabric.specs.Advances.{Advances};
 ghost use Rattle.qc_fabric.specs.Controls.{ComesNext, IsControllers, IsUpTo, MayDo};
 
-use crate::conduct::{Conduct, Named};
-use crate::still::Still;
+use crate::conduct::{Conduct, RunName};
+use crate::state::FabricState;
 use qc_decl::Declaration;
 use qc_list::OutOfMemory;
 use qc_msg::{Control, Step};
 use qc_pass::Pass;
 
-impl<C: Conduct, N: Named> Still<C, N> {
+impl<C: Conduct, N: RunName> FabricState<C, N> {
     /// What may be done next: where no limit is reached, the first control line
     /// left of the phase acts, or the next phase begins once nothing is left to do
     /// in this one. Only phases up to the last one that is given are meant. It

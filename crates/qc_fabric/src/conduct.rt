@@ -22,7 +22,7 @@ pub trait Conduct {
 /// The name of a run. A value behind a lock is known by its type alone, so the
 /// values of one run carry its name in their types. It has no calls: one call of
 /// a program picks it.
-pub trait Named {
+pub trait RunName {
     ghost use Rattle.std.specs.Prelude.{Bool};
     ghost use Rattle.qc_decl.specs.declared.declaration.Declaration.{Declaration};
     ghost use Rattle.qc_script.specs.declared.script.Script.{Script};
@@ -42,7 +42,7 @@ pub trait Named {
     ghost tells: { Bool };
 }
 
-impl Named for Brand {
+impl RunName for Brand {
     ghost use Rattle.std.specs.Prelude.{false};
     ghost use Rattle.qc_fabric.specs.Brands.{no_declaration, no_script, no_table};
 

@@ -1,4 +1,4 @@
-//! The lock over the state. Each call is that of `Still` under the lock, and
+//! The lock over the state. Each call is that of `FabricState` under the lock, and
 //! tells what the caller's pass knows.
 //!
 //! Threads that serve actors pick again after each turn. So a thread that has
@@ -15,9 +15,9 @@ ghost use Rattle.qc_fabric.specs.Advances.{HasNothingLeft, WasNext};
 ghost use Rattle.qc_fabric.specs.Picks.{IsNamed};
 ghost use Rattle.qc_fabric.specs.Tells.{GoesToActors, Posts, Sees, Takes, Waits, size_of};
 
-use crate::conduct::{Conduct, Named};
+use crate::conduct::{Conduct, RunName};
 use crate::picked::Picked;
-use crate::still::Still;
+use crate::state::FabricState;
 use crate::taken::Taken;
 use qc_decl::Declaration;
 use qc_list::OutOfMemory;
@@ -31,16 +31,16 @@ use std::thread::yield_now;
 /// What lies under the lock: the state, how many threads sleep, and whether one of
 /// them was woken and hasn't come yet.
 #[derive(Drop)]
-pub struct Shared<C: Conduct, N: Named> {
+pub struct Shared<C: Conduct, N: RunName> {
     /// The state.
-    pub still: Still<C, N>,
+    pub state: FabricState<C, N>,
     asleep: u32,
     is_one_woken: bool,
 }
 
 /// The state that many threads share, and how often something was picked.
 #[derive(Drop)]
-pub struct Fabric<C: Conduct, N: Named> {
+pub struct Fabric<C: Conduct, N: RunName> {
     shared: Mutex<Shared<C, N>>,
     changed: Condvar,
     picks: AtomicU64,
@@ -56,12 +56,12 @@ const POLLS: u32 = 256;
 /// the others.
 const MOST_POLLS: u32 = 4_096;
 
-impl<C: Conduct, N: Named> Fabric<C, N> {
+impl<C: Conduct, N: RunName> Fabric<C, N> {
     /// Threads may share the state from now on. It takes no memory.
-    pub fn open(still: Still<C, N>) -> Fabric<C, N> {
+    pub fn open(state: FabricState<C, N>) -> Fabric<C, N> {
         Fabric {
             shared: Mutex::new(Shared {
-                still,
+                state,
                 asleep: 0,
                 is_one_woken: false,
             }),
@@ -71,14 +71,14 @@ impl<C: Conduct, N: Named> Fabric<C, N> {
     }
 
     /// The state again. It takes no memory.
-    pub fn close(self) -> Still<C, N> {
+    pub fn close(self) -> FabricState<C, N> {
         let Fabric { shared, .. } = self;
-        let Shared { still, .. } = shared.into_inner();
-        still
+        let Shared { state, .. } = shared.into_inner();
+        state
     }
 
     /// Sleeps while nothing is ready for those that aren't held and some actor is
-    /// held, or while others pick, and then answers what `Still::pick` does. Where
+    /// held, or while others pick, and then answers what `FabricState::pick` does. Where
     /// another actor could be picked too, it wakes one that sleeps. It takes no
     /// memory.
     pub fn pick<R: Wait>(&self, rt: &R, decl: &Declaration) -> Picked
@@ -87,8 +87,8 @@ impl<C: Conduct, N: Named> Fabric<C, N> {
     {
         let mut shared = self.shared.lock(rt);
         for _ in rt.forever() {
-            if let Some(picked) = shared.still.pick(decl) {
-                if shared.asleep > 0 && !shared.is_one_woken && has_actor(&shared.still, decl) {
+            if let Some(picked) = shared.state.pick(decl) {
+                if shared.asleep > 0 && !shared.is_one_woken && has_actor(&shared.state, decl) {
                     shared.is_one_woken = true;
                     self.changed.notify_one();
                 }
@@ -117,7 +117,7 @@ impl<C: Conduct, N: Named> Fabric<C, N> {
             let is_wanted = self.is_wanted();
             shared = self.shared.lock(rt);
             shared.is_one_woken = false;
-            if is_wanted || !shared.still.is_any_held() {
+            if is_wanted || !shared.state.is_any_held() {
                 return shared;
             }
         }
@@ -160,7 +160,7 @@ impl<C: Conduct, N: Named> Fabric<C, N> {
         requires { decl.now ≡ N.declaration }
         ensures { IfSome result (WasNext N.declaration N.script) }
     {
-        self.shared.lock(rt).still.next_order(decl, last)
+        self.shared.lock(rt).state.next_order(decl, last)
     }
 
     /// The controller does what it may do next, if anything, in phases up to the last
@@ -184,10 +184,10 @@ impl<C: Conduct, N: Named> Fabric<C, N> {
             (seen pass.new) }
     {
         let mut shared = self.shared.lock(rt);
-        if shared.still.advance(decl, pass, last)? {
+        if shared.state.advance(decl, pass, last)? {
             return Ok(true);
         }
-        match shared.still.next(decl) {
+        match shared.state.next(decl) {
             Some(Picked::Quiet) => Ok(false),
             _ => Ok(true),
         }
@@ -211,7 +211,7 @@ impl<C: Conduct, N: Named> Fabric<C, N> {
             taken.given)) }
         ensures steps { IfOk result (λ r. IfSome r (λ taken. taken.steps ≡ length (seen pass.new))) }
     {
-        self.shared.lock(rt).still.take(alloc, decl, pass)
+        self.shared.lock(rt).state.take(alloc, decl, pass)
     }
 
     /// Makes room for the turn of the pass's actor.
@@ -227,7 +227,7 @@ impl<C: Conduct, N: Named> Fabric<C, N> {
         ensures ok { OnOk result (Sees pass.old pass.new × (room pass.new ≡ size_of turn.now)) }
         ensures err { OnErr result (pass.new ≡ pass.old) }
     {
-        self.shared.lock(rt).still.reserve(pass, turn)
+        self.shared.lock(rt).state.reserve(pass, turn)
     }
 
     /// Posts the turn for which there is room, by what became of its record. It takes
@@ -241,7 +241,7 @@ impl<C: Conduct, N: Named> Fabric<C, N> {
         ensures told { Posts (C.lawful N.declaration) (C.fits N.declaration) N.declaration N.script pass.old pass.new
             turn result }
     {
-        self.shared.lock(rt).still.post(pass, turn)
+        self.shared.lock(rt).state.post(pass, turn)
     }
 
     /// Ends the holding of the pass's actor, and gives its room up. It takes no
@@ -251,13 +251,13 @@ impl<C: Conduct, N: Named> Fabric<C, N> {
         ensures saw { Sees pass.old pass.new }
         ensures room { room pass.new ≡ 0 }
     {
-        self.shared.lock(rt).still.leave(pass);
+        self.shared.lock(rt).state.leave(pass);
     }
 }
 
 /// Whether an actor comes next.
-fn has_actor<C: Conduct, N: Named>(still: &Still<C, N>, decl: &Declaration) -> bool
+fn has_actor<C: Conduct, N: RunName>(state: &FabricState<C, N>, decl: &Declaration) -> bool
     requires { decl.now ≡ N.declaration }
 {
-    matches!(still.next(decl), Some(Picked::Actor(_)))
+    matches!(state.next(decl), Some(Picked::Actor(_)))
 }

@@ -9,7 +9,7 @@ ghost use Rattle.qc_fabric.specs.Feeds.{CanFeed, HasGrown};
 ghost use Rattle.qc_fabric.specs.Risings.{sends_of_rising, steps_of_rising};
 ghost use Rattle.qc_fabric.specs.Tells.{Fed};
 
-use crate::log::Log;
+use crate::log::HistoryStore;
 use crate::rising::Rising;
 use qc_list::Marked;
 use qc_msg::{Appended, Fall, Posting, Record, Reply, Step, Turn};
@@ -19,7 +19,7 @@ use qc_pass::{Pass, Passes, Right};
 pub(crate) fn add(
     passes: &Passes<Step>,
     right: Right<Step>,
-    log: &mut Log,
+    log: &mut HistoryStore,
     pass: &mut Pass<Step>,
     step: Step,
 ) -> Right<Step>
@@ -40,7 +40,7 @@ pub(crate) fn add(
 pub(crate) fn feed(
     passes: &Passes<Step>,
     right: Right<Step>,
-    log: &mut Log,
+    log: &mut HistoryStore,
     pass: &mut Pass<Step>,
     turn: Turn,
     first: u32,
@@ -62,7 +62,7 @@ pub(crate) fn feed(
 fn feed_done(
     passes: &Passes<Step>,
     right: Right<Step>,
-    log: &mut Log,
+    log: &mut HistoryStore,
     pass: &mut Pass<Step>,
     turn: Turn,
     first: u32,
@@ -89,7 +89,7 @@ fn feed_done(
 fn feed_failed(
     passes: &Passes<Step>,
     right: Right<Step>,
-    log: &mut Log,
+    log: &mut HistoryStore,
     pass: &mut Pass<Step>,
     turn: Turn,
     first: u32,
@@ -115,7 +115,7 @@ fn feed_failed(
 fn feed_stopped(
     passes: &Passes<Step>,
     right: Right<Step>,
-    log: &mut Log,
+    log: &mut HistoryStore,
     pass: &mut Pass<Step>,
     turn: Turn,
 ) -> Right<Step>
@@ -137,7 +137,7 @@ fn feed_stopped(
 pub(crate) fn feed_rising(
     passes: &Passes<Step>,
     right: Right<Step>,
-    log: &mut Log,
+    log: &mut HistoryStore,
     pass: &mut Pass<Step>,
     rising: Rising,
     first: u32,
@@ -162,7 +162,7 @@ pub(crate) fn feed_rising(
 fn feed_fell(
     passes: &Passes<Step>,
     right: Right<Step>,
-    log: &mut Log,
+    log: &mut HistoryStore,
     pass: &mut Pass<Step>,
     cause: Fall,
     pending: Option<Record>,
@@ -179,7 +179,7 @@ fn feed_fell(
 fn feed_wrote(
     passes: &Passes<Step>,
     right: Right<Step>,
-    log: &mut Log,
+    log: &mut HistoryStore,
     pass: &mut Pass<Step>,
     write: Option<Record>,
 ) -> Right<Step>
@@ -198,7 +198,7 @@ fn feed_wrote(
 fn feed_told(
     passes: &Passes<Step>,
     right: Right<Step>,
-    log: &mut Log,
+    log: &mut HistoryStore,
     pass: &mut Pass<Step>,
     reply: Option<Reply>,
 ) -> Right<Step>
@@ -217,7 +217,7 @@ fn feed_told(
 fn feed_sents(
     passes: &Passes<Step>,
     right: Right<Step>,
-    log: &mut Log,
+    log: &mut HistoryStore,
     pass: &mut Pass<Step>,
     postings: Vec<Posting>,
     first: u32,

@@ -7,23 +7,23 @@ ghost use Rattle.qc_msg.specs.Steps.{step_of};
 ghost use Rattle.qc_fabric.specs.Inputs.{IsInputFor, IsThere, given_by};
 ghost use Rattle.qc_link.specs.Limits.{most_actors};
 
-use crate::log::Log;
+use crate::log::HistoryStore;
 use qc_decl::Declaration;
-use qc_inbox::Input;
+use qc_inbox::ReadyInput;
 use qc_list::OutOfMemory;
 use qc_mailbox::{Mailboxes, is_set};
-use qc_msg::{Entry, Envelope, Given, Step};
+use qc_msg::{Entry, Envelope, Input, Step};
 use std::alloc::Global;
 
 /// The input that is handed to an actor: none where a counted quantity has
 /// reached its limit, its input is open, or nothing is ready for it.
 pub(crate) fn input_for(
-    log: &Log,
+    log: &HistoryStore,
     mailboxes: &Mailboxes,
     inputs: &[bool],
     decl: &Declaration,
     actor: u8,
-) -> Option<Input>
+) -> Option<ReadyInput>
     requires { actor < most_actors }
     ensures { IsInputFor decl.now log.now.history mailboxes.now.inboxes inputs.now actor result }
 {
@@ -35,14 +35,18 @@ pub(crate) fn input_for(
 }
 
 /// The input in full.
-pub(crate) fn given_of(alloc: Global, log: &Log, input: Input) -> Result<Given, OutOfMemory>
+pub(crate) fn given_of(
+    alloc: Global,
+    log: &HistoryStore,
+    input: ReadyInput,
+) -> Result<Input, OutOfMemory>
     requires { IsThere (mail log.now.history) input }
     ensures { IfOk result (λ given. given_by (mail log.now.history) input ≡ Some given) }
 {
     match input {
-        Input::Copy(number) => Ok(Given::Got(copy_of(alloc, log.sent(number))?)),
-        Input::Lost(number) => Ok(Given::Lost { number }),
-        Input::Command(command) => Ok(Given::Called(command)),
+        ReadyInput::Copy(number) => Ok(Input::Got(copy_of(alloc, log.sent(number))?)),
+        ReadyInput::Lost(number) => Ok(Input::Lost { number }),
+        ReadyInput::Command(command) => Ok(Input::Called(command)),
     }
 }
 
@@ -68,12 +72,12 @@ fn copy_of(alloc: Global, entry: &Entry) -> Result<Envelope, OutOfMemory>
 }
 
 /// The step by which an input is taken.
-pub(crate) fn step_of(given: &Given) -> Step
+pub(crate) fn step_of(given: &Input) -> Step
     ensures { result ≡ step_of given.now }
 {
     match given {
-        Given::Called(command) => Step::Called(*command),
-        Given::Got(envelope) => Step::Got(envelope.number),
-        Given::Lost { number } => Step::Lost(*number),
+        Input::Called(command) => Step::Called(*command),
+        Input::Got(envelope) => Step::Got(envelope.number),
+        Input::Lost { number } => Step::Lost(*number),
     }
 }

@@ -2,7 +2,7 @@
 //!
 //! An actor takes an input, computes its turn by itself, reserves room for it,
 //! and posts it. Each of these calls holds one lock, and nothing is computed
-//! under it, so many inputs are open at once. Under the lock lies `Still`: the
+//! under it, so many inputs are open at once. Under the lock lies `FabricState`: the
 //! history with the right to add to it, what is ready, which inputs are open,
 //! and which actors are held. `Fabric` is the lock. What holds:
 //!
@@ -53,19 +53,19 @@ mod restart;
 mod rising;
 mod roll;
 mod room;
-mod still;
+mod state;
 mod taken;
 mod turn;
 mod weigh;
 
-pub use conduct::{Conduct, Named};
+pub use conduct::{Conduct, RunName};
 pub use fabric::{Fabric, Shared};
 pub use full::Full;
 pub use laws::limits_are_told;
-pub use log::Log;
+pub use log::HistoryStore;
 pub use picked::Picked;
 pub use rising::Rising;
 pub use roll::Roll;
 pub use room::MOST_HISTORY;
-pub use still::Still;
+pub use state::FabricState;
 pub use taken::Taken;

@@ -8,17 +8,17 @@ ghost use Rattle.qc_fabric.specs.ActorLines.{Arms, FallsByLine};
 ghost use Rattle.qc_fabric.specs.Controls.{MayDo};
 ghost use Rattle.qc_fabric.specs.Tells.{IsSame};
 
-use crate::conduct::{Conduct, Named};
+use crate::conduct::{Conduct, RunName};
 use crate::feed::add;
 use crate::room::more;
-use crate::still::Still;
+use crate::state::FabricState;
 use qc_list::OutOfMemory;
 use qc_msg::{Fall, Step};
 use qc_outside::ArmKind;
 use qc_pass::Pass;
 use std::alloc::AllocError;
 
-impl<C: Conduct, N: Named> Still<C, N> {
+impl<C: Conduct, N: RunName> FabricState<C, N> {
     /// The first control line left arms the disk of the pass's actor: a step of the
     /// controller's, which that pass sees at once. After want of memory nothing has
     /// changed.

@@ -10,13 +10,13 @@ use crate::full::Full;
 use crate::weigh::{carried_by, operations_by, standing_by};
 use qc_decl::{MOST_CARRIED_LINES, MOST_COMMITTED_OPERATIONS, MOST_STEPS};
 use qc_list::OutOfMemory;
-use qc_msg::{Entry, Step, What};
+use qc_msg::{Entry, Quantity, Step};
 use std::alloc::Global;
 use std::marker::Model;
 
 /// All that happened, oldest first, with room for so many steps more.
 #[derive(Drop)]
-pub struct Log {
+pub struct HistoryStore {
     entries: Vec<Entry>,
     places: Vec<u32>,
     standing: [usize; NAMED_ACTORS],
@@ -25,7 +25,7 @@ pub struct Log {
     room: usize,
 }
 
-impl Model for Log {
+impl Model for HistoryStore {
     ghost use Rattle.std.specs.Prelude.{vec_capacity};
     ghost use Rattle.qc_fabric.specs.Logs.{IsLog, Logged};
 
@@ -44,12 +44,12 @@ const NAMED_ACTORS: usize = 256;
 /// More room than is asked for is made at once, for so many steps.
 const MORE: usize = 256;
 
-impl Log {
+impl HistoryStore {
     /// The empty log, which takes no memory.
-    pub(crate) fn new(alloc: Global) -> Log
+    pub(crate) fn new(alloc: Global) -> HistoryStore
         ensures { result ≡ record { history = []; room = 0 } }
     {
-        Log {
+        HistoryStore {
             entries: Vec::new(alloc),
             places: Vec::new(alloc),
             standing: [0; NAMED_ACTORS],
@@ -70,7 +70,7 @@ impl Log {
     pub fn into_entries(self) -> Vec<Entry>
         ensures { result.items ≡ self.history }
     {
-        let Log { entries, .. } = self;
+        let HistoryStore { entries, .. } = self;
         entries
     }
 
@@ -134,19 +134,19 @@ impl Log {
         let steps = self.entries.len() as u64;
         if steps >= MOST_STEPS {
             return Some(Full {
-                what: What::Steps,
+                what: Quantity::Steps,
                 number: steps,
             });
         }
         if self.operations >= MOST_COMMITTED_OPERATIONS {
             return Some(Full {
-                what: What::Operations,
+                what: Quantity::Operations,
                 number: u64::from(self.operations),
             });
         }
         if self.carried >= MOST_CARRIED_LINES {
             return Some(Full {
-                what: What::Carried,
+                what: Quantity::Carried,
                 number: u64::from(self.carried),
             });
         }

@@ -9,16 +9,16 @@ ghost use Rattle.qc_fabric.specs.Controls.{IsControllers, MayDo};
 ghost use Rattle.qc_fabric.specs.Logs.{full_of};
 ghost use Rattle.qc_fabric.specs.Tells.{Does};
 
-use crate::conduct::{Conduct, Named};
+use crate::conduct::{Conduct, RunName};
 use crate::feed::add;
 use crate::room::more;
-use crate::still::Still;
+use crate::state::FabricState;
 use qc_list::OutOfMemory;
 use qc_msg::{Control, Step};
 use qc_pass::Pass;
 use std::alloc::AllocError;
 
-impl<C: Conduct, N: Named> Still<C, N> {
+impl<C: Conduct, N: RunName> FabricState<C, N> {
     /// The number of the phase: of the last that began, or 0. It takes no memory.
     pub fn phase(&self) -> u32
         ensures { result ≡ phase_of self.now.history }

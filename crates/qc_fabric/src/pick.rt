@@ -7,14 +7,14 @@ ghost use Rattle.qc_fabric.specs.Picks.{IsNamed, IsStopped, has_any, held_after,
 ghost use Rattle.qc_fabric.specs.Picks.{where_none};
 
 use crate::bits::{any, set};
-use crate::conduct::{Conduct, Named};
+use crate::conduct::{Conduct, RunName};
 use crate::full::Full;
 use crate::picked::Picked;
-use crate::still::Still;
+use crate::state::FabricState;
 use qc_decl::Declaration;
 use qc_mailbox::is_set;
 
-impl<C: Conduct, N: Named> Still<C, N> {
+impl<C: Conduct, N: RunName> FabricState<C, N> {
     /// Which counted quantity has reached its limit, if any.
     pub fn full(&self) -> Option<Full>
         ensures { result ≡ full_of self.now.history }

@@ -12,18 +12,18 @@ ghost use Rattle.qc_fabric.specs.Risings.{IsRising, RisesAs, RisesToActors, afte
 ghost use Rattle.qc_fabric.specs.Risings.{size_of_rising};
 ghost use Rattle.qc_fabric.specs.Tells.{GoesToActors};
 
-use crate::conduct::{Conduct, Named};
+use crate::conduct::{Conduct, RunName};
 use crate::feed::feed_rising;
 use crate::rising::Rising;
 use crate::room::{more, size_of_rising};
-use crate::still::Still;
+use crate::state::FabricState;
 use qc_list::OutOfMemory;
 use qc_mailbox::Mailboxes;
 use qc_msg::{Appended, Step, Turn};
 use qc_pass::Pass;
 use std::alloc::AllocError;
 
-impl<C: Conduct, N: Named> Still<C, N> {
+impl<C: Conduct, N: RunName> FabricState<C, N> {
     /// Makes spare room for what a restart found, in place of what is spare. After
     /// want of memory nothing has changed.
     pub fn room(&mut self, rising: &Rising) -> Result<(), OutOfMemory>

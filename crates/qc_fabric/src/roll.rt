@@ -10,11 +10,11 @@ ghost use Rattle.qc_pass.specs.Tokens.{number, pass_table, room, seen};
 ghost use Rattle.qc_script.specs.RunsWithFalls.{RunsWithFalls};
 ghost use Rattle.qc_fabric.specs.Events.{before_last_event};
 ghost use Rattle.qc_fabric.specs.Logs.{full_of};
-ghost use Rattle.qc_fabric.specs.Stills.{most_history};
+ghost use Rattle.qc_fabric.specs.FabricStates.{most_history};
 ghost use Rattle.qc_fabric.specs.Tells.{Sees};
 
-use crate::conduct::{Conduct, Named};
-use crate::still::Still;
+use crate::conduct::{Conduct, RunName};
+use crate::state::FabricState;
 use qc_msg::{Entry, Step};
 use qc_pass::{Pass, Passes, Right};
 use qc_script::Script;
@@ -22,7 +22,7 @@ use std::marker::{Model, PhantomData};
 
 /// A history to which nobody adds any more, with the right to it.
 #[derive(Drop)]
-pub struct Roll<N: Named> {
+pub struct Roll<N: RunName> {
     script: Script,
     entries: Vec<Entry>,
     passes: Passes<Step>,
@@ -30,7 +30,7 @@ pub struct Roll<N: Named> {
     of: PhantomData<N>,
 }
 
-impl<N: Named> Model for Roll<N> {
+impl<N: RunName> Model for Roll<N> {
     ghost use Rattle.qc_pass.specs.Tokens.{table_of};
     ghost use Rattle.qc_fabric.specs.Rolls.{Called, IsRoll, rooms_of};
 
@@ -41,7 +41,7 @@ impl<N: Named> Model for Roll<N> {
     ghost invariant = { λ r. IsRoll N.script N.table r.script r.entries.items (table_of r.passes) r.right };
 }
 
-impl<C: Conduct, N: Named> Still<C, N> {
+impl<C: Conduct, N: RunName> FabricState<C, N> {
     /// The roll of all passes of the history, which is a run. Before its last event
     /// each counted quantity was below its limit. It takes no memory.
     pub fn roll(self) -> Roll<N>
@@ -52,7 +52,7 @@ impl<C: Conduct, N: Named> Still<C, N> {
         ensures few { length result.history ≤ most_history }
         ensures below { full_of (before_last_event result.history) ≡ None }
     {
-        let Still {
+        let FabricState {
             script,
             log,
             passes,
@@ -69,7 +69,7 @@ impl<C: Conduct, N: Named> Still<C, N> {
     }
 }
 
-impl<N: Named> Roll<N> {
+impl<N: RunName> Roll<N> {
     /// A pass without room is called: it sees the history, and has a room from now
     /// on. So it wasn't called before. It takes no memory.
     pub fn call(&mut self, pass: &mut Pass<Step>)

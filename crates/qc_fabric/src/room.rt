@@ -2,7 +2,7 @@
 
 ghost use Rattle.std.specs.Prelude.{◌≡◌, ◌+◌, ◌≤◌, ◌<◌, None, IfOk, IfSome};
 ghost use Rattle.qc_fabric.specs.Risings.{size_of_rising};
-ghost use Rattle.qc_fabric.specs.Stills.{most_history};
+ghost use Rattle.qc_fabric.specs.FabricStates.{most_history};
 ghost use Rattle.qc_fabric.specs.Tells.{size_of};
 
 use crate::rising::Rising;

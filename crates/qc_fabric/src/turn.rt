@@ -8,11 +8,11 @@ ghost use Rattle.qc_pass.specs.Tokens.{number, pass_table, room, seen};
 ghost use Rattle.qc_fabric.specs.Tells.{GoesToActors, HasNext, HasNone, Posts, Sees, Takes, Waits, size_of};
 
 use crate::bits::set;
-use crate::conduct::{Conduct, Named};
+use crate::conduct::{Conduct, RunName};
 use crate::feed::{add, feed};
 use crate::given::{given_of, input_for, step_of};
 use crate::room::{more, size_of};
-use crate::still::Still;
+use crate::state::FabricState;
 use crate::taken::Taken;
 use qc_decl::Declaration;
 use qc_list::OutOfMemory;
@@ -21,7 +21,7 @@ use qc_msg::{Step, Turn};
 use qc_pass::Pass;
 use std::alloc::{AllocError, Global};
 
-impl<C: Conduct, N: Named> Still<C, N> {
+impl<C: Conduct, N: RunName> FabricState<C, N> {
     /// The pass's actor takes its next input. Where a counted quantity has reached
     /// its limit, its input is open, or nothing is ready for it, its holding ends,
     /// and so does its room. After want of memory nothing has changed.

@@ -7,7 +7,8 @@ use Rattle.qc_outside.specs.declared.disk.ArmKind.{ArmKind}
 use Rattle.qc_outside.specs.declared.disk.ArmKind.TheVariants.{Fail, Stop}
 use Rattle.qc_promise.specs.Spent.{Arm, Spent, Tally, no_tally, tally, tally_with}
 use Rattle.std.specs.List.{AllByRecursion as Every}
-use Rattle.qc_falls.specs.Disks.{arms, arms_other, crashes, damaged, fails, rises, rises_with_one, stops, stops_rising, writes}
+use Rattle.qc_falls.specs.Disks.{arms, arms_other, crashes, damaged, fails, rises, rises_with_one, stops, stops_rising}
+use Rattle.qc_falls.specs.Disks.{writes}
 
 -- more falls than were counted
 
@@ -55,22 +56,32 @@ early_after_damage s = let few : 1 ≤ 0 = s.falls in omega arith
 
 -- an arm of the site, with the calls since, and one that waits past its call
 abbrev waiting : ArmKind → ℕ → ℕ → ℕ → Arm
-waiting kind at fewest most = record { actor = 0; kind = kind; at = at; calls = record { fewest = fewest; most = most } }
+waiting kind at fewest most = record {
+  actor = 0;
+  kind = kind;
+  at = at;
+  calls = record { fewest = fewest; most = most };
+}
 
 pub record_passes : (n : ℕ) → Spent (arms Stop 4 ∷ writes ∷ []) n → ⊥
-record_passes n s = let late : 4 < 4 = s.in_time (arms Stop 4 ∷ writes ∷ []) [] refl (waiting Stop 4 4 4) (inl refl) in omega arith
+record_passes n s = let late : 4 < 4 = s.in_time (arms Stop 4 ∷ writes ∷ []) [] refl (waiting Stop 4 4 4) (inl refl) in
+    omega arith
 
 pub opening_passes : (n : ℕ) → Spent (arms Stop 5 ∷ crashes ∷ rises ∷ writes ∷ []) n → ⊥
-opening_passes n s = let late : 5 < 5 = s.in_time (arms Stop 5 ∷ crashes ∷ rises ∷ writes ∷ []) [] refl (waiting Stop 5 5 6) (inl refl) in omega arith
+opening_passes n s = let late : 5 < 5 = s.in_time (arms Stop 5 ∷ crashes ∷ rises ∷ writes ∷ []) [] refl
+    (waiting Stop 5 5 6) (inl refl) in omega arith
 
 pub openings_pass : (n : ℕ) → Spent (arms Stop 2 ∷ crashes ∷ rises ∷ crashes ∷ rises ∷ []) n → ⊥
-openings_pass n s = let late : 2 < 2 = s.in_time (arms Stop 2 ∷ crashes ∷ rises ∷ crashes ∷ rises ∷ []) [] refl (waiting Stop 2 2 4) (inl refl) in omega arith
+openings_pass n s = let late : 2 < 2 = s.in_time (arms Stop 2 ∷ crashes ∷ rises ∷ crashes ∷ rises ∷ []) [] refl
+    (waiting Stop 2 2 4) (inl refl) in omega arith
 
 pub fall_passes : (n : ℕ) → Spent (arms Stop 1 ∷ fails ∷ []) n → ⊥
-fall_passes n s = let late : 1 < 1 = s.in_time (arms Stop 1 ∷ fails ∷ []) [] refl (waiting Stop 1 1 4) (inl refl) in omega arith
+fall_passes n s = let late : 1 < 1 = s.in_time (arms Stop 1 ∷ fails ∷ []) [] refl (waiting Stop 1 1 4) (inl refl) in
+    omega arith
 
 pub fall_leaves : (n : ℕ) → Spent (arms Stop 9 ∷ stops ∷ rises ∷ writes ∷ writes ∷ []) n → ⊥
-fall_leaves n s = let late : 10 < 9 = s.in_time (arms Stop 9 ∷ stops ∷ rises ∷ writes ∷ writes ∷ []) [] refl (waiting Stop 9 10 14) (inl refl) in omega arith
+fall_leaves n s = let late : 10 < 9 = s.in_time (arms Stop 9 ∷ stops ∷ rises ∷ writes ∷ writes ∷ []) [] refl
+    (waiting Stop 9 10 14) (inl refl) in omega arith
 
 -- right ones: at each moment each arm that waits is in time
 
@@ -92,30 +103,60 @@ at_cut : (t : Tally) (before later : List Entry) → EachInTime t (before ++ lat
 at_cut t [] later each = at_start t later each
 at_cut t (e ∷ before) later each = at_cut (tally_with t e.actor e.step) before later each.1
 
-in_time : (h : List Entry) → EachInTime no_tally h → (before later : List Entry) → before ++ later ≡ h → (a : Arm) → In a (tally before).left → a.calls.fewest < a.at
+in_time : (h : List Entry) → EachInTime no_tally h → (before later : List Entry) → before ++ later ≡ h → (a : Arm)
+    → In a (tally before).left → a.calls.fewest < a.at
 in_time h each before later is a waits =
-    every-In InTime a (tally before).left (at_cut no_tally before later (subst (EachInTime no_tally) (sym is) each)) waits
+    every-In InTime a (tally before).left (at_cut no_tally before later (subst (EachInTime no_tally) (sym is) each))
+    waits
 
 pub armed : Spent (arms Stop 5 ∷ writes ∷ stops ∷ rises_with_one ∷ writes ∷ []) 0
-armed = record { falls = omega arith; in_time = in_time (arms Stop 5 ∷ writes ∷ stops ∷ rises_with_one ∷ writes ∷ []) (tt, ((omega arith, tt), ((omega arith, tt), (tt, (tt, tt))))) }
+armed = record {
+  falls = omega arith;
+  in_time =
+      in_time (arms Stop 5 ∷ writes ∷ stops ∷ rises_with_one ∷ writes ∷ [])
+      (tt, ((omega arith, tt), ((omega arith, tt), (tt, (tt, tt)))));
+}
 
 pub armed_over_crash : Spent (arms Stop 6 ∷ crashes ∷ rises ∷ writes ∷ stops ∷ []) 0
-armed_over_crash = record { falls = omega arith; in_time = in_time (arms Stop 6 ∷ crashes ∷ rises ∷ writes ∷ stops ∷ []) (tt, ((omega arith, tt), ((omega arith, tt), ((omega arith, tt), ((omega arith, tt), tt))))) }
+armed_over_crash = record {
+  falls = omega arith;
+  in_time = in_time (arms Stop 6 ∷ crashes ∷ rises ∷ writes ∷ stops ∷ [])
+      (tt, ((omega arith, tt), ((omega arith, tt), ((omega arith, tt), ((omega arith, tt), tt)))));
+}
 
 pub armed_over_reading : Spent (arms Stop 5 ∷ crashes ∷ rises_with_one ∷ stops ∷ []) 0
-armed_over_reading = record { falls = omega arith; in_time = in_time (arms Stop 5 ∷ crashes ∷ rises_with_one ∷ stops ∷ []) (tt, ((omega arith, tt), ((omega arith, tt), ((omega arith, tt), tt)))) }
+armed_over_reading = record {
+  falls = omega arith;
+  in_time = in_time (arms Stop 5 ∷ crashes ∷ rises_with_one ∷ stops ∷ [])
+      (tt, ((omega arith, tt), ((omega arith, tt), ((omega arith, tt), tt))));
+}
 
 pub armed_in_opening : Spent (arms Stop 2 ∷ crashes ∷ stops_rising ∷ rises ∷ []) 0
-armed_in_opening = record { falls = omega arith; in_time = in_time (arms Stop 2 ∷ crashes ∷ stops_rising ∷ rises ∷ []) (tt, ((omega arith, tt), ((omega arith, tt), (tt, tt)))) }
+armed_in_opening = record {
+  falls = omega arith;
+  in_time = in_time (arms Stop 2 ∷ crashes ∷ stops_rising ∷ rises ∷ [])
+      (tt, ((omega arith, tt), ((omega arith, tt), (tt, tt))));
+}
 
 pub armed_anew : Spent (arms Stop 1 ∷ arms Stop 9 ∷ writes ∷ writes ∷ []) 0
-armed_anew = record { falls = omega arith; in_time = in_time (arms Stop 1 ∷ arms Stop 9 ∷ writes ∷ writes ∷ []) (tt, ((omega arith, tt), ((omega arith, tt), ((omega arith, tt), (omega arith, tt))))) }
+armed_anew = record {
+  falls = omega arith;
+  in_time = in_time (arms Stop 1 ∷ arms Stop 9 ∷ writes ∷ writes ∷ [])
+      (tt, ((omega arith, tt), ((omega arith, tt), ((omega arith, tt), (omega arith, tt)))));
+}
 
 pub armed_for_both : Spent (arms Stop 1 ∷ stops ∷ arms Fail 3 ∷ rises ∷ fails ∷ []) 0
-armed_for_both = record { falls = omega arith; in_time = in_time (arms Stop 1 ∷ stops ∷ arms Fail 3 ∷ rises ∷ fails ∷ []) (tt, ((omega arith, tt), (tt, ((omega arith, tt), ((omega arith, tt), tt))))) }
+armed_for_both = record {
+  falls = omega arith;
+  in_time = in_time (arms Stop 1 ∷ stops ∷ arms Fail 3 ∷ rises ∷ fails ∷ [])
+      (tt, ((omega arith, tt), (tt, ((omega arith, tt), ((omega arith, tt), tt)))));
+}
 
 pub another_waits : Spent (arms_other Stop 1 ∷ writes ∷ []) 0
-another_waits = record { falls = omega arith; in_time = in_time (arms_other Stop 1 ∷ writes ∷ []) (tt, ((omega arith, tt), (omega arith, tt))) }
+another_waits = record {
+  falls = omega arith;
+  in_time = in_time (arms_other Stop 1 ∷ writes ∷ []) (tt, ((omega arith, tt), (omega arith, tt)));
+}
 
 pub counted : Spent (stops ∷ []) 1
 counted = record { falls = omega arith; in_time = in_time (stops ∷ []) (tt, tt) }

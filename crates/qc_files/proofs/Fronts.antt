@@ -42,7 +42,8 @@ kept_what_it_took (Some xs) (Some ys) (Some zs) bytes before now = now ∙ befor
 pub front_fits : (bytes : List ℕ) (count more : ℕ) → count ≤ length bytes
     → more ≤ length (take (length bytes - count) (drop count bytes)) → count + more ≤ length bytes
 front_fits bytes count more before now =
-    let left : more ≤ length bytes - count = subst (λ n. more ≤ n) (ap length (take_rest bytes count) ∙ length-drop count bytes) now in
+    let left : more ≤ length bytes - count =
+    subst (λ n. more ≤ n) (ap length (take_rest bytes count) ∙ length-drop count bytes) now in
     omega arith
 
 -- a call that took the next of them

@@ -9,18 +9,22 @@ use Rattle.qc_entry.specs.declared.line.ReadLock.{ReadLock}
 use Rattle.qc_fit.specs.Fits.{fits, is_line_fit, is_lock_fit, is_op_fit, is_own_fit, is_start_fit}
 use Rattle.qc_fit.specs.Said.{HasEvent, HasInvocation, HasPlan, IsFit, IsLineDeclared, IsOpDeclared}
 use Rattle.qc_fit.specs.Numbers.{greatest_clock}
-use Rattle.qc_fit.proofs.Tests.{all_of, both_true, every_of, true_both, client_of, of_client, clock_of, of_clock, few_of, of_few, plan_of, of_plan, number_of, of_number}
-use Rattle.qc_fit.proofs.Tests.{response_of, of_response, site_of, of_site, administrator_of, of_administrator, this_client_of, of_this_client, rises_of, of_rises}
+use Rattle.qc_fit.proofs.Tests.{all_of, both_true, every_of, true_both, client_of, of_client, clock_of, of_clock}
+use Rattle.qc_fit.proofs.Tests.{few_of, of_few, plan_of, of_plan, number_of, of_number}
+use Rattle.qc_fit.proofs.Tests.{response_of, of_response, site_of, of_site, administrator_of, of_administrator}
+use Rattle.qc_fit.proofs.Tests.{this_client_of, of_this_client, rises_of, of_rises}
 use Rattle.qc_msg.specs.declared.record.Record.{Record}
 use Rattle.qc_msg.specs.declared.record.Record.TheVariants as records
 use Rattle.qc_table.specs.Rules.{Rules, events_of}
 
 -- parts
 
-invocation_of : (decl : Declaration) (lock : ReadLock) → is_lock_fit decl lock ≡ true → HasInvocation decl lock.object lock.inv
+invocation_of : (decl : Declaration) (lock : ReadLock) → is_lock_fit decl lock ≡ true
+    → HasInvocation decl lock.object lock.inv
 invocation_of decl lock e = number_of decl (λ (t : Rules). t.invs) lock.object lock.inv e
 
-of_invocation : (decl : Declaration) (lock : ReadLock) → HasInvocation decl lock.object lock.inv → is_lock_fit decl lock ≡ true
+of_invocation : (decl : Declaration) (lock : ReadLock) → HasInvocation decl lock.object lock.inv
+    → is_lock_fit decl lock ≡ true
 of_invocation decl lock h = of_number decl (λ (t : Rules). t.invs) lock.object lock.inv h
 
 event_of : (decl : Declaration) (own : OwnLine) → is_own_fit decl own ≡ true → HasEvent decl own.object own.event
@@ -33,24 +37,36 @@ line_of : (decl : Declaration) (line : Line) → is_line_fit decl line ≡ true 
 line_of decl line e =
     let b = both_true _ _ e in
     let c = both_true _ _ b.1 in
-    record { clock = clock_of line.stamp.clock b.0; client = client_of decl line.tx.client c.0; event = number_of decl (λ (t : Rules). length (events_of t.rows)) line.object line.event c.1 }
+    record {
+      clock = clock_of line.stamp.clock b.0;
+      client = client_of decl line.tx.client c.0;
+      event = number_of decl (λ (t : Rules). length (events_of t.rows)) line.object line.event c.1;
+    }
 
 of_line : (decl : Declaration) (line : Line) → IsLineDeclared decl line → is_line_fit decl line ≡ true
 of_line decl line h =
-    true_both _ _ (of_clock line.stamp.clock h.clock) (true_both _ _ (of_client decl line.tx.client h.client) (of_number decl (λ (t : Rules). length (events_of t.rows)) line.object line.event h.event))
+    true_both _ _ (of_clock line.stamp.clock h.clock)
+    (true_both _ _ (of_client decl line.tx.client h.client)
+    (of_number decl (λ (t : Rules). length (events_of t.rows)) line.object line.event h.event))
 
 op_of : (decl : Declaration) (op : Op) → is_op_fit decl op ≡ true → IsOpDeclared decl op
 op_of decl op e =
     let b = both_true _ _ e in
-    record { inv = number_of decl (λ (t : Rules). t.invs) op.object op.inv b.0; resp = response_of decl op.object op.resp b.1 }
+    record {
+      inv = number_of decl (λ (t : Rules). t.invs) op.object op.inv b.0;
+      resp = response_of decl op.object op.resp b.1;
+    }
 
 of_op : (decl : Declaration) (op : Op) → IsOpDeclared decl op → is_op_fit decl op ≡ true
-of_op decl op h = true_both _ _ (of_number decl (λ (t : Rules). t.invs) op.object op.inv h.inv) (of_response decl op.object op.resp h.resp)
+of_op decl op h = true_both _ _ (of_number decl (λ (t : Rules). t.invs) op.object op.inv h.inv)
+    (of_response decl op.object op.resp h.resp)
 
-lines_of : (decl : Declaration) (lines : List Line) → list_all (is_line_fit decl) lines ≡ true → Every (IsLineDeclared decl) lines
+lines_of : (decl : Declaration) (lines : List Line) → list_all (is_line_fit decl) lines ≡ true
+    → Every (IsLineDeclared decl) lines
 lines_of decl lines e = every_of (is_line_fit decl) (IsLineDeclared decl) (line_of decl) lines e
 
-of_lines : (decl : Declaration) (lines : List Line) → Every (IsLineDeclared decl) lines → list_all (is_line_fit decl) lines ≡ true
+of_lines : (decl : Declaration) (lines : List Line) → Every (IsLineDeclared decl) lines
+    → list_all (is_line_fit decl) lines ≡ true
 of_lines decl lines every = all_of (is_line_fit decl) (IsLineDeclared decl) (of_line decl) lines every
 
 record IsStart (decl : Declaration) (epoch clock : ℕ) (lines : List Line) : Type 0 where
@@ -58,21 +74,35 @@ record IsStart (decl : Declaration) (epoch clock : ℕ) (lines : List Line) : Ty
   pub clock_is : clock ≤ greatest_clock
   pub lines_are : Every (IsLineDeclared decl) lines
 
-start_of : (decl : Declaration) (epoch clock : ℕ) (lines : List Line) → is_start_fit decl epoch clock lines ≡ true → IsStart decl epoch clock lines
+start_of : (decl : Declaration) (epoch clock : ℕ) (lines : List Line) → is_start_fit decl epoch clock lines ≡ true
+    → IsStart decl epoch clock lines
 start_of decl epoch clock lines e =
     let b = both_true _ _ e in
     let c = both_true _ _ b.1 in
     record { epoch_is = plan_of decl epoch b.0; clock_is = clock_of clock c.0; lines_are = lines_of decl lines c.1 }
 
-of_start : (decl : Declaration) (epoch clock : ℕ) (lines : List Line) → HasPlan decl epoch → clock ≤ greatest_clock → Every (IsLineDeclared decl) lines → is_start_fit decl epoch clock lines ≡ true
-of_start decl epoch clock lines p c l = true_both _ _ (of_plan decl epoch p) (true_both _ _ (of_clock clock c) (of_lines decl lines l))
+of_start : (decl : Declaration) (epoch clock : ℕ) (lines : List Line) → HasPlan decl epoch → clock ≤ greatest_clock
+    → Every (IsLineDeclared decl) lines → is_start_fit decl epoch clock lines ≡ true
+of_start decl epoch clock lines p c l = true_both _ _ (of_plan decl epoch p)
+    (true_both _ _ (of_clock clock c) (of_lines decl lines l))
 
 -- records
 
-said : (decl : Declaration) (actor before : ℕ) (rec : Record) → fits decl actor before rec ≡ true → IsFit decl actor before rec
+said : (decl : Declaration) (actor before : ℕ) (rec : Record) → fits decl actor before rec ≡ true
+    → IsFit decl actor before rec
 said decl actor before records.Life e =
     let b = both_true _ _ e in
-    record { few = few_of before b.0; writer = rises_of decl actor b.1; clients = tt; epochs = tt; clocks = tt; locks = tt; owns = tt; lines = tt; ops = tt }
+    record {
+      few = few_of before b.0;
+      writer = rises_of decl actor b.1;
+      clients = tt;
+      epochs = tt;
+      clocks = tt;
+      locks = tt;
+      owns = tt;
+      lines = tt;
+      ops = tt;
+    }
 said decl actor before (records.Prepare p) e =
     let b = both_true _ _ e in
     let s = both_true _ _ b.1 in
@@ -86,8 +116,10 @@ said decl actor before (records.Prepare p) e =
       clients = (client_of decl p.tx.client c.0, tt);
       epochs = (plan_of decl p.epoch h.0, tt);
       clocks = tt;
-      locks = every_of (is_lock_fit decl) (λ (lock : ReadLock). HasInvocation decl lock.object lock.inv) (invocation_of decl) p.locks k.0;
-      owns = every_of (is_own_fit decl) (λ (own : OwnLine). HasEvent decl own.object own.event) (event_of decl) p.own o.0;
+      locks = every_of (is_lock_fit decl) (λ (lock : ReadLock). HasInvocation decl lock.object lock.inv)
+          (invocation_of decl) p.locks k.0;
+      owns = every_of (is_own_fit decl) (λ (own : OwnLine). HasEvent decl own.object own.event)
+          (event_of decl) p.own o.0;
       lines = lines_of decl p.lines o.1;
       ops = tt;
     }
@@ -95,45 +127,106 @@ said decl actor before (records.Done tx clock) e =
     let b = both_true _ _ e in
     let s = both_true _ _ b.1 in
     let c = both_true _ _ s.1 in
-    record { few = few_of before b.0; writer = site_of decl actor s.0; clients = (client_of decl tx.client c.0, tt); epochs = tt; clocks = (clock_of clock c.1, tt); locks = tt; owns = tt; lines = tt; ops = tt }
+    record {
+      few = few_of before b.0;
+      writer = site_of decl actor s.0;
+      clients = (client_of decl tx.client c.0, tt);
+      epochs = tt;
+      clocks = (clock_of clock c.1, tt);
+      locks = tt;
+      owns = tt;
+      lines = tt;
+      ops = tt;
+    }
 said decl actor before (records.Close epoch) e =
     let b = both_true _ _ e in
     let s = both_true _ _ b.1 in
-    record { few = few_of before b.0; writer = site_of decl actor s.0; clients = tt; epochs = (plan_of decl epoch s.1, tt); clocks = tt; locks = tt; owns = tt; lines = tt; ops = tt }
+    record {
+      few = few_of before b.0;
+      writer = site_of decl actor s.0;
+      clients = tt;
+      epochs = (plan_of decl epoch s.1, tt);
+      clocks = tt;
+      locks = tt;
+      owns = tt;
+      lines = tt;
+      ops = tt;
+    }
 said decl actor before (records.Install epoch clock lines) e =
     let b = both_true _ _ e in
     let s = both_true _ _ b.1 in
     let i = start_of decl epoch clock lines s.1 in
-    record { few = few_of before b.0; writer = site_of decl actor s.0; clients = tt; epochs = (i.epoch_is, tt); clocks = (i.clock_is, tt); locks = tt; owns = tt; lines = i.lines_are; ops = tt }
+    record {
+      few = few_of before b.0;
+      writer = site_of decl actor s.0;
+      clients = tt;
+      epochs = (i.epoch_is, tt);
+      clocks = (i.clock_is, tt);
+      locks = tt;
+      owns = tt;
+      lines = i.lines_are;
+      ops = tt;
+    }
 said decl actor before (records.Commit c) e =
     let b = both_true _ _ e in
     let s = both_true _ _ b.1 in
     let o = both_true _ _ s.1 in
     let w = this_client_of decl actor c.tx.client s.0 in
-    record { few = few_of before b.0; writer = w.1; clients = (w.0, tt); epochs = tt; clocks = (clock_of c.stamp.clock o.0, tt); locks = tt; owns = tt; lines = tt; ops = every_of (is_op_fit decl) (IsOpDeclared decl) (op_of decl) c.ops o.1 }
+    record {
+      few = few_of before b.0;
+      writer = w.1;
+      clients = (w.0, tt);
+      epochs = tt;
+      clocks = (clock_of c.stamp.clock o.0, tt);
+      locks = tt;
+      owns = tt;
+      lines = tt;
+      ops = every_of (is_op_fit decl) (IsOpDeclared decl) (op_of decl) c.ops o.1;
+    }
 said decl actor before (records.Decide epoch clock lines) e =
     let b = both_true _ _ e in
     let s = both_true _ _ b.1 in
     let i = start_of decl epoch clock lines s.1 in
-    record { few = few_of before b.0; writer = administrator_of decl actor s.0; clients = tt; epochs = (i.epoch_is, tt); clocks = (i.clock_is, tt); locks = tt; owns = tt; lines = i.lines_are; ops = tt }
+    record {
+      few = few_of before b.0;
+      writer = administrator_of decl actor s.0;
+      clients = tt;
+      epochs = (i.epoch_is, tt);
+      clocks = (i.clock_is, tt);
+      locks = tt;
+      owns = tt;
+      lines = i.lines_are;
+      ops = tt;
+    }
 
-fit : (decl : Declaration) (actor before : ℕ) (rec : Record) → IsFit decl actor before rec → fits decl actor before rec ≡ true
+fit : (decl : Declaration) (actor before : ℕ) (rec : Record) → IsFit decl actor before rec
+    → fits decl actor before rec ≡ true
 fit decl actor before records.Life h = true_both _ _ (of_few before h.few) (of_rises decl actor h.writer)
 fit decl actor before (records.Prepare p) h =
-    let locks = all_of (is_lock_fit decl) (λ (lock : ReadLock). HasInvocation decl lock.object lock.inv) (of_invocation decl) p.locks h.locks in
-    let owns = all_of (is_own_fit decl) (λ (own : OwnLine). HasEvent decl own.object own.event) (of_event decl) p.own h.owns in
+    let locks = all_of (is_lock_fit decl) (λ (lock : ReadLock). HasInvocation decl lock.object lock.inv)
+    (of_invocation decl) p.locks h.locks in
+    let owns = all_of (is_own_fit decl) (λ (own : OwnLine). HasEvent decl own.object own.event)
+    (of_event decl) p.own h.owns in
     true_both _ _ (of_few before h.few) (true_both _ _ (of_site decl actor h.writer)
-    (true_both _ _ (of_client decl p.tx.client h.clients.0) (true_both _ _ (of_plan decl p.epoch h.epochs.0) (true_both _ _ locks (true_both _ _ owns (of_lines decl p.lines h.lines))))))
+    (true_both _ _ (of_client decl p.tx.client h.clients.0)
+    (true_both _ _ (of_plan decl p.epoch h.epochs.0)
+    (true_both _ _ locks (true_both _ _ owns (of_lines decl p.lines h.lines))))))
 fit decl actor before (records.Done tx clock) h =
-    true_both _ _ (of_few before h.few) (true_both _ _ (of_site decl actor h.writer) (true_both _ _ (of_client decl tx.client h.clients.0) (of_clock clock h.clocks.0)))
-fit decl actor before (records.Close epoch) h = true_both _ _ (of_few before h.few) (true_both _ _ (of_site decl actor h.writer) (of_plan decl epoch h.epochs.0))
+    true_both _ _ (of_few before h.few) (true_both _ _ (of_site decl actor h.writer)
+    (true_both _ _ (of_client decl tx.client h.clients.0) (of_clock clock h.clocks.0)))
+fit decl actor before (records.Close epoch) h =
+    true_both _ _ (of_few before h.few) (true_both _ _ (of_site decl actor h.writer) (of_plan decl epoch h.epochs.0))
 fit decl actor before (records.Install epoch clock lines) h =
-    true_both _ _ (of_few before h.few) (true_both _ _ (of_site decl actor h.writer) (of_start decl epoch clock lines h.epochs.0 h.clocks.0 h.lines))
+    true_both _ _ (of_few before h.few) (true_both _ _ (of_site decl actor h.writer)
+    (of_start decl epoch clock lines h.epochs.0 h.clocks.0 h.lines))
 fit decl actor before (records.Commit c) h =
     let ops = all_of (is_op_fit decl) (IsOpDeclared decl) (of_op decl) c.ops h.ops in
-    true_both _ _ (of_few before h.few) (true_both _ _ (of_this_client decl actor c.tx.client h.clients.0 h.writer) (true_both _ _ (of_clock c.stamp.clock h.clocks.0) ops))
+    true_both _ _ (of_few before h.few) (true_both _ _ (of_this_client decl actor c.tx.client h.clients.0 h.writer)
+    (true_both _ _ (of_clock c.stamp.clock h.clocks.0) ops))
 fit decl actor before (records.Decide epoch clock lines) h =
-    true_both _ _ (of_few before h.few) (true_both _ _ (of_administrator decl actor h.writer) (of_start decl epoch clock lines h.epochs.0 h.clocks.0 h.lines))
+    true_both _ _ (of_few before h.few) (true_both _ _ (of_administrator decl actor h.writer)
+    (of_start decl epoch clock lines h.epochs.0 h.clocks.0 h.lines))
 
-pub as_said : (decl : Declaration) (actor before : ℕ) (rec : Record) → (fits decl actor before rec ≡ true) ↔ IsFit decl actor before rec
+pub as_said : (decl : Declaration) (actor before : ℕ) (rec : Record)
+    → (fits decl actor before rec ≡ true) ↔ IsFit decl actor before rec
 as_said decl actor before rec = (said decl actor before rec, fit decl actor before rec)

@@ -1,5 +1,7 @@
 -- What holds of a front end is what its calls rely on.
-use Rattle.std.proofs.Common.{◌≡◌, ℕ, zero, suc, ◌+◌, ◌-◌, ◌%◌, ◌^◌, ◌<◌, ◌≤◌, ◌==◌, nat_lt, Bool, true, false, cond, ◌⊎◌, inl, inr, List, [], ◌∷◌, ◌++◌, filter, length, map, Option, Some, None, refl, sym, ap, ◌∙◌, subst, arith}
+use Rattle.std.proofs.Common.{◌≡◌, ℕ, zero, suc, ◌+◌, ◌-◌, ◌%◌, ◌^◌, ◌<◌, ◌≤◌, ◌==◌, nat_lt, Bool, true, false, cond}
+use Rattle.std.proofs.Common.{◌⊎◌, inl, inr, List, [], ◌∷◌, ◌++◌, filter, length, map, Option, Some, None, refl, sym}
+use Rattle.std.proofs.Common.{ap, ◌∙◌, subst, arith}
 use Rattle.std.specs.Prelude.{slice_get, slice_index}
 use Rattle.std.specs.List.{range_with_len}
 use Rattle.std.specs.Option.{option_map_or}
@@ -23,7 +25,8 @@ use Rattle.qc_front.specs.Holds.{AppendingHolds, BegunHolds, FrontHolds, IsRound
 
 -- the weights of an epoch: one for each site, or none
 
-plan_weights : (decl : Declaration) (epoch : ℕ) → IsAccepted decl → (p : Plan) → plan_in decl epoch ≡ Some p → length p.weights ≡ decl.sites
+plan_weights : (decl : Declaration) (epoch : ℕ) → IsAccepted decl → (p : Plan) → plan_in decl epoch ≡ Some p
+    → length p.weights ≡ decl.sites
 plan_weights decl epoch accepted p is = by (epoch == 0) is
   where
     by : (t : Bool) → cond t None (slice_get decl.plans (epoch - 1)) ≡ Some p → length p.weights ≡ decl.sites
@@ -46,7 +49,8 @@ length_filter : (test : ℕ → Bool) (xs : List ℕ) → length (filter test xs
 length_filter test [] = omega arith
 length_filter test (x ∷ xs) = by (test x) (length_filter test xs)
   where
-    by : (t : Bool) → length (filter test xs) ≤ length xs → length (cond t (x ∷ filter test xs) (filter test xs)) ≤ length (x ∷ xs)
+    by : (t : Bool) → length (filter test xs) ≤ length xs
+        → length (cond t (x ∷ filter test xs) (filter test xs)) ≤ length (x ∷ xs)
     by true few = omega arith
     by false few = omega arith
 
@@ -56,41 +60,59 @@ no_weights (x ∷ xs) = no_weights xs
 
 cyclic_length : (sites from : ℕ) → from ≤ sites → length (cyclic sites from) ≡ sites
 cyclic_length sites from low =
-    let whole : length (cyclic sites from) ≡ length (range_with_len from (sites - from)) + length (range_with_len 0 from) = length-append (range_with_len from (sites - from)) (range_with_len 0 from) in
+    let whole : length (cyclic sites from) ≡ length (range_with_len from (sites - from)) + length
+    (range_with_len 0 from) = length-append (range_with_len from (sites - from)) (range_with_len 0 from) in
     let a : length (range_with_len from (sites - from)) ≡ sites - from = length-range_with_len from (sites - from) in
     let b : length (range_with_len 0 from) ≡ from = length-range_with_len 0 from in
     omega arith
 
-weighing_few : (decl : Declaration) (weights : List ℕ) (client : ℕ) → IsAccepted decl → FewWeights decl weights → length (weighing weights (cyclic (length weights) (first_site decl client))) ≤ 16
+weighing_few : (decl : Declaration) (weights : List ℕ) (client : ℕ) → IsAccepted decl → FewWeights decl weights
+    → length (weighing weights (cyclic (length weights) (first_site decl client))) ≤ 16
 weighing_few decl weights client accepted few = by few.either
   where
-    by : (weights ≡ []) ⊎ (length weights ≡ decl.sites) → length (weighing weights (cyclic (length weights) (first_site decl client))) ≤ 16
-    by (inl none) = subst (λ (ws : List ℕ). length (weighing ws (cyclic (length ws) (first_site decl client))) ≤ 16) (sym none)
+    by : (weights ≡ []) ⊎ (length weights ≡ decl.sites)
+        → length (weighing weights (cyclic (length weights) (first_site decl client))) ≤ 16
+    by (inl none) = subst (λ (ws : List ℕ). length (weighing ws (cyclic (length ws) (first_site decl client))) ≤ 16)
+        (sym none)
         (subst (λ (ss : List ℕ). length ss ≤ 16) (sym (no_weights (cyclic 0 (first_site decl client)))) (omega arith))
     by (inr many) =
         let sites : decl.sites ≤ 16 = accepted.sites in
         let some : 0 < decl.sites = accepted.has_site in
         let low : client % decl.sites < decl.sites = omega arith in
-        let whole : length (cyclic (length weights) (first_site decl client)) ≡ length weights = cyclic_length (length weights) (first_site decl client) (omega arith) in
-        let fewer : length (weighing weights (cyclic (length weights) (first_site decl client))) ≤ length (cyclic (length weights) (first_site decl client)) = length_filter (λ site. nat_lt 0 (weight_at weights site)) (cyclic (length weights) (first_site decl client)) in
+        let whole : length (cyclic (length weights) (first_site decl client)) ≡ length weights =
+        cyclic_length (length weights) (first_site decl client) (omega arith) in
+        let fewer : length (weighing weights (cyclic (length weights) (first_site decl client))) ≤ length
+        (cyclic (length weights) (first_site decl client)) =
+        length_filter (λ site. nat_lt 0 (weight_at weights site))
+        (cyclic (length weights) (first_site decl client)) in
         omega arith
 
-round_few : (decl : Declaration) (client epoch need : ℕ) (r : RoundState) → IsAccepted decl → IsRound decl client epoch need r → length r.asked ≤ 16
+round_few : (decl : Declaration) (client epoch need : ℕ) (r : RoundState) → IsAccepted decl
+    → IsRound decl client epoch need r → length r.asked ≤ 16
 round_few decl client epoch need r accepted is =
-    let all : length (sites_of r.asked ++ r.rest) ≡ length (weighing (weights_of decl epoch) (cyclic (length (weights_of decl epoch)) (first_site decl client))) = ap length is.sites in
-    let both : length (sites_of r.asked ++ r.rest) ≡ length (sites_of r.asked) + length r.rest = length-append (sites_of r.asked) r.rest in
+    let all : length (sites_of r.asked ++ r.rest) ≡ length
+    (weighing (weights_of decl epoch) (cyclic (length (weights_of decl epoch)) (first_site decl client))) =
+    ap length is.sites in
+    let both : length (sites_of r.asked ++ r.rest) ≡ length (sites_of r.asked) + length r.rest =
+    length-append (sites_of r.asked) r.rest in
     let same : length (sites_of r.asked) ≡ length r.asked = length-map r.asked (λ (a : Asked). a.site) in
-    let few : length (weighing (weights_of decl epoch) (cyclic (length (weights_of decl epoch)) (first_site decl client))) ≤ 16 = weighing_few decl (weights_of decl epoch) client accepted (weights_few decl epoch accepted) in
+    let few : length (weighing (weights_of decl epoch)
+    (cyclic (length (weights_of decl epoch)) (first_site decl client))) ≤ 16 =
+    weighing_few decl (weights_of decl epoch) client accepted (weights_few decl epoch accepted) in
     omega arith
 
-few_in : (decl : Declaration) (client : ℕ) (t : Option Transaction) (doing : Doing) → IsAccepted decl → BegunHolds decl client t doing → AsksFew doing
+few_in : (decl : Declaration) (client : ℕ) (t : Option Transaction) (doing : Doing) → IsAccepted decl
+    → BegunHolds decl client t doing → AsksFew doing
 few_in decl client t Idle accepted h = tt
 few_in decl client None (Reading object inv calls round) accepted h = let never : ⊥ = cc in absurd never
 few_in decl client None (Appending object inv event calls round) accepted h = let never : ⊥ = cc in absurd never
-few_in decl client (Some t) (Reading object inv calls round) accepted h = round_few decl client t.begun.epoch (read_need_of decl t.begun.epoch object inv) round accepted h.1.round_is
-few_in decl client (Some t) (Appending object inv event calls round) accepted h = round_few decl client t.begun.epoch (append_need_of decl t.begun.epoch object event) round accepted h.1.round_is
+few_in decl client (Some t) (Reading object inv calls round) accepted h =
+    round_few decl client t.begun.epoch (read_need_of decl t.begun.epoch object inv) round accepted h.1.round_is
+few_in decl client (Some t) (Appending object inv event calls round) accepted h =
+    round_few decl client t.begun.epoch (append_need_of decl t.begun.epoch object event) round accepted h.1.round_is
 
-room_in : (decl : Declaration) (client : ℕ) (t : Option Transaction) (doing : Doing) → BegunHolds decl client t doing → HasRoom t doing
+room_in : (decl : Declaration) (client : ℕ) (t : Option Transaction) (doing : Doing) → BegunHolds decl client t doing
+    → HasRoom t doing
 room_in decl client None Idle h = tt
 room_in decl client None (Reading object inv calls round) h = let never : ⊥ = cc in absurd never
 room_in decl client None (Appending object inv event calls round) h = let never : ⊥ = cc in absurd never
@@ -98,7 +120,8 @@ room_in decl client (Some t) Idle h = h.1
 room_in decl client (Some t) (Reading object inv calls round) h = h.1.room
 room_in decl client (Some t) (Appending object inv event calls round) h = h.1.room
 
-pub fits : (decl : Declaration) (front : Front) → IsAccepted decl → FrontHolds decl front → front.count < 2 ^ 32 - 1 → FrontFits front
+pub fits : (decl : Declaration) (front : Front) → IsAccepted decl → FrontHolds decl front → front.count < 2 ^ 32 - 1
+    → FrontFits front
 fits decl front accepted h count = record {
   count = count;
   room = room_in decl front.client front.transaction front.doing h;

@@ -37,7 +37,8 @@ client_kept front (Some (answers.Shut clock log prepared)) = refl
 client_kept front (Some answers.Installed) = refl
 client_kept front (Some (answers.Answered verdict)) = refl
 
-turned_learns : (front : Front) (answer : Option Answer) (transaction : Option Transaction) (doing : Doing) → turned (learns front answer) transaction doing ≡ learns (turned front transaction doing) answer
+turned_learns : (front : Front) (answer : Option Answer) (transaction : Option Transaction) (doing : Doing)
+    → turned (learns front answer) transaction doing ≡ learns (turned front transaction doing) answer
 turned_learns front None transaction doing = refl
 turned_learns front (Some (answers.Granted life clock log)) transaction doing = refl
 turned_learns front (Some (answers.Clash holder inv event)) transaction doing = refl
@@ -51,39 +52,61 @@ turned_learns front (Some (answers.Shut clock log prepared)) transaction doing =
 turned_learns front (Some answers.Installed) transaction doing = refl
 turned_learns front (Some (answers.Answered verdict)) transaction doing = refl
 
-turns_learn : (front : Front) (answer : Option Answer) (transaction : Option Transaction) (doing : Doing) (turn : Turn) → moved (turned (learns front answer) transaction doing) turn ≡ learned answer (moved (turned front transaction doing) turn)
-turns_learn front answer transaction doing turn = ap (λ (f : Front). moved f turn) (turned_learns front answer transaction doing)
+turns_learn : (front : Front) (answer : Option Answer) (transaction : Option Transaction) (doing : Doing) (turn : Turn)
+    → moved (turned (learns front answer) transaction doing) turn ≡ learned answer
+    (moved (turned front transaction doing) turn)
+turns_learn front answer transaction doing turn =
+    ap (λ (f : Front). moved f turn) (turned_learns front answer transaction doing)
 
-append_by_learns : (decl : Declaration) (front : Front) (answer : Option Answer) (t : Transaction) (object inv event : ℕ) (calls : List Call) (round : RoundState) (v : Verdict)
-    → append_by decl (learns front answer) t object inv event calls round v ≡ learned answer (append_by decl front t object inv event calls round v)
+append_by_learns : (decl : Declaration) (front : Front) (answer : Option Answer) (t : Transaction)
+    (object inv event : ℕ) (calls : List Call) (round : RoundState) (v : Verdict)
+    → append_by decl (learns front answer) t object inv event calls round v ≡ learned answer
+    (append_by decl front t object inv event calls round v)
 append_by_learns decl front answer t object inv event calls round verdicts.Waiting = turns_learn front answer _ _ _
 append_by_learns decl front answer t object inv event calls round verdicts.Met = turns_learn front answer _ _ _
-append_by_learns decl front answer t object inv event calls round (verdicts.Closed epoch site) = turns_learn front answer _ _ _
-append_by_learns decl front answer t object inv event calls round (verdicts.Clash tx site) = turns_learn front answer _ _ _
-append_by_learns decl front answer t object inv event calls round (verdicts.Short got need) = turns_learn front answer _ _ _
+append_by_learns decl front answer t object inv event calls round (verdicts.Closed epoch site) =
+    turns_learn front answer _ _ _
+append_by_learns decl front answer t object inv event calls round (verdicts.Clash tx site) =
+    turns_learn front answer _ _ _
+append_by_learns decl front answer t object inv event calls round (verdicts.Short got need) =
+    turns_learn front answer _ _ _
 
-pub append_learns : (decl : Declaration) (front : Front) (answer : Option Answer) (t : Transaction) (object inv event : ℕ) (calls : List Call) (round : RoundState)
-    → appends decl (learns front answer) t object inv event calls round ≡ learned answer (appends decl front t object inv event calls round)
-append_learns decl front answer t object inv event calls round = append_by_learns decl front answer t object inv event calls round (verdict round)
+pub append_learns : (decl : Declaration) (front : Front) (answer : Option Answer) (t : Transaction)
+    (object inv event : ℕ) (calls : List Call) (round : RoundState)
+    → appends decl (learns front answer) t object inv event calls round ≡ learned answer
+    (appends decl front t object inv event calls round)
+append_learns decl front answer t object inv event calls round =
+    append_by_learns decl front answer t object inv event calls round (verdict round)
 
-round_kept : (decl : Declaration) (front : Front) (answer : Option Answer) (t : Transaction) (need : ℕ) → round_for decl (learns front answer) t need ≡ round_for decl front t need
-round_kept decl front answer t need = ap (λ (client : ℕ). start (weights_of decl t.begun.epoch) (first_site decl client) need) (client_kept front answer)
+round_kept : (decl : Declaration) (front : Front) (answer : Option Answer) (t : Transaction) (need : ℕ)
+    → round_for decl (learns front answer) t need ≡ round_for decl front t need
+round_kept decl front answer t need = ap
+    (λ (client : ℕ). start (weights_of decl t.begun.epoch) (first_site decl client) need) (client_kept front answer)
 
-answered_learns : (decl : Declaration) (front : Front) (answer : Option Answer) (t : Transaction) (object inv : ℕ) (event : Option ℕ)
+answered_learns : (decl : Declaration) (front : Front) (answer : Option Answer) (t : Transaction) (object inv : ℕ)
+    (event : Option ℕ)
     → answered decl (learns front answer) t object inv event ≡ learned answer (answered decl front t object inv event)
 answered_learns decl front answer t object inv None = turns_learn front answer _ _ _
 answered_learns decl front answer t object inv (Some event) =
-    ap (λ (round : RoundState). appends decl (learns front answer) t object inv event [] round) (round_kept decl front answer t (append_need_of decl t.begun.epoch object event))
-    ∙ append_learns decl front answer t object inv event [] (round_for decl front t (append_need_of decl t.begun.epoch object event))
+    ap (λ (round : RoundState). appends decl (learns front answer) t object inv event [] round)
+    (round_kept decl front answer t (append_need_of decl t.begun.epoch object event))
+    ∙ append_learns decl front answer t object inv event []
+    (round_for decl front t (append_need_of decl t.begun.epoch object event))
 
-read_by_learns : (decl : Declaration) (front : Front) (answer : Option Answer) (t : Transaction) (object inv : ℕ) (calls : List Call) (round : RoundState) (v : Verdict)
-    → read_by decl (learns front answer) t object inv calls round v ≡ learned answer (read_by decl front t object inv calls round v)
+read_by_learns : (decl : Declaration) (front : Front) (answer : Option Answer) (t : Transaction) (object inv : ℕ)
+    (calls : List Call) (round : RoundState) (v : Verdict)
+    → read_by decl (learns front answer) t object inv calls round v ≡ learned answer
+    (read_by decl front t object inv calls round v)
 read_by_learns decl front answer t object inv calls round verdicts.Waiting = turns_learn front answer _ _ _
-read_by_learns decl front answer t object inv calls round verdicts.Met = answered_learns decl front answer t object inv (answer_of decl t object inv)
+read_by_learns decl front answer t object inv calls round verdicts.Met =
+    answered_learns decl front answer t object inv (answer_of decl t object inv)
 read_by_learns decl front answer t object inv calls round (verdicts.Closed epoch site) = turns_learn front answer _ _ _
 read_by_learns decl front answer t object inv calls round (verdicts.Clash tx site) = turns_learn front answer _ _ _
 read_by_learns decl front answer t object inv calls round (verdicts.Short got need) = turns_learn front answer _ _ _
 
-pub read_learns : (decl : Declaration) (front : Front) (answer : Option Answer) (t : Transaction) (object inv : ℕ) (calls : List Call) (round : RoundState)
-    → reads decl (learns front answer) t object inv calls round ≡ learned answer (reads decl front t object inv calls round)
-read_learns decl front answer t object inv calls round = read_by_learns decl front answer t object inv calls round (verdict round)
+pub read_learns : (decl : Declaration) (front : Front) (answer : Option Answer) (t : Transaction) (object inv : ℕ)
+    (calls : List Call) (round : RoundState)
+    → reads decl (learns front answer) t object inv calls round ≡ learned answer
+    (reads decl front t object inv calls round)
+read_learns decl front answer t object inv calls round =
+    read_by_learns decl front answer t object inv calls round (verdict round)

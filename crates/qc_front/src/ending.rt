@@ -11,7 +11,7 @@ use crate::front::Front;
 use crate::transaction::Transaction;
 use qc_decl::Declaration;
 use qc_list::OutOfMemory;
-use qc_msg::{Begun, Outcome, Reply, Turn, Why};
+use qc_msg::{AbortCause, Begun, Outcome, Reply, Turn};
 use qc_stamp::TxId;
 use std::alloc::Global;
 
@@ -56,7 +56,7 @@ impl Front {
         if !transaction.begun.doomed {
             return Ok(Turn::quiet(alloc));
         }
-        let why = Why::Doomed;
+        let why = AbortCause::Doomed;
         let turn = giving_up(alloc, &transaction.begun, Reply::Aborted { why })?;
         self.rest();
         Ok(turn)

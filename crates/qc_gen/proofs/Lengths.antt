@@ -6,12 +6,12 @@ use Rattle.std.specs.Fmt.{digits}
 use Rattle.qc_gen.proofs.Texts.{texts_join}
 use Rattle.qc_gen.specs.Load.{client_of, lines_from, load_text, next_state, transaction_lines}
 use Rattle.qc_script.specs.Written.{text_of_lines}
-use Rattle.qc_script.specs.declared.line.Line.{Line}
-use Rattle.qc_script.specs.declared.line.Line.TheVariants.{Phase, Command as Asks}
+use Rattle.qc_script.specs.declared.line.ScriptLine.{ScriptLine}
+use Rattle.qc_script.specs.declared.line.ScriptLine.TheVariants.{Phase, Command as Asks}
 use Rattle.qc_script.specs.declared.line.Verb.TheVariants.{Begin, Do, Commit}
 
 -- a transaction's lines, by its client and its bit
-abbrev lines_by : ℕ → Bool → List Line
+abbrev lines_by : ℕ → Bool → List ScriptLine
 lines_by client bit = Phase
     ∷ Asks client Begin
     ∷ Asks client (Do (codes "x") (if bit then codes "W1" else codes "W0"))

@@ -11,8 +11,8 @@ use Rattle.qc_msg.specs.declared.step.Command.TheVariants as commands
 use Rattle.qc_script.specs.Items.{command_in}
 use Rattle.qc_script.specs.Places.{empty_phase, is_in_phase, on_last, with_command}
 use Rattle.qc_script.specs.Written.{with_written}
-use Rattle.qc_script.specs.declared.line.Line.{Line}
-use Rattle.qc_script.specs.declared.line.Line.TheVariants.{Command as Asks}
+use Rattle.qc_script.specs.declared.line.ScriptLine.{ScriptLine}
+use Rattle.qc_script.specs.declared.line.ScriptLine.TheVariants.{Command as Asks}
 use Rattle.qc_script.specs.declared.line.Verb.{Verb}
 use Rattle.qc_script.specs.declared.line.Verb.TheVariants.{Begin, Do, Commit}
 use Rattle.qc_script.specs.declared.script.PhaseLines.{PhaseLines}
@@ -32,7 +32,8 @@ last_changes f (q ∷ []) p = refl
 last_changes f (q ∷ r ∷ ps) p = ap (λ qs. q ∷ qs) (last_changes f (r ∷ ps) p)
 
 -- a line that asks a transaction's client adds its command to the last phase
-asked : (n number : ℕ) (ps : List PhaseLines) (p : PhaseLines) (verb : Verb) (command : Command) (more : List Line)
+asked : (n number : ℕ) (ps : List PhaseLines) (p : PhaseLines) (verb : Verb) (command : Command)
+    (more : List ScriptLine)
     → nat_lt (client_of number) 3 ≡ true → command_in three verb ≡ Some command
     → with_written three n (with_phases (ps ++ p ∷ [])) (Asks (client_of number) verb ∷ more)
     ≡ with_written three (n + 1) (with_phases (ps ++ with_command (command_of number command) p ∷ [])) more
@@ -49,7 +50,7 @@ write_means state = go (state % 2 == 1)
     go false = refl
 
 -- the lines of a transaction add its phase
-transaction_read : (n number state : ℕ) (ps : List PhaseLines) (more : List Line)
+transaction_read : (n number state : ℕ) (ps : List PhaseLines) (more : List ScriptLine)
     → with_written three n (with_phases ps) (transaction_lines number state ++ more)
     ≡ with_written three (n + 1 + 1 + 1 + 1 + 1) (with_phases (ps ++ phase_of number state ∷ [])) more
 transaction_read n number state ps more =

@@ -3,9 +3,9 @@ use Rattle.std.proofs.Common.{◌≡◌, ◌∙◌, ◌<◌, ◌+◌, ◌-◌, �
 use Rattle.std.proofs.lemmas.List.{append_assoc}
 use Rattle.qc_gen.specs.Load.{lines_from, next_state, transaction_lines}
 use Rattle.qc_script.specs.Written.{text_of_line, text_of_lines}
-use Rattle.qc_script.specs.declared.line.Line.{Line}
+use Rattle.qc_script.specs.declared.line.ScriptLine.{ScriptLine}
 
-pub texts_join : (a b : List Line) → text_of_lines (a ++ b) ≡ text_of_lines a ++ text_of_lines b
+pub texts_join : (a b : List ScriptLine) → text_of_lines (a ++ b) ≡ text_of_lines a ++ text_of_lines b
 texts_join [] b = refl
 texts_join (line ∷ a) b =
     ap (λ t. text_of_line line ++ 10 ∷ t) (texts_join a b)

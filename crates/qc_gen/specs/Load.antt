@@ -9,8 +9,8 @@ use Rattle.qc_decl.specs.One.{three}
 use Rattle.qc_msg.specs.declared.step.Command.{Command}
 use Rattle.qc_msg.specs.declared.step.Command.TheVariants as commands
 use Rattle.qc_script.specs.Written.{text_of_lines}
-use Rattle.qc_script.specs.declared.line.Line.{Line}
-use Rattle.qc_script.specs.declared.line.Line.TheVariants.{Phase, Command as Asks}
+use Rattle.qc_script.specs.declared.line.ScriptLine.{ScriptLine}
+use Rattle.qc_script.specs.declared.line.ScriptLine.TheVariants.{Phase, Command as Asks}
 use Rattle.qc_script.specs.declared.line.Verb.TheVariants.{Begin, Do, Commit}
 use Rattle.qc_script.specs.declared.script.CommandLine.{CommandLine}
 use Rattle.qc_script.specs.declared.script.PhaseLines.{PhaseLines}
@@ -38,7 +38,7 @@ abbrev pub write_of : ℕ → List ℕ
 write_of state = if state % 2 == 1 then codes "W1" else codes "W0"
 
 -- the lines of a transaction, by its own number and the generator's
-abbrev pub transaction_lines : ℕ → ℕ → List Line
+abbrev pub transaction_lines : ℕ → ℕ → List ScriptLine
 transaction_lines number state = Phase
     ∷ Asks (client_of number) Begin
     ∷ Asks (client_of number) (Do (codes "x") (write_of state))
@@ -47,7 +47,7 @@ transaction_lines number state = Phase
     ∷ []
 
 -- the lines of so many transactions, the first of which has this number, with the generator's number before them
-abbrev pub lines_from : ℕ → ℕ → ℕ → List Line
+abbrev pub lines_from : ℕ → ℕ → ℕ → List ScriptLine
 lines_from zero number state = []
 lines_from (suc count) number state =
     transaction_lines number (next_state state) ++ lines_from count (suc number) (next_state state)

@@ -17,8 +17,8 @@ use Rattle.qc_msg.specs.declared.message.Message.{Message}
 use Rattle.qc_msg.specs.declared.message.Message.TheVariants as messages
 use Rattle.qc_msg.specs.declared.step.Command.{Command}
 use Rattle.qc_msg.specs.declared.step.Control.{Control}
-use Rattle.qc_msg.specs.declared.step.Given.{Given}
-use Rattle.qc_msg.specs.declared.step.Given.TheVariants as given
+use Rattle.qc_msg.specs.declared.step.Input.{Input}
+use Rattle.qc_msg.specs.declared.step.Input.TheVariants as inputs
 use Rattle.qc_msg.specs.declared.step.Step.{Step}
 use Rattle.qc_msg.specs.declared.step.Step.TheVariants as steps
 use Rattle.qc_msg.specs.Deeds.{WasSentTo, envelope_at, envelope_of, mail}
@@ -218,17 +218,17 @@ place_of e [] member = absurd member
 place_of e (m ∷ ms) (inl same) = (zero, ap (λ (x : Envelope). Some x) (sym same))
 place_of e (m ∷ ms) (inr later) = let found : (n : ℕ) × (slice_get ms n ≡ Some e) = place_of e ms later in (suc found.0, found.1)
 
-found : (ms : List Envelope) (a : ℕ) (e : Envelope) → AreNumbered ms → IsSentTo ms a e → WasSentTo a ms (given.Got e)
+found : (ms : List Envelope) (a : ℕ) (e : Envelope) → AreNumbered ms → IsSentTo ms a e → WasSentTo a ms (inputs.Got e)
 found ms a e numbered sent =
     let at : (n : ℕ) × (slice_get ms n ≡ Some e) = place_of e ms sent.0 in
     (ap (λ (n : ℕ). slice_get ms n) (numbered at.0 e at.1) ∙ at.1, sent.1)
 
-first_found : (decl : Declaration) (a : ℕ) (ms : List Envelope) (i : Inbox) (g : Given) → AreNumbered ms → Waits ms a i → ready_in decl a i ≡ Some g → WasSentTo a ms g
+first_found : (decl : Declaration) (a : ℕ) (ms : List Envelope) (i : Inbox) (g : Input) → AreNumbered ms → Waits ms a i → ready_in decl a i ≡ Some g → WasSentTo a ms g
 first_found decl a ms i g numbered waits is = controls i.controls is
   where
     command : (commands : List Command) → ready.first_command commands ≡ Some g → WasSentTo a ms g
     command [] is = absurd (let never : ⊥ = cc in never)
-    command (c ∷ commands) is = let said : given.Called c ≡ g = cc in subst (λ (x : Given). WasSentTo a ms x) said tt
+    command (c ∷ commands) is = let said : inputs.Called c ≡ g = cc in subst (λ (x : Input). WasSentTo a ms x) said tt
 
     allowed : (t : Bool) → cond t (ready.first_command i.commands) None ≡ Some g → WasSentTo a ms g
     allowed true is = command i.commands is
@@ -236,30 +236,30 @@ first_found decl a ms i g numbered waits is = controls i.controls is
 
     loss : (ns : List ℕ) → ready.first_lost ns (cond (takes_commands decl a && not i.busy) (ready.first_command i.commands) None) ≡ Some g → WasSentTo a ms g
     loss [] is = allowed (takes_commands decl a && not i.busy) is
-    loss (n ∷ ns) is = let said : given.Lost n ≡ g = cc in subst (λ (x : Given). WasSentTo a ms x) said tt
+    loss (n ∷ ns) is = let said : inputs.Lost n ≡ g = cc in subst (λ (x : Input). WasSentTo a ms x) said tt
 
     copy : (es : List Envelope) → Every (IsSentTo ms a) es → ready.first_copy es (ready.first_lost i.lost (cond (takes_commands decl a && not i.busy) (ready.first_command i.commands) None)) ≡ Some g → WasSentTo a ms g
     copy [] every is = loss i.lost is
-    copy (e ∷ es) every is = let said : given.Got e ≡ g = cc in subst (λ (x : Given). WasSentTo a ms x) said (found ms a e numbered every.0)
+    copy (e ∷ es) every is = let said : inputs.Got e ≡ g = cc in subst (λ (x : Input). WasSentTo a ms x) said (found ms a e numbered every.0)
 
     controls : (cs : List Control) → ready.after_controls cs (ready.first_copy i.copies (ready.first_lost i.lost (cond (takes_commands decl a && not i.busy) (ready.first_command i.commands) None))) ≡ Some g → WasSentTo a ms g
     controls [] is = copy i.copies waits.copies is
     controls (c ∷ cs) is = absurd (let never : ⊥ = cc in never)
 
-pub sent_ready : (decl : Declaration) (script : Script) (h : List Entry) (a : ℕ) (g : Given) → AreNumbered (mail h) → ready.ready decl script a h ≡ Some g → WasSentTo a (mail h) g
+pub sent_ready : (decl : Declaration) (script : Script) (h : List Entry) (a : ℕ) (g : Input) → AreNumbered (mail h) → ready.ready decl script a h ≡ Some g → WasSentTo a (mail h) g
 sent_ready decl script h a g numbered ready_ = first_found decl a (mail h) (inbox script a h) g numbered (inbox_waits script a h) ready_
 
-pub ready_found : (decl : Declaration) (script : Script) (h : List Entry) (kept : Inboxes) (a : ℕ) (g : Given) → IsKept script h kept → ready.ready decl script a h ≡ Some g → WasSentTo a (mail h) g
+pub ready_found : (decl : Declaration) (script : Script) (h : List Entry) (kept : Inboxes) (a : ℕ) (g : Input) → IsKept script h kept → ready.ready decl script a h ≡ Some g → WasSentTo a (mail h) g
 ready_found decl script h kept a g is ready_ = first_found decl a (mail h) (inbox script a h) g is.numbered (inbox_waits script a h) ready_
 
 -- all that waits
-pub copies_found : (script : Script) (h : List Entry) (kept : Inboxes) (a : ℕ) → IsKept script h kept → Every (λ (e : Envelope). WasSentTo a (mail h) (given.Got e)) (inbox script a h).copies
+pub copies_found : (script : Script) (h : List Entry) (kept : Inboxes) (a : ℕ) → IsKept script h kept → Every (λ (e : Envelope). WasSentTo a (mail h) (inputs.Got e)) (inbox script a h).copies
 copies_found script h kept a is =
-    every-weaker (IsSentTo (mail h) a) (λ (e : Envelope). WasSentTo a (mail h) (given.Got e)) (λ e sent. found (mail h) a e is.numbered sent) (inbox script a h).copies (inbox_waits script a h).copies
+    every-weaker (IsSentTo (mail h) a) (λ (e : Envelope). WasSentTo a (mail h) (inputs.Got e)) (λ e sent. found (mail h) a e is.numbered sent) (inbox script a h).copies (inbox_waits script a h).copies
 
 -- who sent a message that is ready is an actor
-pub sender_within : (decl : Declaration) (script : Script) (h : List Entry) (kept : Inboxes) (a : ℕ) (e : Envelope) → IsKept script h kept → ready.ready decl script a h ≡ Some (given.Got e)
+pub sender_within : (decl : Declaration) (script : Script) (h : List Entry) (kept : Inboxes) (a : ℕ) (e : Envelope) → IsKept script h kept → ready.ready decl script a h ≡ Some (inputs.Got e)
     → e.from < most_actors
 sender_within decl script h kept a e is ready_ =
-    let at : WasSentTo a (mail h) (given.Got e) = ready_found decl script h kept a (given.Got e) is ready_ in
+    let at : WasSentTo a (mail h) (inputs.Got e) = ready_found decl script h kept a (inputs.Got e) is ready_ in
     (every-at (λ (x : Envelope). (x.from < most_actors) × (x.to < most_actors)) (mail h) e.number e is.ends at.0).0

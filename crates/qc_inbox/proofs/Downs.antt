@@ -1,5 +1,6 @@
 -- Whether an actor is down by its deeds, as a history goes on; and the tie of that to who is up in an inbox.
-use Rattle.std.proofs.Common.{◌≡◌, ℕ, zero, suc, ◌+◌, ◌<◌, ◌==◌, Bool, true, false, not, cond, List, [], ◌∷◌, ◌++◌, length, Option, Some, None, refl, ap, sym, subst, ◌∙◌, append_assoc, arith}
+use Rattle.std.proofs.Common.{◌≡◌, ℕ, zero, suc, ◌+◌, ◌<◌, ◌==◌, Bool, true, false, not, cond, List, [], ◌∷◌, ◌++◌}
+use Rattle.std.proofs.Common.{length, Option, Some, None, refl, ap, sym, subst, ◌∙◌, append_assoc, arith}
 use Rattle.std.specs.Prelude.{set, slice_get}
 use Rattle.std.specs.List.{fold}
 use Rattle.std.proofs.lemmas.Bool.{eq-eqb, eqb-false, eqb-true}
@@ -9,8 +10,8 @@ use Rattle.qc_link.specs.Limits.{most_actors}
 use Rattle.qc_msg.specs.declared.message.Envelope.{Envelope}
 use Rattle.qc_msg.specs.declared.record.Record.{Record}
 use Rattle.qc_msg.specs.declared.reply.Reply.{Reply}
-use Rattle.qc_msg.specs.declared.step.Given.{Given}
-use Rattle.qc_msg.specs.declared.step.Given.TheVariants as given
+use Rattle.qc_msg.specs.declared.step.Input.{Input}
+use Rattle.qc_msg.specs.declared.step.Input.TheVariants as inputs
 use Rattle.qc_msg.specs.declared.step.Step.{Step}
 use Rattle.qc_msg.specs.declared.step.Step.TheVariants as steps
 use Rattle.qc_msg.specs.declared.turn.Appended.{Appended}
@@ -28,7 +29,8 @@ use Rattle.qc_inbox.specs.Downs.{down_at, is_down}
 same_actor : (a : ℕ) → (a == a) ≡ true
 same_actor a = eq-eqb a a refl
 
-pub down_step : (a : ℕ) (h : List Entry) (step : Step) → is_down (deeds a [] (h ++ marked a step ∷ [])) ≡ fold down_at (is_down (deeds a [] h)) (deed_at (mail h) step)
+pub down_step : (a : ℕ) (h : List Entry) (step : Step)
+    → is_down (deeds a [] (h ++ marked a step ∷ [])) ≡ fold down_at (is_down (deeds a [] h)) (deed_at (mail h) step)
 down_step a h step =
     ap is_down (deeds-append a [] h (marked a step ∷ []))
     ∙ fold-append down_at false (deeds a [] h) (deeds a (mail h) (marked a step ∷ []))
@@ -36,14 +38,16 @@ down_step a h step =
     ∙ ap (λ (ds : List Deed). fold down_at (is_down (deeds a [] h)) ds) (append-nil (deed_at (mail h) step))
 
 -- a step that is no deed, whoever makes it
-pub down_silent : (a c : ℕ) (h : List Entry) (step : Step) → deed_at (mail h) step ≡ [] → is_down (deeds a [] (h ++ marked c step ∷ [])) ≡ is_down (deeds a [] h)
+pub down_silent : (a c : ℕ) (h : List Entry) (step : Step) → deed_at (mail h) step ≡ []
+    → is_down (deeds a [] (h ++ marked c step ∷ [])) ≡ is_down (deeds a [] h)
 down_silent a c h step none =
     ap is_down (deeds-append a [] h (marked c step ∷ []))
     ∙ fold-append down_at false (deeds a [] h) (deeds a (mail h) (marked c step ∷ []))
     ∙ ap (λ (ds : List Deed). fold down_at (is_down (deeds a [] h)) (cond (c == a) ds [] ++ [])) none
     ∙ nothing (c == a)
   where
-    nothing : (t : Bool) → fold down_at (is_down (deeds a [] h)) (cond {A = List Deed} t [] [] ++ []) ≡ is_down (deeds a [] h)
+    nothing : (t : Bool) → fold down_at (is_down (deeds a [] h)) (cond {A = List Deed} t [] [] ++ []) ≡ is_down
+        (deeds a [] h)
     nothing true = refl
     nothing false = refl
 
@@ -51,18 +55,20 @@ heard_keeps : (down : Bool) (o : Option Envelope) → fold down_at down (heard o
 heard_keeps down None = refl
 heard_keeps down (Some e) = refl
 
-pub input_keeps : (down : Bool) (ms : List Envelope) (g : Given) → fold down_at down (deed_at ms (step_of g)) ≡ down
-input_keeps down ms (given.Called command) = refl
-input_keeps down ms (given.Got e) = heard_keeps down (slice_get ms e.number)
-input_keeps down ms (given.Lost number) = refl
+pub input_keeps : (down : Bool) (ms : List Envelope) (g : Input) → fold down_at down (deed_at ms (step_of g)) ≡ down
+input_keeps down ms (inputs.Called command) = refl
+input_keeps down ms (inputs.Got e) = heard_keeps down (slice_get ms e.number)
+input_keeps down ms (inputs.Lost number) = refl
 
 -- a post
 
-sends_keep : (down : Bool) (n : ℕ) (ps : List Posting) (more : List Deed) → fold down_at down (sends_of n ps ++ more) ≡ fold down_at down more
+sends_keep : (down : Bool) (n : ℕ) (ps : List Posting) (more : List Deed)
+    → fold down_at down (sends_of n ps ++ more) ≡ fold down_at down more
 sends_keep down n [] more = refl
 sends_keep down n (p ∷ ps) more = sends_keep down (n + 1) ps more
 
-tells_keep : (down : Bool) (reply : Option Reply) (more : List Deed) → fold down_at down (tells_of reply ++ more) ≡ fold down_at down more
+tells_keep : (down : Bool) (reply : Option Reply) (more : List Deed)
+    → fold down_at down (tells_of reply ++ more) ≡ fold down_at down more
 tells_keep down None more = refl
 tells_keep down (Some reply) more = refl
 
@@ -83,20 +89,24 @@ ends_down Done down = down
 ends_down Failed down = true
 ends_down Stopped down = true
 
-post_downs : (end : Appended) (down : Bool) (n : ℕ) (turn : Turn) → fold down_at down (deeds_as end n turn) ≡ ends_down end down
+post_downs : (end : Appended) (down : Bool) (n : ℕ) (turn : Turn)
+    → fold down_at down (deeds_as end n turn) ≡ ends_down end down
 post_downs Done down n turn = done_keeps down n turn
 post_downs Failed down n turn = sends_keep down n turn.failed_sends _ ∙ tells_keep down turn.failed_told _
 post_downs Stopped down n turn = tells_keep down turn.failed_told _
 
-pub down_posted : (end : Appended) (a n : ℕ) (h : List Entry) (turn : Turn) → is_down (deeds a [] (h ++ by a (posted_as end n turn))) ≡ ends_down end (is_down (deeds a [] h))
+pub down_posted : (end : Appended) (a n : ℕ) (h : List Entry) (turn : Turn)
+    → is_down (deeds a [] (h ++ by a (posted_as end n turn))) ≡ ends_down end (is_down (deeds a [] h))
 down_posted end a n h turn =
-    ap is_down (deeds-posted_as end a n h turn) ∙ fold-append down_at false (deeds a [] h) (deeds_as end n turn) ∙ post_downs end (is_down (deeds a [] h)) n turn
+    ap is_down (deeds-posted_as end a n h turn) ∙ fold-append down_at false (deeds a [] h) (deeds_as end n turn)
+    ∙ post_downs end (is_down (deeds a [] h)) n turn
 
 -- a rise
 pub down_risen : (end : Appended) (a n : ℕ) (h : List Entry) (records : List Record) (turn : Turn)
     → is_down (deeds a [] (h ++ by a (steps.Rose records ∷ posted_as end n turn))) ≡ ends_down end false
 down_risen end a n h records turn =
-    ap (λ (k : List Entry). is_down (deeds a [] k)) (sym (append_assoc h (marked a (steps.Rose records) ∷ []) (by a (posted_as end n turn))))
+    ap (λ (k : List Entry). is_down (deeds a [] k))
+    (sym (append_assoc h (marked a (steps.Rose records) ∷ []) (by a (posted_as end n turn))))
     ∙ down_posted end a n (h ++ marked a (steps.Rose records) ∷ []) turn
     ∙ ap (ends_down end) (down_step a h (steps.Rose records))
 
@@ -105,17 +115,21 @@ down_risen end a n h records turn =
 abbrev pub AreTied : List Bool → List Entry → Type 0
 AreTied up h = (a : ℕ) → a < most_actors → is_up up a ≡ not (is_down (deeds a [] h))
 
-pub tied_on : (up now : List Bool) (h : List Entry) (r : ℕ) (xs : List Step) → AreTied up h → ((a : ℕ) → (r == a) ≡ false → is_up now a ≡ is_up up a)
+pub tied_on : (up now : List Bool) (h : List Entry) (r : ℕ) (xs : List Step) → AreTied up h
+    → ((a : ℕ) → (r == a) ≡ false → is_up now a ≡ is_up up a)
     → (r < most_actors → is_up now r ≡ not (is_down (deeds r [] (h ++ by r xs)))) → AreTied now (h ++ by r xs)
 tied_on up now h r xs tied others own a within = at (r == a) refl
   where
     at : (t : Bool) → (r == a) ≡ t → is_up now a ≡ not (is_down (deeds a [] (h ++ by r xs)))
     at true here =
         let is : r ≡ a = eqb-true r a here in
-        subst (λ (k : ℕ). is_up now k ≡ not (is_down (deeds k [] (h ++ by r xs)))) is (own (subst (λ (k : ℕ). k < most_actors) (sym is) within))
-    at false other = others a other ∙ tied a within ∙ ap (λ (ds : List Deed). not (is_down ds)) (sym (deeds-other r a [] h xs other))
+        subst (λ (k : ℕ). is_up now k ≡ not (is_down (deeds k [] (h ++ by r xs)))) is
+        (own (subst (λ (k : ℕ). k < most_actors) (sym is) within))
+    at false other = others a other ∙ tied a within
+        ∙ ap (λ (ds : List Deed). not (is_down ds)) (sym (deeds-other r a [] h xs other))
 
-pub tied_silent : (up now : List Bool) (h : List Entry) (c : ℕ) (step : Step) → AreTied up h → now ≡ up → deed_at (mail h) step ≡ [] → AreTied now (h ++ marked c step ∷ [])
+pub tied_silent : (up now : List Bool) (h : List Entry) (c : ℕ) (step : Step) → AreTied up h → now ≡ up
+    → deed_at (mail h) step ≡ [] → AreTied now (h ++ marked c step ∷ [])
 tied_silent up now h c step tied same none a within =
     ap (λ (v : List Bool). is_up v a) same ∙ tied a within ∙ ap not (sym (down_silent a c h step none))
 

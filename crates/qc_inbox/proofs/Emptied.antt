@@ -1,5 +1,6 @@
 -- Where an actor is down nothing waits for it but commands, whatever others do.
-use Rattle.std.proofs.Common.{◌≡◌, ℕ, ◌+◌, ◌==◌, Bool, true, false, if◌then◌else◌, List, [], ◌∷◌, ◌++◌, Option, Some, None, refl, ap, sym, subst, ◌∙◌}
+use Rattle.std.proofs.Common.{◌≡◌, ℕ, ◌+◌, ◌==◌, Bool, true, false, if◌then◌else◌, List, [], ◌∷◌, ◌++◌, Option, Some}
+use Rattle.std.proofs.Common.{None, refl, ap, sym, subst, ◌∙◌}
 use Rattle.std.specs.Prelude.{drop, set}
 use Rattle.std.specs.List.{fold}
 use Rattle.qc_link.specs.Fate.{fate}
@@ -11,7 +12,9 @@ use Rattle.qc_msg.specs.declared.reply.Reply.{Reply}
 use Rattle.qc_msg.specs.declared.step.Control.{Control}
 use Rattle.qc_msg.specs.declared.turn.Posting.{Posting}
 use Rattle.qc_msg.specs.Steps.{Entry, by, sents, told}
-use Rattle.qc_script.specs.Inbox.{Inbox, acting, actor_fell, answers_by, comes, control_acted, copies_at_once, count_of, emptied, goes, goes_with, if_up, inbox_at, is_up, opened, opened_by, reply_told, request_answered, with_copies}
+use Rattle.qc_script.specs.Inbox.{Inbox, acting, actor_fell, answers_by, comes, control_acted, copies_at_once, count_of}
+use Rattle.qc_script.specs.Inbox.{emptied, goes, goes_with, if_up, inbox_at, is_up, opened, opened_by, reply_told}
+use Rattle.qc_script.specs.Inbox.{request_answered, with_copies}
 use Rattle.qc_script.specs.Requests.{SentRequest, has_request, requests_to, requests_to_others, with_lost}
 use Rattle.qc_script.specs.declared.script.Script.{Script}
 use Rattle.qc_script.proofs.Inboxes.{opened_keeps, sends_does}
@@ -31,7 +34,8 @@ unless true i j is there = absurd (let never : ⊥ = cc in never)
 unless false i j is there = there
 
 answered_emptied : (i : Inbox) (number : ℕ) (f : Fate) → IsEmptied i → IsEmptied (request_answered i number f)
-answered_emptied i number f e = unless (has_request i.unanswered number) _ i (ap (λ (rs : List SentRequest). has_request rs number) e.unanswered) e
+answered_emptied i number f e = unless (has_request i.unanswered number) _ i
+    (ap (λ (rs : List SentRequest). has_request rs number) e.unanswered) e
 
 answers_emptied : (i : Inbox) (m : Message) (f : Fate) → IsEmptied i → IsEmptied (answers_by i m f)
 answers_emptied i (messages.Request tx epoch life want) f e = e
@@ -42,9 +46,11 @@ answers_emptied i (messages.Ask tx) f e = e
 answers_emptied i (messages.Close epoch) f e = e
 answers_emptied i (messages.Install epoch clock log) f e = e
 
-copies_emptied : (up : Bool) (i : Inbox) (e : Envelope) (f : Fate) → up ≡ false → IsEmptied i → IsEmptied (with_copies up i e f)
+copies_emptied : (up : Bool) (i : Inbox) (e : Envelope) (f : Fate) → up ≡ false → IsEmptied i
+    → IsEmptied (with_copies up i e f)
 copies_emptied up i e f down is = record {
-  copies = ap (λ (es : List Envelope). es ++ if_up up (copies_at_once f e)) is.copies ∙ never_copied up (copies_at_once f e) down;
+  copies = ap (λ (es : List Envelope). es ++ if_up up (copies_at_once f e)) is.copies
+      ∙ never_copied up (copies_at_once f e) down;
   unanswered = is.unanswered;
   lost = is.lost;
 }
@@ -53,14 +59,20 @@ module _ (script : Script) (b : ℕ) where
   comes_emptied : (i : Inbox) (e : Envelope) → is_up i.up b ≡ false → IsEmptied i → IsEmptied (comes script.links b i e)
   comes_emptied i e down is =
       emptied_if (e.to == b) _ i
-      (answers_emptied (with_copies (is_up i.up b) i e (fate script.links i.cuts e.from e.to (count_of i.from_each e.from + 1))) e.message (fate script.links i.cuts e.from e.to (count_of i.from_each e.from + 1))
-      (copies_emptied (is_up i.up b) i e (fate script.links i.cuts e.from e.to (count_of i.from_each e.from + 1)) down is)) is
+      (answers_emptied (with_copies (is_up i.up b) i e
+      (fate script.links i.cuts e.from e.to (count_of i.from_each e.from + 1))) e.message
+      (fate script.links i.cuts e.from e.to (count_of i.from_each e.from + 1))
+      (copies_emptied (is_up i.up b) i e (fate script.links i.cuts e.from e.to (count_of i.from_each e.from + 1)) down
+      is)) is
 
   -- a message of another goes by
-  pub sent_emptied : (i : Inbox) (e : Envelope) → (e.from == b) ≡ false → is_up i.up b ≡ false → IsEmptied i → IsEmptied (goes script.links b (comes script.links b i e) e)
+  pub sent_emptied : (i : Inbox) (e : Envelope) → (e.from == b) ≡ false → is_up i.up b ≡ false → IsEmptied i
+      → IsEmptied (goes script.links b (comes script.links b i e) e)
   sent_emptied i e other down is =
-      let f : Fate = fate script.links (comes script.links b i e).cuts e.from e.to (count_of (comes script.links b i e).to_each e.to + 1) in
-      subst (λ (t : Bool). IsEmptied (if t then goes_with (comes script.links b i e) e f else comes script.links b i e)) (sym other) (comes_emptied i e down is)
+      let f : Fate = fate script.links (comes script.links b i e).cuts e.from e.to
+      (count_of (comes script.links b i e).to_each e.to + 1) in
+      subst (λ (t : Bool). IsEmptied (if t then goes_with (comes script.links b i e) e f else comes script.links b i e))
+      (sym other) (comes_emptied i e down is)
 
   -- what a turn sends and tells leaves who is up and which lines are left; and it brings an actor that is down nothing
 
@@ -90,10 +102,15 @@ module _ (script : Script) (b : ℕ) where
 
   pub told_emptied : (r : ℕ) (i : Inbox) (reply : Option Reply) → IsEmptied i → IsEmptied (after i (by r (told reply)))
   told_emptied r i None is = is
-  told_emptied r i (Some reply) is = emptied_if (r == b) (reply_told i) i (record { copies = is.copies; unanswered = is.unanswered; lost = is.lost }) is
+  told_emptied r i (Some reply) is = emptied_if (r == b) (reply_told i) i
+      (record { copies = is.copies; unanswered = is.unanswered; lost = is.lost }) is
 
   pub told_passes : (r : ℕ) (i : Inbox) (reply : Option Reply) → Passes r i (after i (by r (told reply)))
-  told_passes r i reply = record { up = told_up r i reply; controls = told_controls r i reply; emptied = λ other down is. told_emptied r i reply is }
+  told_passes r i reply = record {
+    up = told_up r i reply;
+    controls = told_controls r i reply;
+    emptied = λ other down is. told_emptied r i reply is;
+  }
 
   pub sents_pass : (r n : ℕ) (i : Inbox) (ps : List Posting) → Passes r i (after i (by r (sents n ps)))
   sents_pass r n i [] = record { up = refl; controls = refl; emptied = λ other down is. is }
@@ -104,15 +121,19 @@ module _ (script : Script) (b : ℕ) where
       record {
         up = rest.up ∙ (sends_does script.links b i e).up;
         controls = rest.controls ∙ (sends_does script.links b i e).controls;
-        emptied = λ other down is. rest.emptied other (ap (λ (up : List Bool). is_up up b) (sends_does script.links b i e).up ∙ down) (sent_emptied i e other down is);
+        emptied = λ other down is. rest.emptied other
+            (ap (λ (up : List Bool). is_up up b) (sends_does script.links b i e).up ∙ down)
+            (sent_emptied i e other down is);
       }
 
 -- control lines
 
 pub acted_up : (b : ℕ) (i : Inbox) → (control_acted b i).up ≡ i.up
-acted_up b i = (opened_keeps b (acting i.up (drop 1 i.controls)) (record i { controls = acting i.up (drop 1 i.controls) })).up
+acted_up b i = (opened_keeps b (acting i.up (drop 1 i.controls))
+    (record i { controls = acting i.up (drop 1 i.controls) })).up
 
-opened_by_emptied : (b : ℕ) (lines : List Control) (i : Inbox) → is_up i.up b ≡ false → IsEmptied i → IsEmptied (opened_by b lines i)
+opened_by_emptied : (b : ℕ) (lines : List Control) (i : Inbox) → is_up i.up b ≡ false → IsEmptied i
+    → IsEmptied (opened_by b lines i)
 opened_by_emptied b [] i down is = record {
   copies = ap (λ (es : List Envelope). es ++ i.copies) (never_copied (is_up i.up b) i.opening down) ∙ is.copies;
   unanswered = is.unanswered;
@@ -122,24 +143,36 @@ opened_by_emptied b (line ∷ lines) i down is = is
 
 pub opened_emptied : (b : ℕ) (i : Inbox) → is_up i.up b ≡ false → IsEmptied i → IsEmptied (opened b i)
 opened_emptied b i down is =
-    opened_by_emptied b (acting i.up i.controls) (record i { controls = acting i.up i.controls }) down (record { copies = is.copies; unanswered = is.unanswered; lost = is.lost })
+    opened_by_emptied b (acting i.up i.controls) (record i { controls = acting i.up i.controls }) down
+    (record { copies = is.copies; unanswered = is.unanswered; lost = is.lost })
 
 pub acted_emptied : (b : ℕ) (i : Inbox) → is_up i.up b ≡ false → IsEmptied i → IsEmptied (control_acted b i)
-acted_emptied b i down is = opened_emptied b (record i { controls = drop 1 i.controls }) down (record { copies = is.copies; unanswered = is.unanswered; lost = is.lost })
+acted_emptied b i down is = opened_emptied b (record i { controls = drop 1 i.controls }) down
+    (record { copies = is.copies; unanswered = is.unanswered; lost = is.lost })
 
 -- falls
 
 pub fell_up : (b : ℕ) (i : Inbox) (r : ℕ) → (actor_fell b i r).up ≡ set i.up r false
 fell_up b i r = at (r == b)
   where
-    at : (t : Bool) → (emptied t (record i { up = set i.up r false; unanswered = requests_to_others r i.unanswered; lost = with_lost (requests_to r i.unanswered) i.lost })).up ≡ set i.up r false
+    at : (t : Bool)
+        → (emptied t (record i {
+          up = set i.up r false;
+          unanswered = requests_to_others r i.unanswered;
+          lost = with_lost (requests_to r i.unanswered) i.lost;
+        })).up ≡ set i.up r false
     at true = refl
     at false = refl
 
 pub fell_controls : (b : ℕ) (i : Inbox) (r : ℕ) → (actor_fell b i r).controls ≡ i.controls
 fell_controls b i r = at (r == b)
   where
-    at : (t : Bool) → (emptied t (record i { up = set i.up r false; unanswered = requests_to_others r i.unanswered; lost = with_lost (requests_to r i.unanswered) i.lost })).controls ≡ i.controls
+    at : (t : Bool)
+        → (emptied t (record i {
+          up = set i.up r false;
+          unanswered = requests_to_others r i.unanswered;
+          lost = with_lost (requests_to r i.unanswered) i.lost;
+        })).controls ≡ i.controls
     at true = refl
     at false = refl
 
@@ -147,10 +180,16 @@ fell_controls b i r = at (r == b)
 pub fell_emptied : (b : ℕ) (i : Inbox) (r : ℕ) → ((r == b) ≡ false → IsEmptied i) → IsEmptied (actor_fell b i r)
 fell_emptied b i r is = at (r == b) refl
   where
-    at : (t : Bool) → (r == b) ≡ t → IsEmptied (emptied t (record i { up = set i.up r false; unanswered = requests_to_others r i.unanswered; lost = with_lost (requests_to r i.unanswered) i.lost }))
+    at : (t : Bool) → (r == b) ≡ t → IsEmptied
+        (emptied t (record i {
+          up = set i.up r false;
+          unanswered = requests_to_others r i.unanswered;
+          lost = with_lost (requests_to r i.unanswered) i.lost;
+        }))
     at true here = record { copies = refl; unanswered = refl; lost = refl }
     at false other = record {
       copies = (is other).copies;
       unanswered = ap (λ (rs : List SentRequest). requests_to_others r rs) (is other).unanswered;
-      lost = ap (λ (rs : List SentRequest). with_lost (requests_to r rs) i.lost) (is other).unanswered ∙ (is other).lost;
+      lost = ap (λ (rs : List SentRequest). with_lost (requests_to r rs) i.lost) (is other).unanswered
+          ∙ (is other).lost;
     }

@@ -1,6 +1,7 @@
 -- In each run with falls: while a control line is left no input is open, the first one has something to do, who is down
 -- is so by its deeds too, and nothing waits for it but commands.
-use Rattle.std.proofs.Common.{◌≡◌, ℕ, ◌+◌, ◌-◌, ◌<◌, ◌≤◌, Bool, true, false, List, [], ◌∷◌, ◌++◌, length, Some, None, refl, sym, subst, ◌∙◌, arith}
+use Rattle.std.proofs.Common.{◌≡◌, ℕ, ◌+◌, ◌-◌, ◌<◌, ◌≤◌, Bool, true, false, List, [], ◌∷◌, ◌++◌, length, Some, None}
+use Rattle.std.proofs.Common.{refl, sym, subst, ◌∙◌, arith}
 use Rattle.std.specs.Prelude.{replicate, slice_get, slice_set}
 use Rattle.std.proofs.lemmas.List.{length-replicate}
 use Rattle.std.proofs.lemmas.List.Sums.{fold-append}
@@ -19,7 +20,8 @@ use Rattle.qc_msg.specs.Deeds.{Deed, mail}
 use Rattle.qc_msg.specs.Steps.{Entry, by, marked, posted_as, step_of}
 use Rattle.qc_script.specs.Inbox.{Inbox, empty_inbox, everybody, inbox, inbox_at}
 use Rattle.qc_script.specs.Ready.{controller_step, controls_left, phase_of}
-use Rattle.qc_script.specs.RunsWithFalls.{RunsWithFalls, begins, takes, posts, phase, control, falls, rises, damaged, unopened}
+use Rattle.qc_script.specs.RunsWithFalls.{RunsWithFalls, begins, takes, posts, phase, control, falls, rises, damaged}
+use Rattle.qc_script.specs.RunsWithFalls.{unopened}
 use Rattle.qc_script.specs.declared.script.Script.{Script}
 use Rattle.qc_script.proofs.AllUp.{is_up-everybody}
 use Rattle.qc_inbox.specs.Downs.{TellsWhereDown}
@@ -31,13 +33,17 @@ use Rattle.qc_inbox.proofs.Lined.{actor_within}
 use Rattle.qc_inbox.proofs.Standing.{Stands, begins_phase, fell_by_line, none_left}
 use Rattle.qc_inbox.proofs.Downs.{tied_silent}
 
-module _ (lawful : ℕ → List Deed → Turn → Type 0) (fits : ℕ → List Record → Type 0) (decl : Declaration) (script : Script) (few : actors decl ≤ most_actors) (tells : TellsWhereDown lawful) where
+module _ (lawful : ℕ → List Deed → Turn → Type 0) (fits : ℕ → List Record → Type 0) (decl : Declaration)
+    (script : Script) (few : actors decl ≤ most_actors) (tells : TellsWhereDown lawful) where
   module _ (b : ℕ) (low : b < most_actors) where
-    goes_on : (h k : List Entry) (inputs : List Bool) → Stands b (h ++ k) inputs (after script b (inbox script b h) k) → Stands b (h ++ k) inputs (inbox script b (h ++ k))
-    goes_on h k inputs s = subst (Stands b (h ++ k) inputs) (sym (fold-append (λ (i : Inbox) (e : Entry). inbox_at script b i e.actor e.step) empty_inbox h k)) s
+    goes_on : (h k : List Entry) (inputs : List Bool) → Stands b (h ++ k) inputs (after script b (inbox script b h) k)
+        → Stands b (h ++ k) inputs (inbox script b (h ++ k))
+    goes_on h k inputs s = subst (Stands b (h ++ k) inputs)
+        (sym (fold-append (λ (i : Inbox) (e : Entry). inbox_at script b i e.actor e.step) empty_inbox h k)) s
 
     -- the lines left are those of the inbox
-    lines_are : (h : List Entry) (lines : List Control) → controls_left script h ≡ lines → (inbox script b h).controls ≡ lines
+    lines_are : (h : List Entry) (lines : List Control) → controls_left script h ≡ lines
+        → (inbox script b h).controls ≡ lines
     lines_are h lines left = one_controls script h b 0 low (omega arith) ∙ left
 
     at_first : Stands b [] (replicate (actors decl) false) (inbox script b [])
@@ -49,56 +55,90 @@ module _ (lawful : ℕ → List Deed → Turn → Type 0) (fits : ℕ → List R
       emptied = λ down. record { copies = refl; unanswered = refl; lost = refl };
     }
 
-    control_stands : (older : List Entry) (before : List Bool) (line : Control) (lines : List Control) (step : Step) → Stands b older before (inbox script b older) → controls_left script older ≡ line ∷ lines → controller_step line ≡ Some step
-        → Stands b (older ++ marked (controller decl) step ∷ []) before (inbox script b (older ++ marked (controller decl) step ∷ []))
+    control_stands : (older : List Entry) (before : List Bool) (line : Control) (lines : List Control) (step : Step)
+        → Stands b older before (inbox script b older) → controls_left script older ≡ line ∷ lines
+        → controller_step line ≡ Some step
+        → Stands b (older ++ marked (controller decl) step ∷ []) before
+        (inbox script b (older ++ marked (controller decl) step ∷ []))
     control_stands older before (controls.Phase k) lines step s left is = absurd (let never : ⊥ = cc in never)
-    control_stands older before (controls.Cut x y) lines step s left is = subst (λ (v : Step). Stands b (older ++ marked (controller decl) v ∷ []) before (inbox script b (older ++ marked (controller decl) v ∷ []))) (let same : steps.Cut x y ≡ step = cc in same)
+    control_stands older before (controls.Cut x y) lines step s left is =
+        subst (λ (v : Step). Stands b (older ++ marked (controller decl) v ∷ []) before
+        (inbox script b (older ++ marked (controller decl) v ∷ []))) (let same : steps.Cut x y ≡ step = cc in same)
         (goes_on older (marked (controller decl) (steps.Cut x y) ∷ []) before
-        (act_stands script b low older before s (controller decl) (steps.Cut x y) (record (inbox script b older) { cuts = with_cut (inbox script b older).cuts x y }) (none_open script b low older before s (controls.Cut x y) lines left) refl
-        (λ down. record { copies = (s.emptied down).copies; unanswered = (s.emptied down).unanswered; lost = (s.emptied down).lost }) refl))
-    control_stands older before (controls.Heal x y) lines step s left is = subst (λ (v : Step). Stands b (older ++ marked (controller decl) v ∷ []) before (inbox script b (older ++ marked (controller decl) v ∷ []))) (let same : steps.Heal x y ≡ step = cc in same)
+        (act_stands script b low older before s (controller decl) (steps.Cut x y)
+        (record (inbox script b older) { cuts = with_cut (inbox script b older).cuts x y })
+        (none_open script b low older before s (controls.Cut x y) lines left) refl
+        (λ down. record {
+          copies = (s.emptied down).copies;
+          unanswered = (s.emptied down).unanswered;
+          lost = (s.emptied down).lost;
+        }) refl))
+    control_stands older before (controls.Heal x y) lines step s left is =
+        subst (λ (v : Step). Stands b (older ++ marked (controller decl) v ∷ []) before
+        (inbox script b (older ++ marked (controller decl) v ∷ []))) (let same : steps.Heal x y ≡ step = cc in same)
         (goes_on older (marked (controller decl) (steps.Heal x y) ∷ []) before
-        (act_stands script b low older before s (controller decl) (steps.Heal x y) (record (inbox script b older) { cuts = without_cut (inbox script b older).cuts x y }) (none_open script b low older before s (controls.Heal x y) lines left) refl
-        (λ down. record { copies = (s.emptied down).copies; unanswered = (s.emptied down).unanswered; lost = (s.emptied down).lost }) refl))
-    control_stands older before (controls.Armed actor kind n) lines step s left is = subst (λ (v : Step). Stands b (older ++ marked (controller decl) v ∷ []) before (inbox script b (older ++ marked (controller decl) v ∷ []))) (let same : steps.Armed actor kind n ≡ step = cc in same)
+        (act_stands script b low older before s (controller decl) (steps.Heal x y)
+        (record (inbox script b older) { cuts = without_cut (inbox script b older).cuts x y })
+        (none_open script b low older before s (controls.Heal x y) lines left) refl
+        (λ down. record {
+          copies = (s.emptied down).copies;
+          unanswered = (s.emptied down).unanswered;
+          lost = (s.emptied down).lost;
+        }) refl))
+    control_stands older before (controls.Armed actor kind n) lines step s left is =
+        subst (λ (v : Step). Stands b (older ++ marked (controller decl) v ∷ []) before
+        (inbox script b (older ++ marked (controller decl) v ∷ [])))
+        (let same : steps.Armed actor kind n ≡ step = cc in same)
         (goes_on older (marked (controller decl) (steps.Armed actor kind n) ∷ []) before
-        (act_stands script b low older before s (controller decl) (steps.Armed actor kind n) (inbox script b older) (none_open script b low older before s (controls.Armed actor kind n) lines left) refl s.emptied refl))
+        (act_stands script b low older before s (controller decl) (steps.Armed actor kind n) (inbox script b older)
+        (none_open script b low older before s (controls.Armed actor kind n) lines left) refl s.emptied refl))
     control_stands older before (controls.Crash x) lines step s left is = absurd (let never : ⊥ = cc in never)
     control_stands older before (controls.Restart x) lines step s left is = absurd (let never : ⊥ = cc in never)
 
-    pub run_stands : (h : List Entry) (inputs : List Bool) → RunsWithFalls lawful fits decl script h inputs → Stands b h inputs (inbox script b h)
+    pub run_stands : (h : List Entry) (inputs : List Bool) → RunsWithFalls lawful fits decl script h inputs
+        → Stands b h inputs (inbox script b h)
     run_stands h inputs begins = at_first
     run_stands h inputs (takes a g before older run free rdy) =
         let s : Stands b older before (inbox script b older) = run_stands older before run in
         let within : a < most_actors = actor_within lawful fits decl script few older before run a false free in
         goes_on older (marked a (step_of g) ∷ []) (slice_set before a true)
-        (take_stands script b low older before s a g (slice_set before a true) (one_controls script older b a low within ∙ between_none (inbox script a older).controls _ g rdy))
+        (take_stands script b low older before s a g (slice_set before a true)
+        (one_controls script older b a low within ∙ between_none (inbox script a older).controls _ g rdy))
     run_stands h inputs (posts a turn before older run taken law) =
         let s : Stands b older before (inbox script b older) = run_stands older before run in
         let within : a < most_actors = actor_within lawful fits decl script few older before run a true taken in
         goes_on older (by a (posted_as turn.append (length (mail older)) turn)) (slice_set before a false)
-        (post_stands script b low older before s lawful tells a (length (mail older)) turn (slice_set before a false) within (none_left (inbox script b older).controls before a s.closed taken) law)
+        (post_stands script b low older before s lawful tells a (length (mail older)) turn
+        (slice_set before a false) within (none_left (inbox script b older).controls before a s.closed taken) law)
     run_stands h inputs (phase before older run none left quiet more) =
         let s : Stands b older before (inbox script b older) = run_stands older before run in
         goes_on older (marked (controller decl) (steps.Phase (phase_of older + 1)) ∷ []) before
-        (begins_phase b (older ++ marked (controller decl) (steps.Phase (phase_of older + 1)) ∷ []) before (inbox script b older) (slice_get script.phases ((phase_of older + 1) - 1)) s.long none
-        (tied_silent (inbox script b older).up (inbox script b older).up older (controller decl) (steps.Phase (phase_of older + 1)) s.tied refl refl) s.settled s.emptied)
-    run_stands h inputs (control line lines step before older run left is) = control_stands older before line lines step (run_stands older before run) left is
+        (begins_phase b (older ++ marked (controller decl) (steps.Phase (phase_of older + 1)) ∷ []) before
+        (inbox script b older) (slice_get script.phases ((phase_of older + 1) - 1)) s.long none
+        (tied_silent (inbox script b older).up (inbox script b older).up older (controller decl)
+        (steps.Phase (phase_of older + 1)) s.tied refl refl) s.settled s.emptied)
+    run_stands h inputs (control line lines step before older run left is) =
+        control_stands older before line lines step (run_stands older before run) left is
     run_stands h inputs (falls a lines before older run left) =
         let s : Stands b older before (inbox script b older) = run_stands older before run in
-        goes_on older (marked a (steps.Fell causes.Script None) ∷ []) before (line_falls script b low older before s a causes.Script (none_open script b low older before s (controls.Crash a) lines left))
+        goes_on older (marked a (steps.Fell causes.Script None) ∷ []) before
+        (line_falls script b low older before s a causes.Script
+        (none_open script b low older before s (controls.Crash a) lines left))
     run_stands h inputs (rises a records turn lines before older run left fit has law) =
         let s : Stands b older before (inbox script b older) = run_stands older before run in
         goes_on older (by a (steps.Rose records ∷ posted_as turn.append (length (mail older)) turn)) before
-        (rise_stands script b low older before s a (length (mail older)) records turn turn.append (restarted script b low older before s a lines left) has
+        (rise_stands script b low older before s a (length (mail older)) records turn turn.append
+        (restarted script b low older before s a lines left) has
         (none_open script b low older before s (controls.Restart a) lines left))
     run_stands h inputs (damaged a offset lines before older run left) =
         let s : Stands b older before (inbox script b older) = run_stands older before run in
         goes_on older (marked a (steps.Damaged offset) ∷ []) before
-        (act_stands script b low older before s a (steps.Damaged offset) (inbox script b older) (none_open script b low older before s (controls.Restart a) lines left) refl s.emptied refl)
+        (act_stands script b low older before s a (steps.Damaged offset) (inbox script b older)
+        (none_open script b low older before s (controls.Restart a) lines left) refl s.emptied refl)
     run_stands h inputs (unopened a cause lines before older run left disk) =
         let s : Stands b older before (inbox script b older) = run_stands older before run in
         goes_on older (marked a (steps.Fell cause None) ∷ []) before
         (subst (Stands b (older ++ marked a (steps.Fell cause None) ∷ []) before)
         (sym (fell_by_line b (inbox script b older) a cause disk (restarted script b low older before s a lines left)))
-        (line_falls script b low older before s a cause (none_open script b low older before s (controls.Restart a) lines left)))
+        (line_falls script b low older before s a cause
+        (none_open script b low older before s (controls.Restart a) lines left)))

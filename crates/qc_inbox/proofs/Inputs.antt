@@ -2,7 +2,7 @@
 use Rattle.std.proofs.Common.{◌≡◌, ℕ, zero, suc, ◌<◌, Bool, List, [], ◌∷◌, length, Option, Some, refl, ap, arith}
 use Rattle.std.specs.Prelude.{slice_get, slice_set}
 use Rattle.qc_msg.specs.declared.step.Control.{Control}
-use Rattle.qc_msg.specs.declared.step.Given.{Given}
+use Rattle.qc_msg.specs.declared.step.Input.{Input}
 use Rattle.qc_script.specs.Ready.{after_controls}
 
 pub set_long : (bs : List Bool) (a : ℕ) (v : Bool) → length (slice_set bs a v) ≡ length bs
@@ -15,6 +15,7 @@ place_within [] a v is = absurd (let never : ⊥ = cc in never)
 place_within (b ∷ bs) zero v is = omega arith
 place_within (b ∷ bs) (suc a) v is = let rest : a < length bs = place_within bs a v is in omega arith
 
-pub between_none : (lines : List Control) (other : Option Given) (g : Given) → after_controls lines other ≡ Some g → lines ≡ []
+pub between_none : (lines : List Control) (other : Option Input) (g : Input) → after_controls lines other ≡ Some g
+    → lines ≡ []
 between_none [] other g is = refl
 between_none (line ∷ lines) other g is = absurd (let never : ⊥ = cc in never)

@@ -15,8 +15,8 @@ use Rattle.qc_msg.specs.declared.reply.Reply.{Reply}
 use Rattle.qc_msg.specs.declared.step.Control.{Control}
 use Rattle.qc_msg.specs.declared.step.Control.TheVariants as controls
 use Rattle.qc_msg.specs.declared.step.Fall.TheVariants as causes
-use Rattle.qc_msg.specs.declared.step.Given.{Given}
-use Rattle.qc_msg.specs.declared.step.Given.TheVariants as given
+use Rattle.qc_msg.specs.declared.step.Input.{Input}
+use Rattle.qc_msg.specs.declared.step.Input.TheVariants as given
 use Rattle.qc_msg.specs.declared.step.Step.{Step}
 use Rattle.qc_msg.specs.declared.step.Step.TheVariants as steps
 use Rattle.qc_msg.specs.declared.turn.Appended.{Appended}
@@ -128,7 +128,7 @@ post_actors Done n turn = at turn.write
 post_actors Failed n turn = sents_actors n turn.failed_sends _ (tells_actors turn.failed_told _ (tt, tt))
 post_actors Stopped n turn = tells_actors turn.failed_told _ (tt, tt)
 
-input_actors : (g : Given) → IsActors (step_of g)
+input_actors : (g : Input) → IsActors (step_of g)
 input_actors (given.Called command) = tt
 input_actors (given.Got envelope) = tt
 input_actors (given.Lost number) = tt

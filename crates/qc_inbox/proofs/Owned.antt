@@ -16,7 +16,7 @@ use Rattle.qc_msg.specs.declared.message.Message.TheVariants as messages
 use Rattle.qc_msg.specs.declared.step.Command.{Command}
 use Rattle.qc_msg.specs.declared.step.Control.{Control}
 use Rattle.qc_msg.specs.declared.step.Fall.{Fall}
-use Rattle.qc_msg.specs.declared.step.Given.TheVariants as given
+use Rattle.qc_msg.specs.declared.step.Input.TheVariants as inputs
 use Rattle.qc_msg.specs.declared.step.Step.{Step}
 use Rattle.qc_msg.specs.declared.step.Step.TheVariants as steps
 use Rattle.qc_msg.specs.Deeds.{envelope_at, envelope_of, mail}
@@ -203,30 +203,30 @@ inbox_owns script a h = owns_all script a h [] empty_inbox (record { unanswered 
 
 -- what is ready
 
-first_lost_owned : (decl : Declaration) (a n : ℕ) (P : ℕ → Type 0) (i : Inbox) → Every P i.lost → ready_in decl a i ≡ Some (given.Lost n) → P n
+first_lost_owned : (decl : Declaration) (a n : ℕ) (P : ℕ → Type 0) (i : Inbox) → Every P i.lost → ready_in decl a i ≡ Some (inputs.Lost n) → P n
 first_lost_owned decl a n P i all is = controls i.controls is
   where
-    command : (commands : List Command) → ready.first_command commands ≡ Some (given.Lost n) → P n
+    command : (commands : List Command) → ready.first_command commands ≡ Some (inputs.Lost n) → P n
     command [] is = absurd (let never : ⊥ = cc in never)
     command (c ∷ commands) is = absurd (let never : ⊥ = cc in never)
 
-    allowed : (t : Bool) → cond t (ready.first_command i.commands) None ≡ Some (given.Lost n) → P n
+    allowed : (t : Bool) → cond t (ready.first_command i.commands) None ≡ Some (inputs.Lost n) → P n
     allowed true is = command i.commands is
     allowed false is = absurd (let never : ⊥ = cc in never)
 
-    loss : (ns : List ℕ) → Every P ns → ready.first_lost ns (cond (takes_commands decl a && not i.busy) (ready.first_command i.commands) None) ≡ Some (given.Lost n) → P n
+    loss : (ns : List ℕ) → Every P ns → ready.first_lost ns (cond (takes_commands decl a && not i.busy) (ready.first_command i.commands) None) ≡ Some (inputs.Lost n) → P n
     loss [] owned is = allowed (takes_commands decl a && not i.busy) is
     loss (m ∷ ns) owned is = let same : m ≡ n = cc in subst P same owned.0
 
-    copy : (es : List Envelope) → ready.first_copy es (ready.first_lost i.lost (cond (takes_commands decl a && not i.busy) (ready.first_command i.commands) None)) ≡ Some (given.Lost n) → P n
+    copy : (es : List Envelope) → ready.first_copy es (ready.first_lost i.lost (cond (takes_commands decl a && not i.busy) (ready.first_command i.commands) None)) ≡ Some (inputs.Lost n) → P n
     copy [] is = loss i.lost all is
     copy (e ∷ es) is = absurd (let never : ⊥ = cc in never)
 
-    controls : (cs : List Control) → ready.after_controls cs (ready.first_copy i.copies (ready.first_lost i.lost (cond (takes_commands decl a && not i.busy) (ready.first_command i.commands) None))) ≡ Some (given.Lost n) → P n
+    controls : (cs : List Control) → ready.after_controls cs (ready.first_copy i.copies (ready.first_lost i.lost (cond (takes_commands decl a && not i.busy) (ready.first_command i.commands) None))) ≡ Some (inputs.Lost n) → P n
     controls [] is = copy i.copies is
     controls (c ∷ cs) is = absurd (let never : ⊥ = cc in never)
 
-pub lost_is_own : (decl : Declaration) (script : Script) (h : List Entry) (a n : ℕ) → ready.ready decl script a h ≡ Some (given.Lost n) → IsOwnRequest (mail h) a n
+pub lost_is_own : (decl : Declaration) (script : Script) (h : List Entry) (a n : ℕ) → ready.ready decl script a h ≡ Some (inputs.Lost n) → IsOwnRequest (mail h) a n
 lost_is_own decl script h a n is = first_lost_owned decl a n (IsOwnRequest (mail h) a) (inbox script a h) (inbox_owns script a h).lost is
 
 pub unanswered_are_own : (script : Script) (h : List Entry) (a : ℕ) → Every (λ (r : SentRequest). IsOwnRequest (mail h) a r.number) (inbox script a h).unanswered

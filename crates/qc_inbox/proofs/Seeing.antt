@@ -14,10 +14,12 @@ use Rattle.qc_inbox.specs.Picks.{calls_of}
 use Rattle.qc_inbox.proofs.Taking.{ready_shown}
 use Rattle.qc_link.specs.Limits.{most_actors}
 
-pub ready_kept : (decl : Declaration) (script : Script) (h : List Entry) (kept : Inboxes) (a : ℕ) → IsKept script h kept → a < most_actors
+pub ready_kept : (decl : Declaration) (script : Script) (h : List Entry) (kept : Inboxes) (a : ℕ) → IsKept script h kept
+    → a < most_actors
     → option_map input_of (ready decl script a h) ≡ input_in decl a kept
 ready_kept decl script h kept a is within =
     let shows : Shows kept a (calls_of a h) (inbox script a h) = is.inboxes a within in
     ready_shown decl a (calls_of a h) (inbox script a h)
-    ∙ (ap (λ (cs : List Control). after_controls cs (next_in (takes_commands decl a) (tray_of (calls_of a h) (inbox script a h)))) shows.controls
+    ∙ (ap (λ (cs : List Control). after_controls cs
+    (next_in (takes_commands decl a) (tray_of (calls_of a h) (inbox script a h)))) shows.controls
     ∙ ap (λ (t : Tray). after_controls kept.controls (next_in (takes_commands decl a) t)) (sym shows.tray))

@@ -2,8 +2,8 @@
 use Rattle.std.specs.Prelude.{◌≡◌, ℕ, Bool, true, false, List, [], None, fold}
 use Rattle.qc_msg.specs.Deeds.{Deed, Falls, Rises, Sends, Takes, Tells, Writes}
 use Rattle.qc_msg.specs.Steps.{MayEnd}
-use Rattle.qc_msg.specs.declared.step.Given.{Given}
-use Rattle.qc_msg.specs.declared.step.Given.TheVariants as given
+use Rattle.qc_msg.specs.declared.step.Input.{Input}
+use Rattle.qc_msg.specs.declared.step.Input.TheVariants as inputs
 use Rattle.qc_msg.specs.declared.turn.Turn.{Turn}
 use Rattle.qc_script.specs.Inbox.{Inbox}
 
@@ -26,10 +26,10 @@ pub record TellsWhereDown (lawful : ℕ → List Deed → Turn → Type 0) : Typ
       (a : ℕ) (ds : List Deed) (turn : Turn) → lawful a ds turn → is_down ds ≡ true → turn.write ≡ None
   pub sends_none : (a : ℕ) (ds : List Deed) (turn : Turn) → lawful a ds turn → is_down ds ≡ true → turn.sends ≡ []
 
-abbrev pub IsCommand : Given → Type 0
-IsCommand (given.Called command) = Unit {0}
-IsCommand (given.Got envelope) = ⊥
-IsCommand (given.Lost number) = ⊥
+abbrev pub IsCommand : Input → Type 0
+IsCommand (inputs.Called command) = Unit {0}
+IsCommand (inputs.Got envelope) = ⊥
+IsCommand (inputs.Lost number) = ⊥
 
 -- nothing waits for the actor of an inbox but commands, and late copies that aren't ready
 pub record IsEmptied (i : Inbox) : Type 0 where

@@ -4,8 +4,8 @@ use Rattle.std.specs.Prelude.{None}
 use Rattle.std.specs.Prelude.{fold, get_or, option_map}
 use Rattle.qc_decl.specs.Actors.{actors}
 use Rattle.qc_decl.specs.declared.declaration.Declaration.{Declaration}
-use Rattle.qc_msg.specs.declared.step.Given.{Given}
-use Rattle.qc_msg.specs.declared.step.Given.TheVariants as given
+use Rattle.qc_msg.specs.declared.step.Input.{Input}
+use Rattle.qc_msg.specs.declared.step.Input.TheVariants as inputs
 use Rattle.qc_msg.specs.declared.step.Step.{Step}
 use Rattle.qc_msg.specs.declared.step.Step.TheVariants as steps
 use Rattle.qc_msg.specs.Steps.{Entry}
@@ -38,10 +38,10 @@ calls_of a h = fold (λ calls e. calls_at a calls e.actor e.step) 0 h
 -- how soon an actor comes, by what is ready for it: a copy by its number, a lost request, a command by how many were
 -- called
 
-abbrev pub rank_of : ℕ → Given → Rank
-rank_of calls (given.Called command) = Command calls
-rank_of calls (given.Got envelope) = Copy envelope.number
-rank_of calls (given.Lost number) = Lost
+abbrev pub rank_of : ℕ → Input → Rank
+rank_of calls (inputs.Called command) = Command calls
+rank_of calls (inputs.Got envelope) = Copy envelope.number
+rank_of calls (inputs.Lost number) = Lost
 
 -- copies come in the order of their numbers, then lost requests, then commands, the fewest first
 

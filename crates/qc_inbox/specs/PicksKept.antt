@@ -7,12 +7,12 @@ use Rattle.qc_inbox.specs.Inputs.{input_in}
 use Rattle.qc_inbox.specs.Picks.{first_of, is_held, unless_held}
 use Rattle.qc_inbox.specs.Rooms.{tray_at}
 use Rattle.qc_inbox.specs.declared.input.Candidate.{Candidate}
-use Rattle.qc_inbox.specs.declared.input.Input.{Input}
-use Rattle.qc_inbox.specs.declared.input.Input.TheVariants as inputs
+use Rattle.qc_inbox.specs.declared.input.ReadyInput.{ReadyInput}
+use Rattle.qc_inbox.specs.declared.input.ReadyInput.TheVariants as inputs
 use Rattle.qc_inbox.specs.declared.input.Rank.{Rank}
 use Rattle.qc_inbox.specs.declared.input.Rank.TheVariants.{Copy, Lost, Command}
 
-abbrev pub input_rank : ℕ → Input → Rank
+abbrev pub input_rank : ℕ → ReadyInput → Rank
 input_rank calls (inputs.Copy number) = Copy number
 input_rank calls (inputs.Lost number) = Lost
 input_rank calls (inputs.Command command) = Command calls

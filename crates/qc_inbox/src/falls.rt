@@ -13,8 +13,8 @@ ghost use Rattle.qc_msg.specs.Deeds.{WasSentTo, deeds, mail};
 ghost use Rattle.qc_msg.specs.Steps.{Entry};
 ghost use Rattle.qc_msg.specs.declared.step.Control.{Control};
 ghost use Rattle.qc_msg.specs.declared.step.Control.TheVariants.{Crash, Restart};
-ghost use Rattle.qc_msg.specs.declared.step.Given.{Given};
-ghost use Rattle.qc_msg.specs.declared.step.Given.TheVariants.{Lost};
+ghost use Rattle.qc_msg.specs.declared.step.Input.{Input};
+ghost use Rattle.qc_msg.specs.declared.step.Input.TheVariants.{Lost};
 ghost use Rattle.qc_script.specs.Inbox.{inbox, is_up};
 ghost use Rattle.qc_script.specs.Ready.{controls_left, ready};
 ghost use Rattle.qc_script.specs.Requests.{SentRequest};
@@ -78,7 +78,7 @@ pub fn nothing_waits_for_who_is_down<C: ConductWithFalls>()
         → actors decl ≤ most_actors → TellsWhereDown C.lawful
         → RunsWithFalls C.lawful C.fits decl script h open_inputs
         → (a : ℕ) → a < most_actors → is_down (deeds a [] h) ≡ true
-        → (given : Given) → ready decl script a h ≡ Some given → IsCommand given }
+        → (given : Input) → ready decl script a h ≡ Some given → IsCommand given }
 {}
 
 /// What is ready for an actor and is a message was sent to it, and is found
@@ -87,7 +87,7 @@ pub fn nothing_waits_for_who_is_down<C: ConductWithFalls>()
 pub fn ready_messages_were_sent_through_falls<C: ConductWithFalls>()
     ensures { (decl : Declaration) (script : Script) (h : List Entry) (open_inputs : List Bool)
         → RunsWithFalls C.lawful C.fits decl script h open_inputs
-        → (a : ℕ) (given : Given) → ready decl script a h ≡ Some given → WasSentTo a (mail h) given }
+        → (a : ℕ) (given : Input) → ready decl script a h ≡ Some given → WasSentTo a (mail h) given }
 {}
 
 /// What an actor may take as lost, and what it waits for, are requests that it

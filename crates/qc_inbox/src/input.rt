@@ -4,7 +4,7 @@ use qc_msg::Command;
 
 /// What is ready for an actor, a message named by its number.
 #[derive(Clone, Copy, Debug, PartialEq, Eq)]
-pub enum Input {
+pub enum ReadyInput {
     /// A copy of the message of this number.
     Copy(u32),
     /// That its request of this number is lost.

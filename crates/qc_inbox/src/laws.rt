@@ -12,8 +12,8 @@ ghost use Rattle.qc_msg.specs.declared.message.Envelope.{Envelope};
 ghost use Rattle.qc_msg.specs.declared.message.Message.{Message};
 ghost use Rattle.qc_msg.specs.declared.reply.Reply.{Reply};
 ghost use Rattle.qc_msg.specs.declared.step.Control.{Control};
-ghost use Rattle.qc_msg.specs.declared.step.Given.{Given};
-ghost use Rattle.qc_msg.specs.declared.step.Given.TheVariants.{Got};
+ghost use Rattle.qc_msg.specs.declared.step.Input.{Input};
+ghost use Rattle.qc_msg.specs.declared.step.Input.TheVariants.{Got};
 ghost use Rattle.qc_msg.specs.declared.step.Step.{Step};
 ghost use Rattle.qc_msg.specs.declared.step.Step.TheVariants.{Phase, Sent, Told};
 ghost use Rattle.qc_msg.specs.declared.turn.Posting.{Posting};
@@ -45,7 +45,7 @@ pub fn trays_show_what_is_ready()
 
 /// An actor's input keeps the trays.
 pub fn inputs_keep_trays()
-    ensures { (decl : Declaration) (script : Script) (h : List Entry) (kept : Inboxes) (a : ℕ) (given : Given)
+    ensures { (decl : Declaration) (script : Script) (h : List Entry) (kept : Inboxes) (a : ℕ) (given : Input)
         → IsKept script h kept → a < most_actors → ready decl script a h ≡ Some given
         → IsKept script (h ++ marked a (step_of given) ∷ []) (after_take kept a) }
 {}
@@ -109,7 +109,7 @@ pub fn who_comes_next_is_first()
 /// What is ready for an actor and is a message was sent to it, and is found
 /// under its number.
 pub fn ready_messages_were_sent()
-    ensures { (decl : Declaration) (script : Script) (h : List Entry) (kept : Inboxes) (a : ℕ) (given : Given)
+    ensures { (decl : Declaration) (script : Script) (h : List Entry) (kept : Inboxes) (a : ℕ) (given : Input)
         → IsKept script h kept → ready decl script a h ≡ Some given → WasSentTo a (mail h) given }
 {}
 
@@ -147,7 +147,7 @@ pub fn steps_leave_other_inboxes()
     ensures sends { (script : Script) (h : List Entry) (a from n to : ℕ) (message : Message)
         → (from == a) ≡ false → (to == a) ≡ false
         → inbox script a (h ++ marked from (Sent n to message) ∷ []) ≡ inbox script a h }
-    ensures inputs { (script : Script) (h : List Entry) (a b : ℕ) (given : Given) → (b == a) ≡ false
+    ensures inputs { (script : Script) (h : List Entry) (a b : ℕ) (given : Input) → (b == a) ≡ false
         → inbox script a (h ++ marked b (step_of given) ∷ []) ≡ inbox script a h }
     ensures replies { (script : Script) (h : List Entry) (a b : ℕ) (reply : Reply) → (b == a) ≡ false
         → inbox script a (h ++ marked b (Told reply) ∷ []) ≡ inbox script a h }

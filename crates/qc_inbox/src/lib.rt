@@ -44,7 +44,7 @@ pub use falls::{
     no_input_is_open_while_a_line_is_left, nothing_is_ready_while_a_line_is_left,
     nothing_waits_for_who_is_down, ready_messages_were_sent_through_falls,
 };
-pub use input::{Candidate, Input, Rank};
+pub use input::{Candidate, Rank, ReadyInput};
 pub use laws::{
     controls_keep_trays, inboxes_agree, inputs_keep_trays, new_trays_are_kept, phases_keep_trays,
     picks_are_made_by_trays, ready_messages_have_senders, ready_messages_were_sent,

@@ -27,10 +27,12 @@ Synced a b = Tells a b (λ old new. new.now ≡ settled (as_read old.now))
 
 -- and what a write that lasts tells
 abbrev pub Lasts : Option Told → Option Told → ℕ → List ℕ → Type 0
-Lasts a b at bytes = Tells a b (λ old new. new.now ≡ settled (as_read (wrote old.now (record { at = at; bytes = bytes }))))
+Lasts a b at bytes = Tells a b (λ old new. new.now ≡ settled
+    (as_read (wrote old.now (record { at = at; bytes = bytes }))))
 
 -- a write and a sync
-pub written_through : (at : ℕ) (bytes : List ℕ) (a b c : Option Told) → Writes a b at bytes → Wrote a b at bytes → Syncs b c → Writes a c at bytes
+pub written_through : (at : ℕ) (bytes : List ℕ) (a b c : Option Told) → Writes a b at bytes → Wrote a b at bytes
+    → Syncs b c → Writes a c at bytes
 written_through at bytes (Some o) (Some m) (Some n) writes wrote_it syncs =
     let P = IsImage (wrote o.now (record { at = at; bytes = bytes })) in
     since_then P o m n writes (subst (λ (s : Stored). Since (IsImage s) m n) wrote_it syncs)
@@ -40,8 +42,10 @@ written_through at bytes None (Some m) c writes wrote_it syncs = absurd writes
 written_through at bytes (Some o) (Some m) None writes wrote_it syncs = absurd syncs
 written_through at bytes None None (Some n) writes wrote_it syncs = absurd syncs
 
-pub lasts_through : (at : ℕ) (bytes : List ℕ) (a b c : Option Told) → Wrote a b at bytes → Synced b c → Lasts a c at bytes
-lasts_through at bytes (Some o) (Some m) (Some n) wrote_it synced = synced ∙ ap (λ (s : Stored). settled (as_read s)) wrote_it
+pub lasts_through : (at : ℕ) (bytes : List ℕ) (a b c : Option Told) → Wrote a b at bytes → Synced b c
+    → Lasts a c at bytes
+lasts_through at bytes (Some o) (Some m) (Some n) wrote_it synced = synced
+    ∙ ap (λ (s : Stored). settled (as_read s)) wrote_it
 lasts_through at bytes None None None wrote_it synced = tt
 lasts_through at bytes (Some o) None c wrote_it synced = absurd wrote_it
 lasts_through at bytes None (Some m) c wrote_it synced = absurd wrote_it
@@ -49,7 +53,8 @@ lasts_through at bytes (Some o) (Some m) None wrote_it synced = absurd synced
 lasts_through at bytes None None (Some n) wrote_it synced = absurd synced
 
 -- behind the closed gate
-pub stays_closed : (end : ℕ) (frame : List ℕ) (a b : Option Told) → Writes a b (end + 1) frame → (bodies : List (List ℕ)) → Rests a end bodies → Tells a b (λ old new. Since (Holds bodies) old new)
+pub stays_closed : (end : ℕ) (frame : List ℕ) (a b : Option Told) → Writes a b (end + 1) frame
+    → (bodies : List (List ℕ)) → Rests a end bodies → Tells a b (λ old new. Since (Holds bodies) old new)
 stays_closed end frame (Some o) (Some n) writes bodies rests =
     let leaves : Leaves (Holds bodies) (wrote o.now (record { at = end + 1; bytes = frame })) =
     subst (λ (s : Stored). Leaves (Holds bodies) (wrote s (record { at = end + 1; bytes = frame }))) (sym rests.lasting)
@@ -60,9 +65,11 @@ stays_closed end frame (Some o) None writes bodies rests = absurd writes
 stays_closed end frame None (Some n) writes bodies rests = absurd writes
 
 behind_it : (end : ℕ) (frame : List ℕ) (a b : Option Told) → Lasts a b (end + 1) frame
-    → (bodies : List (List ℕ)) (body : List ℕ) → frame ≡ counted body ++ 0 ∷ [] → Rests a end bodies → IfSome b (IsBehind end bodies body)
+    → (bodies : List (List ℕ)) (body : List ℕ) → frame ≡ counted body ++ 0 ∷ [] → Rests a end bodies
+    → IfSome b (IsBehind end bodies body)
 behind_it end frame (Some o) (Some n) lasts bodies body is rests =
-    let bytes = written_behind rests.front 0 rests.rest (counted body ++ 0 ∷ []) (end + 1) (omega (arith, rests.end_is)) in
+    let bytes = written_behind rests.front 0 rests.rest (counted body ++ 0 ∷ []) (end + 1)
+    (omega (arith, rests.end_is)) in
     record {
       front = rests.front;
       rest = bytes.0;
@@ -77,12 +84,16 @@ behind_it end frame None None lasts bodies body is rests = tt
 behind_it end frame (Some o) None lasts bodies body is rests = absurd lasts
 behind_it end frame None (Some n) lasts bodies body is rests = absurd lasts
 
-pub stands_behind : (end : ℕ) (frame : List ℕ) (r : Result (Unit {0}) DiskFault) (a b : Option Told) → OnOk r (Lasts a b (end + 1) frame)
-    → OnOk r ((bodies : List (List ℕ)) (body : List ℕ) → frame ≡ counted body ++ 0 ∷ [] → Rests a end bodies → IfSome b (IsBehind end bodies body))
+pub stands_behind : (end : ℕ) (frame : List ℕ) (r : Result (Unit {0}) DiskFault) (a b : Option Told)
+    → OnOk r (Lasts a b (end + 1) frame)
+    → OnOk r ((bodies : List (List ℕ)) (body : List ℕ) → frame ≡ counted body ++ 0 ∷ [] → Rests a end bodies
+    → IfSome b (IsBehind end bodies body))
 stands_behind end frame r a b lasts = on_ok_weaker r (behind_it end frame a b) lasts
 
 -- the gate
-pub stays_whole : (end : ℕ) (a b : Option Told) → Writes a b end (1 ∷ []) → (bodies : List (List ℕ)) (body : List ℕ) → IsBody body → IfSome a (IsBehind end bodies body) → Tells a b (λ old new. Since (HoldsWithOrWithout bodies body) old new)
+pub stays_whole : (end : ℕ) (a b : Option Told) → Writes a b end (1 ∷ []) → (bodies : List (List ℕ)) (body : List ℕ)
+    → IsBody body → IfSome a (IsBehind end bodies body)
+    → Tells a b (λ old new. Since (HoldsWithOrWithout bodies body) old new)
 stays_whole end (Some o) (Some n) writes bodies body is_body at =
     let leaves : Leaves (HoldsWithOrWithout bodies body) (wrote o.now (gate end)) =
     subst (λ (s : Stored). Leaves (HoldsWithOrWithout bodies body) (wrote s (gate end))) (sym at.lasting)
@@ -93,7 +104,8 @@ stays_whole end (Some o) None writes bodies body is_body at = absurd writes
 stays_whole end None (Some n) writes bodies body is_body at = absurd writes
 
 opened : (end : ℕ) (a b : Option Told) → Lasts a b end (1 ∷ [])
-    → (bodies : List (List ℕ)) (body : List ℕ) → IsBody body → IfSome a (IsBehind end bodies body) → Rests b (end + length body + 5) (bodies ++ body ∷ [])
+    → (bodies : List (List ℕ)) (body : List ℕ) → IsBody body → IfSome a (IsBehind end bodies body)
+    → Rests b (end + length body + 5) (bodies ++ body ∷ [])
 opened end (Some o) (Some n) lasts bodies body is_body at = record {
   front = at.front ++ 1 ∷ counted body;
   rest = at.rest;
@@ -108,16 +120,22 @@ opened end (Some o) None lasts bodies body is_body at = absurd lasts
 opened end None (Some n) lasts bodies body is_body at = absurd lasts
 
 pub stands : (end : ℕ) (r : Result (Unit {0}) DiskFault) (a b : Option Told) → OnOk r (Lasts a b end (1 ∷ []))
-    → OnOk r ((bodies : List (List ℕ)) (body : List ℕ) → IsBody body → IfSome a (IsBehind end bodies body) → Rests b (end + length body + 5) (bodies ++ body ∷ []))
+    → OnOk r ((bodies : List (List ℕ)) (body : List ℕ) → IsBody body → IfSome a (IsBehind end bodies body)
+    → Rests b (end + length body + 5) (bodies ++ body ∷ []))
 stands end r a b lasts = on_ok_weaker r (opened end a b) lasts
 
 -- one after the other
-pub without : (bodies : List (List ℕ)) (body : List ℕ) (a b : Option Told) → Tells a b (λ old new. Since (Holds bodies) old new) → Tells a b (λ old new. Since (HoldsWithOrWithout bodies body) old new)
+pub without : (bodies : List (List ℕ)) (body : List ℕ) (a b : Option Told)
+    → Tells a b (λ old new. Since (Holds bodies) old new)
+    → Tells a b (λ old new. Since (HoldsWithOrWithout bodies body) old new)
 without bodies body a b first =
-    tells_weaker a b (λ old new. Since (Holds bodies) old new) (λ old new. Since (HoldsWithOrWithout bodies body) old new)
-    (λ old new since. since_weaker (Holds bodies) (HoldsWithOrWithout bodies body) old new (λ c holds. inl holds) since) first
+    tells_weaker a b (λ old new. Since (Holds bodies) old new)
+    (λ old new. Since (HoldsWithOrWithout bodies body) old new)
+    (λ old new since. since_weaker (Holds bodies) (HoldsWithOrWithout bodies body) old new (λ c holds. inl holds) since)
+    first
 
-pub both : (P : List ℕ → Type 0) (a b c : Option Told) → Tells a b (λ old new. Since P old new) → Tells b c (λ old new. Since P old new) → Tells a c (λ old new. Since P old new)
+pub both : (P : List ℕ → Type 0) (a b c : Option Told) → Tells a b (λ old new. Since P old new)
+    → Tells b c (λ old new. Since P old new) → Tells a c (λ old new. Since P old new)
 both P (Some o) (Some m) (Some n) first second = since_then P o m n first second
 both P None None None first second = tt
 both P (Some o) None c first second = absurd first

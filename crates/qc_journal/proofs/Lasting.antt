@@ -8,8 +8,10 @@ use Rattle.qc_journal.proofs.Lists.{same_front}
 pub rest_is_journal : (end : ℕ) (bodies : List (List ℕ)) (t : Told) → IsAtRest end bodies t
     → Leaves (IsJournal bodies) t.now
 rest_is_journal end bodies t rest image is =
-    let is_image : IsImage (settled (rest.front ++ 0 ∷ rest.rest)) image = subst (λ (s : Stored). IsImage s image) rest.lasting is in
-    let found = same_front rest.front 0 rest.rest image (omega (arith, is_image.no_shorter, length-append rest.front (0 ∷ rest.rest)))
+    let is_image : IsImage (settled (rest.front ++ 0 ∷ rest.rest)) image =
+    subst (λ (s : Stored). IsImage s image) rest.lasting is in
+    let found = same_front rest.front 0 rest.rest image
+    (omega (arith, is_image.no_shorter, length-append rest.front (0 ∷ rest.rest)))
     (λ i le. is_image.same i (omega (arith, le, length-append rest.front (0 ∷ rest.rest))) tt) in
     record { front = rest.front; rest = found.0; records = rest.records; closed = found.1 }
 

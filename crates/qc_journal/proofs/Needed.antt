@@ -1,5 +1,6 @@
 -- What an append with fewer calls could leave.
-use Rattle.std.proofs.Common.{◌≡◌, ◌⊎◌, inl, inr, ℕ, ◌+◌, ◌<◌, ◌≤◌, List, [], ◌∷◌, ◌++◌, length, refl, ap, arith, length-append}
+use Rattle.std.proofs.Common.{◌≡◌, ◌⊎◌, inl, inr, ℕ, ◌+◌, ◌<◌, ◌≤◌, List, [], ◌∷◌, ◌++◌, length, refl, ap, arith}
+use Rattle.std.proofs.Common.{length-append}
 use Rattle.qc_outside.specs.Images.{Stored, IsImage, wrote, settled}
 use Rattle.qc_journal.specs.Grammar.{counted, IsNoJournal, Holds, HoldsWithOrWithout}
 use Rattle.qc_journal.specs.Writes.{behind, gate, at_once}
@@ -19,7 +20,8 @@ torn = (
     at = refl;
     is_open = omega arith;
     torn = refl;
-    none = λ body next more is_body is. omega (arith, ap length is, length-append (counted body) (next ∷ more), length-counted body);
+    none = λ body next more is_body is. omega
+        (arith, ap length is, length-append (counted body) (next ∷ more), length-counted body);
   },
 )
 
@@ -35,7 +37,11 @@ abbrev unsynced : Stored
 unsynced = wrote (wrote (settled (0 ∷ [])) (behind 0 (5 ∷ []))) (gate 0)
 
 unsynced_image : IsImage unsynced (1 ∷ 9 ∷ [])
-unsynced_image = record { no_shorter = omega arith; no_longer = omega arith; same = λ i lt outside. absurd (open_place i lt outside.0) }
+unsynced_image = record {
+  no_shorter = omega arith;
+  no_longer = omega arith;
+  same = λ i lt outside. absurd (open_place i lt outside.0);
+}
 
 pub first_sync : (c : List ℕ) × IsImage unsynced c × (HoldsWithOrWithout [] (5 ∷ []) c → ⊥)
 first_sync = (1 ∷ 9 ∷ [], unsynced_image, no_list)
@@ -48,7 +54,11 @@ first_place i lt (inl a) = omega arith
 first_place i lt (inr b) = omega (arith, b, lt)
 
 piece_image : IsImage in_one_piece (1 ∷ 9 ∷ [])
-piece_image = record { no_shorter = omega arith; no_longer = omega arith; same = λ i lt outside. absurd (first_place i lt outside.0) }
+piece_image = record {
+  no_shorter = omega arith;
+  no_longer = omega arith;
+  same = λ i lt outside. absurd (first_place i lt outside.0);
+}
 
 pub two_writes : (c : List ℕ) × IsImage in_one_piece c × (HoldsWithOrWithout [] (5 ∷ []) c → ⊥)
 two_writes = (1 ∷ 9 ∷ [], piece_image, no_list)

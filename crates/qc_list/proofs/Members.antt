@@ -1,5 +1,6 @@
 -- Members of lists, and what holds of each.
-use Rattle.std.proofs.Common.{◌≡◌, ℕ, zero, suc, List, [], ◌∷◌, ◌++◌, ◌⊎◌, Bool, true, false, cond, Some, inl, inr, refl, sym, ap, ◌∙◌, subst}
+use Rattle.std.proofs.Common.{◌≡◌, ℕ, zero, suc, List, [], ◌∷◌, ◌++◌, ◌⊎◌, Bool, true, false, cond, Some, inl, inr}
+use Rattle.std.proofs.Common.{refl, sym, ap, ◌∙◌, subst}
 use Rattle.std.specs.List.{AllByRecursion as Every, filter, slice_get}
 use Rattle.qc_list.specs.Members.{In}
 
@@ -29,18 +30,21 @@ In-more {X = X} x y (z ∷ xs) (inr rest) = by (In-more x y xs rest)
 -- a member that passes the test is one of the filter
 pub In-filter : {X : Type 0} (test : X → Bool) (x : X) (xs : List X) → In x xs → test x ≡ true → In x (filter test xs)
 In-filter test x [] member passes = absurd member
-In-filter {X = X} test x (y ∷ ys) member passes = by (test y) refl (λ in_ys. In-filter test x ys in_ys passes) member where
-  by : (b : Bool) → test y ≡ b → (In x ys → In x (filter test ys)) → In x (y ∷ ys) → In x (cond b (y ∷ filter test ys) (filter test ys))
-  by true is rest (inl same) = inl same
-  by true is rest (inr in_ys) = inr (rest in_ys)
-  by false is rest (inl same) = absurd (let never : ⊥ = cc (passes, is, ap test same) in never)
-  by false is rest (inr in_ys) = rest in_ys
+In-filter {X = X} test x (y ∷ ys) member passes =
+    by (test y) refl (λ in_ys. In-filter test x ys in_ys passes) member where
+      by : (b : Bool) → test y ≡ b → (In x ys → In x (filter test ys)) → In x (y ∷ ys)
+          → In x (cond b (y ∷ filter test ys) (filter test ys))
+      by true is rest (inl same) = inl same
+      by true is rest (inr in_ys) = inr (rest in_ys)
+      by false is rest (inl same) = absurd (let never : ⊥ = cc (passes, is, ap test same) in never)
+      by false is rest (inr in_ys) = rest in_ys
 
 -- one of the filter is a member
 pub In-unfiltered : {X : Type 0} (test : X → Bool) (x : X) (xs : List X) → In x (filter test xs) → In x xs
 In-unfiltered test x [] member = member
 In-unfiltered {X = X} test x (y ∷ ys) member = by (test y) (In-unfiltered test x ys) member where
-  by : (b : Bool) → (In x (filter test ys) → In x ys) → In x (cond b (y ∷ filter test ys) (filter test ys)) → In x (y ∷ ys)
+  by : (b : Bool) → (In x (filter test ys) → In x ys) → In x (cond b (y ∷ filter test ys) (filter test ys))
+      → In x (y ∷ ys)
   by true rest (inl same) = inl same
   by true rest (inr later) = inr (rest later)
   by false rest later = inr (rest later)
@@ -49,7 +53,8 @@ In-unfiltered {X = X} test x (y ∷ ys) member = by (test y) (In-unfiltered test
 pub In-passes : {X : Type 0} (test : X → Bool) (x : X) (xs : List X) → In x (filter test xs) → test x ≡ true
 In-passes test x [] member = absurd member
 In-passes {X = X} test x (y ∷ ys) member = by (test y) refl (In-passes test x ys) member where
-  by : (b : Bool) → test y ≡ b → (In x (filter test ys) → test x ≡ true) → In x (cond b (y ∷ filter test ys) (filter test ys)) → test x ≡ true
+  by : (b : Bool) → test y ≡ b → (In x (filter test ys) → test x ≡ true)
+      → In x (cond b (y ∷ filter test ys) (filter test ys)) → test x ≡ true
   by true is rest (inl same) = ap test same ∙ is
   by true is rest (inr later) = rest later
   by false is rest later = rest later

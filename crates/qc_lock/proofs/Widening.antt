@@ -1,5 +1,6 @@
 -- Places that are added and dropped one after another.
-use Rattle.std.proofs.Common.{◌≡◌, ◌⊎◌, inl, inr, ℕ, ◌<◌, Bool, true, false, cond, ◌==◌, ◌&&◌, ◌||◌, not, List, take, drop, arith, refl, sym, ◌∙◌, ap, subst}
+use Rattle.std.proofs.Common.{◌≡◌, ◌⊎◌, inl, inr, ℕ, ◌<◌, Bool, true, false, cond, ◌==◌, ◌&&◌, ◌||◌, not, List, take}
+use Rattle.std.proofs.Common.{drop, arith, refl, sym, ◌∙◌, ap, subst}
 use Rattle.std.specs.BTreeMap.{is_at}
 use Rattle.std.specs.BTreeSet.{BTreeSet}
 use Rattle.std.specs.List.{list_any}
@@ -32,14 +33,21 @@ nat_same : (a b : ℕ) → is_eq (nat_cmp a b) ≡ (a == b)
 nat_same a b = grind (arith, nat_tests)
 
 -- when two places are the same
-place_same : (object number a b : ℕ) (tx other : TxId) → is_eq (place_cmp (place object number tx) (place a b other)) ≡ ((object == a) && ((number == b) && same_tx tx other))
+place_same : (object number a b : ℕ) (tx other : TxId)
+    → is_eq (place_cmp (place object number tx) (place a b other)) ≡
+    ((object == a) && ((number == b) && same_tx tx other))
 place_same object number a b tx other =
-    then_eq (nat_cmp object a) _ ∙ ap (λ t. t && is_eq (ordering_then (nat_cmp number b) (tx_cmp tx other))) (nat_same object a)
-    ∙ ap (λ t. (object == a) && t) (then_eq (nat_cmp number b) _ ∙ ap (λ t. t && is_eq (tx_cmp tx other)) (nat_same number b) ∙ ap (λ t. (number == b) && t) (tx_same tx other))
+    then_eq (nat_cmp object a) _ ∙ ap (λ t. t && is_eq (ordering_then (nat_cmp number b) (tx_cmp tx other)))
+    (nat_same object a)
+    ∙ ap (λ t. (object == a) && t) (then_eq (nat_cmp number b) _
+    ∙ ap (λ t. t && is_eq (tx_cmp tx other)) (nat_same number b) ∙ ap (λ t. (number == b) && t) (tx_same tx other))
 
-sets_at : (before after : BTreeSet Place) (object number : ℕ) (tx : TxId) (there : Bool) → Sets before after object number tx there → (a b : ℕ) (other : TxId)
-    → is_there after a b other ≡ cond ((object == a) && ((number == b) && same_tx tx other)) there (is_there before a b other)
-sets_at before after object number tx there sets a b other = sets (place a b other) ∙ ap (λ t. cond t there (is_there before a b other)) (place_same object number a b tx other)
+sets_at : (before after : BTreeSet Place) (object number : ℕ) (tx : TxId) (there : Bool)
+    → Sets before after object number tx there → (a b : ℕ) (other : TxId)
+    → is_there after a b other ≡ cond ((object == a) && ((number == b) && same_tx tx other)) there
+    (is_there before a b other)
+sets_at before after object number tx there sets a b other = sets (place a b other)
+    ∙ ap (λ t. cond t there (is_there before a b other)) (place_same object number a b tx other)
 
 -- more places
 
@@ -50,8 +58,10 @@ widens_none places tx = record {
   done = λ all a b never. absurd (let no_case : ⊥ = cc in no_case);
 }
 
-pub widens_more : (before mid after : BTreeSet Place) (tx : TxId) (test more : ℕ → ℕ → Bool) (object number : ℕ) → number < 256
-    → Widens before mid tx test true → Sets mid after object number tx true → Grows test more object number → Widens before after tx more true
+pub widens_more : (before mid after : BTreeSet Place) (tx : TxId) (test more : ℕ → ℕ → Bool) (object number : ℕ)
+    → number < 256
+    → Widens before mid tx test true → Sets mid after object number tx true → Grows test more object number
+    → Widens before after tx more true
 widens_more before mid after tx test more object number small widens sets grows = record {
   kept = λ other a b there. stays other a b (widens.kept other a b there);
   within = within;
@@ -69,13 +79,16 @@ widens_more before mid after tx test more object number small widens sets grows 
     by true = refl
     by false = there
 
-  within : (other : TxId) (a b : ℕ) → is_there after a b other ≡ true → is_there before a b other ≡ false → (other ≡ tx) × (more a b ≡ true) × (b < 256)
+  within : (other : TxId) (a b : ℕ) → is_there after a b other ≡ true → is_there before a b other ≡ false
+      → (other ≡ tx) × (more a b ≡ true) × (b < 256)
   within other a b there gone = by (here a b other) refl (sym (at a b other) ∙ there) where
-    by : (t : Bool) → here a b other ≡ t → cond t true (is_there mid a b other) ≡ true → (other ≡ tx) × (more a b ≡ true) × (b < 256)
+    by : (t : Bool) → here a b other ≡ t → cond t true (is_there mid a b other) ≡ true
+        → (other ≡ tx) × (more a b ≡ true) × (b < 256)
     by true is there =
         let parts = and_parts (object == a) ((number == b) && same_tx tx other) is in
         let rest = and_parts (number == b) (same_tx tx other) parts.1 in
-        let both : ((object == a) && (number == b)) ≡ true = subst (λ t. (t && (number == b)) ≡ true) (sym parts.0) rest.0 in (
+        let both : ((object == a) && (number == b)) ≡ true =
+        subst (λ t. (t && (number == b)) ≡ true) (sym parts.0) rest.0 in (
           sym (tx_apart tx other rest.1),
           grows a b ∙ or_right (test a b) ((object == a) && (number == b)) both,
           subst (λ n. n < 256) (eqb-true number b rest.0) small,
@@ -89,11 +102,13 @@ widens_more before mid after tx test more object number small widens sets grows 
   done a b (inr is) =
       let parts = and_parts (object == a) (number == b) is in
       at a b tx ∙ ap (λ t. cond t true (is_there mid a b tx))
-      (subst (λ t. (t && ((number == b) && same_tx tx tx)) ≡ true) (sym parts.0) (subst (λ t. (t && same_tx tx tx) ≡ true) (sym parts.1) (same_self tx)))
+      (subst (λ t. (t && ((number == b) && same_tx tx tx)) ≡ true) (sym parts.0)
+      (subst (λ t. (t && same_tx tx tx) ≡ true) (sym parts.1) (same_self tx)))
 
 -- some of the places, where the next found no memory
 pub widens_part : (before mid after : BTreeSet Place) (tx : TxId) (test more : ℕ → ℕ → Bool)
-    → Widens before mid tx test true → after.keys ≡ mid.keys → ((a b : ℕ) → test a b ≡ true → more a b ≡ true) → Widens before after tx more false
+    → Widens before mid tx test true → after.keys ≡ mid.keys → ((a b : ℕ) → test a b ≡ true → more a b ≡ true)
+    → Widens before after tx more false
 widens_part before mid after tx test more widens same grows = record {
   kept = λ other a b there. as_before other a b ∙ widens.kept other a b there;
   within = λ other a b there gone.
@@ -105,31 +120,40 @@ widens_part before mid after tx test more widens same grows = record {
   as_before other a b = ap (λ ks. list_any (is_at (place_cmp (place a b other))) ks) same
 
 -- what one of the first passes, one of all passes
-pub part_passes : {A : Type 0} (p : A → Bool) (n : ℕ) (xs : List A) → list_any p (take n xs) ≡ true → list_any p xs ≡ true
+pub part_passes : {A : Type 0} (p : A → Bool) (n : ℕ) (xs : List A) → list_any p (take n xs) ≡ true
+    → list_any p xs ≡ true
 part_passes p n xs passes =
-    subst (λ ys. list_any p ys ≡ true) (take-append-drop n xs) (list_any-append p (take n xs) (drop n xs) ∙ or_left (list_any p (take n xs)) (list_any p (drop n xs)) passes)
+    subst (λ ys. list_any p ys ≡ true) (take-append-drop n xs)
+    (list_any-append p (take n xs) (drop n xs) ∙ or_left (list_any p (take n xs)) (list_any p (drop n xs)) passes)
 
 -- fewer places
 
-pub narrows_none : (places : BTreeSet Place) (tx : TxId) (spared : ℕ → ℕ → Bool) → Narrows places places tx (λ a b. false) spared
+pub narrows_none : (places : BTreeSet Place) (tx : TxId) (spared : ℕ → ℕ → Bool)
+    → Narrows places places tx (λ a b. false) spared
 narrows_none places tx spared = λ other a b. by (is_there places a b other) (same_tx other tx) where
   by : (t s : Bool) → t ≡ (t && not (s && false))
   by true true = refl
   by true false = refl
   by false s = refl
 
-pub narrows_more : (before mid after : BTreeSet Place) (tx : TxId) (test more spared : ℕ → ℕ → Bool) (object number : ℕ) → spared object number ≡ false
-    → Narrows before mid tx test spared → Sets mid after object number tx false → Grows test more object number → Narrows before after tx more spared
+pub narrows_more : (before mid after : BTreeSet Place) (tx : TxId) (test more spared : ℕ → ℕ → Bool) (object number : ℕ)
+    → spared object number ≡ false
+    → Narrows before mid tx test spared → Sets mid after object number tx false → Grows test more object number
+    → Narrows before after tx more spared
 narrows_more before mid after tx test more spared object number apart narrows sets grows = λ other a b.
     sets_at mid after object number tx false sets a b other
     ∙ ap (cond ((object == a) && ((number == b) && same_tx tx other)) false) (narrows other a b)
-    ∙ ap (λ t. cond ((object == a) && ((number == b) && t)) false (is_there before a b other && not (same_tx other tx && (test a b && not (spared a b))))) (same_turned tx other)
-    ∙ by (object == a) (number == b) (same_tx other tx) (test a b) (spared a b) (is_there before a b other) (λ o n. here a b o n)
+    ∙ ap (λ t. cond ((object == a) && ((number == b) && t)) false
+    (is_there before a b other && not (same_tx other tx && (test a b && not (spared a b))))) (same_turned tx other)
+    ∙ by (object == a) (number == b) (same_tx other tx) (test a b) (spared a b) (is_there before a b other)
+    (λ o n. here a b o n)
     ∙ ap (λ t. is_there before a b other && not (same_tx other tx && (t && not (spared a b)))) (sym (grows a b)) where
       here : (a b : ℕ) → (object == a) ≡ true → (number == b) ≡ true → spared a b ≡ false
-      here a b o n = subst (λ m. spared m b ≡ false) (eqb-true object a o) (subst (λ m. spared object m ≡ false) (eqb-true number b n) apart)
+      here a b o n = subst (λ m. spared m b ≡ false) (eqb-true object a o)
+          (subst (λ m. spared object m ≡ false) (eqb-true number b n) apart)
 
-      by : (o n s f k w : Bool) → (o ≡ true → n ≡ true → k ≡ false) → cond (o && (n && s)) false (w && not (s && (f && not k))) ≡ (w && not (s && ((f || (o && n)) && not k)))
+      by : (o n s f k w : Bool) → (o ≡ true → n ≡ true → k ≡ false)
+          → cond (o && (n && s)) false (w && not (s && (f && not k))) ≡ (w && not (s && ((f || (o && n)) && not k)))
       by true true true true k w rest = both_sides k w (rest refl refl) where
         both_sides : (k w : Bool) → k ≡ false → false ≡ (w && not (true && (true && not k)))
         both_sides true w is = absurd (let no_case : ⊥ = cc in no_case)
@@ -152,18 +176,23 @@ narrows_more before mid after tx test more spared object number apart narrows se
         turned true is = sym (subst (λ u. same_tx u x ≡ true) (tx_apart x y is) (same_self x))
         turned false is = sym (apart_sym x y is)
 
-pub narrows_spared : (before mid : BTreeSet Place) (tx : TxId) (test more spared : ℕ → ℕ → Bool) (object number : ℕ) → spared object number ≡ true
+pub narrows_spared : (before mid : BTreeSet Place) (tx : TxId) (test more spared : ℕ → ℕ → Bool) (object number : ℕ)
+    → spared object number ≡ true
     → Narrows before mid tx test spared → Grows test more object number → Narrows before mid tx more spared
 narrows_spared before mid tx test more spared object number kept narrows grows = λ other a b.
     narrows other a b
-    ∙ by (object == a) (number == b) (same_tx other tx) (test a b) (spared a b) (is_there before a b other) (λ o n. here a b o n)
+    ∙ by (object == a) (number == b) (same_tx other tx) (test a b) (spared a b) (is_there before a b other)
+    (λ o n. here a b o n)
     ∙ ap (λ t. is_there before a b other && not (same_tx other tx && (t && not (spared a b)))) (sym (grows a b)) where
       here : (a b : ℕ) → (object == a) ≡ true → (number == b) ≡ true → spared a b ≡ true
-      here a b o n = subst (λ m. spared m b ≡ true) (eqb-true object a o) (subst (λ m. spared object m ≡ true) (eqb-true number b n) kept)
+      here a b o n = subst (λ m. spared m b ≡ true) (eqb-true object a o)
+          (subst (λ m. spared object m ≡ true) (eqb-true number b n) kept)
 
-      by : (o n s f k w : Bool) → (o ≡ true → n ≡ true → k ≡ true) → (w && not (s && (f && not k))) ≡ (w && not (s && ((f || (o && n)) && not k)))
+      by : (o n s f k w : Bool) → (o ≡ true → n ≡ true → k ≡ true)
+          → (w && not (s && (f && not k))) ≡ (w && not (s && ((f || (o && n)) && not k)))
       by o n s true k w rest = refl
       by true true s false true w rest = refl
-      by true true s false false w rest = absurd (let wrong : false ≡ true = rest refl refl in let no_case : ⊥ = cc in no_case)
+      by true true s false false w rest = absurd
+          (let wrong : false ≡ true = rest refl refl in let no_case : ⊥ = cc in no_case)
       by true false s false k w rest = refl
       by false n s false k w rest = refl

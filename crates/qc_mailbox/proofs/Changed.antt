@@ -1,11 +1,13 @@
 -- Trays that are changed one after another, each by whether its actor is up.
-use Rattle.std.proofs.Common.{◌≡◌, ℕ, zero, suc, ◌+◌, ◌<◌, Bool, List, [], ◌∷◌, ◌++◌, length, get_or, map, set, take, drop, ap, subst, ◌∙◌, arith}
+use Rattle.std.proofs.Common.{◌≡◌, ℕ, zero, suc, ◌+◌, ◌<◌, Bool, List, [], ◌∷◌, ◌++◌, length, get_or, map, set, take}
+use Rattle.std.proofs.Common.{drop, ap, subst, ◌∙◌, arith}
 use Rattle.qc_inbox.specs.Inboxes.{Tray}
 use Rattle.qc_inbox.specs.Rooms.{each_by_up}
 use Rattle.qc_script.specs.Inbox.{is_up}
 
 -- the first ones are, and one more is
-each_next : {A : Type 0} (f : A → Tray) (g : Bool → Tray → Tray) (up : List Bool) (olds xs : List A) (a : ℕ) (x d : A) → a < length olds
+each_next : {A : Type 0} (f : A → Tray) (g : Bool → Tray → Tray) (up : List Bool) (olds xs : List A) (a : ℕ) (x d : A)
+    → a < length olds
     → map f xs ≡ each_by_up g up (map f (take a olds)) ++ map f (drop a olds) → f x ≡ g (is_up up a) (f (get_or xs a d))
     → map f (set xs a x) ≡ each_by_up g up (map f (take (suc a) olds)) ++ map f (drop (suc a) olds)
 each_next f g up [] xs a x d within is made = absurd (omega arith)
@@ -32,8 +34,10 @@ each_next f g (u ∷ up) (o ∷ olds) (y ∷ ys) (suc a) x d within is made =
 next : (a : ℕ) → suc a ≡ a + 1
 next a = omega arith
 
-pub each_on : {A : Type 0} (f : A → Tray) (g : Bool → Tray → Tray) (up : List Bool) (olds xs : List A) (a : ℕ) (x d : A) → a < length olds
+pub each_on : {A : Type 0} (f : A → Tray) (g : Bool → Tray → Tray) (up : List Bool) (olds xs : List A) (a : ℕ) (x d : A)
+    → a < length olds
     → map f xs ≡ each_by_up g up (map f (take a olds)) ++ map f (drop a olds) → f x ≡ g (is_up up a) (f (get_or xs a d))
     → map f (set xs a x) ≡ each_by_up g up (map f (take (a + 1) olds)) ++ map f (drop (a + 1) olds)
 each_on f g up olds xs a x d within is made =
-    subst (λ n. map f (set xs a x) ≡ each_by_up g up (map f (take n olds)) ++ map f (drop n olds)) (next a) (each_next f g up olds xs a x d within is made)
+    subst (λ n. map f (set xs a x) ≡ each_by_up g up (map f (take n olds)) ++ map f (drop n olds)) (next a)
+    (each_next f g up olds xs a x d within is made)

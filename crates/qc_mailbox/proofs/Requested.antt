@@ -1,5 +1,6 @@
 -- Requests in a queue, one after another; and control lines that are passed over.
-use Rattle.std.proofs.Common.{◌≡◌, ℕ, ◌+◌, ◌≤◌, ◌==◌, Bool, true, false, cond, not, List, [], ◌∷◌, length, refl, ap, arith}
+use Rattle.std.proofs.Common.{◌≡◌, ℕ, ◌+◌, ◌≤◌, ◌==◌, Bool, true, false, cond, not, List, [], ◌∷◌, length, refl, ap}
+use Rattle.std.proofs.Common.{arith}
 use Rattle.std.specs.Prelude.{drop, filter}
 use Rattle.qc_msg.specs.declared.step.Control.{Control}
 use Rattle.qc_script.specs.Inbox.{acting, does_nothing}
@@ -8,21 +9,27 @@ use Rattle.qc_mailbox.specs.Asked.{asked}
 use Rattle.qc_mailbox.specs.Passing.{first_does_nothing}
 use Rattle.qc_mailbox.specs.declared.asked.Asked.{Asked}
 
-pub asked-without : (rs : List Asked) (n : ℕ) → asked (filter (λ (r : Asked). not (r.number == n)) rs) ≡ without_request (asked rs) n
+pub asked-without : (rs : List Asked) (n : ℕ)
+    → asked (filter (λ (r : Asked). not (r.number == n)) rs) ≡ without_request (asked rs) n
 asked-without [] n = refl
 asked-without (r ∷ rs) n = by (not (r.number == n)) (asked-without rs n)
   where
     by : (t : Bool) → asked (filter (λ (x : Asked). not (x.number == n)) rs) ≡ without_request (asked rs) n
-        → asked (cond t (r ∷ filter (λ (x : Asked). not (x.number == n)) rs) (filter (λ (x : Asked). not (x.number == n)) rs)) ≡ cond t (record { number = r.number; to = r.to } ∷ without_request (asked rs) n) (without_request (asked rs) n)
+        → asked (cond t (r ∷ filter (λ (x : Asked). not (x.number == n)) rs)
+        (filter (λ (x : Asked). not (x.number == n)) rs)) ≡ cond t
+        (record { number = r.number; to = r.to } ∷ without_request (asked rs) n) (without_request (asked rs) n)
     by true rest = ap (λ (xs : List SentRequest). record { number = r.number; to = r.to } ∷ xs) rest
     by false rest = rest
 
-pub asked-others : (rs : List Asked) (a : ℕ) → asked (filter (λ (r : Asked). not (r.to == a)) rs) ≡ requests_to_others a (asked rs)
+pub asked-others : (rs : List Asked) (a : ℕ)
+    → asked (filter (λ (r : Asked). not (r.to == a)) rs) ≡ requests_to_others a (asked rs)
 asked-others [] a = refl
 asked-others (r ∷ rs) a = by (not (r.to == a)) (asked-others rs a)
   where
     by : (t : Bool) → asked (filter (λ (x : Asked). not (x.to == a)) rs) ≡ requests_to_others a (asked rs)
-        → asked (cond t (r ∷ filter (λ (x : Asked). not (x.to == a)) rs) (filter (λ (x : Asked). not (x.to == a)) rs)) ≡ cond t (record { number = r.number; to = r.to } ∷ requests_to_others a (asked rs)) (requests_to_others a (asked rs))
+        → asked (cond t (r ∷ filter (λ (x : Asked). not (x.to == a)) rs) (filter (λ (x : Asked). not (x.to == a)) rs))
+        ≡ cond t (record { number = r.number; to = r.to } ∷ requests_to_others a (asked rs))
+        (requests_to_others a (asked rs))
     by true rest = ap (λ (xs : List SentRequest). record { number = r.number; to = r.to } ∷ xs) rest
     by false rest = rest
 
@@ -32,7 +39,8 @@ parts [] a = refl
 parts (r ∷ rs) a = by (r.to == a) (parts rs a)
   where
     by : (t : Bool) → length (requests_to a rs) + length (requests_to_others a rs) ≡ length rs
-        → length (cond t (r ∷ requests_to a rs) (requests_to a rs)) + length (cond (not t) (r ∷ requests_to_others a rs) (requests_to_others a rs)) ≡ length (r ∷ rs)
+        → length (cond t (r ∷ requests_to a rs) (requests_to a rs)) + length
+        (cond (not t) (r ∷ requests_to_others a rs) (requests_to_others a rs)) ≡ length (r ∷ rs)
     by true rest = omega (arith, rest)
     by false rest = omega (arith, rest)
 
@@ -42,13 +50,15 @@ length-asked (r ∷ rs) = let rest : length (asked rs) ≡ length rs = length-as
 
 pub few_to : (rs : List Asked) (a : ℕ) → length (requests_to a (asked rs)) ≤ length rs
 few_to rs a =
-    let both : length (requests_to a (asked rs)) + length (requests_to_others a (asked rs)) ≡ length (asked rs) = parts (asked rs) a in
+    let both : length (requests_to a (asked rs)) + length (requests_to_others a (asked rs)) ≡ length (asked rs) =
+    parts (asked rs) a in
     let all : length (asked rs) ≡ length rs = length-asked rs in
     omega (arith, both, all)
 
 -- control lines
 
-pub acting_past : (up : List Bool) (cs : List Control) → first_does_nothing up cs ≡ true → acting up (drop 1 cs) ≡ acting up cs
+pub acting_past : (up : List Bool) (cs : List Control) → first_does_nothing up cs ≡ true
+    → acting up (drop 1 cs) ≡ acting up cs
 acting_past up [] is = refl
 acting_past up (c ∷ cs) is = by (does_nothing up c) is
   where

@@ -40,7 +40,8 @@ room_kept room old new u r = record {
   lost = omega (arith, u.lost, r.lost);
 }
 
-pub less_room : (more few : ℕ) (boxes : List Mailbox) → few ≤ more → Every (HasRoom more) boxes → Every (HasRoom few) boxes
+pub less_room : (more few : ℕ) (boxes : List Mailbox) → few ≤ more → Every (HasRoom more) boxes
+    → Every (HasRoom few) boxes
 less_room more few boxes le all = every_weaker (HasRoom more) (HasRoom few) boxes (λ m r. weaker more few m le r) all
 
 pub some_room : (room : ℕ) (boxes : List Mailbox) → Every (HasRoom room) boxes → Every (HasRoom 0) boxes
@@ -48,13 +49,16 @@ some_room room boxes all = less_room room 0 boxes (omega arith) all
 
 -- one mailbox is changed, and used some of its room
 
-module _ (boxes : List Mailbox) (a : ℕ) (old new : Mailbox) (within : a < length boxes) (is : old ≡ get_or boxes a old) where
+module _ (boxes : List Mailbox) (a : ℕ) (old new : Mailbox) (within : a < length boxes)
+    (is : old ≡ get_or boxes a old) where
   pub at : (P : Mailbox → Type 0) → Every P boxes → P old
   at P all = subst P (sym is) (every_get P boxes a old all within)
 
-  pub used_set : (used room : ℕ) → HasUsed used old new → Every (HasRoom (room + used)) boxes → Every (HasRoom room) (set boxes a new)
+  pub used_set : (used room : ℕ) → HasUsed used old new → Every (HasRoom (room + used)) boxes
+      → Every (HasRoom room) (set boxes a new)
   used_set used room u all =
-      every_less (HasRoom (room + used)) (HasRoom room) boxes a new (room_less used room) (room_left used room old new u (at (HasRoom (room + used)) all)) all
+      every_less (HasRoom (room + used)) (HasRoom room) boxes a new (room_less used room)
+      (room_left used room old new u (at (HasRoom (room + used)) all)) all
 
   pub kept_set : (room : ℕ) → HasUsed 0 old new → Every (HasRoom room) boxes → Every (HasRoom room) (set boxes a new)
   kept_set room u all = every_set (HasRoom room) boxes a new all (room_kept room old new u (at (HasRoom room) all))
@@ -62,7 +66,8 @@ module _ (boxes : List Mailbox) (a : ℕ) (old new : Mailbox) (within : a < leng
   pub same_set : tray new ≡ tray old → map tray (set boxes a new) ≡ map tray boxes
   same_set e = map_same tray boxes a new old within (e ∙ ap tray is)
 
-  pub changed : (g : Tray → Tray) → tray new ≡ g (tray old) → map tray (set boxes a new) ≡ set (map tray boxes) a (g (tray_at (map tray boxes) a))
+  pub changed : (g : Tray → Tray) → tray new ≡ g (tray old)
+      → map tray (set boxes a new) ≡ set (map tray boxes) a (g (tray_at (map tray boxes) a))
   changed g e = map_changed tray g boxes a new old empty_tray within (e ∙ ap (λ m. g (tray m)) is)
 
 -- phases
@@ -79,17 +84,29 @@ asked_room room old new o r = record {
   lost = rw (o.lost, o.unanswered) r.lost;
 }
 
-asked_kept : (room commands : ℕ) (old new : Mailbox) → HasOthers old new → spare old.commands ≤ spare new.commands + 1 → IsPrepared room (commands + 1) old → IsPrepared room commands new
-asked_kept room commands old new o le p = record { has_room = asked_room room old new o p.has_room; commands_fit = omega (arith, le, p.commands_fit) }
+asked_kept : (room commands : ℕ) (old new : Mailbox) → HasOthers old new → spare old.commands ≤ spare new.commands + 1
+    → IsPrepared room (commands + 1) old → IsPrepared room commands new
+asked_kept room commands old new o le p =
+    record { has_room = asked_room room old new o p.has_room; commands_fit = omega (arith, le, p.commands_fit) }
 
-pub asked_set : (boxes : List Mailbox) (a : ℕ) (old new : Mailbox) → a < length boxes → old ≡ get_or boxes a old → HasOthers old new → spare old.commands ≤ spare new.commands + 1
-    → (room commands : ℕ) → Every (IsPrepared room (commands + 1)) boxes → Every (IsPrepared room commands) (set boxes a new)
+pub asked_set : (boxes : List Mailbox) (a : ℕ) (old new : Mailbox) → a < length boxes → old ≡ get_or boxes a old
+    → HasOthers old new → spare old.commands ≤ spare new.commands + 1
+    → (room commands : ℕ) → Every (IsPrepared room (commands + 1)) boxes
+    → Every (IsPrepared room commands) (set boxes a new)
 asked_set boxes a old new within is o le room commands all =
     every_less (IsPrepared room (commands + 1)) (IsPrepared room commands) boxes a new (prepared_less room commands)
     (asked_kept room commands old new o le (at boxes a old new within is (IsPrepared room (commands + 1)) all)) all
 
-pub prepared_room : (room commands : ℕ) (boxes : List Mailbox) → Every (IsPrepared room commands) boxes → Every (HasRoom room) boxes
-prepared_room room commands boxes all = every_weaker (IsPrepared room commands) (HasRoom room) boxes (λ m p. p.has_room) all
+pub prepared_room : (room commands : ℕ) (boxes : List Mailbox) → Every (IsPrepared room commands) boxes
+    → Every (HasRoom room) boxes
+prepared_room room commands boxes all = every_weaker (IsPrepared room commands) (HasRoom room) boxes
+    (λ m p. p.has_room) all
 
-pub prepared_some : (room commands : ℕ) (boxes : List Mailbox) → 0 < commands → Every (IsPrepared room commands) boxes → Every (IsPrepared 0 1) boxes
-prepared_some room commands boxes some all = every_weaker (IsPrepared room commands) (IsPrepared 0 1) boxes (λ m p. record { has_room = weaker room 0 m (omega arith) p.has_room; commands_fit = omega (arith, some, p.commands_fit) }) all
+pub prepared_some : (room commands : ℕ) (boxes : List Mailbox) → 0 < commands → Every (IsPrepared room commands) boxes
+    → Every (IsPrepared 0 1) boxes
+prepared_some room commands boxes some all =
+    every_weaker (IsPrepared room commands) (IsPrepared 0 1) boxes
+    (λ m p. record {
+      has_room = weaker room 0 m (omega arith) p.has_room;
+      commands_fit = omega (arith, some, p.commands_fit);
+    }) all

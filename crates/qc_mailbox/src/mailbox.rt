@@ -10,7 +10,7 @@ ghost use Rattle.qc_mailbox.specs.Boxes.{HasRoom, HasUsed, tray};
 
 use crate::asked::Asked;
 use crate::queue::Queue;
-use qc_inbox::Input;
+use qc_inbox::ReadyInput;
 use qc_link::Fate;
 use qc_list::OutOfMemory;
 use qc_msg::{Command, Message};
@@ -58,14 +58,14 @@ impl Mailbox {
     }
 
     /// What is ready next, for an actor that takes commands or doesn't.
-    pub(crate) fn next(&self, takes_commands: bool) -> Option<Input>
+    pub(crate) fn next(&self, takes_commands: bool) -> Option<ReadyInput>
         ensures { result ≡ next_in takes_commands (tray self.now) }
     {
         if let Some(number) = self.copies.first() {
-            return Some(Input::Copy(number));
+            return Some(ReadyInput::Copy(number));
         }
         if let Some(number) = self.lost.first() {
-            return Some(Input::Lost(number));
+            return Some(ReadyInput::Lost(number));
         }
         if takes_commands && !self.busy {
             self.next_command()
@@ -75,11 +75,11 @@ impl Mailbox {
     }
 
     /// The first command.
-    fn next_command(&self) -> Option<Input>
+    fn next_command(&self) -> Option<ReadyInput>
         ensures { result ≡ first_command (tray self.now).commands }
     {
         match self.commands.first() {
-            Some(command) => Some(Input::Command(command)),
+            Some(command) => Some(ReadyInput::Command(command)),
             None => None,
         }
     }

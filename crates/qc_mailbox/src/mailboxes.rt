@@ -19,7 +19,7 @@ use crate::lines::pass_idle;
 use crate::mailbox::Mailbox;
 use crate::queue::Queue;
 use crate::ups::Ups;
-use qc_inbox::Input;
+use qc_inbox::ReadyInput;
 use qc_link::{Cuts, Link, LinkPlan, fate};
 use qc_list::OutOfMemory;
 use qc_msg::{Control, Posting, Reply, Turn};
@@ -89,7 +89,7 @@ impl Mailboxes {
 
     /// What is ready next for an actor that takes commands or doesn't, where the
     /// phase's control lines have acted.
-    pub(crate) fn next(&self, actor: u8, takes_commands: bool) -> Option<Input>
+    pub(crate) fn next(&self, actor: u8, takes_commands: bool) -> Option<ReadyInput>
         requires { actor < most_actors }
         ensures { result ≡ next_in takes_commands (tray_at self.now.inboxes.trays actor) }
     {

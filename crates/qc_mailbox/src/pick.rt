@@ -11,7 +11,7 @@ ghost use Rattle.qc_link.specs.Limits.{most_actors};
 
 use crate::mailboxes::Mailboxes;
 use qc_decl::Declaration;
-use qc_inbox::{Candidate, Input, Rank};
+use qc_inbox::{Candidate, Rank, ReadyInput};
 
 /// Whether an actor is a client or the administrator.
 fn takes_commands(decl: &Declaration, actor: u8) -> bool
@@ -51,13 +51,13 @@ fn sooner(best: Option<Candidate>, actor: u8, rank: Option<Rank>) -> Option<Cand
 }
 
 /// How soon an actor comes that called so many commands, by its input.
-fn rank_of(calls: u32, input: Input) -> Rank
+fn rank_of(calls: u32, input: ReadyInput) -> Rank
     ensures { result ≡ input_rank calls input }
 {
     match input {
-        Input::Copy(number) => Rank::Copy(number),
-        Input::Lost(_) => Rank::Lost,
-        Input::Command(_) => Rank::Command(calls),
+        ReadyInput::Copy(number) => Rank::Copy(number),
+        ReadyInput::Lost(_) => Rank::Lost,
+        ReadyInput::Command(_) => Rank::Command(calls),
     }
 }
 
@@ -78,7 +78,7 @@ fn is_passed(inputs: &[bool], held: &[bool], actor: u8) -> bool
 
 impl Mailboxes {
     /// What is ready next for an actor.
-    pub fn ready(&self, decl: &Declaration, actor: u8) -> Option<Input>
+    pub fn ready(&self, decl: &Declaration, actor: u8) -> Option<ReadyInput>
         requires { actor < most_actors }
         ensures { result ≡ input_in decl.now actor self.now.inboxes }
     {

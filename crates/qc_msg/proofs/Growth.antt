@@ -11,8 +11,8 @@ use Rattle.qc_msg.specs.declared.record.Record.{Record}
 use Rattle.qc_msg.specs.declared.reply.Reply.{Reply}
 use Rattle.qc_msg.specs.declared.step.Fall.{Fall}
 use Rattle.qc_msg.specs.declared.step.Fall.TheVariants as causes
-use Rattle.qc_msg.specs.declared.step.Given.{Given}
-use Rattle.qc_msg.specs.declared.step.Given.TheVariants as given
+use Rattle.qc_msg.specs.declared.step.Input.{Input}
+use Rattle.qc_msg.specs.declared.step.Input.TheVariants as inputs
 use Rattle.qc_msg.specs.declared.step.Step.{Step}
 use Rattle.qc_msg.specs.declared.step.Step.TheVariants as steps
 use Rattle.qc_msg.specs.declared.step.Step.TheVariants.{Fell, Rose, Wrote, Sent, Told}
@@ -24,74 +24,7 @@ use Rattle.qc_msg.specs.Deeds.{Deed, Falls, Rises, Takes, Sends, deed_at, deeds,
 use Rattle.qc_entry.specs.declared.record.Commit.{Commit}
 use Rattle.qc_msg.specs.Counts.{IsNoRise, Tally, answered, answered_at, answered_in, commit_in, no_tally, operations_of, standing_after, tally_of, tally_with, written}
 use Rattle.qc_msg.specs.Steps.{Entry, by, fell, marked, posted, posted_as, sends_as, sents, step_of, told, wrote}
-
--- an actor's steps, as entries
-
-pub by-append : (a : ℕ) (xs ys : List Step) → by a (xs ++ ys) ≡ by a xs ++ by a ys
-by-append a [] ys = refl
-by-append a (x ∷ xs) ys = ap (λ (v : List Entry). marked a x ∷ v) (by-append a xs ys)
-
--- the entries of a turn: its record, its messages, its reply
-pub by-posted : (a n : ℕ) (turn : Turn) → by a (posted n turn) ≡ by a (wrote turn.write) ++ (by a (sents n turn.sends) ++ by a (told turn.told))
-by-posted a n turn =
-    by-append a (wrote turn.write) (sents n turn.sends ++ told turn.told)
-    ∙ ap (λ (v : List Entry). by a (wrote turn.write) ++ v) (by-append a (sents n turn.sends) (told turn.told))
-
--- messages
-
-pub mail-append : (h k : List Entry) → mail (h ++ k) ≡ mail h ++ mail k
-mail-append h k = filter_map-append envelope_of h k
-
-mail-wrote : (a : ℕ) (write : Option Record) → mail (by a (wrote write)) ≡ []
-mail-wrote a None = refl
-mail-wrote a (Some written) = refl
-
-mail-sents : (a n : ℕ) (ps : List Posting) → mail (by a (sents n ps)) ≡ envelopes a n ps
-mail-sents a n [] = refl
-mail-sents a n (p ∷ ps) = ap (λ (v : List Envelope). record { number = n; from = a; to = p.to; message = p.message } ∷ v) (mail-sents a (n + 1) ps)
-
-mail-told : (a : ℕ) (reply : Option Reply) → mail (by a (told reply)) ≡ []
-mail-told a None = refl
-mail-told a (Some reply) = refl
-
--- what a turn sends
-pub mail-posted : (a n : ℕ) (turn : Turn) → mail (by a (posted n turn)) ≡ envelopes a n turn.sends
-mail-posted a n turn =
-    let w : List Entry = by a (wrote turn.write) in
-    let s : List Entry = by a (sents n turn.sends) in
-    let t : List Entry = by a (told turn.told) in
-    ap mail (by-posted a n turn)
-    ∙ mail-append w (s ++ t)
-    ∙ ap (λ (v : List Envelope). v ++ mail (s ++ t)) (mail-wrote a turn.write)
-    ∙ mail-append s t
-    ∙ ap (λ (v : List Envelope). v ++ mail t) (mail-sents a n turn.sends)
-    ∙ ap (λ (v : List Envelope). envelopes a n turn.sends ++ v) (mail-told a turn.told)
-    ∙ append-nil (envelopes a n turn.sends)
-
-mail-input : (a : ℕ) (input : Given) (h : List Entry) → mail (marked a (step_of input) ∷ h) ≡ mail h
-mail-input a (given.Called command) h = refl
-mail-input a (given.Got envelope) h = refl
-mail-input a (given.Lost number) h = refl
-
--- an input sends nothing
-pub mail-taken : (h : List Entry) (a : ℕ) (input : Given) → mail (h ++ marked a (step_of input) ∷ []) ≡ mail h
-mail-taken h a input =
-    mail-append h (marked a (step_of input) ∷ [])
-    ∙ ap (λ (v : List Envelope). mail h ++ v) (mail-input a input [])
-    ∙ append-nil (mail h)
-
-length-cons_option : (o : Option Envelope) (es : List Envelope) → length (cons_option o es) ≤ length es + 1
-length-cons_option None es = omega arith
-length-cons_option (Some e) es = omega arith
-
--- no more messages than steps
-pub length-mail : (h : List Entry) → length (mail h) ≤ length h
-length-mail [] = omega arith
-length-mail (e ∷ h) = omega (arith, length-cons_option (envelope_of e) (mail h), length-mail h)
-
-pub length-envelopes : (a n : ℕ) (ps : List Posting) → length (envelopes a n ps) ≡ length ps
-length-envelopes a n [] = refl
-length-envelopes a n (p ∷ ps) = ap (λ (v : ℕ). suc v) (length-envelopes a (n + 1) ps)
+use Rattle.qc_msg.proofs.GrownMail.{by-append, by-posted, mail-append, mail-sents, mail-told, mail-posted}
 
 -- an actor's own steps
 
@@ -219,18 +152,18 @@ mail-posted_as Failed a n turn = mail-two a (sents n turn.failed_sends) (told tu
 mail-posted_as Stopped a n turn = mail-two a (told turn.failed_told) (fell causes.Stop turn.write) [] [] (mail-told a turn.failed_told) refl
 
 -- what an input does
-pub deed_at-given : (a : ℕ) (ms : List Envelope) (input : Given) → WasSentTo a ms input → deed_at ms (step_of input) ≡ Takes input ∷ []
-deed_at-given a ms (given.Called command) sent = refl
-deed_at-given a ms (given.Got envelope) sent = ap heard sent.0
-deed_at-given a ms (given.Lost number) sent = refl
+pub deed_at-given : (a : ℕ) (ms : List Envelope) (input : Input) → WasSentTo a ms input → deed_at ms (step_of input) ≡ Takes input ∷ []
+deed_at-given a ms (inputs.Called command) sent = refl
+deed_at-given a ms (inputs.Got envelope) sent = ap heard sent.0
+deed_at-given a ms (inputs.Lost number) sent = refl
 
-deeds-input : (a : ℕ) (ms : List Envelope) (input : Given) → WasSentTo a ms input → deeds a ms (marked a (step_of input) ∷ []) ≡ Takes input ∷ []
+deeds-input : (a : ℕ) (ms : List Envelope) (input : Input) → WasSentTo a ms input → deeds a ms (marked a (step_of input) ∷ []) ≡ Takes input ∷ []
 deeds-input a ms input sent =
     ap (λ (v : Bool). cond v (deed_at ms (step_of input)) [] ++ []) (same_actor a)
     ∙ ap (λ (v : List Deed). v ++ []) (deed_at-given a ms input sent)
 
 -- the actor's own deeds go on by its input
-pub deeds-taken : (a : ℕ) (h : List Entry) (input : Given) → WasSentTo a (mail h) input → deeds a [] (h ++ marked a (step_of input) ∷ []) ≡ deeds a [] h ++ Takes input ∷ []
+pub deeds-taken : (a : ℕ) (h : List Entry) (input : Input) → WasSentTo a (mail h) input → deeds a [] (h ++ marked a (step_of input) ∷ []) ≡ deeds a [] h ++ Takes input ∷ []
 deeds-taken a h input sent =
     deeds-append a [] h (marked a (step_of input) ∷ [])
     ∙ ap (λ (v : List Deed). deeds a [] h ++ v) (deeds-input a (mail h) input sent)

@@ -1,1 +1,2 @@
+pub mod GrownMail
 pub mod Growth

@@ -1,5 +1,6 @@
 -- The counted quantities of a history, and the records that it wrote.
-use Rattle.std.specs.Prelude.{ℕ, ◌+◌, ◌==◌, cond, List, Option, Some, None, is_some, length, count_by, drop, fold, sum_by}
+use Rattle.std.specs.Prelude.{ℕ, ◌+◌, ◌==◌, cond, List, Option, Some, None, is_some, length, count_by, drop, fold}
+use Rattle.std.specs.Prelude.{sum_by}
 use Rattle.std.specs.List.{filter_map}
 use Rattle.qc_entry.specs.declared.line.Op.{Op}
 use Rattle.qc_entry.specs.declared.record.Commit.{Commit}

@@ -8,8 +8,8 @@ use Rattle.qc_msg.specs.declared.record.Record.{Record}
 use Rattle.qc_msg.specs.declared.reply.Reply.{Reply}
 use Rattle.qc_msg.specs.declared.step.Fall.{Fall}
 use Rattle.qc_msg.specs.declared.step.Fall.TheVariants as causes
-use Rattle.qc_msg.specs.declared.step.Given.{Given}
-use Rattle.qc_msg.specs.declared.step.Given.TheVariants as given
+use Rattle.qc_msg.specs.declared.step.Input.{Input}
+use Rattle.qc_msg.specs.declared.step.Input.TheVariants as inputs
 use Rattle.qc_msg.specs.declared.step.Step.{Step}
 use Rattle.qc_msg.specs.declared.step.Step.TheVariants as steps
 use Rattle.qc_msg.specs.declared.turn.Appended.{Appended}
@@ -50,7 +50,7 @@ envelopes from n (p ∷ ps) =
 -- what an actor does: it takes an input, a message in full; it writes a record; it sends a message; it tells a reply;
 -- it falls, with the record that was being written, if one was; it rises with the records that its journal gave
 pub data Deed : Type 0 where
-  Takes : (given : Given) → Deed
+  Takes : (given : Input) → Deed
   Writes : (written : Record) → Deed
   Sends : (number to : ℕ) (message : Message) → Deed
   Tells : (reply : Reply) → Deed
@@ -59,7 +59,7 @@ pub data Deed : Type 0 where
 
 abbrev pub heard : Option Envelope → List Deed
 heard None = []
-heard (Some envelope) = Takes (given.Got envelope) ∷ []
+heard (Some envelope) = Takes (inputs.Got envelope) ∷ []
 
 -- what a step does, the messages so far being ms; where a journal is damaged its actor stays down
 abbrev pub deed_at : List Envelope → Step → List Deed
@@ -67,9 +67,9 @@ deed_at ms (steps.Phase k) = []
 deed_at ms (steps.Cut x y) = []
 deed_at ms (steps.Heal x y) = []
 deed_at ms (steps.Armed actor kind at) = []
-deed_at ms (steps.Called command) = Takes (given.Called command) ∷ []
+deed_at ms (steps.Called command) = Takes (inputs.Called command) ∷ []
 deed_at ms (steps.Got n) = heard (slice_get ms n)
-deed_at ms (steps.Lost n) = Takes (given.Lost n) ∷ []
+deed_at ms (steps.Lost n) = Takes (inputs.Lost n) ∷ []
 deed_at ms (steps.Wrote written) = Writes written ∷ []
 deed_at ms (steps.Sent n to message) = Sends n to message ∷ []
 deed_at ms (steps.Told reply) = Tells reply ∷ []
@@ -112,7 +112,7 @@ deeds_as Failed n turn =
 deeds_as Stopped n turn = tells_of turn.failed_told ++ Falls causes.Stop turn.write ∷ []
 
 -- where the input is a message, it is the one that was sent to actor a under its number
-abbrev pub WasSentTo : ℕ → List Envelope → Given → Type 0
-WasSentTo a ms (given.Called command) = Unit {0}
-WasSentTo a ms (given.Got envelope) = (slice_get ms envelope.number ≡ Some envelope) × (envelope.to ≡ a)
-WasSentTo a ms (given.Lost number) = Unit {0}
+abbrev pub WasSentTo : ℕ → List Envelope → Input → Type 0
+WasSentTo a ms (inputs.Called command) = Unit {0}
+WasSentTo a ms (inputs.Got envelope) = (slice_get ms envelope.number ≡ Some envelope) × (envelope.to ≡ a)
+WasSentTo a ms (inputs.Lost number) = Unit {0}

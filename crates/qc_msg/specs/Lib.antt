@@ -7,3 +7,4 @@ pub mod Fallen
 pub mod Calls
 pub mod Begun
 pub mod Readings
+pub mod InputReadings

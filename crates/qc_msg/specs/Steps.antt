@@ -5,8 +5,8 @@ use Rattle.qc_msg.specs.declared.record.Record.{Record}
 use Rattle.qc_msg.specs.declared.reply.Reply.{Reply}
 use Rattle.qc_msg.specs.declared.step.Fall.{Fall}
 use Rattle.qc_msg.specs.declared.step.Fall.TheVariants as causes
-use Rattle.qc_msg.specs.declared.step.Given.{Given}
-use Rattle.qc_msg.specs.declared.step.Given.TheVariants as given
+use Rattle.qc_msg.specs.declared.step.Input.{Input}
+use Rattle.qc_msg.specs.declared.step.Input.TheVariants as inputs
 use Rattle.qc_msg.specs.declared.step.Step.{Step}
 use Rattle.qc_msg.specs.declared.step.Step.TheVariants.{Called, Got, Lost, Wrote, Sent, Told, Fell}
 use Rattle.qc_msg.specs.declared.turn.Appended.{Appended}
@@ -27,10 +27,10 @@ by a [] = []
 by a (x ∷ xs) = marked a x ∷ by a xs
 
 -- the step by which an actor takes its input
-abbrev pub step_of : Given → Step
-step_of (given.Called command) = Called command
-step_of (given.Got envelope) = Got envelope.number
-step_of (given.Lost number) = Lost number
+abbrev pub step_of : Input → Step
+step_of (inputs.Called command) = Called command
+step_of (inputs.Got envelope) = Got envelope.number
+step_of (inputs.Lost number) = Lost number
 
 -- the steps of a turn, where its record was written or it has none: the record, the messages, which have the numbers
 -- from n on, and the reply

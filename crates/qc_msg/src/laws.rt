@@ -9,14 +9,14 @@ ghost use Rattle.qc_msg.specs.Deeds.{Takes, WasSentTo, deeds, mail, turn_deeds};
 ghost use Rattle.qc_msg.specs.Fallen.{commit, risen, risen_again, rewritten};
 ghost use Rattle.qc_msg.specs.declared.record.Record.TheVariants as records;
 ghost use Rattle.qc_msg.specs.Steps.{Entry, by, marked, posted, step_of};
-ghost use Rattle.qc_msg.specs.declared.step.Given.{Given};
+ghost use Rattle.qc_msg.specs.declared.step.Input.{Input};
 ghost use Rattle.qc_msg.specs.declared.step.Step.{Step};
 ghost use Rattle.qc_msg.specs.declared.turn.Turn.{Turn};
 
 /// An actor's deeds go on by its own input, and by its own turn, and stay
 /// where another goes on.
 pub fn deeds_go_on()
-    ensures input { (a : ℕ) (h : List Entry) (given : Given) → WasSentTo a (mail h) given
+    ensures input { (a : ℕ) (h : List Entry) (given : Input) → WasSentTo a (mail h) given
         → deeds a [] (h ++ marked a (step_of given) ∷ []) ≡ deeds a [] h ++ Takes given ∷ [] }
     ensures turn { (a first : ℕ) (h : List Entry) (turn : Turn)
         → deeds a [] (h ++ by a (posted first turn)) ≡ deeds a [] h ++ turn_deeds first turn }

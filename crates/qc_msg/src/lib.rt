@@ -42,6 +42,6 @@ pub use laws::{
 };
 pub use message::{Answer, Envelope, Message, Outcome, PreparedList, Want};
 pub use record::{Record, Records};
-pub use reply::{Half, Reply, Why};
-pub use step::{Command, Control, Entry, Fall, Given, Step, What};
+pub use reply::{AbortCause, Half, Reply};
+pub use step::{Command, Control, Entry, Fall, Input, Quantity, Step};
 pub use turn::{Appended, Posting, Sends, Turn};

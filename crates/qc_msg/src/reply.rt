@@ -15,7 +15,7 @@ pub enum Half {
 
 /// Why a transaction was aborted at its commit.
 #[derive(Clone, Copy, Debug, PartialEq, Eq)]
-pub enum Why {
+pub enum AbortCause {
     /// A `do` of it was refused while appending.
     Doomed,
     /// A participant isn't in the life of its first grant any more.
@@ -56,7 +56,7 @@ pub enum Reply {
     /// `do`: the response.
     Response { resp: u8 },
     /// `commit`: the transaction didn't commit.
-    Aborted { why: Why },
+    Aborted { why: AbortCause },
     /// `commit`: its record wasn't seen to be written.
     Unknown,
     /// `commit`: the transaction committed, with this stamp.

@@ -96,7 +96,7 @@ pub type Entry = Marked<Step>;
 
 /// What an actor takes.
 #[derive(Drop)]
-pub enum Given {
+pub enum Input {
     /// A command.
     Called(Command),
     /// A message.
@@ -107,7 +107,7 @@ pub enum Given {
 
 /// A counted quantity of a history, which has a limit.
 #[derive(Clone, Copy, Debug, PartialEq, Eq)]
-pub enum What {
+pub enum Quantity {
     /// Steps.
     Steps,
     /// Committed operations with a response.

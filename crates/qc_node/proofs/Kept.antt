@@ -6,7 +6,7 @@ use Rattle.qc_core.specs.Conduct.{IsLawfulWithFalls}
 use Rattle.qc_decl.specs.Actors.{actors}
 use Rattle.qc_decl.specs.declared.declaration.Declaration.{Declaration}
 use Rattle.qc_msg.specs.Deeds.{deeds}
-use Rattle.qc_msg.specs.declared.step.Given.{Given}
+use Rattle.qc_msg.specs.declared.step.Input.{Input}
 use Rattle.qc_msg.specs.declared.step.Step.{Step}
 use Rattle.qc_pass.specs.declared.token.Pass.{Pass}
 use Rattle.qc_pass.specs.Tokens.{number, room, seen}
@@ -28,9 +28,13 @@ module _ (tells : Bool) (decl : Declaration) (p q : Pass Step) where
   left_over_others s saw (inl is) =
       inl (stored_past_others tells decl (number p) (seen p) (seen q) s (saw_goes p q saw) is)
   left_over_others s saw (inr both) =
-      inr (both.0, on_disk_past_others tells decl (number p) (seen p) (seen q) s.told s.fuse.unarmed (saw_goes p q saw) both.1)
+      inr (
+        both.0,
+        on_disk_past_others tells decl (number p) (seen p) (seen q) s.told s.fuse.unarmed
+            (saw_goes p q saw) both.1,
+      )
 
-  left_over_input : (script : Script) (g : Given) (s : StoreView)
+  left_over_input : (script : Script) (g : Input) (s : StoreView)
       → Takes (IsLawfulWithFalls decl) (fits_of decl) decl script p q g
       → IsLeft tells decl (number p) (seen p) s → IsLeft tells decl (number p) (seen q) s
   left_over_input script g s took (inl is) =
@@ -64,30 +68,31 @@ module _ (tells : Bool) (decl : Declaration) (p q : Pass Step) where
       known = known_over_others b pr saw cell.known;
     }
 
-    module _ (script : Script) (g : Given) (took : Takes (IsLawfulWithFalls decl) (fits_of decl) decl script p q g) where
-      -- its actor took an input, and is given up
-      pub cell_over_input : (new : ProcessView) → new.store ≡ pr.store → IsCell tells z decl true new q
-      cell_over_input new same = record {
-        table_is = took.pass.table_is ∙ cell.table_is;
-        is_actor = subst (λ (n : ℕ). n < actors decl) (sym took.pass.number_is) cell.is_actor;
-        no_room = took.room_is ∙ cell.no_room;
-        known =
-            subst (λ (n : ℕ). IsLeft tells decl n (seen q) new.store) (sym took.pass.number_is)
-            (subst (λ (s : StoreView). IsLeft tells decl (number p) (seen q) s) (sym same)
-            (left_over_input script g pr.store took (known_left b pr cell.known)));
-      }
+    module _ (script : Script) (g : Input) (took : Takes (IsLawfulWithFalls decl) (fits_of decl) decl script p q g)
+      where
+        -- its actor took an input, and is given up
+        pub cell_over_input : (new : ProcessView) → new.store ≡ pr.store → IsCell tells z decl true new q
+        cell_over_input new same = record {
+          table_is = took.pass.table_is ∙ cell.table_is;
+          is_actor = subst (λ (n : ℕ). n < actors decl) (sym took.pass.number_is) cell.is_actor;
+          no_room = took.room_is ∙ cell.no_room;
+          known =
+              subst (λ (n : ℕ). IsLeft tells decl n (seen q) new.store) (sym took.pass.number_is)
+              (subst (λ (s : StoreView). IsLeft tells decl (number p) (seen q) s) (sym same)
+              (left_over_input script g pr.store took (known_left b pr cell.known)));
+        }
 
-      -- likewise, with a store that stands as the history tells
-      pub cell_stored : (new : ProcessView) → IsStored tells decl (number p) (seen q) new.store
-          → IsCell tells z decl true new q
-      cell_stored new is = record {
-        table_is = took.pass.table_is ∙ cell.table_is;
-        is_actor = subst (λ (n : ℕ). n < actors decl) (sym took.pass.number_is) cell.is_actor;
-        no_room = took.room_is ∙ cell.no_room;
-        known =
-            subst (λ (n : ℕ). IsLeft tells decl n (seen q) new.store) (sym took.pass.number_is)
-            (let at : IsLeft tells decl (number p) (seen q) new.store = inl is in at);
-      }
+        -- likewise, with a store that stands as the history tells
+        pub cell_stored : (new : ProcessView) → IsStored tells decl (number p) (seen q) new.store
+            → IsCell tells z decl true new q
+        cell_stored new is = record {
+          table_is = took.pass.table_is ∙ cell.table_is;
+          is_actor = subst (λ (n : ℕ). n < actors decl) (sym took.pass.number_is) cell.is_actor;
+          no_room = took.room_is ∙ cell.no_room;
+          known =
+              subst (λ (n : ℕ). IsLeft tells decl n (seen q) new.store) (sym took.pass.number_is)
+              (let at : IsLeft tells decl (number p) (seen q) new.store = inl is in at);
+        }
 
 -- nothing was ready
 

@@ -1,5 +1,5 @@
--- Who is named by the control line that may be done next, and what is known of that actor: it is up where it is to fall,
--- and down where it is to rise.
+-- Who is named by the control line that may be done next, and what is known of that actor: it is up where it is to
+-- fall, and down where it is to rise.
 use Rattle.std.proofs.Common.{◌≡◌, ℕ, ◌<◌, ◌≤◌, not, Bool, true, false, List, [], ◌∷◌, Some, slice_get, fold}
 use Rattle.std.proofs.Common.{refl, sym, ap, ◌∙◌, arith, subst}
 use Rattle.qc_core.specs.Actors.{actor_after}
@@ -12,7 +12,7 @@ use Rattle.qc_decl.specs.declared.declaration.Declaration.{Declaration}
 use Rattle.qc_inbox.specs.Downs.{down_at}
 use Rattle.qc_inbox.proofs.FallLaws.{crashes_up, restarts_down, up_by_deeds}
 use Rattle.qc_link.specs.Limits.{most_actors}
-use Rattle.qc_laws.proofs.Downs.{tells}
+use Rattle.laws_turns.proofs.Downs.{tells}
 use Rattle.qc_msg.specs.Deeds.{Deed, Falls, Rises, Sends, Takes, Tells, Writes, deeds}
 use Rattle.qc_msg.specs.Steps.{Entry}
 use Rattle.qc_msg.specs.declared.step.Control.{Control}
@@ -23,28 +23,32 @@ use Rattle.qc_script.specs.Ready.{controls_left}
 use Rattle.qc_script.specs.RunsWithFalls.{RunsWithFalls}
 use Rattle.qc_script.specs.Sound.{IsControlFor}
 use Rattle.qc_script.specs.declared.script.Script.{Script}
-use Rattle.qc_bounds.proofs.SettledLines.{next_sound}
+use Rattle.laws_bounds.proofs.SettledLines.{next_sound}
 use Rattle.qc_fabric.specs.Advances.{WasNext}
 use Rattle.qc_fabric.specs.Controls.{MayDo}
 use Rattle.qc_node.specs.Runnable.{IsRunnable}
 use Rattle.qc_node.specs.Rules.{fits_of}
 
-module _ (decl : Declaration) (script : Script) (runs : IsRunnable decl script) (h : List Entry) (inputs : List Bool) where
+module _ (decl : Declaration) (script : Script) (runs : IsRunnable decl script) (h : List Entry)
+    (inputs : List Bool) where
   next_for : (line : Control) → slice_get (controls_left script h) 0 ≡ Some line → IsControlFor decl line
   next_for line is = next_sound decl script h line runs.declared is
 
   pub armed_below : (a : ℕ) (kind : ArmKind) (at : ℕ) → MayDo decl script h inputs (controls.Armed a kind at)
       → a < actors decl
-  armed_below a kind at may = let within : a ≤ administrator decl = (next_for (controls.Armed a kind at) may.next).0 in omega (arith, within)
+  armed_below a kind at may = let within : a ≤ administrator decl = (next_for (controls.Armed a kind at) may.next).0 in
+      omega (arith, within)
 
   pub armed_counted : (a : ℕ) (kind : ArmKind) (at : ℕ) → MayDo decl script h inputs (controls.Armed a kind at) → 1 ≤ at
   armed_counted a kind at may = (next_for (controls.Armed a kind at) may.next).1.0
 
   pub crashed_below : (a : ℕ) → MayDo decl script h inputs (controls.Crash a) → a < actors decl
-  crashed_below a may = let within : a ≤ administrator decl = next_for (controls.Crash a) may.next in omega (arith, within)
+  crashed_below a may = let within : a ≤ administrator decl = next_for (controls.Crash a) may.next in
+      omega (arith, within)
 
   pub restarted_below : (a : ℕ) → MayDo decl script h inputs (controls.Restart a) → a < actors decl
-  restarted_below a may = let within : a ≤ administrator decl = next_for (controls.Restart a) may.next in omega (arith, within)
+  restarted_below a may = let within : a ≤ administrator decl = next_for (controls.Restart a) may.next in
+      omega (arith, within)
 
 -- the line that was next at some time names an actor
 
@@ -81,7 +85,8 @@ first_of [] line is = absurd (let no : ⊥ = cc in no)
 first_of (x ∷ later) line is = (later, ap (λ (l : Control). l ∷ later) (let same : x ≡ line = cc in same))
 
 module _ (decl : Declaration) (script : Script) (few : actors decl ≤ most_actors) (h : List Entry) (inputs : List Bool)
-    (run : RunsWithFalls (IsLawfulWithFalls decl) (fits_of decl) decl script h inputs) (a : ℕ) (low : a < actors decl) where
+    (run : RunsWithFalls (IsLawfulWithFalls decl) (fits_of decl) decl script h inputs) (a : ℕ)
+    (low : a < actors decl) where
   by_deeds : is_up (deeds a [] h) ≡ is_up_in (inbox script 0 h).up a
   by_deeds =
       up_or_down true false (deeds a [] h) refl

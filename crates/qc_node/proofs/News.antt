@@ -2,7 +2,7 @@
 use Rattle.std.proofs.Common.{◌≡◌, ℕ, suc, ◌+◌, ◌<◌, List, [], ◌∷◌, ◌++◌, length, length-append, Some}
 use Rattle.std.proofs.Common.{refl, sym, ap, ◌∙◌, subst, arith, slice_get}
 use Rattle.atomic_table.specs.Seated.{TableId}
-use Rattle.qc_laws.proofs.Places.{slice_get-last, slice_get-more}
+use Rattle.laws_turns.proofs.Places.{slice_get-last, slice_get-more}
 use Rattle.qc_msg.specs.declared.step.Step.{Step}
 use Rattle.qc_pass.specs.declared.token.Pass.{Pass}
 use Rattle.qc_pass.specs.Made.{AreNew, IsNew}

@@ -82,7 +82,8 @@ module _ (tells : Bool) (z : TableId) (decl : Declaration) (p : Pass Step) (pr :
               now_is =
                   arms.seen_is
                   ∙ (arms.new_is
-                  ∙ ap (λ (l : List Entry). l ++ marked (controller decl) (steps.Armed (number p) kind at) ∷ []) arms.old_is);
+                  ∙ ap (λ (l : List Entry). l ++ marked (controller decl) (steps.Armed (number p) kind at) ∷ [])
+                  arms.old_is);
             })
             cell.known.stored;
       })
@@ -101,7 +102,8 @@ module _ (tells : Bool) (z : TableId) (decl : Declaration) (p : Pass Step) (pr :
         actor_is =
             actor_is
             ∙ sym (ap (λ (ds : List Deed). (actor_after decl (number p) ds).actor) fell.does
-            ∙ ap (λ (m : ActorMove). m.actor) (falls decl (number p) (deeds (number p) [] (seen p)) causes.Script None));
+            ∙ ap (λ (m : ActorMove). m.actor) (falls decl (number p)
+            (deeds (number p) [] (seen p)) causes.Script None));
         stored =
             goes (number p) tells (seen p) (seen q)
             (record {

@@ -11,7 +11,7 @@ use Rattle.qc_decl.specs.Actors.{actors}
 use Rattle.qc_decl.specs.declared.declaration.Declaration.{Declaration}
 use Rattle.qc_msg.specs.Steps.{Entry, HasRecord, MayEnd, posted_as}
 use Rattle.qc_msg.specs.declared.record.Record.{Record}
-use Rattle.qc_msg.specs.declared.step.Given.{Given}
+use Rattle.qc_msg.specs.declared.step.Input.{Input}
 use Rattle.qc_msg.specs.declared.step.Step.{Step}
 use Rattle.qc_msg.specs.declared.turn.Appended.{Appended}
 use Rattle.qc_msg.specs.declared.turn.Appended.TheVariants.{Done, Failed, Stopped}
@@ -28,7 +28,8 @@ use Rattle.qc_node.specs.Runnable.{IsRunnable}
 use Rattle.qc_node.specs.Cells.{IsCell}
 use Rattle.qc_node.specs.Rules.{fits_of}
 use Rattle.qc_node.proofs.Kept.{cell_stored}
-use Rattle.qc_node.proofs.Served.{few_asked, few_open, may_write, posts_go, process_last, short_after, stored_now, stored_then}
+use Rattle.qc_node.proofs.Served.{few_asked, few_open, may_write, posts_go, process_last, short_after, stored_now}
+use Rattle.qc_node.proofs.Served.{stored_then}
 
 -- only a turn with a record ends otherwise than done
 ends_so : (w : Option Record) (end : Appended) (spelling : Option (List ℕ)) → spelling ≡ option_map spelled w
@@ -71,7 +72,7 @@ is_spelled took prepared turn is = record {
 }
 
 module _ (tells : Bool) (z : TableId) (decl : Declaration) (script : Script) (runs : IsRunnable decl script)
-    (p q : Pass Step) (g : Given) (b : Bool) (pr : ProcessView) (cell : IsCell tells z decl b pr p)
+    (p q : Pass Step) (g : Input) (b : Bool) (pr : ProcessView) (cell : IsCell tells z decl b pr p)
     (known : IsProcess tells decl (number p) (seen p) pr)
     (took : Takes (IsLawfulWithFalls decl) (fits_of decl) decl script p q g)
     (after : ProcessView) (turn : Turn) (acted : actor_takes decl pr.actor g ≡ moved after.actor turn)
@@ -85,7 +86,8 @@ module _ (tells : Bool) (z : TableId) (decl : Declaration) (script : Script) (ru
   stored_as : (s : StoreView) → s.told ≡ after.store.told → s.fuse ≡ after.store.fuse
       → s.journal ≡ after.store.journal → IsStored tells decl (number p) (seen q) s
   stored_as s told fuse journal =
-      stored_then tells decl script runs.accepted runs.declared p q g cell.is_actor took pr known after.actor turn acted s
+      stored_then tells decl script runs.accepted runs.declared p q g cell.is_actor took pr known after.actor turn acted
+      s
       (told ∙ ap (λ (x : StoreView). x.told) store_is) (fuse ∙ ap (λ (x : StoreView). x.fuse) store_is)
       (journal ∙ ap (λ (x : StoreView). x.journal) store_is)
 
@@ -112,7 +114,8 @@ module _ (tells : Bool) (z : TableId) (decl : Declaration) (script : Script) (ru
       pub few_then : AsksFew new.actor
       few_then =
           few_ended end after.actor new.actor
-          (few_asked tells decl script runs.accepted runs.declared p q g cell.is_actor took pr known after.actor turn acted)
+          (few_asked tells decl script runs.accepted runs.declared p q g cell.is_actor took pr known after.actor turn
+          acted)
           (λ is. done is ∙ spelt.actor_is) fallen
 
       module _ (p2 r : Pass Step) (saw : Sees q p2) (first : ℕ)
@@ -125,7 +128,8 @@ module _ (tells : Bool) (z : TableId) (decl : Declaration) (script : Script) (ru
         stored_last =
             goes tells decl (number p2) (seen p2) (seen r) (record turn { append = end }) first
             (record { legal = legal_pending turn.write after.store may; spelling_is = spelt.spelling_is })
-            (posts_go tells decl script runs.accepted runs.declared p q g cell.is_actor took pr known after.actor turn acted
+            (posts_go tells decl script runs.accepted runs.declared p q g cell.is_actor took pr known after.actor turn
+            acted
             p2 saw r end first posts)
             (stored_now tells decl script runs.accepted runs.declared p q g cell.is_actor took pr known after.actor turn
             acted p2 saw prepared.store stored)
@@ -144,6 +148,7 @@ module _ (tells : Bool) (z : TableId) (decl : Declaration) (script : Script) (ru
               subst (λ (x : ProcessView). IsProcess tells decl (number r) (seen r) x)
               (sym (is ∙ ap (λ (n : ℕ). record new { number = n; actor = actor_sent new.actor first })
               (same ∙ (spelt.number_is ∙ number_is))))
-              (process_last tells decl script runs.accepted runs.declared p q g cell.is_actor took pr known after.actor turn
+              (process_last tells decl script runs.accepted runs.declared p q g cell.is_actor took pr known after.actor
+              turn
               acted p2 saw r end first posts new.actor new.store (λ e. done e ∙ spelt.actor_is) fallen stored_last);
         }

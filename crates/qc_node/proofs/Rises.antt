@@ -5,10 +5,10 @@ use Rattle.std.specs.Prelude.{IfSome}
 use Rattle.std.specs.List.{AllByRecursion as Every}
 use Rattle.std.proofs.lemmas.Bool.{and_parts}
 use Rattle.std.proofs.lemmas.List.{append-nil}
-use Rattle.qc_bounds.specs.Calls.{IsRisingShort}
-use Rattle.qc_bounds.specs.Fitting.{AllFit}
-use Rattle.qc_bounds.proofs.AtOnce.{risen_sent}
-use Rattle.qc_bounds.proofs.Rising.{risen_asks_few, risen_turn_short}
+use Rattle.laws_bounds.specs.Calls.{IsRisingShort}
+use Rattle.laws_bounds.specs.Fitting.{AllFit}
+use Rattle.laws_bounds.proofs.AtOnce.{risen_sent}
+use Rattle.laws_bounds.proofs.Rising.{risen_asks_few, risen_turn_short}
 use Rattle.qc_core.specs.declared.actor.Actor.{Actor}
 use Rattle.qc_core.specs.declared.actor.Actor.TheVariants as actors_of
 use Rattle.qc_core.specs.Actors.{ActorMove, AsksFew, actor_after, actor_rises, actor_sent, moved}
@@ -23,7 +23,7 @@ use Rattle.qc_link.specs.Limits.{most_actors}
 use Rattle.qc_list.proofs.Members.{every-weaker}
 use Rattle.qc_msg.specs.Deeds.{Deed, Rises as RisesDeed, deeds, deeds_as, mail}
 use Rattle.qc_msg.specs.Steps.{Entry, HasRecord, MayEnd, by, posted_as}
-use Rattle.qc_msg.proofs.Growth.{length-mail}
+use Rattle.qc_msg.proofs.GrownMail.{length-mail}
 use Rattle.qc_msg.specs.declared.record.Record.{Record}
 use Rattle.qc_msg.specs.declared.step.Step.{Step}
 use Rattle.qc_msg.specs.declared.step.Step.TheVariants as steps

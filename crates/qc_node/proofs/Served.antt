@@ -15,15 +15,15 @@ use Rattle.qc_decl.specs.Actors.{actors}
 use Rattle.qc_decl.specs.Limits.{most_steps}
 use Rattle.qc_decl.specs.declared.declaration.Declaration.{Declaration}
 use Rattle.qc_msg.specs.declared.record.Record.{Record}
-use Rattle.qc_msg.specs.declared.step.Given.{Given}
-use Rattle.qc_msg.specs.declared.step.Given.TheVariants as given
+use Rattle.qc_msg.specs.declared.step.Input.{Input}
+use Rattle.qc_msg.specs.declared.step.Input.TheVariants as inputs
 use Rattle.qc_msg.specs.declared.step.Step.{Step}
 use Rattle.qc_msg.specs.declared.turn.Appended.{Appended}
 use Rattle.qc_msg.specs.declared.turn.Appended.TheVariants.{Done}
 use Rattle.qc_msg.specs.declared.turn.Turn.{Turn}
 use Rattle.qc_msg.specs.Deeds.{Deed, Takes as TakesInput, deeds, deeds_as, mail}
 use Rattle.qc_msg.specs.Steps.{Entry, HasRecord, MayEnd, by, marked, posted_as, step_of}
-use Rattle.qc_msg.proofs.Growth.{length-mail}
+use Rattle.qc_msg.proofs.GrownMail.{length-mail}
 use Rattle.qc_pass.specs.declared.token.Pass.{Pass}
 use Rattle.qc_pass.specs.Tokens.{number, seen}
 use Rattle.qc_process.specs.Goes.{Goes}
@@ -34,8 +34,8 @@ use Rattle.qc_process.proofs.Going.{plain_on}
 use Rattle.qc_process.proofs.Plain.{ArePlain}
 use Rattle.qc_script.specs.Sound.{IsScriptFor}
 use Rattle.qc_script.specs.declared.script.Script.{Script}
-use Rattle.qc_bounds.proofs.TurnsSpelled.{turn_spelled}
-use Rattle.qc_fabric.specs.Stills.{most_history}
+use Rattle.laws_bounds.proofs.TurnsSpelled.{turn_spelled}
+use Rattle.qc_fabric.specs.FabricStates.{most_history}
 use Rattle.qc_fabric.specs.Tells.{GoesToActors, Posts, Sees, Takes}
 use Rattle.qc_fabric.proofs.Limits.{none_reached}
 use Rattle.qc_node.specs.Cells.{IsServed}
@@ -45,7 +45,7 @@ use Rattle.qc_node.proofs.Turns.{asks_few, fits, numbered, readable, short_faile
 
 -- what others did, and then the input
 
-pub took_goes : (decl : Declaration) (script : Script) (p q : Pass Step) (g : Given)
+pub took_goes : (decl : Declaration) (script : Script) (p q : Pass Step) (g : Input)
     → Takes (IsLawfulWithFalls decl) (fits_of decl) decl script p q g → Goes (number p) (seen p) (step_of g ∷ []) (seen q)
 took_goes decl script p q g took = record { others = took.others; not_own = took.not_own; now_is = took.seen_is }
 
@@ -54,14 +54,14 @@ took_goes decl script p q g took = record { others = took.others; not_own = took
 pub saw_goes : (p q : Pass Step) → Sees p q → Goes (number p) (seen p) [] (seen q)
 saw_goes p q saw = record { others = saw.others; not_own = saw.not_own; now_is = saw.seen_is ∙ sym (append-nil (seen p ++ saw.others)) }
 
-plain_input : (g : Given) → ArePlain (step_of g ∷ [])
-plain_input (given.Called command) = (refl, tt)
-plain_input (given.Got e) = (refl, tt)
-plain_input (given.Lost n) = (refl, tt)
+plain_input : (g : Input) → ArePlain (step_of g ∷ [])
+plain_input (inputs.Called command) = (refl, tt)
+plain_input (inputs.Got e) = (refl, tt)
+plain_input (inputs.Lost n) = (refl, tt)
 
 -- so a store stays as it was, but for the spelling
 
-pub stored_over_input : (tells : Bool) (decl : Declaration) (a : ℕ) (h now : List Entry) (g : Given)
+pub stored_over_input : (tells : Bool) (decl : Declaration) (a : ℕ) (h now : List Entry) (g : Input)
     (s new : StoreView) → new.told ≡ s.told → new.fuse ≡ s.fuse → new.journal ≡ s.journal
     → Goes a h (step_of g ∷ []) now → IsStored tells decl a h s → IsStored tells decl a now new
 stored_over_input tells decl a h now g s new told fuse journal goes is =
@@ -90,7 +90,7 @@ few_open h s tells decl a short is = by s.journal refl
 -- an actor took an input: what its calls ask
 
 module _ (tells : Bool) (decl : Declaration) (script : Script) (accepted : IsAccepted decl)
-    (sound : IsScriptFor decl script) (p q : Pass Step) (g : Given) (low : number p < actors decl)
+    (sound : IsScriptFor decl script) (p q : Pass Step) (g : Input) (low : number p < actors decl)
     (took : Takes (IsLawfulWithFalls decl) (fits_of decl) decl script p q g) where
   short_before : length (seen p ++ took.others) < most_steps
   short_before = (none_reached (seen p ++ took.others) took.below).steps

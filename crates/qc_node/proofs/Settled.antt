@@ -15,15 +15,15 @@ use Rattle.qc_script.specs.declared.script.Script.{Script}
 use Rattle.qc_fabric.specs.Events.{before_last_event, begins_event}
 use Rattle.qc_fabric.specs.Logs.{full_of}
 use Rattle.qc_fabric.proofs.Limits.{none_reached}
-use Rattle.qc_bounds.specs.Faults.{AreControlsBelow, AreFaultsBelow}
-use Rattle.qc_bounds.specs.Limits.{IsDamagedWithin}
-use Rattle.qc_bounds.specs.Places.{HoldJournals}
-use Rattle.qc_bounds.proofs.BackPlaces.{all_back}
-use Rattle.qc_bounds.proofs.Counted.{all_visited}
-use Rattle.qc_bounds.proofs.Falls.{all_below_spent}
-use Rattle.qc_bounds.proofs.Kept.{run_kept}
-use Rattle.qc_bounds.proofs.Limits.{damage_within}
-use Rattle.qc_bounds.proofs.RunFaults.{run_faults, script_sound}
+use Rattle.laws_bounds.specs.Faults.{AreControlsBelow, AreFaultsBelow}
+use Rattle.laws_bounds.specs.Limits.{IsDamagedWithin}
+use Rattle.laws_bounds.specs.Places.{HoldJournals}
+use Rattle.laws_bounds.proofs.BackPlaces.{all_back}
+use Rattle.laws_bounds.proofs.Counted.{all_visited}
+use Rattle.laws_bounds.proofs.Falls.{all_below_spent}
+use Rattle.laws_bounds.proofs.Kept.{run_kept}
+use Rattle.laws_bounds.proofs.Limits.{damage_is_found_within_the_limit}
+use Rattle.laws_bounds.proofs.RunFaults.{run_faults, script_sound}
 use Rattle.qc_node.specs.Runnable.{IsRunnable}
 use Rattle.qc_node.specs.Rules.{fits_of}
 use Rattle.qc_node.specs.Settling.{IsSettling}
@@ -31,7 +31,8 @@ use Rattle.qc_node.specs.Settling.{IsSettling}
 more_spent : (h : List Entry) (n m : ℕ) → n ≤ m → Spent h n → Spent h m
 more_spent h n m less spent = record { falls = omega (arith, spent.falls, less); in_time = spent.in_time }
 
-module _ (folder : Option (List ℕ)) (tells : Bool) (decl : Declaration) (script : Script) (h : List Entry) (inputs : List Bool)
+module _ (folder : Option (List ℕ)) (tells : Bool) (decl : Declaration) (script : Script) (h : List Entry)
+    (inputs : List Bool)
     (run : RunsWithFalls (IsLawfulWithFalls decl) (fits_of decl) decl script h inputs)
     (runnable : IsRunnable decl script) (rooms : List ℕ) (before now : ℕ) (places : Option Places)
     (s : IsSettling folder tells decl h rooms (controller decl) before now places) where
@@ -57,7 +58,8 @@ module _ (folder : Option (List ℕ)) (tells : Bool) (decl : Declaration) (scrip
   pub settled_kept : full_of (before_last_event h) ≡ None → tells ≡ true → Kept h
   settled_kept limits tell =
       let within : IsDamagedWithin most_steps h =
-      damage_within begins_event most_steps h (λ offset. refl) (none_reached (before_last_event h) limits).steps in
+      damage_is_found_within_the_limit begins_event most_steps h (λ offset. refl)
+      (none_reached (before_last_event h) limits).steps in
       run_kept decl script (controller decl) (fits_of decl) h inputs runnable.accepted runnable.declared few below run
       within (λ a low. s.kept tell a (visited a low))
 

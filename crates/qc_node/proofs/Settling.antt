@@ -21,12 +21,12 @@ use Rattle.qc_process.specs.Views.{ProcessView}
 use Rattle.qc_process.proofs.GivenUp.{on_disk_past_others, stored_past_others}
 use Rattle.qc_promise.specs.DiskAccount.{DiskAccount, IsEverInTime, disk_account}
 use Rattle.qc_promise.specs.Kept.{Journal, journal_of}
-use Rattle.qc_bounds.specs.Misfits.{AreKeptOrMisfits}
-use Rattle.qc_bounds.specs.Places.{AreHandedOut, JournalIsOn, place_of}
-use Rattle.qc_bounds.specs.Visits.{nobody, with_visit}
-use Rattle.qc_bounds.proofs.BackPlaces.{none_back, one_back}
-use Rattle.qc_bounds.proofs.Counted.{each_visited, none_visited, one_visited, visit_other}
-use Rattle.qc_bounds.proofs.Falls.{none_spent, one_spent}
+use Rattle.laws_bounds.specs.Misfits.{AreKeptOrMisfits}
+use Rattle.laws_bounds.specs.Places.{AreHandedOut, JournalIsOn, place_of}
+use Rattle.laws_bounds.specs.Visits.{nobody, with_visit}
+use Rattle.laws_bounds.proofs.BackPlaces.{none_back, one_back}
+use Rattle.laws_bounds.proofs.Counted.{each_visited, none_visited, one_visited, visit_other}
+use Rattle.laws_bounds.proofs.Falls.{none_spent, one_spent}
 use Rattle.qc_store.specs.Accounts.{IsCounted}
 use Rattle.qc_node.specs.Cells.{IsKnown, IsLeft}
 use Rattle.qc_node.specs.Settling.{IsSettling}
@@ -38,8 +38,10 @@ nobody_is : (a : ℕ) → nobody a ≡ true → ⊥
 nobody_is a is = cc is
 
 module _ (tells : Bool) (decl : Declaration) (h : List Entry) where
-  pub settling_none : (folder : Option (List ℕ)) (rooms : List ℕ) (before : ℕ) (places : Option Places) → is_some places ≡ tells
-      → IfSome places (AreHandedOut folder (controller decl)) → IsSettling folder tells decl h rooms 0 before before places
+  pub settling_none : (folder : Option (List ℕ)) (rooms : List ℕ) (before : ℕ) (places : Option Places)
+      → is_some places ≡ tells
+      → IfSome places (AreHandedOut folder (controller decl))
+      → IsSettling folder tells decl h rooms 0 before before places
   settling_none folder rooms before places told handed = record {
     visited = nobody;
     counted = none_visited (controller decl);
@@ -88,7 +90,8 @@ module _ (tells : Bool) (decl : Declaration) (h : List Entry) where
     new_at rooms visited none roomed true is = absurd (none_and_one (slice_get rooms a) none (roomed a is))
     new_at rooms visited none roomed false is = is
 
-    module _ (folder : Option (List ℕ)) (low : a < controller decl) (rooms : List ℕ) (none : slice_get rooms a ≡ Some 0) (now then : ℕ)
+    module _ (folder : Option (List ℕ)) (low : a < controller decl) (rooms : List ℕ) (none : slice_get rooms a ≡ Some 0)
+        (now then : ℕ)
         (added : IsKept now disk then) (old new : Option Places) (put : IsPutBack old (place_of folder a) told new)
         (count before : ℕ) (s : IsSettling folder tells decl h rooms count before now old) where
       fresh : s.visited a ≡ false
@@ -128,7 +131,8 @@ module _ (tells : Bool) (decl : Declaration) (h now : List Entry) (rooms more_ro
   pub goes_now : Goes (number p) (seen p) [] now
   goes_now = subst (Goes (number p) (seen p) []) seen_is (saw_goes p q saw)
 
-  module _ (folder : Option (List ℕ)) (actor : ℕ) (actor_is : actor ≡ number q) (low : number p < controller decl) (told : Option Told)
+  module _ (folder : Option (List ℕ)) (actor : ℕ) (actor_is : actor ≡ number q) (low : number p < controller decl)
+      (told : Option Told)
       (disk : ℕ) (on : IsOnDisk tells decl (number p) now told disk) (faults after : ℕ)
       (kept : IsKept faults disk after)
       (old new : Option Places) (put : IsPutBack old (place_of folder actor) told new) where
@@ -139,5 +143,6 @@ module _ (tells : Bool) (decl : Declaration) (h now : List Entry) (rooms more_ro
         → IsSettling folder tells decl now more_rooms (count + 1) before after new
     called_one count before s =
         subst (λ (l : List ℕ). IsSettling folder tells decl now l (count + 1) before after new) (sym called)
-        (settling_one tells decl now (number p) told disk on folder low rooms first faults after kept old new put_here count
+        (settling_one tells decl now (number p) told disk on folder low rooms first faults after kept old new put_here
+        count
         before (subst (λ (l : List Entry). IsSettling folder tells decl l rooms count before faults old) (sym same) s))

@@ -14,8 +14,8 @@ use Rattle.qc_outside.specs.declared.rack.RackFault.{RackFault}
 use Rattle.qc_outside.specs.declared.rack.RackFault.TheVariants.{Failed, NotEmpty, OutOfMemory}
 use Rattle.qc_process.specs.Stored.{IsProcess}
 use Rattle.qc_process.specs.Views.{IsUp, ProcessView}
-use Rattle.qc_bounds.specs.Places.{AreHandedOut, place_of}
-use Rattle.qc_bounds.proofs.BackPlaces.{handed_more}
+use Rattle.laws_bounds.specs.Places.{AreHandedOut, place_of}
+use Rattle.laws_bounds.proofs.BackPlaces.{handed_more}
 use Rattle.qc_node.specs.Places.{AreEmpty, BothTell, IsRefused}
 use Rattle.qc_node.specs.Starts.{AreHandedBelow, AreProcesses, AreStarted, AreUp, IsHandedBelow, IsStarted, IsUnstarted}
 use Rattle.qc_node.specs.Starts.{AreUnwritten, IsUnwritten}

@@ -27,7 +27,8 @@ same_deeds Stopped first turn = refl
 
 module _ (decl : Declaration) (a : ℕ) (ds : List Deed) (turn : Turn) (first : ℕ) (after : Actor)
     (is : (actor_after decl a ds).actor ≡ after)
-    (numbered : (actor_after decl a (ds ++ turn_deeds first turn)).actor ≡ actor_sent (actor_after decl a ds).actor first)
+    (numbered : (actor_after decl a (ds ++ turn_deeds first turn)).actor ≡ actor_sent
+    (actor_after decl a ds).actor first)
   where
     down_by : (xs : List Deed) (cause : Fall) (pending : Option Record)
         → (actor_after decl a (ds ++ (xs ++ Falls cause pending ∷ []))).actor ≡ actors_of.Down
@@ -40,7 +41,8 @@ module _ (decl : Declaration) (a : ℕ) (ds : List Deed) (turn : Turn) (first : 
     turned Done v kept down = numbered ∙ ap (λ (u : Actor). actor_sent u first) (is ∙ sym (kept refl))
     turned Failed v kept down =
         ap (λ (l : List Deed). (actor_after decl a (ds ++ l)).actor)
-        (sym (append_assoc (sends_of first turn.failed_sends) (tells_of turn.failed_told) (Falls causes.Disk turn.write ∷ [])))
+        (sym (append_assoc (sends_of first turn.failed_sends) (tells_of turn.failed_told)
+        (Falls causes.Disk turn.write ∷ [])))
         ∙ (down_by (sends_of first turn.failed_sends ++ tells_of turn.failed_told) causes.Disk turn.write
         ∙ ap (λ (u : Actor). actor_sent u first) (sym (down (λ is. let no : ⊥ = cc in no))))
     turned Stopped v kept down =

@@ -2,12 +2,12 @@
 use Rattle.std.proofs.Common.{◌≡◌, ℕ, ◌<◌, ◌≤◌, zero, suc, Bool, true, false, List, [], ◌∷◌, ◌++◌, length, Some, None}
 use Rattle.std.proofs.Common.{refl, sym, ap, ◌∙◌, subst, cond, inl, inr, slice_get, arith, eq-eqb}
 use Rattle.std.proofs.lemmas.Bool.{cases_lt}
-use Rattle.qc_bounds.specs.Calls.{IsFailedShort, IsTurnShort}
-use Rattle.qc_bounds.specs.Fitting.{AllRiseFit}
-use Rattle.qc_bounds.proofs.AtOnce.{run_sent}
-use Rattle.qc_bounds.proofs.Calling.{actor_asks_few, actor_fits, promises, turn_failed, turn_short}
-use Rattle.qc_bounds.proofs.Rising.{run_rises_fit}
-use Rattle.qc_bounds.proofs.RunsFit.{messages_fit}
+use Rattle.laws_bounds.specs.Calls.{IsFailedShort, IsTurnShort}
+use Rattle.laws_bounds.specs.Fitting.{AllRiseFit}
+use Rattle.laws_bounds.proofs.AtOnce.{run_sent}
+use Rattle.laws_bounds.proofs.Calling.{actor_asks_few, actor_fits, promises, turn_failed, turn_short}
+use Rattle.laws_bounds.proofs.Rising.{run_rises_fit}
+use Rattle.laws_bounds.proofs.RunsFit.{messages_fit}
 use Rattle.qc_core.specs.Actors.{ActorFits, AsksFew, actor_after, actor_sent}
 use Rattle.qc_core.specs.Conduct.{IsLawfulWithFalls, turn_with_falls, with_record}
 use Rattle.qc_core.proofs.ActorLaws.{other_client}
@@ -18,8 +18,8 @@ use Rattle.qc_decl.specs.declared.declaration.Declaration.{Declaration}
 use Rattle.qc_inbox.proofs.FallMail.{ready_sent}
 use Rattle.qc_list.specs.Members.{In}
 use Rattle.qc_msg.specs.declared.message.Envelope.{Envelope}
-use Rattle.qc_msg.specs.declared.step.Given.{Given}
-use Rattle.qc_msg.specs.declared.step.Given.TheVariants as given
+use Rattle.qc_msg.specs.declared.step.Input.{Input}
+use Rattle.qc_msg.specs.declared.step.Input.TheVariants as given
 use Rattle.qc_msg.specs.declared.turn.Turn.{Turn}
 use Rattle.qc_msg.specs.Deeds.{Deed, WasSentTo, deeds, mail, turn_deeds}
 use Rattle.qc_msg.specs.Steps.{Entry, MayEnd}
@@ -75,7 +75,7 @@ module _ (decl : Declaration) (script : Script) (accepted : IsAccepted decl) (a 
       → ActorFits (actor_after decl a (deeds a [] h)).actor
   fits short free = actor_fits decl script (fits_of decl) h inputs run accepted rises_fit a short free
 
-  readable_if : length h < most_steps → (g : Given) → WasSentTo a (mail h) g → IsReadable g
+  readable_if : length h < most_steps → (g : Input) → WasSentTo a (mail h) g → IsReadable g
   readable_if short (given.Called command) is = tt
   readable_if short (given.Got e) is = (
     promises decl script (fits_of decl) h inputs run e rises_fit short (in_mail (mail h) e.number e is.0),
@@ -83,7 +83,7 @@ module _ (decl : Declaration) (script : Script) (accepted : IsAccepted decl) (a 
   )
   readable_if short (given.Lost n) is = tt
 
-  pub readable : length h < most_steps → (g : Given) → ready decl script a h ≡ Some g → IsReadable g
+  pub readable : length h < most_steps → (g : Input) → ready decl script a h ≡ Some g → IsReadable g
   readable short g is =
       readable_if short g (ready_sent (IsLawfulWithFalls decl) (fits_of decl) decl script h inputs run a g is)
 

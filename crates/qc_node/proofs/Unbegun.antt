@@ -9,8 +9,8 @@ use Rattle.qc_outside.specs.Places.{HoldsNoByte, IsPutBack, Places}
 use Rattle.qc_outside.specs.declared.rack.RackFault.{RackFault}
 use Rattle.qc_outside.specs.declared.rack.RackFault.TheVariants.{Failed, NotEmpty, OutOfMemory}
 use Rattle.qc_process.specs.Opens.{IsStartRefused}
-use Rattle.qc_bounds.specs.Places.{place_of}
-use Rattle.qc_bounds.proofs.BackPlaces.{elsewhere}
+use Rattle.laws_bounds.specs.Places.{place_of}
+use Rattle.laws_bounds.proofs.BackPlaces.{elsewhere}
 use Rattle.qc_node.specs.Places.{AreGivenBack, BothTell, HasBegun, IsNotEmpty, IsRefused}
 use Rattle.qc_node.specs.Starts.{AreBackBelow, AreBackBut, AreBackFrom, AreHandedBelow, AreStarted, AreUnbegun}
 use Rattle.qc_node.specs.Starts.{AreUnstarted, IsBackFrom, IsGivenBack, IsHandedBelow, IsUnbegun, IsUnwritten}

@@ -11,8 +11,8 @@ use Rattle.qc_outside.specs.declared.rack.RackFault.{RackFault}
 use Rattle.qc_outside.specs.declared.rack.RackFault.TheVariants.{Failed, NotEmpty, OutOfMemory}
 use Rattle.qc_outside.proofs.Kept.{read_is_image}
 use Rattle.qc_promise.specs.Kept.{no_journal}
-use Rattle.qc_bounds.specs.Places.{AreHandedOut, HoldsJournal, place_of}
-use Rattle.qc_bounds.proofs.BackPlaces.{elsewhere}
+use Rattle.laws_bounds.specs.Places.{AreHandedOut, HoldsJournal, place_of}
+use Rattle.laws_bounds.proofs.BackPlaces.{elsewhere}
 use Rattle.qc_store.specs.Contents.{DiskHasJournal}
 use Rattle.qc_node.specs.Places.{AreGivenBack, BothTell, HasBegun, IsRefused}
 use Rattle.qc_node.specs.Starts.{AreBackBelow, AreBackFrom, AreHandedBelow, AreStarted, AreUnstarted, IsBackFrom}

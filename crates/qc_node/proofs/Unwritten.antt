@@ -6,8 +6,8 @@ use Rattle.std.proofs.lemmas.Bool.{eqb-false, eqb-true}
 use Rattle.qc_outside.specs.Disk.{IsKept}
 use Rattle.qc_outside.specs.Images.{Told, as_read, settled}
 use Rattle.qc_outside.specs.Places.{HoldsNoByte, IsPutBack, Place, Places, held_after}
-use Rattle.qc_bounds.specs.Places.{place_of}
-use Rattle.qc_bounds.proofs.BackPlaces.{elsewhere}
+use Rattle.laws_bounds.specs.Places.{place_of}
+use Rattle.laws_bounds.proofs.BackPlaces.{elsewhere}
 use Rattle.qc_node.specs.Places.{BothTell}
 use Rattle.qc_node.specs.Starts.{AreBackFrom, IsBackFrom, IsUnwritten}
 use Rattle.qc_node.proofs.Starts.{other_place}

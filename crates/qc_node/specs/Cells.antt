@@ -8,7 +8,7 @@ use Rattle.qc_decl.specs.Actors.{actors}
 use Rattle.qc_decl.specs.declared.declaration.Declaration.{Declaration}
 use Rattle.qc_msg.specs.Deeds.{Takes, deeds, deeds_as}
 use Rattle.qc_msg.specs.Steps.{Entry}
-use Rattle.qc_msg.specs.declared.step.Given.{Given}
+use Rattle.qc_msg.specs.declared.step.Input.{Input}
 use Rattle.qc_msg.specs.declared.step.Step.{Step}
 use Rattle.qc_msg.specs.declared.turn.Appended.{Appended}
 use Rattle.qc_pass.specs.declared.token.Pass.{Pass}
@@ -62,12 +62,13 @@ pub record IsIdle (decl : Declaration) (script : Script) (old new : Known) : Typ
 -- record; its messages have the numbers from first on.
 pub record IsServed (decl : Declaration) (old new : Known) : Type 0 where
   pub begins : IsPrefix old.seen new.seen
-  pub given : Given
+  pub given : Input
   pub end : Appended
   pub first : ℕ
   pub does : deeds new.number [] new.seen
       ≡ (deeds old.number [] old.seen ++ Takes given ∷ [])
-      ++ deeds_as end first (actor_takes decl (actor_after decl old.number (deeds old.number [] old.seen)).actor given).turn
+      ++ deeds_as end first (actor_takes decl (actor_after decl old.number (deeds old.number [] old.seen)).actor
+      given).turn
   pub up : new.given_up ≡ false
 
 abbrev pub IsTurn : Declaration → Script → Known → Known → TurnEnd → Type 0

@@ -9,7 +9,7 @@ use Rattle.qc_outside.specs.Disk.{NamesActor}
 use Rattle.qc_outside.specs.Places.{HoldsNoByte, Places}
 use Rattle.qc_outside.specs.declared.rack.RackFault.{RackFault}
 use Rattle.qc_outside.specs.declared.rack.RackFault.TheVariants as racks
-pub use Rattle.qc_bounds.specs.Places.{HoldJournals, HoldsJournal, place_of}
+pub use Rattle.laws_bounds.specs.Places.{HoldJournals, HoldsJournal, place_of}
 
 -- no actor's place holds a byte, where the rack tells
 abbrev pub AreEmpty : Option (List ℕ) → Declaration → Option Places → Type 0

@@ -1,7 +1,7 @@
 -- With which records an actor may rise.
 use Rattle.std.specs.Prelude.{◌≡◌, ℕ, true, List}
 use Rattle.std.specs.List.{AllByRecursion as Every}
-use Rattle.qc_bounds.specs.Fitting.{AllFit}
+use Rattle.laws_bounds.specs.Fitting.{AllFit}
 use Rattle.qc_decl.specs.declared.declaration.Declaration.{Declaration}
 use Rattle.qc_msg.specs.declared.record.Record.{Record}
 use Rattle.qc_record.specs.Records.{is_legal}

@@ -6,10 +6,10 @@ use Rattle.qc_msg.specs.Deeds.{own}
 use Rattle.qc_msg.specs.Steps.{Entry}
 use Rattle.qc_outside.specs.Places.{Places}
 use Rattle.qc_promise.specs.DiskAccount.{IsEverInTime}
-use Rattle.qc_bounds.specs.Falls.{IsSpentSoFar}
-use Rattle.qc_bounds.specs.Misfits.{AreKeptOrMisfits}
-use Rattle.qc_bounds.specs.Places.{AreBackSoFar}
-use Rattle.qc_bounds.specs.Visits.{visits_below}
+use Rattle.laws_bounds.specs.Falls.{IsSpentSoFar}
+use Rattle.laws_bounds.specs.Misfits.{AreKeptOrMisfits}
+use Rattle.laws_bounds.specs.Places.{AreBackSoFar}
+use Rattle.laws_bounds.specs.Visits.{visits_below}
 
 -- So many disks went back, of the actors that were visited, and so these passes have rooms: in their accounts no fault
 -- ever waited past its call, and the rack's count rose by their falls from what it was before. The rack tells where the

@@ -11,7 +11,7 @@ use Rattle.qc_outside.specs.declared.rack.RackFault.{RackFault}
 use Rattle.qc_outside.specs.declared.rack.RackFault.TheVariants as racks
 use Rattle.qc_process.specs.Stored.{IsProcess}
 use Rattle.qc_process.specs.Views.{IsUp, ProcessView}
-use Rattle.qc_bounds.specs.Places.{AreHandedOut, place_of}
+use Rattle.laws_bounds.specs.Places.{AreHandedOut, place_of}
 use Rattle.qc_node.specs.Places.{AreGivenBack, BothTell, HasBegun, IsRefused}
 
 -- the processes of the actors from 0 on, before these do anything

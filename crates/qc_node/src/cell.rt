@@ -11,7 +11,7 @@ ghost use Rattle.qc_node.specs.Cells.{IsTurn};
 use crate::ends::TurnEnd;
 use crate::rules::Rules;
 use qc_decl::Declaration;
-use qc_fabric::{Fabric, Named, Taken};
+use qc_fabric::{Fabric, RunName, Taken};
 use qc_list::OutOfMemory;
 use qc_msg::Step;
 use qc_outside::{Disk, Gate};
@@ -25,14 +25,14 @@ use std::thread::Threads;
 /// A process with its pass. Where it was given up, its disk is all that is known
 /// of it.
 #[derive(Drop)]
-pub struct Cell<D: Disk, N: Named> {
+pub struct Cell<D: Disk, N: RunName> {
     pub(crate) process: Process<D>,
     pub(crate) given_up: bool,
     pub(crate) pass: Pass<Step>,
     of: PhantomData<N>,
 }
 
-impl<D: Disk, N: Named> Model for Cell<D, N> {
+impl<D: Disk, N: RunName> Model for Cell<D, N> {
     ghost use Rattle.qc_pass.specs.Tokens.{number, seen};
     ghost use Rattle.qc_node.specs.Cells.{IsCell, Known};
 
@@ -48,7 +48,7 @@ impl<D: Disk, N: Named> Model for Cell<D, N> {
     ghost invariant = { λ c. IsCell N.tells N.table N.declaration c.given_up c.process c.pass };
 }
 
-impl<D: Disk, N: Named> Cell<D, N> {
+impl<D: Disk, N: RunName> Cell<D, N> {
     /// The cell of a pass that has seen nothing, with the process of its number
     /// before that does anything. It takes no memory.
     pub(crate) fn new(process: Process<D>, pass: Pass<Step>) -> Cell<D, N>

@@ -9,7 +9,7 @@ use crate::controller::Controller;
 use crate::ends::TurnEnd;
 use crate::rules::Rules;
 use qc_decl::Declaration;
-use qc_fabric::{Fabric, Named};
+use qc_fabric::{Fabric, RunName};
 use qc_list::OutOfMemory;
 use qc_msg::Control;
 use qc_outside::{Disk, Gate};
@@ -21,13 +21,13 @@ use std::thread::Threads;
 /// order: a cell's, the controller's, the fabric's; and no thread holds two of one
 /// kind.
 #[derive(Drop)]
-pub struct Cells<D: Disk, N: Named> {
+pub struct Cells<D: Disk, N: RunName> {
     pub(crate) cells: Vec<Mutex<Cell<D, N>>>,
     pub(crate) controller: Mutex<Controller<N>>,
     ghost whole: { vec_len cells ≡ actors N.declaration },
 }
 
-impl<D: Disk, N: Named> Cells<D, N> {
+impl<D: Disk, N: RunName> Cells<D, N> {
     /// A turn of the actor in the cell of this number.
     pub(crate) fn turn<G: Gate, R: Threads + Wait + Sync>(
         &self,

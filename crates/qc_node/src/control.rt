@@ -16,7 +16,7 @@ use crate::cell::Cell;
 use crate::controller::Controller;
 use crate::rules::Rules;
 use qc_decl::Declaration;
-use qc_fabric::{Fabric, Named, Rising, Still};
+use qc_fabric::{Fabric, FabricState, Rising, RunName};
 use qc_list::OutOfMemory;
 use qc_msg::Control;
 use qc_outside::Disk;
@@ -24,7 +24,7 @@ use qc_process::{Opened, Process};
 use std::alloc::{AllocError, Global};
 use std::sync::Wait;
 
-impl<D: Disk, N: Named> Cell<D, N> {
+impl<D: Disk, N: RunName> Cell<D, N> {
     /// A fault is armed for the actor's disk, where the next control line says so.
     /// Whether something is left: always.
     pub(crate) fn arm<R: Wait>(
@@ -40,7 +40,7 @@ impl<D: Disk, N: Named> Cell<D, N> {
         ensures number { self.new.number ≡ self.old.number }
     {
         let mut held = fabric.hold(rt);
-        let Some(Control::Armed { actor, kind, at }) = held.still.next_order(decl, last) else {
+        let Some(Control::Armed { actor, kind, at }) = held.state.next_order(decl, last) else {
             return Ok(true);
         };
         if actor != self.pass.number() {
@@ -49,7 +49,7 @@ impl<D: Disk, N: Named> Cell<D, N> {
         if self.given_up {
             return Err(AllocError);
         }
-        controller.arm(&mut held.still, &mut self.pass, kind, at)?;
+        controller.arm(&mut held.state, &mut self.pass, kind, at)?;
         self.process.arm(kind, at);
         Ok(true)
     }
@@ -67,7 +67,7 @@ impl<D: Disk, N: Named> Cell<D, N> {
         ensures number { self.new.number ≡ self.old.number }
     {
         let mut held = fabric.hold(rt);
-        let Some(Control::Crash(actor)) = held.still.next_order(decl, last) else {
+        let Some(Control::Crash(actor)) = held.state.next_order(decl, last) else {
             return Ok(true);
         };
         if actor != self.pass.number() {
@@ -76,8 +76,8 @@ impl<D: Disk, N: Named> Cell<D, N> {
         if self.given_up {
             return Err(AllocError);
         }
-        held.still.look(&mut self.pass);
-        held.still.fall(&mut self.pass)?;
+        held.state.look(&mut self.pass);
+        held.state.fall(&mut self.pass)?;
         self.process.crash();
         Ok(true)
     }
@@ -98,7 +98,7 @@ impl<D: Disk, N: Named> Cell<D, N> {
         ensures number { self.new.number ≡ self.old.number }
     {
         let mut held = fabric.hold(rt);
-        let Some(Control::Restart(actor)) = held.still.next_order(decl, last) else {
+        let Some(Control::Restart(actor)) = held.state.next_order(decl, last) else {
             return Ok(true);
         };
         if actor != self.pass.number() {
@@ -107,12 +107,12 @@ impl<D: Disk, N: Named> Cell<D, N> {
         if self.given_up {
             return Err(AllocError);
         }
-        held.still.look(&mut self.pass);
-        held.still.room(&Rising::Damaged { offset: 0 })?;
+        held.state.look(&mut self.pass);
+        held.state.room(&Rising::Damaged { offset: 0 })?;
         self.given_up = true;
-        let rising = open(alloc, decl, &mut self.process, &mut held.still)?;
+        let rising = open(alloc, decl, &mut self.process, &mut held.state)?;
         let rising = with_record(&mut self.process, rising);
-        let first = held.still.rise(&mut self.pass, rising);
+        let first = held.state.rise(&mut self.pass, rising);
         self.process.sent(first);
         self.given_up = false;
         Ok(true)
@@ -122,25 +122,25 @@ impl<D: Disk, N: Named> Cell<D, N> {
 /// The process opens its journal, where there is room for one step, which is all that
 /// an actor does that stays down. Then there is room for what was found. After want
 /// of memory the disk holds what it held.
-fn open<D: Disk, N: Named>(
+fn open<D: Disk, N: RunName>(
     alloc: Global,
     decl: &Declaration,
     process: &mut Process<D>,
-    still: &mut Still<Rules, N>,
+    state: &mut FabricState<Rules, N>,
 ) -> Result<Rising, OutOfMemory>
     requires accepted { IsAccepted decl.now }
     requires down { process.old.actor ≡ Down }
-    requires room { still.old.spare ≡ 1 }
+    requires room { state.old.spare ≡ 1 }
     ensures ok { IfOk result (λ rising. OpensAs decl.now process.old process.new (opened_of rising)) }
-    ensures room { IfOk result (λ rising. still.new.spare ≡ size_of_rising rising) }
-    ensures same { (still.new.history ≡ still.old.history) × (still.new.open_inputs ≡ still.old.open_inputs) }
+    ensures room { IfOk result (λ rising. state.new.spare ≡ size_of_rising rising) }
+    ensures same { (state.new.history ≡ state.old.history) × (state.new.open_inputs ≡ state.old.open_inputs) }
     ensures err { OnErr result ((process.new.store.journal ≡ None)
         × StaysOnDisk decl.now process.old.store process.new.store) }
 {
     match process.open(alloc, decl) {
         Ok(Opened::Rose { records, turn }) => {
             let rising = Rising::Rose { records, turn };
-            make_room(process, still, rising)
+            make_room(process, state, rising)
         }
         Ok(Opened::Damaged { offset }) => Ok(Rising::Damaged { offset }),
         Ok(Opened::NotOpened { cause }) => Ok(Rising::NotOpened { cause }),
@@ -149,18 +149,18 @@ fn open<D: Disk, N: Named>(
 }
 
 /// Makes room for an actor that rose. Without it the journal is closed.
-fn make_room<D: Disk, N: Named>(
+fn make_room<D: Disk, N: RunName>(
     process: &mut Process<D>,
-    still: &mut Still<Rules, N>,
+    state: &mut FabricState<Rules, N>,
     rising: Rising,
 ) -> Result<Rising, OutOfMemory>
     requires up { process.old.actor ≢ Down }
-    ensures ok { IfOk result (λ r. (r ≡ rising) × (still.new.spare ≡ size_of_rising r)
+    ensures ok { IfOk result (λ r. (r ≡ rising) × (state.new.spare ≡ size_of_rising r)
         × (process.new ≡ process.old)) }
-    ensures same { (still.new.history ≡ still.old.history) × (still.new.open_inputs ≡ still.old.open_inputs) }
+    ensures same { (state.new.history ≡ state.old.history) × (state.new.open_inputs ≡ state.old.open_inputs) }
     ensures err { OnErr result (IsClosed process.old process.new) }
 {
-    if let Err(error) = still.room(&rising) {
+    if let Err(error) = state.room(&rising) {
         process.crash();
         return Err(error);
     }

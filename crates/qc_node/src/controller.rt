@@ -9,7 +9,7 @@ ghost use Rattle.qc_fabric.specs.Controls.{MayDo};
 
 use crate::rules::Rules;
 use qc_decl::Declaration;
-use qc_fabric::{Fabric, Named, Still};
+use qc_fabric::{Fabric, FabricState, RunName};
 use qc_list::OutOfMemory;
 use qc_msg::Step;
 use qc_outside::ArmKind;
@@ -19,12 +19,12 @@ use std::sync::Wait;
 
 /// The controller's pass.
 #[derive(Drop)]
-pub(crate) struct Controller<N: Named> {
+pub(crate) struct Controller<N: RunName> {
     pass: Pass<Step>,
     of: PhantomData<N>,
 }
 
-impl<N: Named> Model for Controller<N> {
+impl<N: RunName> Model for Controller<N> {
     ghost use Rattle.std.specs.Prelude.{◌≡◌};
     ghost use Rattle.qc_decl.specs.Actors.{controller};
     ghost use Rattle.qc_msg.specs.declared.step.Step.{Step};
@@ -38,7 +38,7 @@ impl<N: Named> Model for Controller<N> {
     ghost invariant = { λ c. (pass_table c.pass ≡ N.table) × (number c.pass ≡ controller N.declaration) };
 }
 
-impl<N: Named> Controller<N> {
+impl<N: RunName> Controller<N> {
     /// The controller of this pass.
     pub(crate) fn new(pass: Pass<Step>) -> Controller<N>
         requires table { pass_table pass ≡ N.table }
@@ -68,19 +68,19 @@ impl<N: Named> Controller<N> {
     /// is next.
     pub(crate) fn arm(
         &mut self,
-        still: &mut Still<Rules, N>,
+        state: &mut FabricState<Rules, N>,
         pass: &mut Pass<Step>,
         kind: ArmKind,
         at: u32,
     ) -> Result<(), OutOfMemory>
         requires table { pass_table pass.old ≡ N.table }
         requires actor { number pass.old < actors N.declaration }
-        requires may { MayDo N.declaration N.script still.old.history still.old.open_inputs
+        requires may { MayDo N.declaration N.script state.old.history state.old.open_inputs
             (Armed (number pass.old) kind at) }
         ensures ok { OnOk result
-            (Arms N.declaration pass.old pass.new still.old.history still.new.history kind at) }
+            (Arms N.declaration pass.old pass.new state.old.history state.new.history kind at) }
         ensures err { OnErr result (pass.new ≡ pass.old) }
     {
-        still.arm(&mut self.pass, pass, kind, at)
+        state.arm(&mut self.pass, pass, kind, at)
     }
 }

@@ -43,6 +43,6 @@ pub use cells::Cells;
 pub use ends::{DriveEnd, TurnEnd};
 pub use laws::begun_journals_have_no_records;
 pub use rules::Rules;
-pub use runs::{Ran, run_script};
+pub use runs::{RunResult, run_script};
 pub use scripts::{Job, drive_script, phase};
 pub use worker::drive;

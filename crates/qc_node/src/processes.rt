@@ -10,7 +10,7 @@ ghost use Rattle.qc_decl.specs.Actors.{actors};
 ghost use Rattle.qc_decl.specs.declared.declaration.Declaration.{Declaration as Declared};
 ghost use Rattle.qc_process.specs.Stored.{IsProcess};
 ghost use Rattle.qc_process.specs.Views.{IsUp};
-ghost use Rattle.qc_bounds.specs.Places.{AreHandedOut};
+ghost use Rattle.laws_bounds.specs.Places.{AreHandedOut};
 ghost use Rattle.qc_node.specs.Starts.{AreProcesses, AreStarted, AreUnbegun, AreUnstarted, AreUnwritten, AreUp};
 ghost use Rattle.qc_node.specs.Starts.{IsBackFrom, IsGivenBack};
 

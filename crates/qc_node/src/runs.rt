@@ -11,7 +11,7 @@ ghost use Rattle.qc_promise.specs.Kept.{Kept};
 ghost use Rattle.qc_promise.specs.Spent.{Spent};
 ghost use Rattle.qc_script.specs.Ready.{phase_of};
 ghost use Rattle.qc_script.specs.Sound.{IsScriptFor};
-ghost use Rattle.qc_bounds.specs.Places.{AreHandedOut};
+ghost use Rattle.laws_bounds.specs.Places.{AreHandedOut};
 ghost use Rattle.qc_node.specs.Runnable.{IsRunnable};
 ghost use Rattle.qc_node.specs.Ends.{HasEnded};
 ghost use Rattle.qc_node.specs.Places.{AreEmpty, AreGivenBack, BothTell, HoldJournals, IsRefused};
@@ -25,7 +25,7 @@ use crate::processes::start;
 use crate::rules::Rules;
 use crate::scripts::{Job, drive_script};
 use crate::settle::settle;
-use qc_fabric::{Named, Still};
+use qc_fabric::{FabricState, RunName};
 use qc_list::{List, OutOfMemory};
 use qc_msg::{History, Step};
 use qc_outside::{Disk, Gate, Rack, RackFault};
@@ -39,7 +39,7 @@ use std::thread::Threads;
 
 /// What a run came to.
 #[derive(Drop)]
-pub struct Ran {
+pub struct RunResult {
     /// The script.
     pub script: Script,
     /// All that happened.
@@ -67,7 +67,7 @@ pub fn run_script<G: Gate + Sync, K: Rack, R: Threads + Wait + Sync>(
     job: &Job<'_, G>,
     script: Script,
     rack: &mut K,
-) -> Result<Ran, RackFault>
+) -> Result<RunResult, RackFault>
     requires accepted { IsAccepted job.now.decl.now }
     requires sound { IsScriptFor job.now.decl.now script }
     ensures script { IfOk result (λ ran. ran.script ≡ script) }
@@ -91,14 +91,14 @@ pub fn run_script<G: Gate + Sync, K: Rack, R: Threads + Wait + Sync>(
 
 /// The same, under a name of its own, by these passes.
 #[tactic(auto, using(crate::proofs::Unstarted::nothing_back))]
-fn run_named<N: Named + Send + Sync, G: Gate + Sync, K: Rack, R: Threads + Wait + Sync>(
+fn run_named<N: RunName + Send + Sync, G: Gate + Sync, K: Rack, R: Threads + Wait + Sync>(
     rt: &R,
     alloc: Global,
     job: &Job<'_, G>,
     script: Script,
     made: Made<Step>,
     rack: &mut K,
-) -> Result<Ran, RackFault>
+) -> Result<RunResult, RackFault>
     requires declaration { job.now.decl.now ≡ N.declaration }
     requires script { script ≡ N.script }
     requires runnable { IsRunnable N.declaration N.script }
@@ -127,22 +127,22 @@ fn run_named<N: Named + Send + Sync, G: Gate + Sync, K: Rack, R: Threads + Wait 
         right,
         each,
     } = made;
-    let still: Still<Rules, N> = Still::make(alloc, job.decl, script, passes, right)?;
+    let state: FabricState<Rules, N> = FabricState::make(alloc, job.decl, script, passes, right)?;
     let places = Vec::with_capacity(alloc, usize::from(job.decl.sites + job.decl.clients + 1))?;
     let processes = start(alloc, job.decl, job.dir, rack)?;
     let cells = cells_of(each, processes, places);
-    Ok(run_cells(rt, alloc, job, still, cells, rack))
+    Ok(run_cells(rt, alloc, job, state, cells, rack))
 }
 
 /// These cells are run, and each disk goes back to its place.
-fn run_cells<N: Named + Send + Sync, G: Gate + Sync, K: Rack, R: Threads + Wait + Sync>(
+fn run_cells<N: RunName + Send + Sync, G: Gate + Sync, K: Rack, R: Threads + Wait + Sync>(
     rt: &R,
     alloc: Global,
     job: &Job<'_, G>,
-    still: Still<Rules, N>,
+    state: FabricState<Rules, N>,
     cells: Cells<K::D, N>,
     rack: &mut K,
-) -> Ran
+) -> RunResult
     requires declaration { job.now.decl.now ≡ N.declaration }
     requires runnable { IsRunnable N.declaration N.script }
     requires tells { is_some (K.places rack.old) ≡ N.tells }
@@ -157,11 +157,11 @@ fn run_cells<N: Named + Send + Sync, G: Gate + Sync, K: Rack, R: Threads + Wait 
     ensures tells { is_some (K.places rack.new) ≡ N.tells }
     ensures later { K.faults rack.old ≤ K.faults rack.new }
 {
-    let (still, end) = drive_script(rt, alloc, job, still, &cells);
-    let mut roll = still.roll();
+    let (state, end) = drive_script(rt, alloc, job, state, &cells);
+    let mut roll = state.roll();
     settle(job.dir, cells, &mut roll, rack);
     let (script, entries) = roll.end();
-    Ran {
+    RunResult {
         script,
         history: List::from_vec(entries),
         end,
@@ -170,7 +170,7 @@ fn run_cells<N: Named + Send + Sync, G: Gate + Sync, K: Rack, R: Threads + Wait 
 
 /// The cells of all processes, each with the pass of its number, in a list that has
 /// room for them; then comes the controller's pass. It takes no memory.
-fn cells_of<D: Disk, N: Named>(
+fn cells_of<D: Disk, N: RunName>(
     passes: Vec<Pass<Step>>,
     processes: Vec<Process<D>>,
     cells: Vec<Mutex<Cell<D, N>>>,
@@ -193,7 +193,7 @@ fn cells_of<D: Disk, N: Named>(
 }
 
 /// The cells of the actors alone.
-fn actors_of<D: Disk, N: Named>(
+fn actors_of<D: Disk, N: RunName>(
     passes: Vec<Pass<Step>>,
     processes: Vec<Process<D>>,
     cells: Vec<Mutex<Cell<D, N>>>,

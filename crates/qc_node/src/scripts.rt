@@ -9,7 +9,7 @@ use crate::ends::DriveEnd;
 use crate::rules::Rules;
 use crate::worker::drive;
 use qc_decl::Declaration;
-use qc_fabric::{Fabric, Named, Still};
+use qc_fabric::{Fabric, FabricState, RunName};
 use qc_outside::{Disk, Gate};
 use qc_script::Script;
 use std::alloc::Global;
@@ -31,48 +31,48 @@ pub struct Job<'a, G: Gate> {
 
 /// All that is left of a script that can be run, by so many workers in threads that
 /// are joined. How it ended is read off the history, whatever the workers answered.
-pub fn drive_script<D: Disk, N: Named + Send + Sync, G: Gate + Sync, R: Threads + Wait + Sync>(
+pub fn drive_script<D: Disk, N: RunName + Send + Sync, G: Gate + Sync, R: Threads + Wait + Sync>(
     rt: &R,
     alloc: Global,
     job: &Job<'_, G>,
-    still: Still<Rules, N>,
+    state: FabricState<Rules, N>,
     cells: &Cells<D, N>,
-) -> (Still<Rules, N>, DriveEnd)
+) -> (FabricState<Rules, N>, DriveEnd)
     requires declaration { job.now.decl.now ≡ N.declaration }
     requires runnable { IsRunnable N.declaration N.script }
     ensures { IsScriptEnd N.declaration N.script result.0.history result.0.open_inputs result.1 }
 {
-    let last = u32::try_from(still.script().phases.items().len()).unwrap_or(u32::MAX);
-    let (still, _) = phase(rt, alloc, job, still, cells, last);
-    let end = end_of(job.decl, &still);
-    (still, end)
+    let last = u32::try_from(state.script().phases.items().len()).unwrap_or(u32::MAX);
+    let (state, _) = phase(rt, alloc, job, state, cells, last);
+    let end = end_of(job.decl, &state);
+    (state, end)
 }
 
 /// All that is left of it up to the end of the phase of this number, one that
 /// hasn't passed; the same threads go through all these phases.
-pub fn phase<D: Disk, N: Named + Send + Sync, G: Gate + Sync, R: Threads + Wait + Sync>(
+pub fn phase<D: Disk, N: RunName + Send + Sync, G: Gate + Sync, R: Threads + Wait + Sync>(
     rt: &R,
     alloc: Global,
     job: &Job<'_, G>,
-    still: Still<Rules, N>,
+    state: FabricState<Rules, N>,
     cells: &Cells<D, N>,
     number: u32,
-) -> (Still<Rules, N>, DriveEnd)
+) -> (FabricState<Rules, N>, DriveEnd)
     requires declaration { job.now.decl.now ≡ N.declaration }
     requires runnable { IsRunnable N.declaration N.script }
     ensures { IsPhaseEnd N.declaration N.script number result.0.history result.0.open_inputs result.1 }
 {
-    let fabric = Fabric::open(still);
+    let fabric = Fabric::open(state);
     drive_all(rt, alloc, job, &fabric, cells, number);
-    let still = fabric.close();
-    let end = phase_end(job.decl, &still, number);
-    (still, end)
+    let state = fabric.close();
+    let end = phase_end(job.decl, &state, number);
+    (state, end)
 }
 
 /// So many workers, each in a thread of its own, or one after another where no
 /// thread can be had; one alone needs none. What they answer is no more than the
 /// history shows.
-fn drive_all<D: Disk, N: Named + Send + Sync, G: Gate + Sync, R: Threads + Wait + Sync>(
+fn drive_all<D: Disk, N: RunName + Send + Sync, G: Gate + Sync, R: Threads + Wait + Sync>(
     rt: &R,
     alloc: Global,
     job: &Job<'_, G>,
@@ -101,14 +101,14 @@ fn drive_all<D: Disk, N: Named + Send + Sync, G: Gate + Sync, R: Threads + Wait 
 }
 
 /// How the phase of this number ended.
-fn phase_end<N: Named>(decl: &Declaration, still: &Still<Rules, N>, number: u32) -> DriveEnd
+fn phase_end<N: RunName>(decl: &Declaration, state: &FabricState<Rules, N>, number: u32) -> DriveEnd
     requires { decl.now ≡ N.declaration }
-    ensures { IsPhaseEnd N.declaration N.script number still.now.history still.now.open_inputs result }
+    ensures { IsPhaseEnd N.declaration N.script number state.now.history state.now.open_inputs result }
 {
-    if let Some(full) = still.full() {
+    if let Some(full) = state.full() {
         return DriveEnd::Full(full);
     }
-    if still.phase() == number && still.quiet(decl) {
+    if state.phase() == number && state.quiet(decl) {
         DriveEnd::Quiet
     } else {
         DriveEnd::OutOfMemory
@@ -116,14 +116,14 @@ fn phase_end<N: Named>(decl: &Declaration, still: &Still<Rules, N>, number: u32)
 }
 
 /// How the script ended.
-fn end_of<N: Named>(decl: &Declaration, still: &Still<Rules, N>) -> DriveEnd
+fn end_of<N: RunName>(decl: &Declaration, state: &FabricState<Rules, N>) -> DriveEnd
     requires { decl.now ≡ N.declaration }
-    ensures { IsScriptEnd N.declaration N.script still.now.history still.now.open_inputs result }
+    ensures { IsScriptEnd N.declaration N.script state.now.history state.now.open_inputs result }
 {
-    if let Some(full) = still.full() {
+    if let Some(full) = state.full() {
         return DriveEnd::Full(full);
     }
-    if are_begun(still.script(), still.phase()) && still.quiet(decl) {
+    if are_begun(state.script(), state.phase()) && state.quiet(decl) {
         DriveEnd::Quiet
     } else {
         DriveEnd::OutOfMemory

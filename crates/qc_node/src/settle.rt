@@ -3,17 +3,17 @@
 
 ghost use Rattle.std.specs.Prelude.{◌≡◌, ◌+◌, ℕ, IfSome, is_some, option_copied};
 ghost use Rattle.qc_decl.specs.Actors.{controller};
-ghost use Rattle.qc_bounds.specs.Places.{AreHandedOut};
+ghost use Rattle.laws_bounds.specs.Places.{AreHandedOut};
 ghost use Rattle.qc_node.specs.Settling.{IsSettling};
 
 use crate::cell::Cell;
 use crate::cells::Cells;
-use qc_fabric::{Named, Roll};
+use qc_fabric::{Roll, RunName};
 use qc_outside::Rack;
 
 /// Each pass is called, and each disk goes back to its place in this folder, or in
 /// none: then all did. It takes no memory.
-pub(crate) fn settle<K: Rack, N: Named>(
+pub(crate) fn settle<K: Rack, N: RunName>(
     dir: Option<&str>,
     cells: Cells<K::D, N>,
     roll: &mut Roll<N>,
@@ -35,7 +35,7 @@ pub(crate) fn settle<K: Rack, N: Named>(
 }
 
 /// The disk of one cell goes back, which hadn't gone back before.
-fn settle_one<K: Rack, N: Named>(
+fn settle_one<K: Rack, N: RunName>(
     dir: Option<&str>,
     cell: Cell<K::D, N>,
     roll: &mut Roll<N>,

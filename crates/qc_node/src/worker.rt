@@ -7,7 +7,7 @@ use crate::cells::Cells;
 use crate::ends::DriveEnd;
 use crate::rules::Rules;
 use qc_decl::Declaration;
-use qc_fabric::{Fabric, Named, Picked};
+use qc_fabric::{Fabric, Picked, RunName};
 use qc_outside::{Disk, Gate};
 use std::alloc::Global;
 use std::sync::Wait;
@@ -18,7 +18,7 @@ use std::thread::Threads;
 /// one that is given: a control line acts, or the next phase begins. It ends where
 /// nothing is left in these, a counted quantity has reached its limit, or memory was
 /// wanting. Then it wakes the others.
-pub fn drive<D: Disk, N: Named, G: Gate, R: Threads + Wait + Sync>(
+pub fn drive<D: Disk, N: RunName, G: Gate, R: Threads + Wait + Sync>(
     rt: &R,
     alloc: Global,
     decl: &Declaration,
@@ -36,7 +36,7 @@ pub fn drive<D: Disk, N: Named, G: Gate, R: Threads + Wait + Sync>(
 }
 
 /// The same, while the others may sleep.
-fn serve<D: Disk, N: Named, G: Gate, R: Threads + Wait + Sync>(
+fn serve<D: Disk, N: RunName, G: Gate, R: Threads + Wait + Sync>(
     rt: &R,
     alloc: Global,
     decl: &Declaration,

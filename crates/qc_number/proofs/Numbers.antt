@@ -1,5 +1,6 @@
 -- How large the number is that a few digits write, and that decimal digits are read as their number.
-use Rattle.std.proofs.Common.{◌≡◌, ℕ, ◌+◌, ◌-◌, ◌*◌, ◌^◌, ◌<◌, ◌≤◌, true, List, length, get_or, take, Some, ap, arith, rules}
+use Rattle.std.proofs.Common.{◌≡◌, ℕ, ◌+◌, ◌-◌, ◌*◌, ◌^◌, ◌<◌, ◌≤◌, true, List, length, get_or, take, Some, ap, arith}
+use Rattle.std.proofs.Common.{rules}
 use Rattle.std.specs.Prelude.{decimal}
 use Rattle.std.specs.Char.{digit_value, is_ascii_digit}
 use Rattle.std.specs.Int.{IsInRange}
@@ -8,7 +9,8 @@ use Rattle.std.specs.Str.Parse.{digits_value}
 use Rattle.std.proofs.lemmas.Bool.{le-leb}
 use Rattle.std.proofs.lemmas.Fmt.{decimal_is_IsNumeral, decimal_nonempty, length-decimal-le}
 use Rattle.std.proofs.lemmas.Int.Digits.{digits_value_more}
-use Rattle.std.proofs.lemmas.Str.Parse.{IsNumeralModel, numerals_by_value, digits_value-take-le, digits_value_short, digit_at}
+use Rattle.std.proofs.lemmas.Str.Parse.{IsNumeralModel, numerals_by_value, digits_value-take-le, digits_value_short}
+use Rattle.std.proofs.lemmas.Str.Parse.{digit_at}
 use Rattle.qc_number.specs.Numbers.{greatest, most_digits, number_of}
 
 -- what the test says of digits, in the words of std
@@ -27,7 +29,8 @@ pub record IsReadTo (ds : List ℕ) (i v : ℕ) : Type 0 where
   pub is : v ≡ digits_value 10 (take i ds)
 
 -- one digit more
-pub digit_more : (ds : List ℕ) (i v d : ℕ) → IsReadTo ds i v → d ≡ get_or ds i 0 - 48 → (10 * v + d ≡ digits_value 10 (take (i + 1) ds)) × (10 * v + d < 100000)
+pub digit_more : (ds : List ℕ) (i v d : ℕ) → IsReadTo ds i v → d ≡ get_or ds i 0 - 48
+    → (10 * v + d ≡ digits_value 10 (take (i + 1) ds)) × (10 * v + d < 100000)
 digit_more ds i v d h same =
     let next = digits_value_more 10 ds i h.within in
     let digit = value_of_digit (get_or ds i 0) (digit_at ds i (digits.to ds h.all) h.within) in

@@ -4,7 +4,8 @@ use Rattle.qc_outside.specs.Causes.{Rose}
 use Rattle.qc_outside.specs.Disk.{DiskRose}
 use Rattle.qc_outside.specs.declared.disk.DiskFault.TheVariants.{Failed, Stopped}
 
-pub counted_fail : (i a b : ℕ) → a ≤ b → b ≡ min (a + 1) (2 ^ 64 - 1) → DiskRose {T = Unit {0}} (i + a) (i + b) (Err Failed)
+pub counted_fail : (i a b : ℕ) → a ≤ b → b ≡ min (a + 1) (2 ^ 64 - 1)
+    → DiskRose {T = Unit {0}} (i + a) (i + b) (Err Failed)
 counted_fail i a b up is = record {
   later = le;
   failed = λ _. rose;
@@ -18,7 +19,8 @@ counted_fail i a b up is = record {
     rose : Rose (i + a) (i + b)
     rose = omega (arith, is)
 
-pub counted_stop : (i j a b : ℕ) → i ≤ j → a ≤ b → b ≡ min (a + 1) (2 ^ 64 - 1) → DiskRose {T = Unit {0}} (i + a) (j + b) (Err Stopped)
+pub counted_stop : (i j a b : ℕ) → i ≤ j → a ≤ b → b ≡ min (a + 1) (2 ^ 64 - 1)
+    → DiskRose {T = Unit {0}} (i + a) (j + b) (Err Stopped)
 counted_stop i j a b more up is = record {
   later = omega (arith, more, up);
   failed = λ e. absurd (cc e);

@@ -6,7 +6,8 @@ use Rattle.std.specs.List.{AllByRecursion}
 use Rattle.std.proofs.lemmas.List.{length-replicate}
 use Rattle.qc_outside.specs.Images.{Write, Stored, overwritten, as_read, IsImage, wrote, Told, Leaves, Since, Tells}
 
-pub length-overwritten : (old : List ℕ) (w : Write) → length (overwritten old w) ≡ max (length old) (w.at + length w.bytes)
+pub length-overwritten : (old : List ℕ) (w : Write)
+    → length (overwritten old w) ≡ max (length old) (w.at + length w.bytes)
 length-overwritten old w =
     omega (
       arith,
@@ -26,11 +27,13 @@ image_wrote s w c image = record {
   same = λ i within outside. image.same i within outside.1;
 }
 
-all_weaker : (P Q : List ℕ → Type 0) (later : List Stored) → ((c : List ℕ) → P c → Q c) → AllByRecursion (Leaves P) later → AllByRecursion (Leaves Q) later
+all_weaker : (P Q : List ℕ → Type 0) (later : List Stored) → ((c : List ℕ) → P c → Q c)
+    → AllByRecursion (Leaves P) later → AllByRecursion (Leaves Q) later
 all_weaker P Q [] f all = tt
 all_weaker P Q (s ∷ later) f all = (λ c image. f c (all.0 c image), all_weaker P Q later f all.1)
 
-pub since_weaker : (P Q : List ℕ → Type 0) (old new : Told) → ((c : List ℕ) → P c → Q c) → Since P old new → Since Q old new
+pub since_weaker : (P Q : List ℕ → Type 0) (old new : Told) → ((c : List ℕ) → P c → Q c) → Since P old new
+    → Since Q old new
 since_weaker P Q old new f since = record {
   later = since.later;
   past = since.past;
@@ -38,7 +41,8 @@ since_weaker P Q old new f since = record {
   each = all_weaker P Q since.later f since.each;
 }
 
-all_joined : (P : List ℕ → Type 0) (xs ys : List Stored) → AllByRecursion (Leaves P) xs → AllByRecursion (Leaves P) ys → AllByRecursion (Leaves P) (xs ++ ys)
+all_joined : (P : List ℕ → Type 0) (xs ys : List Stored) → AllByRecursion (Leaves P) xs → AllByRecursion (Leaves P) ys
+    → AllByRecursion (Leaves P) (xs ++ ys)
 all_joined P [] ys a b = b
 all_joined P (x ∷ xs) ys a b = (a.0, all_joined P xs ys a.1 b)
 
@@ -46,7 +50,8 @@ all_joined P (x ∷ xs) ys a b = (a.0, all_joined P xs ys a.1 b)
 pub since_then : (P : List ℕ → Type 0) (old mid new : Told) → Since P old mid → Since P mid new → Since P old new
 since_then P old mid new first second = record {
   later = second.later ++ first.later;
-  past = second.past ∙ ap (λ (l : List Stored). second.later ++ l) first.past ∙ sym (append_assoc second.later first.later old.past);
+  past = second.past ∙ ap (λ (l : List Stored). second.later ++ l) first.past
+      ∙ sym (append_assoc second.later first.later old.past);
   now = second.now;
   each = all_joined P second.later first.later second.each first.each;
 }
@@ -59,7 +64,8 @@ pub image_now : (t : Told) → Leaves (IsImage t.now) t.now
 image_now t c image = image
 
 -- what is told goes from call to call
-pub tells_weaker : (a b : Option Told) (P Q : Told → Told → Type 0) → ((old new : Told) → P old new → Q old new) → Tells a b P → Tells a b Q
+pub tells_weaker : (a b : Option Told) (P Q : Told → Told → Type 0) → ((old new : Told) → P old new → Q old new)
+    → Tells a b P → Tells a b Q
 tells_weaker (Some o) (Some n) P Q f t = f o n t
 tells_weaker None None P Q f t = tt
 tells_weaker (Some o) None P Q f t = absurd t

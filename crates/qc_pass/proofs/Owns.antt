@@ -1,5 +1,6 @@
 -- The entries of one actor, in joined histories.
-use Rattle.std.proofs.Common.{◌≡◌, ℕ, ◌==◌, ◌≢◌, Bool, true, false, cond, List, [], ◌∷◌, ◌++◌, map, refl, ap, sym, ◌∙◌, eq-eqb, ne_eqb}
+use Rattle.std.proofs.Common.{◌≡◌, ℕ, ◌==◌, ◌≢◌, Bool, true, false, cond, List, [], ◌∷◌, ◌++◌, map, refl, ap, sym, ◌∙◌}
+use Rattle.std.proofs.Common.{eq-eqb, ne_eqb}
 use Rattle.std.specs.Prelude.{filter}
 use Rattle.std.proofs.lemmas.List.{append-nil}
 use mathlib.Core.List.{IsPrefix}
@@ -15,7 +16,8 @@ module _ {E : Type 0} where
 
   own_append : (a : ℕ) (g h : List (Marked E)) → own a (g ++ h) ≡ own a g ++ own a h
   own_append a [] h = refl
-  own_append a (x ∷ g) h = more_one (x.actor == a) x (filter (λ k. k.actor == a) (g ++ h)) (filter (λ k. k.actor == a) g) (own a h) (own_append a g h)
+  own_append a (x ∷ g) h = more_one (x.actor == a) x (filter (λ k. k.actor == a) (g ++ h))
+      (filter (λ k. k.actor == a) g) (own a h) (own_append a g h)
 
   -- of a beginning
   pub own_begins : (a : ℕ) (g h : List (Marked E)) → IsPrefix g h → IsPrefix (own a g) (own a h)
@@ -27,8 +29,10 @@ module _ {E : Type 0} where
 
   -- and an entry of its own
   pub own_mine : (a : ℕ) (h : List (Marked E)) (e : E) → own a (h ++ marked a e ∷ []) ≡ own a h ++ e ∷ []
-  own_mine a h e = own_append a h (marked a e ∷ []) ∙ ap (λ (es : List E). own a h ++ es) (one true (marked a e) a (eq-eqb a a refl))
+  own_mine a h e = own_append a h (marked a e ∷ [])
+      ∙ ap (λ (es : List E). own a h ++ es) (one true (marked a e) a (eq-eqb a a refl))
 
   -- and an entry of another
   pub own_other : (a b : ℕ) (h : List (Marked E)) (e : E) → b ≢ a → own a (h ++ marked b e ∷ []) ≡ own a h
-  own_other a b h e ne = own_append a h (marked b e ∷ []) ∙ (ap (λ (es : List E). own a h ++ es) (one false (marked b e) a (ne_eqb b a ne)) ∙ append-nil _)
+  own_other a b h e ne = own_append a h (marked b e ∷ [])
+      ∙ (ap (λ (es : List E). own a h ++ es) (one false (marked b e) a (ne_eqb b a ne)) ∙ append-nil _)

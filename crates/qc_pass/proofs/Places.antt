@@ -1,5 +1,6 @@
 -- Places of a list after a place is set and after an item is added, facts of all places, and where a list begins.
-use Rattle.std.proofs.Common.{◌≡◌, ℕ, zero, suc, ◌<◌, ◌≢◌, ◌⊎◌, List, [], ◌∷◌, ◌++◌, length, set, refl, ap, sym, ◌∙◌, subst, inl, inr, ⊎_elim, arith, append_assoc, slice_get, Some}
+use Rattle.std.proofs.Common.{◌≡◌, ℕ, zero, suc, ◌<◌, ◌≢◌, ◌⊎◌, List, [], ◌∷◌, ◌++◌, length, set, refl, ap, sym, ◌∙◌}
+use Rattle.std.proofs.Common.{subst, inl, inr, ⊎_elim, arith, append_assoc, slice_get, Some}
 use Rattle.std.proofs.lemmas.List.{append-nil}
 use mathlib.Core.Option.{some, some-injective, some-ne-none}
 use mathlib.Core.List.{IsPrefix}
@@ -40,30 +41,37 @@ module _ {A : Type 0} where
   at_last (x ∷ xs) a zero e = absurd (omega arith)
   at_last (x ∷ xs) a (suc n) e = at_last xs a n (omega arith)
 
-  at_set : (l : List A) (i j : ℕ) (a b : A) → slice_get (set l i a) j ≡ Some b → ((j ≡ i) × (a ≡ b)) ⊎ ((j ≢ i) × (slice_get l j ≡ Some b))
+  at_set : (l : List A) (i j : ℕ) (a b : A) → slice_get (set l i a) j ≡ Some b
+      → ((j ≡ i) × (a ≡ b)) ⊎ ((j ≢ i) × (slice_get l j ≡ Some b))
   at_set [] i j a b e = absurd (cc e)
   at_set (x ∷ xs) zero zero a b e = inl (refl, cc e)
   at_set (x ∷ xs) zero (suc j) a b e = inr ((λ h. omega arith), e)
   at_set (x ∷ xs) (suc i) zero a b e = inr ((λ h. omega arith), e)
-  at_set (x ∷ xs) (suc i) (suc j) a b e = ⊎_elim (λ t. inl (ap suc t.0, t.1)) (λ t. let n = t.0 in inr ((λ h. n (omega arith)), t.1)) (at_set xs i j a b e)
+  at_set (x ∷ xs) (suc i) (suc j) a b e = ⊎_elim (λ t. inl (ap suc t.0, t.1))
+      (λ t. let n = t.0 in inr ((λ h. n (omega arith)), t.1)) (at_set xs i j a b e)
 
-  at_end : (l : List A) (a b : A) (j : ℕ) → slice_get (l ++ a ∷ []) j ≡ Some b → (slice_get l j ≡ Some b) ⊎ ((j ≡ length l) × (a ≡ b))
+  at_end : (l : List A) (a b : A) (j : ℕ) → slice_get (l ++ a ∷ []) j ≡ Some b
+      → (slice_get l j ≡ Some b) ⊎ ((j ≡ length l) × (a ≡ b))
   at_end [] a b zero e = inr (refl, cc e)
   at_end [] a b (suc j) e = absurd (cc e)
   at_end (x ∷ xs) a b zero e = inl e
   at_end (x ∷ xs) a b (suc j) e = ⊎_elim (λ t. inl t) (λ t. inr (ap suc t.0, t.1)) (at_end xs a b j e)
 
   -- a fact of each place, after one place is set
-  pub set_fact : (P : ℕ → A → Type 0) (l : List A) (i : ℕ) (w : A) → P i w → ((j : ℕ) (d : A) → j ≢ i → slice_get l j ≡ Some d → P j d)
+  pub set_fact : (P : ℕ → A → Type 0) (l : List A) (i : ℕ) (w : A) → P i w
+      → ((j : ℕ) (d : A) → j ≢ i → slice_get l j ≡ Some d → P j d)
       → (j : ℕ) (d : A) → slice_get (set l i w) j ≡ Some d → P j d
-  set_fact P l i w here others j d e = ⊎_elim (λ (t : (j ≡ i) × (w ≡ d)). subst (λ (x : ℕ × A). P x.0 x.1) (λ k. (sym t.0 k, t.1 k)) here)
+  set_fact P l i w here others j d e = ⊎_elim
+      (λ (t : (j ≡ i) × (w ≡ d)). subst (λ (x : ℕ × A). P x.0 x.1) (λ k. (sym t.0 k, t.1 k)) here)
       (λ (t : (j ≢ i) × (slice_get l j ≡ Some d)). others j d t.0 t.1) (at_set l i j w d e)
 
   -- after an item is added
-  pub end_fact : (P : ℕ → A → Type 0) (l : List A) (w : A) → P (length l) w → ((j : ℕ) (d : A) → slice_get l j ≡ Some d → P j d)
+  pub end_fact : (P : ℕ → A → Type 0) (l : List A) (w : A) → P (length l) w
+      → ((j : ℕ) (d : A) → slice_get l j ≡ Some d → P j d)
       → (j : ℕ) (d : A) → slice_get (l ++ w ∷ []) j ≡ Some d → P j d
   end_fact P l w here others j d e = ⊎_elim (λ (t : slice_get l j ≡ Some d). others j d t)
-      (λ (t : (j ≡ length l) × (w ≡ d)). subst (λ (x : ℕ × A). P x.0 x.1) (λ k. (sym t.0 k, t.1 k)) here) (at_end l w d j e)
+      (λ (t : (j ≡ length l) × (w ≡ d)). subst (λ (x : ℕ × A). P x.0 x.1) (λ k. (sym t.0 k, t.1 k)) here)
+      (at_end l w d j e)
 
   pub prefix_more : (xs ys zs : List A) → IsPrefix xs ys → IsPrefix xs (ys ++ zs)
   prefix_more xs ys zs p = (p.0 ++ zs, sym (append_assoc xs p.0 zs) ∙ ap (λ w. w ++ zs) p.1)
@@ -80,4 +88,5 @@ module _ {A : Type 0} where
       let same : x ≡ y = cc (p.1, q.1) in
       let p' : xs ++ p.0 ≡ zs = cc p.1 in
       let q' : ys ++ q.0 ≡ zs = cc q.1 in
-      ⊎_elim (λ (t : IsPrefix xs ys). inl (t.0, λ k. same k ∷ t.1 k)) (λ (t : IsPrefix ys xs). inr (t.0, λ k. sym same k ∷ t.1 k)) (prefixes xs ys zs (p.0, p') (q.0, q'))
+      ⊎_elim (λ (t : IsPrefix xs ys). inl (t.0, λ k. same k ∷ t.1 k))
+      (λ (t : IsPrefix ys xs). inr (t.0, λ k. sym same k ∷ t.1 k)) (prefixes xs ys zs (p.0, p') (q.0, q'))

@@ -1,5 +1,6 @@
 -- States that the pass rule refuses, and one that it allows.
-use Rattle.std.proofs.Common.{◌≡◌, ℕ, zero, suc, ◌%◌, ◌^◌, ◌<◌, ◌≤◌, true, false, List, [], ◌∷◌, length, refl, ap, sym, ◌∙◌, subst, arith}
+use Rattle.std.proofs.Common.{◌≡◌, ℕ, zero, suc, ◌%◌, ◌^◌, ◌<◌, ◌≤◌, true, false, List, [], ◌∷◌, length, refl, ap, sym}
+use Rattle.std.proofs.Common.{◌∙◌, subst, arith}
 use Rattle.std.specs.Prelude.{slice_get, slice_index, Option, Some}
 use Rattle.qc_list.specs.declared.marked.Marked.{Marked}
 use Rattle.qc_pass.specs.declared.view.View.{View}
@@ -13,7 +14,8 @@ module _ {E : Type 0} where
   no_right h = at h.holder h.view h.there h.holds
     where
       at : (k : ℕ) (v : View E) → slice_get (pass_view 0 [] [] 0 ∷ []) k ≡ Some v → v.has_right ≡ true → ⊥
-      at zero v e f = let s : pass_view 0 [] [] 0 ≡ v = cc e in let t : false ≡ true = ap (λ (u : View E). u.has_right) s ∙ f in absurd (cc t)
+      at zero v e f = let s : pass_view 0 [] [] 0 ≡ v = cc e in
+          let t : false ≡ true = ap (λ (u : View E). u.has_right) s ∙ f in absurd (cc t)
       at (suc k) v e f = absurd (cc e)
 
   pub second_right : IsOneHistory {E = E} (word_of 0 (right_view [] [] [] ∷ right_view [] [] [] ∷ [])) → ⊥
@@ -30,7 +32,8 @@ module _ {E : Type 0} where
       let n : 1 ≡ 0 = ap (λ (l : List ℕ). slice_index l 0) w in
       omega (arith, n)
 
-  pub counts_twice : (e : E) → IsOneHistory (word_of 2 (right_view (marked 0 e ∷ []) (0 ∷ []) (1 ∷ []) ∷ pass_view 0 (marked 0 e ∷ []) (e ∷ []) 0 ∷ [])) → ⊥
+  pub counts_twice : (e : E) → IsOneHistory
+      (word_of 2 (right_view (marked 0 e ∷ []) (0 ∷ []) (1 ∷ []) ∷ pass_view 0 (marked 0 e ∷ []) (e ∷ []) 0 ∷ [])) → ⊥
   counts_twice e h =
       let r = h.right 0 (right_view (marked 0 e ∷ []) (0 ∷ []) (1 ∷ [])) refl refl in
       let one_there : 1 ≡ length h.history = ap length r.all_is in
@@ -38,7 +41,8 @@ module _ {E : Type 0} where
       let n : 2 ≡ 1 = ap (λ (l : List ℕ). slice_index l 0) w in
       omega (arith, n)
 
-  pub second_pass : IsOneHistory {E = E} (word_of 0 (right_view [] (0 ∷ []) (0 ∷ []) ∷ pass_view 0 [] [] 0 ∷ pass_view 0 [] [] 0 ∷ [])) → ⊥
+  pub second_pass : IsOneHistory {E = E} (word_of 0
+      (right_view [] (0 ∷ []) (0 ∷ []) ∷ pass_view 0 [] [] 0 ∷ pass_view 0 [] [] 0 ∷ [])) → ⊥
   second_pass h =
       let a : h.seats 0 ≡ 1 = (h.pass 1 (pass_view 0 [] [] 0) refl refl).own_seat in
       let b : h.seats 0 ≡ 2 = (h.pass 2 (pass_view 0 [] [] 0) refl refl).own_seat in
@@ -51,7 +55,8 @@ module _ {E : Type 0} where
       let none_made : 0 ≡ length h.rooms = ap length r.rooms_is in
       omega (arith, m, none_made)
 
-  pub entry_not_made : (e : E) → IsOneHistory (word_of 1 (right_view (marked 1 e ∷ []) (0 ∷ []) (0 ∷ []) ∷ pass_view 0 [] [] 0 ∷ [])) → ⊥
+  pub entry_not_made : (e : E) → IsOneHistory
+      (word_of 1 (right_view (marked 1 e ∷ []) (0 ∷ []) (0 ∷ []) ∷ pass_view 0 [] [] 0 ∷ [])) → ⊥
   entry_not_made e h =
       let r = h.right 0 (right_view (marked 1 e ∷ []) (0 ∷ []) (0 ∷ [])) refl refl in
       let one_made : 1 ≡ length h.rooms = ap length r.rooms_is in
@@ -59,21 +64,24 @@ module _ {E : Type 0} where
       let found : e ∷ [] ≡ [] = ap (λ (l : List (Marked E)). own 1 l) r.all_is ∙ none_of in
       absurd (cc found)
 
-  pub own_lost : (e : E) → IsOneHistory (word_of 1 (right_view (marked 0 e ∷ []) (0 ∷ []) (1 ∷ []) ∷ pass_view 0 (marked 0 e ∷ []) [] 0 ∷ [])) → ⊥
+  pub own_lost : (e : E) → IsOneHistory (word_of 1
+      (right_view (marked 0 e ∷ []) (0 ∷ []) (1 ∷ []) ∷ pass_view 0 (marked 0 e ∷ []) [] 0 ∷ [])) → ⊥
   own_lost e h =
       let r = h.right 0 (right_view (marked 0 e ∷ []) (0 ∷ []) (1 ∷ [])) refl refl in
       let p = h.pass 1 (pass_view 0 (marked 0 e ∷ []) [] 0) refl refl in
       let found : e ∷ [] ≡ [] = ap (λ (l : List (Marked E)). own 0 l) r.all_is ∙ p.part in
       absurd (cc found)
 
-  pub own_made_up : (e : E) → IsOneHistory (word_of 0 (right_view [] (0 ∷ []) (0 ∷ []) ∷ pass_view 0 [] (e ∷ []) 0 ∷ [])) → ⊥
+  pub own_made_up : (e : E) → IsOneHistory
+      (word_of 0 (right_view [] (0 ∷ []) (0 ∷ []) ∷ pass_view 0 [] (e ∷ []) 0 ∷ [])) → ⊥
   own_made_up e h =
       let r = h.right 0 (right_view [] (0 ∷ []) (0 ∷ [])) refl refl in
       let p = h.pass 1 (pass_view 0 [] (e ∷ []) 0) refl refl in
       let found : ◌≡◌ {A = List E} [] (e ∷ []) = ap (λ (l : List (Marked E)). own 0 l) r.all_is ∙ p.part in
       absurd (cc found)
 
-  pub own_twice : (e : E) → IsOneHistory (word_of 1 (right_view (marked 0 e ∷ []) (0 ∷ []) (1 ∷ []) ∷ pass_view 0 (marked 0 e ∷ []) (e ∷ e ∷ []) 0 ∷ [])) → ⊥
+  pub own_twice : (e : E) → IsOneHistory (word_of 1
+      (right_view (marked 0 e ∷ []) (0 ∷ []) (1 ∷ []) ∷ pass_view 0 (marked 0 e ∷ []) (e ∷ e ∷ []) 0 ∷ [])) → ⊥
   own_twice e h =
       let r = h.right 0 (right_view (marked 0 e ∷ []) (0 ∷ []) (1 ∷ [])) refl refl in
       let p = h.pass 1 (pass_view 0 (marked 0 e ∷ []) (e ∷ e ∷ []) 0) refl refl in
@@ -81,14 +89,18 @@ module _ {E : Type 0} where
       let rest : [] ≡ e ∷ [] = cc found in
       absurd (cc rest)
 
-  pub seen_made_up : (e : E) → IsOneHistory (word_of 0 (right_view [] (0 ∷ 0 ∷ []) (1 ∷ 0 ∷ []) ∷ pass_view 0 (marked 1 e ∷ []) [] 0 ∷ pass_view 1 [] [] 0 ∷ [])) → ⊥
+  pub seen_made_up : (e : E) → IsOneHistory
+      (word_of 0 (right_view [] (0 ∷ 0 ∷ []) (1 ∷ 0 ∷ []) ∷ pass_view 0 (marked 1 e ∷ []) [] 0 ∷ pass_view 1 [] [] 0
+      ∷ [])) → ⊥
   seen_made_up e h =
       let r = h.right 0 (right_view [] (0 ∷ 0 ∷ []) (1 ∷ 0 ∷ [])) refl refl in
       let p = h.pass 1 (pass_view 0 (marked 1 e ∷ []) [] 0) refl refl in
       let begins : marked 1 e ∷ p.begins.0 ≡ [] = p.begins.1 ∙ sym r.all_is in
       absurd (cc begins)
 
-  pub seen_without_first : (d e : E) → IsOneHistory (word_of 2 (right_view (marked 0 d ∷ marked 1 e ∷ []) (0 ∷ 0 ∷ []) (1 ∷ 1 ∷ []) ∷ pass_view 0 (marked 0 d ∷ []) (d ∷ []) 0 ∷ pass_view 1 (marked 1 e ∷ []) (e ∷ []) 0 ∷ [])) → ⊥
+  pub seen_without_first : (d e : E) → IsOneHistory
+      (word_of 2 (right_view (marked 0 d ∷ marked 1 e ∷ []) (0 ∷ 0 ∷ []) (1 ∷ 1 ∷ []) ∷ pass_view 0 (marked 0 d ∷ [])
+      (d ∷ []) 0 ∷ pass_view 1 (marked 1 e ∷ []) (e ∷ []) 0 ∷ [])) → ⊥
   seen_without_first d e h =
       let r = h.right 0 (right_view (marked 0 d ∷ marked 1 e ∷ []) (0 ∷ 0 ∷ []) (1 ∷ 1 ∷ [])) refl refl in
       let p = h.pass 2 (pass_view 1 (marked 1 e ∷ []) (e ∷ []) 0) refl refl in
@@ -105,7 +117,8 @@ module _ {E : Type 0} where
       let same : ◌≡◌ {A = ℕ} 2 3 = cc found in
       omega (arith, same)
 
-  pub other_end : (e : E) → IsOneHistory (word_of 1 (right_view (marked 0 e ∷ []) (0 ∷ []) (0 ∷ []) ∷ pass_view 0 (marked 0 e ∷ []) (e ∷ []) 0 ∷ [])) → ⊥
+  pub other_end : (e : E) → IsOneHistory (word_of 1
+      (right_view (marked 0 e ∷ []) (0 ∷ []) (0 ∷ []) ∷ pass_view 0 (marked 0 e ∷ []) (e ∷ []) 0 ∷ [])) → ⊥
   other_end e h =
       let r = h.right 0 (right_view (marked 0 e ∷ []) (0 ∷ []) (0 ∷ [])) refl refl in
       let p = h.pass 1 (pass_view 0 (marked 0 e ∷ []) (e ∷ []) 0) refl refl in
@@ -119,24 +132,49 @@ module _ {E : Type 0} where
     both = marked 0 d ∷ marked 1 e ∷ []
 
     abbrev views : List (View E)
-    views = right_view both (3 ∷ 0 ∷ []) (1 ∷ 2 ∷ []) ∷ pass_view 0 (marked 0 d ∷ []) (d ∷ []) 3 ∷ pass_view 1 both (e ∷ []) 0 ∷ []
+    views = right_view both (3 ∷ 0 ∷ []) (1 ∷ 2 ∷ []) ∷ pass_view 0 (marked 0 d ∷ []) (d ∷ []) 3 ∷ pass_view 1 both
+        (e ∷ []) 0 ∷ []
 
-    stand_right : (k : ℕ) (v : View E) → slice_get views k ≡ Some v → v.has_right ≡ true → IsRightTo both (3 ∷ 0 ∷ []) (1 ∷ 2 ∷ []) 0 k v
-    stand_right zero v at f = let s : right_view both (3 ∷ 0 ∷ []) (1 ∷ 2 ∷ []) ≡ v = cc at in subst (λ (u : View E). IsRightTo both (3 ∷ 0 ∷ []) (1 ∷ 2 ∷ []) 0 0 u) s record { own_seat = refl; all_is = refl; rooms_is = refl; ends_is = refl }
-    stand_right (suc zero) v at f = let s : pass_view 0 (marked 0 d ∷ []) (d ∷ []) 3 ≡ v = cc at in let t : false ≡ true = ap (λ (u : View E). u.has_right) s ∙ f in absurd (cc t)
-    stand_right (suc (suc zero)) v at f = let s : pass_view 1 both (e ∷ []) 0 ≡ v = cc at in let t : false ≡ true = ap (λ (u : View E). u.has_right) s ∙ f in absurd (cc t)
+    stand_right : (k : ℕ) (v : View E) → slice_get views k ≡ Some v → v.has_right ≡ true
+        → IsRightTo both (3 ∷ 0 ∷ []) (1 ∷ 2 ∷ []) 0 k v
+    stand_right zero v at f = let s : right_view both (3 ∷ 0 ∷ []) (1 ∷ 2 ∷ []) ≡ v = cc at in
+        subst (λ (u : View E). IsRightTo both (3 ∷ 0 ∷ []) (1 ∷ 2 ∷ []) 0 0 u) s record
+        { own_seat = refl; all_is = refl; rooms_is = refl; ends_is = refl }
+    stand_right (suc zero) v at f = let s : pass_view 0 (marked 0 d ∷ []) (d ∷ []) 3 ≡ v = cc at in
+        let t : false ≡ true = ap (λ (u : View E). u.has_right) s ∙ f in absurd (cc t)
+    stand_right (suc (suc zero)) v at f = let s : pass_view 1 both (e ∷ []) 0 ≡ v = cc at in
+        let t : false ≡ true = ap (λ (u : View E). u.has_right) s ∙ f in absurd (cc t)
     stand_right (suc (suc (suc k))) v at f = absurd (cc at)
 
-    stand_pass : (k : ℕ) (v : View E) → slice_get views k ≡ Some v → v.is_pass ≡ true → IsPassOf both (3 ∷ 0 ∷ []) (1 ∷ 2 ∷ []) suc k v
-    stand_pass zero v at f = let s : right_view both (3 ∷ 0 ∷ []) (1 ∷ 2 ∷ []) ≡ v = cc at in let t : false ≡ true = ap (λ (u : View E). u.is_pass) s ∙ f in absurd (cc t)
-    stand_pass (suc zero) v at f = let s : pass_view 0 (marked 0 d ∷ []) (d ∷ []) 3 ≡ v = cc at in subst (λ (u : View E). IsPassOf both (3 ∷ 0 ∷ []) (1 ∷ 2 ∷ []) suc 1 u) s
-        record { own_seat = refl; made = omega arith; part = refl; begins = (marked 1 e ∷ [], refl); had_room = refl; had_end = refl }
-    stand_pass (suc (suc zero)) v at f = let s : pass_view 1 both (e ∷ []) 0 ≡ v = cc at in subst (λ (u : View E). IsPassOf both (3 ∷ 0 ∷ []) (1 ∷ 2 ∷ []) suc 2 u) s
-        record { own_seat = refl; made = omega arith; part = refl; begins = ([], refl); had_room = refl; had_end = refl }
+    stand_pass : (k : ℕ) (v : View E) → slice_get views k ≡ Some v → v.is_pass ≡ true
+        → IsPassOf both (3 ∷ 0 ∷ []) (1 ∷ 2 ∷ []) suc k v
+    stand_pass zero v at f = let s : right_view both (3 ∷ 0 ∷ []) (1 ∷ 2 ∷ []) ≡ v = cc at in
+        let t : false ≡ true = ap (λ (u : View E). u.is_pass) s ∙ f in absurd (cc t)
+    stand_pass (suc zero) v at f = let s : pass_view 0 (marked 0 d ∷ []) (d ∷ []) 3 ≡ v = cc at in
+        subst (λ (u : View E). IsPassOf both (3 ∷ 0 ∷ []) (1 ∷ 2 ∷ []) suc 1 u) s
+        record {
+          own_seat = refl;
+          made = omega arith;
+          part = refl;
+          begins = (marked 1 e ∷ [], refl);
+          had_room = refl;
+          had_end = refl;
+        }
+    stand_pass (suc (suc zero)) v at f = let s : pass_view 1 both (e ∷ []) 0 ≡ v = cc at in
+        subst (λ (u : View E). IsPassOf both (3 ∷ 0 ∷ []) (1 ∷ 2 ∷ []) suc 2 u) s
+        record {
+          own_seat = refl;
+          made = omega arith;
+          part = refl;
+          begins = ([], refl);
+          had_room = refl;
+          had_end = refl;
+        }
     stand_pass (suc (suc (suc k))) v at f = absurd (cc at)
 
     stand_unmade : (n : ℕ) → 2 ≤ n → own n both ≡ []
-    stand_unmade n le = own_other n 1 (marked 0 d ∷ []) e (λ q. omega (arith, le, q)) ∙ own_other n 0 [] d (λ q. omega (arith, le, q))
+    stand_unmade n le = own_other n 1 (marked 0 d ∷ []) e (λ q. omega (arith, le, q))
+        ∙ own_other n 0 [] d (λ q. omega (arith, le, q))
 
     pub stands : IsOneHistory (word_of 2 views)
     stands = record {

@@ -1,5 +1,6 @@
 -- What a store's record came to, and its actor's post.
-use Rattle.std.proofs.Common.{◌≡◌, ℕ, ◌+◌, Bool, true, List, [], ◌∷◌, ◌++◌, Option, Some, None, refl, sym, ◌∙◌, ap, subst}
+use Rattle.std.proofs.Common.{◌≡◌, ℕ, ◌+◌, Bool, true, List, [], ◌∷◌, ◌++◌, Option, Some, None, refl, sym, ◌∙◌, ap}
+use Rattle.std.proofs.Common.{subst}
 use Rattle.std.proofs.Common.{append_assoc, option_map}
 use Rattle.qc_decl.specs.declared.declaration.Declaration.{Declaration}
 use Rattle.qc_journal.specs.Journal.{Rests}
@@ -125,7 +126,8 @@ module _ (tells : Bool) (decl : Declaration) (a : ℕ) (h now : List Entry) (tur
           → Goes a h (posted_as (appended_by kind) first turn) now → IsStored tells decl a h s
           → IsStored tells decl a now new
       broken_appended kind shows_new holds accounts goes is =
-          broken_on tells decl a h now s new o shows.journal_is is it.written (said_before kind first turn) (fall_by kind)
+          broken_on tells decl a h now s new o shows.journal_is is it.written (said_before kind first turn)
+          (fall_by kind)
           kind shows_new.journal_is it.legal (plain kind) (broken_fell kind it.written)
           (subst (λ (l : List Step). Goes a h l now) (fell_steps kind) goes)
           (λ bodies rests. subst (λ (t : Option Told). DiskHolds t bodies (Some (spelled it.written)))

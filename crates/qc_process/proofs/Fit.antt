@@ -1,6 +1,8 @@
 -- Records that all fit are few and of declared clients; and where one is read that doesn't fit.
-use Rattle.std.proofs.Common.{◌≡◌, inl, inr, ℕ, zero, suc, ◌+◌, ◌<◌, ◌≤◌, Bool, true, false, ◌&&◌, nat_lt, List, [], ◌∷◌, ◌++◌}
-use Rattle.std.proofs.Common.{Vec, length, drop, get_or, refl, sym, ◌∙◌, ap, subst, arith, ltb-true, append_assoc, length-append}
+use Rattle.std.proofs.Common.{◌≡◌, inl, inr, ℕ, zero, suc, ◌+◌, ◌<◌, ◌≤◌, Bool, true, false, ◌&&◌, nat_lt, List, []}
+use Rattle.std.proofs.Common.{◌∷◌, ◌++◌}
+use Rattle.std.proofs.Common.{Vec, length, drop, get_or, refl, sym, ◌∙◌, ap, subst, arith, ltb-true, append_assoc}
+use Rattle.std.proofs.Common.{length-append}
 use Rattle.std.specs.declared.alloc.Global.{Global}
 use Rattle.qc_decl.specs.Accepted.{IsAccepted}
 use Rattle.qc_decl.specs.Actors.{is_site}
@@ -72,7 +74,8 @@ and_more false rest is more = absurd (cc is)
 pub fit_more : (decl : Declaration) (a n : ℕ) (rs : List Record) (r : Record) → all_fit decl a n rs ≡ true
     → fits decl a (n + length rs) r ≡ true → all_fit decl a n (rs ++ r ∷ []) ≡ true
 fit_more decl a n [] r is fit =
-    and_more (fits decl a n r) true (let same : n + 0 ≡ n = omega arith in ap (λ k. fits decl a k r) (sym same) ∙ fit) refl
+    and_more (fits decl a n r) true (let same : n + 0 ≡ n = omega arith in ap (λ k. fits decl a k r) (sym same) ∙ fit)
+    refl
 fit_more decl a n (x ∷ rs) r is fit =
     let parts = both (fits decl a n x) (all_fit decl a (n + 1) rs) is in
     let same : n + length (x ∷ rs) ≡ (n + 1) + length rs = omega arith in

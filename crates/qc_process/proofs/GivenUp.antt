@@ -3,8 +3,8 @@
 use Rattle.std.proofs.Common.{ℕ, Bool, List, [], ◌∷◌, Option, refl}
 use Rattle.qc_decl.specs.declared.declaration.Declaration.{Declaration}
 use Rattle.qc_msg.specs.Steps.{Entry, step_of}
-use Rattle.qc_msg.specs.declared.step.Given.{Given}
-use Rattle.qc_msg.specs.declared.step.Given.TheVariants as given
+use Rattle.qc_msg.specs.declared.step.Input.{Input}
+use Rattle.qc_msg.specs.declared.step.Input.TheVariants as inputs
 use Rattle.qc_msg.specs.declared.step.Step.{Step}
 use Rattle.qc_outside.specs.Images.{Told}
 use Rattle.qc_process.specs.Goes.{Goes}
@@ -14,10 +14,10 @@ use Rattle.qc_process.proofs.Going.{plain_on}
 use Rattle.qc_process.proofs.Plain.{ArePlain}
 use Rattle.qc_process.proofs.Told.{told_plain}
 
-plain_input : (input : Given) → ArePlain (step_of input ∷ [])
-plain_input (given.Called command) = (refl, tt)
-plain_input (given.Got envelope) = (refl, tt)
-plain_input (given.Lost number) = (refl, tt)
+plain_input : (input : Input) → ArePlain (step_of input ∷ [])
+plain_input (inputs.Called command) = (refl, tt)
+plain_input (inputs.Got envelope) = (refl, tt)
+plain_input (inputs.Lost number) = (refl, tt)
 
 module _ (tells : Bool) (decl : Declaration) (a : ℕ) (h now : List Entry) where
   -- a store, where others went on, and where its actor took an input
@@ -25,7 +25,7 @@ module _ (tells : Bool) (decl : Declaration) (a : ℕ) (h now : List Entry) wher
   pub stored_past_others : (s : StoreView) → Goes a h [] now → IsStored tells decl a h s → IsStored tells decl a now s
   stored_past_others s goes is = plain_on tells decl a h now [] s s tt refl refl refl goes is
 
-  pub stored_past_input : (s : StoreView) (input : Given) → Goes a h (step_of input ∷ []) now
+  pub stored_past_input : (s : StoreView) (input : Input) → Goes a h (step_of input ∷ []) now
       → IsStored tells decl a h s → IsStored tells decl a now s
   stored_past_input s input goes is =
       plain_on tells decl a h now (step_of input ∷ []) s s (plain_input input) refl refl refl goes is
@@ -47,7 +47,7 @@ module _ (tells : Bool) (decl : Declaration) (a : ℕ) (h now : List Entry) wher
       → IsOnDisk tells decl a h told count → IsOnDisk tells decl a now told count
   on_disk_past_others told count goes is = on_disk_past told count [] tt goes is
 
-  pub on_disk_past_input : (told : Option Told) (count : ℕ) (input : Given) → Goes a h (step_of input ∷ []) now
+  pub on_disk_past_input : (told : Option Told) (count : ℕ) (input : Input) → Goes a h (step_of input ∷ []) now
       → IsOnDisk tells decl a h told count → IsOnDisk tells decl a now told count
   on_disk_past_input told count input goes is =
       on_disk_past told count (step_of input ∷ []) (plain_input input) goes is

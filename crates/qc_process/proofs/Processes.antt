@@ -1,5 +1,6 @@
 -- A process goes on with its history.
-use Rattle.std.proofs.Common.{◌≡◌, ◌≢◌, ℕ, ◌==◌, Bool, List, [], ◌∷◌, ◌++◌, Option, None, refl, sym, ◌∙◌, ap, append_assoc, cond, true, false}
+use Rattle.std.proofs.Common.{◌≡◌, ◌≢◌, ℕ, ◌==◌, Bool, List, [], ◌∷◌, ◌++◌, Option, None, refl, sym, ◌∙◌, ap}
+use Rattle.std.proofs.Common.{append_assoc, cond, true, false}
 use Rattle.std.proofs.Common.{append-nil}
 use Rattle.qc_core.specs.Actors.{ActorMove, actor_after}
 use Rattle.qc_core.specs.declared.actor.Actor.TheVariants.{Down}
@@ -71,7 +72,8 @@ module _ (tells : Bool) (decl : Declaration) (a : ℕ) (h now : List Entry) wher
       down_by new (deeds a [] (h ++ goes.others)) cause None number_is down
       (ap (deeds a []) goes.now_is
       ∙ deeds-append a [] (h ++ goes.others) (by a (fell cause None))
-      ∙ ap (λ (l : List Deed). deeds a [] (h ++ goes.others) ++ l) (deeds-fell a (mail (h ++ goes.others)) cause None)) stored
+      ∙ ap (λ (l : List Deed). deeds a [] (h ++ goes.others) ++ l) (deeds-fell a (mail (h ++ goes.others)) cause None))
+      stored
 
   pub damaged : (old new : ProcessView) (offset : ℕ) → Goes a h (steps.Damaged offset ∷ []) now
       → new.number ≡ old.number → old.actor ≡ Down → new.actor ≡ Down → IsStored tells decl a now new.store

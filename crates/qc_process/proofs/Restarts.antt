@@ -1,6 +1,8 @@
 -- A journal that was opened gives its actor, or is given up.
-use Rattle.std.proofs.Common.{◌≡◌, inl, inr, ℕ, ◌-◌, ◌^◌, ◌≤◌, ◌<◌, Bool, true, false, List, [], ◌∷◌, ◌++◌, Option, Some, None, IsSome}
-use Rattle.std.proofs.Common.{Result, Ok, Err, Vec, IfOk, OnErr, IfSome, length, option_to_list, refl, sym, ◌∙◌, ap, subst, arith, if◌then◌else◌}
+use Rattle.std.proofs.Common.{◌≡◌, inl, inr, ℕ, ◌-◌, ◌^◌, ◌≤◌, ◌<◌, Bool, true, false, List, [], ◌∷◌, ◌++◌, Option}
+use Rattle.std.proofs.Common.{Some, None, IsSome}
+use Rattle.std.proofs.Common.{Result, Ok, Err, Vec, IfOk, OnErr, IfSome, length, option_to_list, refl, sym, ◌∙◌, ap}
+use Rattle.std.proofs.Common.{subst, arith, if◌then◌else◌}
 use Rattle.std.specs.declared.alloc.AllocError.{AllocError}
 use Rattle.std.specs.declared.alloc.Global.{Global}
 use Rattle.qc_core.proofs.ByNumber.{rises_by}
@@ -146,7 +148,8 @@ rose_on tells decl a h now s new bodies rs same spell legal low goes is =
     let account_is : disk_account_with a t a (steps.Rose rs) ≡ u = own_account a t u in
     let calls : of_bodies bodies ≡ of_opening rs = ap of_bodies spell ∙ opening_calls rs in
     let called : IsAccountOf u new.fuse =
-    subst (IsAccountOf u) (sym same.fuse) (subst (λ (c : Calls). IsAccountOf (disk_called t c) s.fuse) calls is.accounted)
+    subst (IsAccountOf u) (sym same.fuse) (subst
+    (λ (c : Calls). IsAccountOf (disk_called t c) s.fuse) calls is.accounted)
     in
     let o : OpenJournal = is.open_journal in
     let is_open : new.journal ≡ Some o = same.journal ∙ is.is_open in

@@ -1,12 +1,14 @@
 -- Posts in parts; how many records a store has, and that they are kept.
-use Rattle.std.proofs.Common.{◌≡◌, ℕ, ◌+◌, ◌^◌, ◌<◌, ◌≤◌, ◌==◌, Bool, true, List, [], ◌∷◌, ◌++◌, Option, Some, None, IfSome, length}
+use Rattle.std.proofs.Common.{◌≡◌, ℕ, ◌+◌, ◌^◌, ◌<◌, ◌≤◌, ◌==◌, Bool, true, List, [], ◌∷◌, ◌++◌, Option, Some, None}
+use Rattle.std.proofs.Common.{IfSome, length}
 use Rattle.std.proofs.Common.{refl, sym, ◌∙◌, ap, arith, append_assoc, append-nil}
 use Rattle.std.proofs.lemmas.Bool.{eq-eqb}
 use Rattle.qc_decl.specs.declared.declaration.Declaration.{Declaration}
 use Rattle.qc_msg.specs.Deeds.{own}
 use Rattle.qc_msg.specs.Steps.{Entry, by}
 use Rattle.qc_msg.specs.declared.step.Step.{Step}
-use Rattle.qc_msg.proofs.Growth.{by-append, own-append}
+use Rattle.qc_msg.proofs.GrownMail.{by-append}
+use Rattle.qc_msg.proofs.Growth.{own-append}
 use Rattle.qc_promise.specs.Kept.{Journal, journal_of}
 use Rattle.qc_promise.specs.Stores.{IsKeptOrUnfit}
 use Rattle.qc_process.specs.Fitting.{AreKeptOrUnfit, journal_fits}

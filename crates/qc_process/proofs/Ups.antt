@@ -5,8 +5,8 @@ use Rattle.qc_core.specs.declared.actor.Actor.{Actor}
 use Rattle.qc_core.specs.declared.actor.Actor.TheVariants.{Down}
 use Rattle.qc_core.specs.Actors.{ActorMove, actor_takes, moved}
 use Rattle.qc_decl.specs.declared.declaration.Declaration.{Declaration}
-use Rattle.qc_msg.specs.declared.step.Given.{Given}
-use Rattle.qc_msg.specs.declared.step.Given.TheVariants as given
+use Rattle.qc_msg.specs.declared.step.Input.{Input}
+use Rattle.qc_msg.specs.declared.step.Input.TheVariants as inputs
 use Rattle.qc_msg.specs.declared.turn.Turn.{Turn}
 use Rattle.qc_msg.specs.Steps.{HasRecord}
 use Rattle.qc_process.specs.Views.{IsOpenWhileUp, IsUp, OpenJournal, StoreView}
@@ -27,19 +27,19 @@ closed_of_down actor s is down = by s.journal is
 
 -- one that writes is up
 
-silent_down : (decl : Declaration) (g : Given) → HasRecord (actor_takes decl Down g).turn.write → ⊥
-silent_down decl (given.Called command) has = has
-silent_down decl (given.Got e) has = has
-silent_down decl (given.Lost number) has = has
+silent_down : (decl : Declaration) (g : Input) → HasRecord (actor_takes decl Down g).turn.write → ⊥
+silent_down decl (inputs.Called command) has = has
+silent_down decl (inputs.Got e) has = has
+silent_down decl (inputs.Lost number) has = has
 
-writer_is_up : (decl : Declaration) (old new : Actor) (g : Given) (turn : Turn) (s : StoreView) → IsOpenWhileUp old s
+writer_is_up : (decl : Declaration) (old new : Actor) (g : Input) (turn : Turn) (s : StoreView) → IsOpenWhileUp old s
     → actor_takes decl old g ≡ moved new turn → HasRecord turn.write → IsUp s
 writer_is_up decl old new g turn s is takes has =
     open_of_up old s is
     (λ down. silent_down decl g
     (subst (λ (m : ActorMove). HasRecord m.turn.write) (sym takes ∙ ap (λ (v : Actor). actor_takes decl v g) down) has))
 
-pub writers_are_up : {E : Type 0} (decl : Declaration) (old new : Actor) (g : Given) (s : StoreView) (r : Result Turn E)
+pub writers_are_up : {E : Type 0} (decl : Declaration) (old new : Actor) (g : Input) (s : StoreView) (r : Result Turn E)
     → IsOpenWhileUp old s → IfOk r (λ turn. actor_takes decl old g ≡ moved new turn)
     → IfOk r (λ turn. HasRecord turn.write → IsUp s)
 writers_are_up decl old new g s (Ok turn) is takes = λ has. writer_is_up decl old new g turn s is takes has

@@ -2,12 +2,12 @@
 use Rattle.std.specs.Prelude.{◌^◌, ◌<◌}
 use Rattle.qc_admin.specs.Fits.{MessageFits}
 use Rattle.qc_client.specs.Fits.{promise_in}
-use Rattle.qc_msg.specs.declared.step.Given.{Given}
-use Rattle.qc_msg.specs.declared.step.Given.TheVariants as given
+use Rattle.qc_msg.specs.declared.step.Input.{Input}
+use Rattle.qc_msg.specs.declared.step.Input.TheVariants as inputs
 
 -- The clock of the promise that it may bring is far from the end of its type, and what it tells of promises is of few
 -- clients.
-abbrev pub IsReadable : Given → Type 0
-IsReadable (given.Called command) = Unit {0}
-IsReadable (given.Got envelope) = (promise_in envelope.message < 2 ^ 63) × MessageFits envelope.message
-IsReadable (given.Lost number) = Unit {0}
+abbrev pub IsReadable : Input → Type 0
+IsReadable (inputs.Called command) = Unit {0}
+IsReadable (inputs.Got envelope) = (promise_in envelope.message < 2 ^ 63) × MessageFits envelope.message
+IsReadable (inputs.Lost number) = Unit {0}

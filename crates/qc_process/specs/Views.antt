@@ -1,5 +1,6 @@
 -- What contracts see of an actor's store and of a process.
-use Rattle.std.specs.Prelude.{◌≡◌, ℕ, ◌^◌, ◌<◌, ◌≤◌, true, List, Option, Some, None, IfSome, IsSome, MatchOption, length}
+use Rattle.std.specs.Prelude.{◌≡◌, ℕ, ◌^◌, ◌<◌, ◌≤◌, true, List, Option, Some, None, IfSome, IsSome, MatchOption}
+use Rattle.std.specs.Prelude.{length}
 use Rattle.qc_core.specs.declared.actor.Actor.{Actor}
 use Rattle.qc_core.specs.declared.actor.Actor.TheVariants.{Down}
 use Rattle.qc_msg.specs.declared.record.Record.{Record}

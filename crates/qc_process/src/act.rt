@@ -8,7 +8,7 @@ ghost use Rattle.qc_process.specs.Inputs.{IsReadable};
 use qc_core::Actor;
 use qc_decl::Declaration;
 use qc_list::OutOfMemory;
-use qc_msg::{Given, Turn};
+use qc_msg::{Input, Turn};
 use std::alloc::Global;
 
 /// The actor's turn for an input. After want of memory the actor is as it was.
@@ -16,7 +16,7 @@ pub(crate) fn act(
     actor: &mut Actor,
     alloc: Global,
     decl: &Declaration,
-    given: Given,
+    given: Input,
 ) -> Result<Turn, OutOfMemory>
     requires accepted { IsAccepted decl.now }
     requires fits { ActorFits actor.old }
@@ -25,8 +25,8 @@ pub(crate) fn act(
     ensures err { OnErr result (actor.new ≡ actor.old) }
 {
     match given {
-        Given::Called(command) => actor.call(alloc, decl, command),
-        Given::Got(envelope) => {
+        Input::Called(command) => actor.call(alloc, decl, command),
+        Input::Got(envelope) => {
             actor.hear(
                 alloc,
                 decl,
@@ -35,6 +35,6 @@ pub(crate) fn act(
                 &envelope.message,
             )
         }
-        Given::Lost { number } => actor.lose(alloc, decl, number),
+        Input::Lost { number } => actor.lose(alloc, decl, number),
     }
 }

@@ -8,7 +8,7 @@ ghost use Rattle.qc_decl.specs.declared.declaration.Declaration.{Declaration};
 ghost use Rattle.qc_msg.specs.Deeds.{deeds, own};
 ghost use Rattle.qc_msg.specs.Steps.{Entry, posted_as, step_of};
 ghost use Rattle.qc_msg.specs.declared.step.Fall.{Fall};
-ghost use Rattle.qc_msg.specs.declared.step.Given.{Given};
+ghost use Rattle.qc_msg.specs.declared.step.Input.{Input};
 ghost use Rattle.qc_msg.specs.declared.step.Step.{Step};
 ghost use Rattle.qc_msg.specs.declared.step.Step.TheVariants.{Damaged, Fell};
 ghost use Rattle.qc_msg.specs.declared.turn.Appended.{Appended};
@@ -27,7 +27,7 @@ use qc_spent::fitting_records_are_kept;
 pub fn stores_stay_over_looks_and_inputs()
     ensures looks { (tells : Bool) (decl : Declaration) (a : ℕ) (h now : List Entry) (s : StoreView)
         → Goes a h [] now → IsStored tells decl a h s → IsStored tells decl a now s }
-    ensures inputs { (tells : Bool) (decl : Declaration) (a : ℕ) (h now : List Entry) (s : StoreView) (given : Given)
+    ensures inputs { (tells : Bool) (decl : Declaration) (a : ℕ) (h now : List Entry) (s : StoreView) (given : Input)
         → Goes a h (step_of given ∷ []) now → IsStored tells decl a h s → IsStored tells decl a now s }
 {}
 

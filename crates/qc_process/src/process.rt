@@ -28,7 +28,7 @@ use crate::store::Store;
 use qc_core::Actor;
 use qc_decl::Declaration;
 use qc_list::OutOfMemory;
-use qc_msg::{Appended, Given, Turn};
+use qc_msg::{Appended, Input, Turn};
 use qc_outside::{ArmKind, Disk, RackFault};
 use std::alloc::Global;
 use std::marker::Model;
@@ -82,7 +82,7 @@ impl<D: Disk> Process<D> {
         &mut self,
         alloc: Global,
         decl: &Declaration,
-        given: Given,
+        given: Input,
     ) -> Result<Turn, OutOfMemory>
         requires accepted { IsAccepted decl.now }
         requires fits { ActorFits self.old.actor }

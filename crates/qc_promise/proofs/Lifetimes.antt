@@ -8,7 +8,7 @@ use Rattle.std.proofs.lemmas.List.Elements.{filter_map-append}
 use Rattle.std.proofs.lemmas.List.Sums.{fold-append}
 use Rattle.qc_msg.specs.declared.record.Record.{Record}
 use Rattle.qc_msg.specs.Deeds.{Deed, Rises}
-use Rattle.qc_msg.specs.Readings.{risen_in, written_in}
+use Rattle.qc_msg.specs.InputReadings.{risen_in, written_in}
 use Rattle.qc_promise.specs.Lifetimes.{Lifetime, begun_with, lifetime, records_in, with_deed}
 
 -- deeds none of which is a rise
@@ -41,12 +41,14 @@ pub life_begins : (ds : List Deed) (rs : List Record) → lifetime (ds ++ Rises 
 life_begins ds rs = fold-append with_deed (begun_with []) ds (Rises rs ∷ [])
 
 -- what comes after a rise is the whole of its life
-pub life_after : (ds : List Deed) (rs : List Record) (xs : List Deed) → AreNoRises xs → lifetime (ds ++ Rises rs ∷ xs) ≡ record { kept = rs; since = xs }
+pub life_after : (ds : List Deed) (rs : List Record) (xs : List Deed) → AreNoRises xs
+    → lifetime (ds ++ Rises rs ∷ xs) ≡ record { kept = rs; since = xs }
 life_after ds rs xs none = fold-append with_deed (begun_with []) ds (Rises rs ∷ xs) ∙ lives (begun_with rs) xs none
 
 -- the records
 
-pub more_records : (ds xs : List Deed) → AreNoRises xs → records_in (ds ++ xs) ≡ records_in ds ++ filter_map written_in xs
+pub more_records : (ds xs : List Deed) → AreNoRises xs
+    → records_in (ds ++ xs) ≡ records_in ds ++ filter_map written_in xs
 more_records ds xs none =
     ap (λ (l : Lifetime). l.kept ++ filter_map written_in l.since) (lives_on ds xs none)
     ∙ ap (λ (v : List Record). (lifetime ds).kept ++ v) (filter_map-append written_in (lifetime ds).since xs)

@@ -4,14 +4,16 @@ use Rattle.std.specs.Prelude.{map}
 use Rattle.std.specs.List.{filter_map}
 use Rattle.qc_msg.specs.declared.turn.Posting.{Posting}
 use Rattle.qc_msg.specs.Deeds.{Deed, Takes, Writes, Sends, Tells, Falls, Rises, sends_of}
-use Rattle.qc_promise.specs.Posts.{Act, IsPostOf, TurnDue, posted_due, Sent, Told, Wrote, fallen_in, posted_next, sent_by}
+use Rattle.qc_promise.specs.Posts.{Act, IsPostOf, TurnDue, posted_due, Sent, Told, Wrote, fallen_in, posted_next}
+use Rattle.qc_promise.specs.Posts.{sent_by}
 
 -- what comes after the post doesn't change it
 pub posted-more : (ys : List Deed) → posted_next ys ≡ [] → (xs : List Deed) → posted_next (xs ++ ys) ≡ posted_next xs
 posted-more ys ends [] = ends
 posted-more ys ends (Takes given ∷ xs) = refl
 posted-more ys ends (Writes w ∷ xs) = ap (λ (v : List Act). Wrote w ∷ v) (posted-more ys ends xs)
-posted-more ys ends (Sends n to m ∷ xs) = ap (λ (v : List Act). Sent (record { to = to; message = m }) ∷ v) (posted-more ys ends xs)
+posted-more ys ends (Sends n to m ∷ xs) =
+    ap (λ (v : List Act). Sent (record { to = to; message = m }) ∷ v) (posted-more ys ends xs)
 posted-more ys ends (Tells r ∷ xs) = ap (λ (v : List Act). Told r ∷ v) (posted-more ys ends xs)
 posted-more ys ends (Falls cause pending ∷ xs) = refl
 posted-more ys ends (Rises records ∷ xs) = refl
@@ -19,14 +21,17 @@ posted-more ys ends (Rises records ∷ xs) = refl
 -- so whatever comes there, the post stays one of the turn's
 
 pub post_more : (t : TurnDue) (xs ys : List Deed) → posted_next ys ≡ [] → IsPostOf t xs → IsPostOf t (xs ++ ys)
-post_more t xs ys ends is = subst (λ (acts : List Act). acts ≡ posted_due t (fallen_in acts)) (sym (posted-more ys ends xs)) is
+post_more t xs ys ends is = subst (λ (acts : List Act). acts ≡ posted_due t (fallen_in acts))
+    (sym (posted-more ys ends xs)) is
 
 pub post_less : (t : TurnDue) (xs ys : List Deed) → posted_next ys ≡ [] → IsPostOf t (xs ++ ys) → IsPostOf t xs
-post_less t xs ys ends is = subst (λ (acts : List Act). acts ≡ posted_due t (fallen_in acts)) (posted-more ys ends xs) is
+post_less t xs ys ends is = subst (λ (acts : List Act). acts ≡ posted_due t (fallen_in acts))
+    (posted-more ys ends xs) is
 
 -- messages, and then what comes after them
 
-pub posted_sends : (n : ℕ) (ps : List Posting) (xs : List Deed) → posted_next (sends_of n ps ++ xs) ≡ map Sent ps ++ posted_next xs
+pub posted_sends : (n : ℕ) (ps : List Posting) (xs : List Deed)
+    → posted_next (sends_of n ps ++ xs) ≡ map Sent ps ++ posted_next xs
 posted_sends n [] xs = refl
 posted_sends n (p ∷ ps) xs = ap (λ (v : List Act). Sent p ∷ v) (posted_sends (n + 1) ps xs)
 

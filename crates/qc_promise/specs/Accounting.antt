@@ -20,8 +20,8 @@ use Rattle.qc_msg.specs.declared.reply.Reply.{Reply}
 use Rattle.qc_msg.specs.declared.reply.Reply.TheVariants as replies
 use Rattle.qc_msg.specs.declared.step.Command.{Command}
 use Rattle.qc_msg.specs.declared.step.Command.TheVariants as commands
-use Rattle.qc_msg.specs.declared.step.Given.{Given}
-use Rattle.qc_msg.specs.declared.step.Given.TheVariants as given
+use Rattle.qc_msg.specs.declared.step.Input.{Input}
+use Rattle.qc_msg.specs.declared.step.Input.TheVariants as inputs
 use Rattle.qc_msg.specs.Begun.{with_life}
 use Rattle.qc_msg.specs.Deeds.{Deed, Takes, Writes, Sends, Tells, Falls, Rises, deeds}
 use Rattle.qc_msg.specs.Steps.{Entry}
@@ -97,10 +97,10 @@ account_heard d (messages.Ask tx) = d
 account_heard d (messages.Close epoch) = d
 account_heard d (messages.Install epoch clock log) = d
 
-abbrev pub account_taken : Account → Given → Account
-account_taken d (given.Called command) = record d { command = Some command; requests = []; written = None }
-account_taken d (given.Got envelope) = account_heard d envelope.message
-account_taken d (given.Lost number) = counted d number None
+abbrev pub account_taken : Account → Input → Account
+account_taken d (inputs.Called command) = record d { command = Some command; requests = []; written = None }
+account_taken d (inputs.Got envelope) = account_heard d envelope.message
+account_taken d (inputs.Lost number) = counted d number None
 
 -- a record: a commit, or that of its rise
 

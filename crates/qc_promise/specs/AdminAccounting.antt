@@ -12,10 +12,11 @@ use Rattle.qc_msg.specs.declared.message.Answer.{Answer}
 use Rattle.qc_msg.specs.declared.message.Envelope.{Envelope}
 use Rattle.qc_msg.specs.declared.message.Message.{Message}
 use Rattle.qc_msg.specs.declared.record.Record.{Record}
-use Rattle.qc_msg.specs.declared.step.Given.{Given}
-use Rattle.qc_msg.specs.declared.step.Given.TheVariants as given
+use Rattle.qc_msg.specs.declared.step.Input.{Input}
+use Rattle.qc_msg.specs.declared.step.Input.TheVariants as inputs
 use Rattle.qc_msg.specs.Deeds.{Deed, Takes, Writes, Sends, Tells, Falls, Rises}
-use Rattle.qc_msg.specs.Readings.{Answered, Installing, answer_in, asking_in, closing_in, decide_in, epoch_in}
+use Rattle.qc_msg.specs.InputReadings.{epoch_in}
+use Rattle.qc_msg.specs.Readings.{Answered, Installing, answer_in, asking_in, closing_in, decide_in}
 use Rattle.qc_msg.specs.Readings.{installing_in}
 use Rattle.qc_promise.specs.AdminAccount.{AdminAccount, AdminRequest, AdminWant, Ask, Close, Install, asks}
 use Rattle.qc_promise.specs.AdminAccount.{decided_epoch, installs, new_admin_account}
@@ -35,16 +36,16 @@ abbrev pub admin_heard : AdminAccount → Message → AdminAccount
 admin_heard d message =
     option_map_or (λ (a : Answered). admin_counted d a.to (Some a.answer)) (answer_in message) d
 
-abbrev pub admin_taken : AdminAccount → Given → AdminAccount
-admin_taken d (given.Called command) = record d { command = Some command; requests = []; written = None }
-admin_taken d (given.Got envelope) = admin_heard d envelope.message
-admin_taken d (given.Lost number) = admin_counted d number None
+abbrev pub admin_taken : AdminAccount → Input → AdminAccount
+admin_taken d (inputs.Called command) = record d { command = Some command; requests = []; written = None }
+admin_taken d (inputs.Got envelope) = admin_heard d envelope.message
+admin_taken d (inputs.Lost number) = admin_counted d number None
 
 abbrev pub admin_written : AdminAccount → Record → AdminAccount
 admin_written d r = option_map_or (λ (i : Installing). record d { written = Some i }) (decide_in r) d
 
--- A request counts where the command calls for it next: a Close for the next epoch, of the site that the round asks next;
--- an Ask about the next of the promised transactions, of its client, once the round is met; an Install of what is
+-- A request counts where the command calls for it next: a Close for the next epoch, of the site that the round asks
+-- next; an Ask about the next of the promised transactions, of its client, once the round is met; an Install of what is
 -- decided, of the next site.
 
 abbrev pub commanded : AdminAccount → Option ℕ

@@ -8,8 +8,8 @@ use Rattle.qc_msg.specs.declared.message.Message.{Message}
 use Rattle.qc_msg.specs.declared.record.Record.{Record}
 use Rattle.qc_msg.specs.declared.record.Record.TheVariants as records
 use Rattle.qc_msg.specs.declared.reply.Reply.{Reply}
-use Rattle.qc_msg.specs.declared.step.Given.{Given}
-use Rattle.qc_msg.specs.declared.step.Given.TheVariants as given
+use Rattle.qc_msg.specs.declared.step.Input.{Input}
+use Rattle.qc_msg.specs.declared.step.Input.TheVariants as inputs
 use Rattle.qc_msg.specs.Deeds.{Deed, Takes, Writes, Sends, Tells, Falls, Rises}
 use Rattle.qc_msg.specs.Readings.{Installing, asking_in, closing_in, installing_in}
 use Rattle.qc_promise.specs.AdminAccount.{AdminAccount, new_admin_account}
@@ -24,12 +24,12 @@ decide_record i = records.Decide i.epoch i.clock i.lines
 -- a command is called once the one before has its reply; and no input is taken while a reply is due that isn't told, or
 -- a decision that isn't written
 
-abbrev pub IsAdminFree : AdminAccount → Given → Type 0
-IsAdminFree d (given.Called command) = d.command ≡ None
-IsAdminFree d (given.Got envelope) = Unit {0}
-IsAdminFree d (given.Lost number) = Unit {0}
+abbrev pub IsAdminFree : AdminAccount → Input → Type 0
+IsAdminFree d (inputs.Called command) = d.command ≡ None
+IsAdminFree d (inputs.Got envelope) = Unit {0}
+IsAdminFree d (inputs.Lost number) = Unit {0}
 
-abbrev pub IsAdminInputDue : Declaration → AdminAccount → Given → Type 0
+abbrev pub IsAdminInputDue : Declaration → AdminAccount → Input → Type 0
 IsAdminInputDue decl d given =
     (admin_due decl d false ≡ None) × (d.written ≡ decide_due decl d) × IsAdminFree d given
 

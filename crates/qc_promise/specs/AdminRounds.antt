@@ -1,5 +1,5 @@
--- How far a command of the administrator has come: the round of Closes, what the closed sites told, the transactions that
--- these have promised with what their clients told of them, and what is decided of it.
+-- How far a command of the administrator has come: the round of Closes, what the closed sites told, the transactions
+-- that these have promised with what their clients told of them, and what is decided of it.
 use Rattle.std.specs.Prelude.{ℕ, ◌+◌, max, if◌then◌else◌, Bool, true, false, not, List, [], ◌∷◌, ◌++◌}
 use Rattle.std.specs.Prelude.{drop, fold, length, map, take, filter, Option, Some, None, is_some}
 use Rattle.std.specs.Prelude.{option_and_then, option_map}
@@ -27,8 +27,8 @@ use Rattle.qc_msg.specs.Readings.{Installing, Shutting, shut_in, verdict_in}
 use Rattle.qc_promise.specs.AdminAccount.{AdminAccount, AdminRequest, answer_to, closes, decided_epoch, is_ask_of}
 use Rattle.qc_promise.specs.SiteLogs.{lines_of}
 
--- the round of Closes: by the plan of the epoch that is closed, in the order of the sites, for the weight that meets each
--- quorum of it. A site that tells that it is closed counts, each other one that answered or was lost is missing
+-- the round of Closes: by the plan of the epoch that is closed, in the order of the sites, for the weight that meets
+-- each quorum of it. A site that tells that it is closed counts, each other one that answered or was lost is missing
 
 abbrev pub close_weight : Plan → ℕ
 close_weight plan =
@@ -81,8 +81,8 @@ unless_among before p = if is_among before p.tx then before else before ++ p ∷
 abbrev pub promised_once : AdminAccount → List Promised
 promised_once d = fold unless_among [] (flat_map promised_at (shuts_told d))
 
--- what its client told of a transaction: nothing yet, or that it committed, aborted or is active, or that the question is
--- lost
+-- what its client told of a transaction: nothing yet, or that it committed, aborted or is active, or that the question
+-- is lost
 
 abbrev pub ask_of : AdminAccount → TxId → Option AdminRequest
 ask_of d tx = find (λ (q : AdminRequest). is_ask_of tx q.want) d.requests
@@ -113,7 +113,8 @@ abbrev pub all_answered : AdminAccount → Bool
 all_answered d = list_all (is_answered d) (take most_questions (promised_once d))
 
 -- What the next epoch begins with: all lines of the closed sites' logs, and of each committed transaction all own lines
--- that any of them has promised, with its stamp; and a clock that has passed the clocks of these sites and these stamps.
+-- that any of them has promised, with its stamp; and a clock that has passed the clocks of these sites and these
+-- stamps.
 
 abbrev pub stamp_in : Outcome → Option Stamp
 stamp_in (Committed stamp) = Some stamp

@@ -14,7 +14,8 @@ use Rattle.qc_msg.specs.declared.reply.Reply.{Reply}
 use Rattle.qc_msg.specs.declared.reply.Reply.TheVariants as replies
 use Rattle.qc_msg.specs.declared.step.Command.{Command}
 use Rattle.qc_msg.specs.Lengths.{epoch_length}
-use Rattle.qc_msg.specs.Readings.{Installing, epoch_in, has_installed}
+use Rattle.qc_msg.specs.InputReadings.{epoch_in}
+use Rattle.qc_msg.specs.Readings.{Installing, has_installed}
 use Rattle.qc_promise.specs.AdminAccount.{AdminAccount, AdminRequest, answer_to, decided_epoch, installs}
 use Rattle.qc_promise.specs.AdminRounds.{Promised, ToldShut, all_answered, close_round, decision_due, first_doubt}
 use Rattle.qc_promise.specs.AdminRounds.{shuts_told}

@@ -6,8 +6,8 @@ use Rattle.qc_decl.specs.declared.declaration.Declaration.{Declaration}
 use Rattle.qc_entry.specs.declared.record.Commit.{Commit}
 use Rattle.qc_list.specs.Members.{In}
 use Rattle.qc_msg.specs.Steps.{Entry}
-use Rattle.qc_onecopy.specs.Committed.{AreApart}
-use Rattle.qc_onecopy.specs.OneCopy.{OneCopy}
+use Rattle.theory_onecopy.specs.Committed.{AreApart}
+use Rattle.theory_onecopy.specs.OneCopy.{OneCopy}
 use Rattle.qc_promise.specs.Committed.{committed}
 use Rattle.qc_promise.specs.Seen.{seen}
 use Rattle.qc_promise.specs.Told.{AreDealt, AreTold}

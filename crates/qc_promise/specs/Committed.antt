@@ -9,7 +9,7 @@ use Rattle.qc_msg.specs.declared.step.Step.{Step}
 use Rattle.qc_msg.specs.declared.step.Step.TheVariants as steps
 use Rattle.qc_msg.specs.Counts.{commit_of}
 use Rattle.qc_msg.specs.Steps.{Entry}
-use Rattle.qc_onecopy.specs.Committed.{sorted}
+use Rattle.theory_onecopy.specs.Committed.{sorted}
 
 -- the commit records that a step writes, or that a rise gives
 abbrev pub commits_in : Step → List Commit

@@ -9,8 +9,8 @@ use Rattle.qc_msg.specs.declared.reply.Reply.{Reply}
 use Rattle.qc_msg.specs.declared.reply.Reply.TheVariants as replies
 use Rattle.qc_msg.specs.declared.step.Command.{Command}
 use Rattle.qc_msg.specs.declared.step.Command.TheVariants as commands
-use Rattle.qc_msg.specs.declared.step.Given.{Given}
-use Rattle.qc_msg.specs.declared.step.Given.TheVariants as given
+use Rattle.qc_msg.specs.declared.step.Input.{Input}
+use Rattle.qc_msg.specs.declared.step.Input.TheVariants as inputs
 use Rattle.qc_stamp.specs.Order.{same_tx}
 use Rattle.qc_stamp.specs.declared.stamp.TxId.{TxId}
 
@@ -69,10 +69,10 @@ deal_told tx d (replies.InDoubt holder site) = d
 deal_told tx d replies.Fault = d
 deal_told tx d (replies.Moved closed installed) = d
 
-abbrev pub deal_taken : Dealing → Given → Dealing
-deal_taken d (given.Called command) = record d { asked = Some command }
-deal_taken d (given.Got envelope) = d
-deal_taken d (given.Lost number) = d
+abbrev pub deal_taken : Dealing → Input → Dealing
+deal_taken d (inputs.Called command) = record d { asked = Some command }
+deal_taken d (inputs.Got envelope) = d
+deal_taken d (inputs.Lost number) = d
 
 -- one deed more; a fall ends the transaction, and no reply does
 abbrev pub deal : TxId → Dealing → Deed → Dealing

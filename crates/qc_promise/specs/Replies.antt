@@ -6,8 +6,8 @@ use Rattle.qc_msg.specs.declared.record.Record.{Record}
 use Rattle.qc_msg.specs.declared.record.Record.TheVariants as records
 use Rattle.qc_msg.specs.declared.reply.Reply.{Reply}
 use Rattle.qc_msg.specs.declared.reply.Reply.TheVariants as replies
-use Rattle.qc_msg.specs.declared.step.Given.{Given}
-use Rattle.qc_msg.specs.declared.step.Given.TheVariants as given
+use Rattle.qc_msg.specs.declared.step.Input.{Input}
+use Rattle.qc_msg.specs.declared.step.Input.TheVariants as inputs
 use Rattle.qc_msg.specs.Deeds.{Deed, Takes, Writes, Sends, Tells, Falls, Rises}
 use Rattle.qc_promise.specs.Account.{Account, new_account}
 use Rattle.qc_promise.specs.Accounting.{account_at}
@@ -18,12 +18,12 @@ use Rattle.qc_promise.specs.Rows.{commit_of, due, pending_with, record_with}
 
 -- A command is called once the one before has its reply; and no input is taken while a reply is due that isn't told
 
-abbrev pub IsFreeFor : Account → Given → Type 0
-IsFreeFor d (given.Called command) = d.command ≡ None
-IsFreeFor d (given.Got envelope) = Unit {0}
-IsFreeFor d (given.Lost number) = Unit {0}
+abbrev pub IsFreeFor : Account → Input → Type 0
+IsFreeFor d (inputs.Called command) = d.command ≡ None
+IsFreeFor d (inputs.Got envelope) = Unit {0}
+IsFreeFor d (inputs.Lost number) = Unit {0}
 
-abbrev pub IsInputDue : Account → Option Reply → Given → Type 0
+abbrev pub IsInputDue : Account → Option Reply → Input → Type 0
 IsInputDue d row given = (row ≡ None) × IsFreeFor d given
 
 -- a commit record is written once, with all that was told, where the row is Committed with its stamp; the record of a

@@ -20,8 +20,8 @@ use Rattle.qc_decl.specs.declared.declaration.Declaration.{Declaration}
 use Rattle.qc_msg.specs.declared.message.Answer.{Answer}
 use Rattle.qc_msg.specs.declared.message.Answer.TheVariants as answers
 use Rattle.qc_msg.specs.declared.message.Want.{Want}
-use Rattle.qc_msg.specs.declared.reply.Why.{Why}
-use Rattle.qc_msg.specs.declared.reply.Why.TheVariants as causes
+use Rattle.qc_msg.specs.declared.reply.AbortCause.{AbortCause}
+use Rattle.qc_msg.specs.declared.reply.AbortCause.TheVariants as causes
 use Rattle.qc_msg.specs.Begun.{has_granted}
 use Rattle.qc_promise.specs.Account.{Account, Current, ClientRequest, is_prepare, requests_for, view_of}
 
@@ -94,7 +94,7 @@ are_votes_in decl d t =
 -- what came of a request for a promise, where it is a vote against; what no site answers to one is as if it had
 -- forgotten
 
-abbrev pub against : ClientRequest → Option (Option Answer) → Option Why
+abbrev pub against : ClientRequest → Option (Option Answer) → Option AbortCause
 against q None = None
 against q (Some None) = Some (causes.NoAnswer q.site)
 against q (Some (Some (answers.Granted life clock log))) = Some (causes.Forgot q.site)
@@ -110,6 +110,6 @@ against q (Some (Some answers.Installed)) = Some (causes.Forgot q.site)
 against q (Some (Some (answers.Answered verdict))) = Some (causes.Forgot q.site)
 
 -- the first vote against in asked order
-abbrev pub first_against : List ClientRequest → Option Why
+abbrev pub first_against : List ClientRequest → Option AbortCause
 first_against [] = None
 first_against (q ∷ qs) = option_or (against q q.taken) (first_against qs)

@@ -15,8 +15,8 @@ use Rattle.qc_msg.specs.declared.record.Record.TheVariants as records
 use Rattle.qc_msg.specs.declared.reply.Half.TheVariants as halves
 use Rattle.qc_msg.specs.declared.reply.Reply.{Reply}
 use Rattle.qc_msg.specs.declared.reply.Reply.TheVariants as replies
-use Rattle.qc_msg.specs.declared.reply.Why.{Why}
-use Rattle.qc_msg.specs.declared.reply.Why.TheVariants as causes
+use Rattle.qc_msg.specs.declared.reply.AbortCause.{AbortCause}
+use Rattle.qc_msg.specs.declared.reply.AbortCause.TheVariants as causes
 use Rattle.qc_msg.specs.declared.step.Command.{Command}
 use Rattle.qc_msg.specs.declared.step.Command.TheVariants as commands
 use Rattle.qc_promise.specs.Account.{Account, Current, is_append, is_prepare, is_read, requests_for}
@@ -55,7 +55,7 @@ do_row decl d t object inv =
 abbrev pub next_stamp : Account → Stamp
 next_stamp d = record { clock = d.clock + 1; client = d.client }
 
-abbrev pub vote_row : Account → Bool → Option Why → Option Reply
+abbrev pub vote_row : Account → Bool → Option AbortCause → Option Reply
 vote_row d unwritten (Some why) = Some (replies.Aborted why)
 vote_row d unwritten None = Some (if unwritten then replies.Unknown else replies.Committed (next_stamp d))
 

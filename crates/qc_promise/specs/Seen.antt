@@ -13,8 +13,8 @@ use Rattle.qc_msg.specs.declared.message.Message.{Message}
 use Rattle.qc_msg.specs.declared.message.Message.TheVariants as messages
 use Rattle.qc_msg.specs.declared.reply.Reply.{Reply}
 use Rattle.qc_msg.specs.declared.reply.Reply.TheVariants as replies
-use Rattle.qc_msg.specs.declared.step.Given.{Given}
-use Rattle.qc_msg.specs.declared.step.Given.TheVariants as given
+use Rattle.qc_msg.specs.declared.step.Input.{Input}
+use Rattle.qc_msg.specs.declared.step.Input.TheVariants as inputs
 use Rattle.qc_promise.specs.Deals.{is_begun}
 use Rattle.qc_stamp.specs.Order.{same_tx}
 use Rattle.qc_stamp.specs.declared.stamp.TxId.{TxId}
@@ -70,10 +70,10 @@ sight_heard tx s (messages.Ask other) = s
 sight_heard tx s (messages.Close epoch) = s
 sight_heard tx s (messages.Install epoch clock log) = s
 
-abbrev pub sight_taken : TxId → Sight → Given → Sight
-sight_taken tx s (given.Called command) = s
-sight_taken tx s (given.Got envelope) = sight_heard tx s envelope.message
-sight_taken tx s (given.Lost number) = answered s number
+abbrev pub sight_taken : TxId → Sight → Input → Sight
+sight_taken tx s (inputs.Called command) = s
+sight_taken tx s (inputs.Got envelope) = sight_heard tx s envelope.message
+sight_taken tx s (inputs.Lost number) = answered s number
 
 -- a request waits
 abbrev pub sight_sent : Sight → ℕ → Message → Sight

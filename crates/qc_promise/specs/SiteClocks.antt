@@ -1,5 +1,6 @@
 -- A site's clock: the greatest of the lines and Decisions that it took in its present life, whatever became of them,
--- of the clocks with which it installed epochs since, and of what stood in the records that it rose with (Lamport 1978).
+-- of the clocks with which it installed epochs since, and of what stood in the records that it rose with (Lamport
+-- 1978).
 use Rattle.std.specs.Prelude.{ℕ, max, List, [], ◌∷◌, ◌++◌, fold, map}
 use Rattle.std.specs.List.{flat_map}
 use Rattle.std.specs.Option.{option_map_or}
@@ -15,8 +16,9 @@ use Rattle.qc_msg.specs.declared.record.Record.{Record}
 use Rattle.qc_msg.specs.Deeds.{Deed}
 use Rattle.qc_promise.specs.Lifetimes.{lifetime}
 use Rattle.qc_msg.specs.Readings.{Decided, Finished, Installing, Requested}
-use Rattle.qc_msg.specs.Readings.{decision_in, done_in, got_in, install_in, installing_in, prepare_in, request_in}
-use Rattle.qc_msg.specs.Readings.{written_in}
+use Rattle.qc_msg.specs.InputReadings.{got_in}
+use Rattle.qc_msg.specs.Readings.{decision_in, done_in, install_in, installing_in, prepare_in, request_in}
+use Rattle.qc_msg.specs.InputReadings.{written_in}
 
 abbrev pub clocks_of : List Line → List ℕ
 clocks_of lines = map (λ (l : Line). l.stamp.clock) lines

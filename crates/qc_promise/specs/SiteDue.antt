@@ -29,7 +29,7 @@ use Rattle.qc_msg.specs.declared.message.Want.TheVariants.{Read, Append, Prepare
 use Rattle.qc_msg.specs.declared.record.Record.{Record}
 use Rattle.qc_msg.specs.declared.record.Record.TheVariants as records
 use Rattle.qc_msg.specs.declared.message.Envelope.{Envelope}
-use Rattle.qc_msg.specs.declared.step.Given.{Given}
+use Rattle.qc_msg.specs.declared.step.Input.{Input}
 use Rattle.qc_msg.specs.declared.turn.Posting.{Posting}
 use Rattle.qc_msg.specs.Deeds.{Deed, Takes, Writes, Sends, Tells, Falls, Rises}
 use Rattle.qc_msg.specs.Lengths.{epoch_length, prepare_length}
@@ -38,7 +38,8 @@ use Rattle.qc_promise.specs.SiteClocks.{clock_shown}
 use Rattle.qc_promise.specs.SiteHeld.{held_shown}
 use Rattle.qc_promise.specs.SiteLogs.{log_shown, recorded_shown, since_shown}
 use Rattle.qc_promise.specs.SitePromises.{is_promised, prepared_shown}
-use Rattle.qc_msg.specs.Readings.{Decided, Installing, Requested, closing_in, decision_in, heard_in, installing_in, request_in}
+use Rattle.qc_msg.specs.InputReadings.{heard_in}
+use Rattle.qc_msg.specs.Readings.{Decided, Installing, Requested, closing_in, decision_in, installing_in, request_in}
 use Rattle.qc_promise.specs.SiteRecords.{closed_shown, epoch_shown, life_shown}
 
 -- the refusal that the request's epoch and life are due, if any
@@ -222,7 +223,7 @@ heard_turn decl ds e =
     (option_map_or (close_turn ds e) (closing_in e.message)
     (option_map_or (install_turn ds e) (installing_in e.message) quiet_turn)))
 
-abbrev pub turn_due : Declaration → List Deed → Given → TurnDue
+abbrev pub turn_due : Declaration → List Deed → Input → TurnDue
 turn_due decl ds given = option_map_or (heard_turn decl ds) (heard_in given) quiet_turn
 
 -- that of a rise: it writes so, and then asks the clients of the transactions that it has promised, in their order, of
@@ -241,7 +242,7 @@ rising_turn decl ds =
 
 -- what a site posts for an input is due, the deeds up to its take being ds, and those after it after; an input that
 -- nothing comes after may be open still
-abbrev pub IsDueOrOpen : Declaration → List Deed → Given → List Deed → Type 0
+abbrev pub IsDueOrOpen : Declaration → List Deed → Input → List Deed → Type 0
 IsDueOrOpen decl ds given [] = Unit {0}
 IsDueOrOpen decl ds given (d ∷ after) = IsPostOf (turn_due decl ds given) (d ∷ after)
 

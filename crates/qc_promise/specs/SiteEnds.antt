@@ -9,8 +9,9 @@ use Rattle.qc_msg.specs.declared.message.Outcome.{Outcome}
 use Rattle.qc_msg.specs.declared.message.Outcome.TheVariants.{Committed, Aborted, Active}
 use Rattle.qc_msg.specs.declared.record.Record.{Record}
 use Rattle.qc_msg.specs.Deeds.{Deed}
-use Rattle.qc_msg.specs.Readings.{Decided, Finished, decided_in, done_in, install_in, prepare_in}
-use Rattle.qc_msg.specs.Readings.{written_in}
+use Rattle.qc_msg.specs.InputReadings.{decided_in}
+use Rattle.qc_msg.specs.Readings.{Decided, Finished, done_in, install_in, prepare_in}
+use Rattle.qc_msg.specs.InputReadings.{written_in}
 
 -- a Decision on the transaction of which the test holds
 abbrev pub is_decision : (Outcome → Bool) → TxId → Deed → Bool

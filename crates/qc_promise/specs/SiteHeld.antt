@@ -16,8 +16,9 @@ use Rattle.qc_msg.specs.declared.record.Record.{Record}
 use Rattle.qc_msg.specs.declared.turn.Posting.{Posting}
 use Rattle.qc_msg.specs.Deeds.{Deed}
 use Rattle.qc_promise.specs.Posts.{sent_next}
-use Rattle.qc_msg.specs.Readings.{Answered, Requested, answer_in, close_in, got_in, granted_in, install_in, request_in}
-use Rattle.qc_msg.specs.Readings.{risen_in, written_in}
+use Rattle.qc_msg.specs.InputReadings.{got_in}
+use Rattle.qc_msg.specs.Readings.{Answered, Requested, answer_in, close_in, granted_in, install_in, request_in}
+use Rattle.qc_msg.specs.InputReadings.{risen_in, written_in}
 use Rattle.qc_promise.specs.SiteEnds.{is_ended}
 use Rattle.qc_promise.specs.SitePromises.{prepared_shown}
 

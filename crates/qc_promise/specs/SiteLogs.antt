@@ -15,7 +15,8 @@ use Rattle.qc_msg.specs.declared.record.Record.{Record}
 use Rattle.qc_msg.specs.Deeds.{Deed}
 use Rattle.qc_promise.specs.Lifetimes.{lifetime, records_in}
 use Rattle.qc_msg.specs.Readings.{Installing, install_in}
-use Rattle.qc_msg.specs.Readings.{Finished, Requested, done_in, got_in, prepare_in, request_in, written_in}
+use Rattle.qc_msg.specs.InputReadings.{got_in, written_in}
+use Rattle.qc_msg.specs.Readings.{Finished, Requested, done_in, prepare_in, request_in}
 use Rattle.qc_promise.specs.SiteHeld.{is_granted}
 use Rattle.qc_promise.specs.SiteRecords.{last_prepare}
 

@@ -9,7 +9,8 @@ use Rattle.qc_entry.specs.declared.record.Prepared.{Prepared}
 use Rattle.qc_msg.specs.declared.record.Record.{Record}
 use Rattle.qc_msg.specs.Deeds.{Deed}
 use Rattle.qc_promise.specs.Lifetimes.{lifetime}
-use Rattle.qc_msg.specs.Readings.{prepare_in, written_in}
+use Rattle.qc_msg.specs.InputReadings.{written_in}
+use Rattle.qc_msg.specs.Readings.{prepare_in}
 use Rattle.qc_promise.specs.SiteEnds.{is_over, redeems}
 
 -- the promises among records that no later one redeems, in their order

@@ -9,7 +9,7 @@ use Rattle.qc_msg.specs.declared.message.Message.TheVariants as messages
 use Rattle.qc_msg.specs.declared.message.Outcome.{Outcome}
 use Rattle.qc_msg.specs.declared.message.Outcome.TheVariants as outcomes
 use Rattle.qc_msg.specs.declared.reply.Reply.TheVariants.{Aborted, Committed, Dropped, Unknown}
-use Rattle.qc_msg.specs.declared.reply.Why.{Why}
+use Rattle.qc_msg.specs.declared.reply.AbortCause.{AbortCause}
 use Rattle.qc_stamp.specs.declared.stamp.Stamp.{Stamp}
 use Rattle.qc_stamp.specs.declared.stamp.TxId.{TxId}
 use Rattle.qc_promise.specs.Deals.{deals, endings}
@@ -26,7 +26,7 @@ pub record HasCommit (commits : List Commit) (tx : TxId) (stamp : Stamp) : Type 
 pub record AreTold (decl : Declaration) (commits : List Commit) (h : List Entry) : Type 0 where
   pub committed : (client : ℕ) (tx : TxId) (stamp : Stamp) → client < decl.clients
       → In (Committed stamp) (endings decl h client tx) → HasCommit commits tx stamp
-  pub aborted : (client : ℕ) (tx : TxId) (why : Why) (c : Commit) → client < decl.clients
+  pub aborted : (client : ℕ) (tx : TxId) (why : AbortCause) (c : Commit) → client < decl.clients
       → In (Aborted why) (endings decl h client tx) → In c commits → c.tx ≢ tx
   pub dropped : (client : ℕ) (tx : TxId) (c : Commit) → client < decl.clients
       → In Dropped (endings decl h client tx) → In c commits → c.tx ≢ tx

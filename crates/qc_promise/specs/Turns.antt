@@ -7,9 +7,10 @@ use Rattle.qc_msg.specs.declared.reply.Reply.{Reply}
 use Rattle.qc_msg.specs.declared.reply.Reply.TheVariants as replies
 use Rattle.qc_msg.specs.declared.step.Fall.{Fall}
 use Rattle.qc_msg.specs.declared.step.Fall.TheVariants as causes
-use Rattle.qc_msg.specs.declared.step.Given.{Given}
+use Rattle.qc_msg.specs.declared.step.Input.{Input}
 use Rattle.qc_msg.specs.Deeds.{Deed, Takes, Writes, Sends, Tells, Falls, Rises}
-use Rattle.qc_msg.specs.Readings.{command_in, is_life}
+use Rattle.qc_msg.specs.InputReadings.{command_in}
+use Rattle.qc_msg.specs.Readings.{is_life}
 
 pub data Place : Type 0 where
   -- up, and nothing is open: at its begin, and once its reply is told
@@ -30,7 +31,7 @@ pub data Place : Type 0 where
 
 -- an input: nothing but a command comes to one that is down, and no command to a site
 
-abbrev pub comes_at : Place → Given → Option Place
+abbrev pub comes_at : Place → Input → Option Place
 comes_at Idle given = Some Open
 comes_at Open given = Some Open
 comes_at Rising given = None
@@ -41,7 +42,7 @@ comes_at Faulted given = Some Open
 comes_at Fallen given = cond (is_some (command_in given)) (Some Called) None
 comes_at Called given = None
 
-abbrev pub takes_at : Bool → Place → Given → Option Place
+abbrev pub takes_at : Bool → Place → Input → Option Place
 takes_at site place given = cond (site && is_some (command_in given)) None (comes_at place given)
 
 -- the record of a rise is written as it rises, and then alone
@@ -67,8 +68,8 @@ sends_at Faulted = None
 sends_at Fallen = None
 sends_at Called = None
 
--- what a reply says of its actor: that it is down, that its record isn't written, that it isn't or was too long, or none
--- of these
+-- what a reply says of its actor: that it is down, that its record isn't written, that it isn't or was too long, or
+-- none of these
 pub data Saying : Type 0 where
   SaysDown : Saying
   SaysUnwritten : Saying

@@ -1,6 +1,7 @@
--- A record's spelling that is cut is refused at its end, and one with bytes behind it at the first of them. So no spelling
--- is a prefix of another.
-use Rattle.std.proofs.Common.{◌≡◌, ℕ, zero, suc, ◌+◌, ◌-◌, ◌<◌, ◌≤◌, Bool, true, false, cond, ◌==◌, nat_eq, List, [], ◌∷◌, ◌++◌, length, take, Result, Ok, Err, refl, sym, ap, ◌∙◌, arith}
+-- A record's spelling that is cut is refused at its end, and one with bytes behind it at the first of them. So no
+-- spelling is a prefix of another.
+use Rattle.std.proofs.Common.{◌≡◌, ℕ, zero, suc, ◌+◌, ◌-◌, ◌<◌, ◌≤◌, Bool, true, false, cond, ◌==◌, nat_eq, List, []}
+use Rattle.std.proofs.Common.{◌∷◌, ◌++◌, length, take, Result, Ok, Err, refl, sym, ap, ◌∙◌, arith}
 use Rattle.std.proofs.lemmas.List.{append-nil, length-append, length-take-le}
 use Rattle.std.proofs.lemmas.Bool.Decides.{nat_tests}
 use Rattle.qc_msg.specs.declared.record.Record.{Record}
@@ -8,7 +9,8 @@ use Rattle.qc_msg.specs.declared.record.Record.TheVariants as records
 use Rattle.qc_record.specs.declared.fault.RecordFault.{RecordFault}
 use Rattle.qc_record.specs.declared.fault.RecordFault.TheVariants as faults
 use Rattle.qc_record.specs.Form.{Form, ◌>>=◌, all_of, nothing}
-use Rattle.qc_record.specs.Records.{body_at, commit_form, decide_of, done_form, done_of, epoch_form, install_of, is_legal, placed, prepared_form, record_at, spelled, start_form, whole_at}
+use Rattle.qc_record.specs.Records.{body_at, commit_form, decide_of, done_form, done_of, epoch_form, install_of}
+use Rattle.qc_record.specs.Records.{is_legal, placed, prepared_form, record_at, spelled, start_form, whole_at}
 use Rattle.qc_record.proofs.Cuts.{ends_first}
 use Rattle.qc_record.proofs.Exact.{epoch_exact, prepared_exact, done_exact, start_exact, commit_exact}
 use Rattle.qc_record.proofs.Exactness.{IsExact, nothing_exact}
@@ -20,45 +22,61 @@ torn offset = Err (faults.Torn offset)
 
 -- one kind
 
-whole_cut : {A : Type 0} (shape : A → Record) (form : Form A) → IsExact form → (x : A) (n : ℕ) → form.is_legal x ≡ true → n < length (form.spelled x) → whole_at shape form (take n (form.spelled x)) ≡ torn (suc n)
+whole_cut : {A : Type 0} (shape : A → Record) (form : Form A) → IsExact form → (x : A) (n : ℕ) → form.is_legal x ≡ true
+    → n < length (form.spelled x) → whole_at shape form (take n (form.spelled x)) ≡ torn (suc n)
 whole_cut shape form exact x n legal inside =
     let bytes = take n (form.spelled x) in
     let size : length bytes ≡ n = length-take-le n (form.spelled x) (omega (arith, inside)) in
-    let read : all_of (body_at shape form bytes) ≡ Err 0 = ends_first (body_at shape form bytes) _ (ends_first (form.read bytes) _ (exact.cut x n legal inside)) in
+    let read : all_of (body_at shape form bytes) ≡ Err 0 =
+    ends_first (body_at shape form bytes) _ (ends_first (form.read bytes) _ (exact.cut x n legal inside)) in
     let at : length bytes + 1 - 0 ≡ suc n = omega (arith, size) in
     ap (placed (length bytes + 1)) read ∙ ap torn at
 
-whole_behind : {A : Type 0} (shape : A → Record) (form : Form A) → IsExact form → (x : A) (b : ℕ) (rest : List ℕ) → form.is_legal x ≡ true → whole_at shape form (form.spelled x ++ b ∷ rest) ≡ torn (suc (length (form.spelled x)))
+whole_behind : {A : Type 0} (shape : A → Record) (form : Form A) → IsExact form → (x : A) (b : ℕ) (rest : List ℕ)
+    → form.is_legal x ≡ true → whole_at shape form (form.spelled x ++ b ∷ rest) ≡ torn (suc (length (form.spelled x)))
 whole_behind shape form exact x b rest legal =
     let bytes = form.spelled x ++ b ∷ rest in
     let both : length bytes ≡ length (form.spelled x) + length (b ∷ rest) = length-append (form.spelled x) (b ∷ rest) in
-    let body : body_at shape form bytes ≡ Ok (shape x, b ∷ rest) = ap (λ r. r >>= λ p. Ok (shape p.0, p.1)) (exact.again x (b ∷ rest) legal) in
+    let body : body_at shape form bytes ≡ Ok (shape x, b ∷ rest) =
+    ap (λ r. r >>= λ p. Ok (shape p.0, p.1)) (exact.again x (b ∷ rest) legal) in
     let some : nat_eq (length (b ∷ rest)) 0 ≡ false = grind (arith, nat_tests) in
-    let one : all_of (Ok (shape x, b ∷ rest)) ≡ Err (length (b ∷ rest)) = ap (λ (t : Bool). cond t (Ok (shape x)) (Err (length (b ∷ rest)))) some in
+    let one : all_of (Ok (shape x, b ∷ rest)) ≡ Err (length (b ∷ rest)) =
+    ap (λ (t : Bool). cond t (Ok (shape x)) (Err (length (b ∷ rest)))) some in
     let read : all_of (body_at shape form bytes) ≡ Err (length (b ∷ rest)) = ap all_of body ∙ one in
     let at : length bytes + 1 - length (b ∷ rest) ≡ suc (length (form.spelled x)) = omega (arith, both) in
     ap (placed (length bytes + 1)) read ∙ ap torn at
 
-pub cut : (rec : Record) (n : ℕ) → is_legal rec ≡ true → n < length (spelled rec) → record_at (take n (spelled rec)) ≡ torn n
+pub cut : (rec : Record) (n : ℕ) → is_legal rec ≡ true → n < length (spelled rec)
+    → record_at (take n (spelled rec)) ≡ torn n
 cut rec zero legal inside = refl
 cut records.Life (suc n) legal inside = absurd (omega (arith, inside))
-cut (records.Prepare p) (suc n) legal inside = whole_cut records.Prepare prepared_form prepared_exact p n legal (omega (arith, inside))
-cut (records.Done tx clock) (suc n) legal inside = whole_cut done_of done_form done_exact (tx, clock) n legal (omega (arith, inside))
-cut (records.Close epoch) (suc n) legal inside = whole_cut records.Close epoch_form epoch_exact epoch n legal (omega (arith, inside))
-cut (records.Install epoch clock lines) (suc n) legal inside = whole_cut install_of start_form start_exact (epoch, (clock, lines)) n legal (omega (arith, inside))
-cut (records.Commit c) (suc n) legal inside = whole_cut records.Commit commit_form commit_exact c n legal (omega (arith, inside))
-cut (records.Decide epoch clock lines) (suc n) legal inside = whole_cut decide_of start_form start_exact (epoch, (clock, lines)) n legal (omega (arith, inside))
+cut (records.Prepare p) (suc n) legal inside =
+    whole_cut records.Prepare prepared_form prepared_exact p n legal (omega (arith, inside))
+cut (records.Done tx clock) (suc n) legal inside =
+    whole_cut done_of done_form done_exact (tx, clock) n legal (omega (arith, inside))
+cut (records.Close epoch) (suc n) legal inside =
+    whole_cut records.Close epoch_form epoch_exact epoch n legal (omega (arith, inside))
+cut (records.Install epoch clock lines) (suc n) legal inside =
+    whole_cut install_of start_form start_exact (epoch, (clock, lines)) n legal (omega (arith, inside))
+cut (records.Commit c) (suc n) legal inside =
+    whole_cut records.Commit commit_form commit_exact c n legal (omega (arith, inside))
+cut (records.Decide epoch clock lines) (suc n) legal inside =
+    whole_cut decide_of start_form start_exact (epoch, (clock, lines)) n legal (omega (arith, inside))
 
-pub behind : (rec : Record) (b : ℕ) (rest : List ℕ) → is_legal rec ≡ true → record_at (spelled rec ++ b ∷ rest) ≡ torn (length (spelled rec))
+pub behind : (rec : Record) (b : ℕ) (rest : List ℕ) → is_legal rec ≡ true
+    → record_at (spelled rec ++ b ∷ rest) ≡ torn (length (spelled rec))
 behind records.Life b rest legal = whole_behind (λ _. records.Life) nothing nothing_exact tt b rest refl
 behind (records.Prepare p) b rest legal = whole_behind records.Prepare prepared_form prepared_exact p b rest legal
 behind (records.Done tx clock) b rest legal = whole_behind done_of done_form done_exact (tx, clock) b rest legal
 behind (records.Close epoch) b rest legal = whole_behind records.Close epoch_form epoch_exact epoch b rest legal
-behind (records.Install epoch clock lines) b rest legal = whole_behind install_of start_form start_exact (epoch, (clock, lines)) b rest legal
+behind (records.Install epoch clock lines) b rest legal =
+    whole_behind install_of start_form start_exact (epoch, (clock, lines)) b rest legal
 behind (records.Commit c) b rest legal = whole_behind records.Commit commit_form commit_exact c b rest legal
-behind (records.Decide epoch clock lines) b rest legal = whole_behind decide_of start_form start_exact (epoch, (clock, lines)) b rest legal
+behind (records.Decide epoch clock lines) b rest legal =
+    whole_behind decide_of start_form start_exact (epoch, (clock, lines)) b rest legal
 
-pub no_prefix : (a b : Record) (rest : List ℕ) → is_legal a ≡ true → is_legal b ≡ true → spelled a ++ rest ≡ spelled b → a ≡ b
+pub no_prefix : (a b : Record) (rest : List ℕ) → is_legal a ≡ true → is_legal b ≡ true → spelled a ++ rest ≡ spelled b
+    → a ≡ b
 no_prefix a b [] la lb e = apart a b la lb (sym (append-nil (spelled a)) ∙ e)
 no_prefix a b (c ∷ rest) la lb e =
     let no : torn (length (spelled a)) ≡ found b = sym (behind a c rest la) ∙ ap record_at e ∙ again b lb in
@@ -76,5 +94,8 @@ not_kind n kind h = grind (arith, nat_tests, h)
 pub no_kind : (kind : ℕ) (rest : List ℕ) → 7 < kind → record_at (kind ∷ rest) ≡ Err (faults.Unknown kind)
 no_kind kind rest h =
     let above : (n : ℕ) → n ≤ 7 → (kind == n) ≡ false = λ n low. not_kind n kind (omega (arith, h, low)) in
-    skipped (kind == 1) _ _ _ (above 1 (omega arith)) (skipped (kind == 2) _ _ _ (above 2 (omega arith)) (skipped (kind == 3) _ _ _ (above 3 (omega arith)) (skipped (kind == 4) _ _ _ (above 4 (omega arith))
-    (skipped (kind == 5) _ _ _ (above 5 (omega arith)) (skipped (kind == 6) _ _ _ (above 6 (omega arith)) (skipped (kind == 7) _ _ _ (above 7 (omega arith)) refl))))))
+    skipped (kind == 1) _ _ _ (above 1 (omega arith))
+    (skipped (kind == 2) _ _ _ (above 2 (omega arith))
+    (skipped (kind == 3) _ _ _ (above 3 (omega arith)) (skipped (kind == 4) _ _ _ (above 4 (omega arith))
+    (skipped (kind == 5) _ _ _ (above 5 (omega arith))
+    (skipped (kind == 6) _ _ _ (above 6 (omega arith)) (skipped (kind == 7) _ _ _ (above 7 (omega arith)) refl))))))

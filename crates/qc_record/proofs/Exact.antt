@@ -1,5 +1,6 @@
 -- Each form of a part, and of a record, reads exactly what it spells.
-use Rattle.std.proofs.Common.{◌≡◌, inl, inr, ℕ, ◌-◌, ◌^◌, ◌<◌, ◌≤◌, Bool, true, false, cond, not, ◌==◌, nat_le, List, Option, Some, None, refl, sym, ap, arith}
+use Rattle.std.proofs.Common.{◌≡◌, inl, inr, ℕ, ◌-◌, ◌^◌, ◌<◌, ◌≤◌, Bool, true, false, cond, not, ◌==◌, nat_le, List}
+use Rattle.std.proofs.Common.{Option, Some, None, refl, sym, ap, arith}
 use Rattle.std.proofs.lemmas.Bool.Decides.{nat_tests}
 use Rattle.qc_entry.specs.declared.line.Line.{Line}
 use Rattle.qc_entry.specs.declared.line.Op.{Op}
@@ -7,28 +8,45 @@ use Rattle.qc_entry.specs.declared.line.OwnLine.{OwnLine}
 use Rattle.qc_entry.specs.declared.line.ReadLock.{ReadLock}
 use Rattle.qc_entry.specs.declared.record.Commit.{Commit}
 use Rattle.qc_record.specs.Form.{Form, field, within, climbs, tops, climb, top, tied}
-use Rattle.qc_record.specs.Records.{always, greatest_clock, client_form, ordinal_form, epoch_form, stamp_clock_form, start_clock_form, object_form, invocation_form, event_form, is_response, response_of, response_number, has_response_number, response_form, tx_of, tx_parts, tx_form}
-use Rattle.qc_record.specs.Records.{lock_floor, lock_of, lock_parts, lock_form, own_floor, own_of, own_parts, own_form, line_floor, line_of, line_parts, is_own_stamp, line_numbers, from_client, from_life, from_number, from_op, from_object, from_event, line_form, op_of, op_parts, op_form, locks_form, owns_form, lines_form, ops_form}
-use Rattle.qc_record.specs.Records.{prepared_of, prepared_parts, prepared_form, done_form, start_form, commit_of, commit_parts, has_own_stamp, commit_form}
+use Rattle.qc_record.specs.Records.{always, greatest_clock, client_form, ordinal_form, epoch_form, stamp_clock_form}
+use Rattle.qc_record.specs.Records.{start_clock_form, object_form, invocation_form, event_form, is_response}
+use Rattle.qc_record.specs.Records.{response_of, response_number, has_response_number, response_form, tx_of, tx_parts}
+use Rattle.qc_record.specs.Records.{tx_form}
+use Rattle.qc_record.specs.Records.{lock_floor, lock_of, lock_parts, lock_form, own_floor, own_of, own_parts, own_form}
+use Rattle.qc_record.specs.Records.{line_floor, line_of, line_parts, is_own_stamp, line_numbers, from_client, from_life}
+use Rattle.qc_record.specs.Records.{from_number, from_op, from_object, from_event, line_form, op_of, op_parts, op_form}
+use Rattle.qc_record.specs.Records.{locks_form, owns_form, lines_form, ops_form}
+use Rattle.qc_record.specs.Records.{prepared_of, prepared_parts, prepared_form, done_form, start_form, commit_of}
+use Rattle.qc_record.specs.Records.{commit_parts, has_own_stamp, commit_form}
 use Rattle.qc_record.proofs.Numbers.{IsWidth}
 use Rattle.qc_record.proofs.Cuts.{both_true}
 use Rattle.qc_record.proofs.Exactness.{IsExact, IsShape, field_exact, both_exact, shaped_exact, counted_exact}
 
 pub at_most : (low high n : ℕ) → within low high n ≡ true → n ≤ high
-at_most low high n e = let high_is : nat_le n high ≡ true = (both_true (nat_le low n) (nat_le n high) e).1 in grind (arith, nat_tests, high_is)
+at_most low high n e = let high_is : nat_le n high ≡ true = (both_true (nat_le low n) (nat_le n high) e).1 in
+    grind (arith, nat_tests, high_is)
 
 within_exact : (width low high : ℕ) → IsWidth width → high < 256 ^ width → IsExact (field width (within low high))
-within_exact width low high wide small = field_exact width (within low high) wide (λ n e. let most = at_most low high n e in omega (arith, most, small))
+within_exact width low high wide small =
+    field_exact width (within low high) wide (λ n e. let most = at_most low high n e in omega (arith, most, small))
 
-climbs_exact : (width low high : ℕ) (floor : List ℕ) → IsWidth width → high < 256 ^ width → IsExact (field width (climbs low high floor))
-climbs_exact width low high floor wide small = field_exact width (climbs low high floor) wide (λ n e. let most = at_most low high n (both_true _ _ e).0 in omega (arith, most, small))
+climbs_exact : (width low high : ℕ) (floor : List ℕ) → IsWidth width → high < 256 ^ width
+    → IsExact (field width (climbs low high floor))
+climbs_exact width low high floor wide small =
+    field_exact width (climbs low high floor) wide
+    (λ n e. let most = at_most low high n (both_true _ _ e).0 in omega (arith, most, small))
 
-tops_exact : (width low high : ℕ) (floor : List ℕ) → IsWidth width → high < 256 ^ width → IsExact (top width low high floor)
-tops_exact width low high floor wide small = field_exact width (tops low high floor) wide (λ n e. let most = at_most low high n (both_true _ _ e).0 in omega (arith, most, small))
+tops_exact : (width low high : ℕ) (floor : List ℕ) → IsWidth width → high < 256 ^ width
+    → IsExact (top width low high floor)
+tops_exact width low high floor wide small =
+    field_exact width (tops low high floor) wide
+    (λ n e. let most = at_most low high n (both_true _ _ e).0 in omega (arith, most, small))
 
-climb_exact : {B : Type 0} (width low high : ℕ) (floor : List ℕ) (next : List ℕ → Form B) → IsWidth width → high < 256 ^ width → ((rest : List ℕ) → IsExact (next rest)) → IsExact (climb width low high floor next)
+climb_exact : {B : Type 0} (width low high : ℕ) (floor : List ℕ) (next : List ℕ → Form B) → IsWidth width
+    → high < 256 ^ width → ((rest : List ℕ) → IsExact (next rest)) → IsExact (climb width low high floor next)
 climb_exact width low high floor next wide small rests =
-    both_exact (field width (climbs low high floor)) (λ n. next (tied floor n)) (climbs_exact width low high floor wide small) (λ n. rests (tied floor n))
+    both_exact (field width (climbs low high floor)) (λ n. next (tied floor n))
+    (climbs_exact width low high floor wide small) (λ n. rests (tied floor n))
 
 byte : IsWidth 1
 byte = inl refl
@@ -90,24 +108,31 @@ response_same = record {
         some_by n false e h = rw e refl
 
 response_exact : IsExact response_form
-response_exact = shaped_exact response_of response_number has_response_number (field 1 is_response) response_same (field_exact 1 is_response byte small_response)
+response_exact = shaped_exact response_of response_number has_response_number (field 1 is_response) response_same
+    (field_exact 1 is_response byte small_response)
 
 tx_same : IsShape tx_of tx_parts always
 tx_same = record { there = λ a. refl; has = λ a. refl; back = λ b e. refl }
 
 pub tx_exact : IsExact tx_form
-tx_exact = shaped_exact tx_of tx_parts always _ tx_same (both_exact _ _ client_exact (λ _. both_exact _ _ ordinal_exact (λ _. ordinal_exact)))
+tx_exact = shaped_exact tx_of tx_parts always _ tx_same
+    (both_exact _ _ client_exact (λ _. both_exact _ _ ordinal_exact (λ _. ordinal_exact)))
 
 lock_exact : (before : Option ReadLock) → IsExact (lock_form before)
-lock_exact before = shaped_exact lock_of lock_parts always _ (record { there = λ a. refl; has = λ a. refl; back = λ b e. refl })
-    (climb_exact 1 0 15 (lock_floor before) (λ floor. top 1 0 31 floor) byte (omega arith) (λ floor. tops_exact 1 0 31 floor byte (omega arith)))
+lock_exact before = shaped_exact lock_of lock_parts always _
+    (record { there = λ a. refl; has = λ a. refl; back = λ b e. refl })
+    (climb_exact 1 0 15 (lock_floor before) (λ floor. top 1 0 31 floor) byte (omega arith)
+    (λ floor. tops_exact 1 0 31 floor byte (omega arith)))
 
 own_exact : (before : Option OwnLine) → IsExact (own_form before)
-own_exact before = shaped_exact own_of own_parts always _ (record { there = λ a. refl; has = λ a. refl; back = λ b e. refl })
-    (both_exact _ _ (tops_exact 1 1 16 (own_floor before) byte (omega arith)) (λ _. both_exact _ _ object_exact (λ _. event_exact)))
+own_exact before = shaped_exact own_of own_parts always _
+    (record { there = λ a. refl; has = λ a. refl; back = λ b e. refl })
+    (both_exact _ _ (tops_exact 1 1 16 (own_floor before) byte (omega arith))
+    (λ _. both_exact _ _ object_exact (λ _. event_exact)))
 
 op_exact : (before : Option Op) → IsExact (op_form before)
-op_exact before = shaped_exact op_of op_parts always _ (record { there = λ a. refl; has = λ a. refl; back = λ b e. refl })
+op_exact before = shaped_exact op_of op_parts always _
+    (record { there = λ a. refl; has = λ a. refl; back = λ b e. refl })
     (both_exact _ _ object_exact (λ _. both_exact _ _ invocation_exact (λ _. response_exact)))
 
 pub same_number : (a b : ℕ) → (a == b) ≡ true → a ≡ b
@@ -118,15 +143,27 @@ number_same a = grind (arith, nat_tests)
 
 line_back : (l : Line) → is_own_stamp l ≡ true → line_of (line_parts l) ≡ l
 line_back l e = let same : l.stamp.client ≡ l.tx.client = same_number _ _ e in
-    λ i. record { stamp = record { clock = l.stamp.clock; client = sym same i }; tx = l.tx; op = l.op; object = l.object; event = l.event }
+    λ i. record {
+      stamp = record { clock = l.stamp.clock; client = sym same i };
+      tx = l.tx;
+      op = l.op;
+      object = l.object;
+      event = l.event;
+    }
 
 line_numbers_exact : (floor : List ℕ) → IsExact (line_numbers floor)
 line_numbers_exact floor =
-    climb_exact 8 1 greatest_clock floor from_client eight (omega arith) (λ floor. climb_exact 1 0 15 floor from_life byte (omega arith) (λ floor. climb_exact 4 1 (2 ^ 32 - 1) floor from_number four (omega arith) (λ floor.
-    climb_exact 4 1 (2 ^ 32 - 1) floor from_op four (omega arith) (λ floor. climb_exact 1 1 16 floor from_object byte (omega arith) (λ floor. climb_exact 1 0 15 floor from_event byte (omega arith) (λ floor. tops_exact 1 0 63 floor byte (omega arith)))))))
+    climb_exact 8 1 greatest_clock floor from_client eight (omega arith)
+    (λ floor. climb_exact 1 0 15 floor from_life byte (omega arith)
+    (λ floor. climb_exact 4 1 (2 ^ 32 - 1) floor from_number four (omega arith) (λ floor.
+    climb_exact 4 1 (2 ^ 32 - 1) floor from_op four (omega arith)
+    (λ floor. climb_exact 1 1 16 floor from_object byte (omega arith)
+    (λ floor. climb_exact 1 0 15 floor from_event byte (omega arith)
+    (λ floor. tops_exact 1 0 63 floor byte (omega arith)))))))
 
 line_exact : (before : Option Line) → IsExact (line_form before)
-line_exact before = shaped_exact line_of line_parts is_own_stamp _ (record { there = λ a. refl; has = λ a. number_same _; back = line_back }) (line_numbers_exact (line_floor before))
+line_exact before = shaped_exact line_of line_parts is_own_stamp _
+    (record { there = λ a. refl; has = λ a. number_same _; back = line_back }) (line_numbers_exact (line_floor before))
 
 locks_exact : IsExact locks_form
 locks_exact = counted_exact 2 _ lock_form (within_exact 2 0 (2 ^ 16 - 1) (inr (inl refl)) (omega arith)) lock_exact
@@ -141,8 +178,10 @@ ops_exact : IsExact ops_form
 ops_exact = counted_exact 1 _ op_form (within_exact 1 0 16 byte (omega arith)) op_exact
 
 pub prepared_exact : IsExact prepared_form
-prepared_exact = shaped_exact prepared_of prepared_parts always _ (record { there = λ a. refl; has = λ a. refl; back = λ b e. refl })
-    (both_exact _ _ tx_exact (λ _. both_exact _ _ epoch_exact (λ _. both_exact _ _ locks_exact (λ _. both_exact _ _ owns_exact (λ _. lines_exact)))))
+prepared_exact = shaped_exact prepared_of prepared_parts always _
+    (record { there = λ a. refl; has = λ a. refl; back = λ b e. refl })
+    (both_exact _ _ tx_exact (λ _. both_exact _ _ epoch_exact
+    (λ _. both_exact _ _ locks_exact (λ _. both_exact _ _ owns_exact (λ _. lines_exact)))))
 
 pub done_exact : IsExact done_form
 done_exact = both_exact _ _ tx_exact (λ _. stamp_clock_exact)
@@ -155,5 +194,6 @@ commit_back c e = let same : c.stamp.client ≡ c.tx.client = same_number _ _ e 
     λ i. record { stamp = record { clock = c.stamp.clock; client = sym same i }; tx = c.tx; ops = c.ops }
 
 pub commit_exact : IsExact commit_form
-commit_exact = shaped_exact commit_of commit_parts has_own_stamp _ (record { there = λ a. refl; has = λ a. number_same _; back = commit_back })
+commit_exact = shaped_exact commit_of commit_parts has_own_stamp _
+    (record { there = λ a. refl; has = λ a. number_same _; back = commit_back })
     (both_exact _ _ tx_exact (λ _. both_exact _ _ stamp_clock_exact (λ _. ops_exact)))

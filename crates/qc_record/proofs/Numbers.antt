@@ -1,5 +1,6 @@
 -- Bytes that are read as a number are that number's bytes.
-use Rattle.std.proofs.Common.{◌≡◌, ◌⊎◌, inl, inr, ℕ, zero, suc, ◌<◌, ◌≤◌, List, [], ◌∷◌, length, get_or, take, refl, sym, ap, subst, ◌∙◌, arith}
+use Rattle.std.proofs.Common.{◌≡◌, ◌⊎◌, inl, inr, ℕ, zero, suc, ◌<◌, ◌≤◌, List, [], ◌∷◌, length, get_or, take, refl}
+use Rattle.std.proofs.Common.{sym, ap, subst, ◌∙◌, arith}
 use Rattle.std.proofs.lemmas.Nat.{be_bytes_4, be_bytes_8}
 use Rattle.byteorder.specs.Endian.{big_number, big_bytes}
 use Rattle.qc_record.specs.Form.{IsBytes}
@@ -24,7 +25,8 @@ back_4 [] long fits = absurd (omega arith)
 back_4 (a ∷ []) long fits = absurd (omega arith)
 back_4 (a ∷ b ∷ []) long fits = absurd (omega arith)
 back_4 (a ∷ b ∷ c ∷ []) long fits = absurd (omega arith)
-back_4 (a ∷ b ∷ c ∷ d ∷ rest) long fits = be_bytes_4 (a ∷ b ∷ c ∷ d ∷ []) (big_number 4 (a ∷ b ∷ c ∷ d ∷ rest)) refl four (omega arith)
+back_4 (a ∷ b ∷ c ∷ d ∷ rest) long fits =
+    be_bytes_4 (a ∷ b ∷ c ∷ d ∷ []) (big_number 4 (a ∷ b ∷ c ∷ d ∷ rest)) refl four (omega arith)
   where
     four : (i : ℕ) → get_or (a ∷ b ∷ c ∷ d ∷ []) i 0 < 256
     four zero = fits 0
@@ -46,7 +48,9 @@ back_8 (a ∷ b ∷ c ∷ d ∷ []) long fits = absurd (omega arith)
 back_8 (a ∷ b ∷ c ∷ d ∷ e ∷ []) long fits = absurd (omega arith)
 back_8 (a ∷ b ∷ c ∷ d ∷ e ∷ f ∷ []) long fits = absurd (omega arith)
 back_8 (a ∷ b ∷ c ∷ d ∷ e ∷ f ∷ g ∷ []) long fits = absurd (omega arith)
-back_8 (a ∷ b ∷ c ∷ d ∷ e ∷ f ∷ g ∷ h ∷ rest) long fits = be_bytes_8 (a ∷ b ∷ c ∷ d ∷ e ∷ f ∷ g ∷ h ∷ []) (big_number 8 (a ∷ b ∷ c ∷ d ∷ e ∷ f ∷ g ∷ h ∷ rest)) refl eight (omega arith)
+back_8 (a ∷ b ∷ c ∷ d ∷ e ∷ f ∷ g ∷ h ∷ rest) long fits =
+    be_bytes_8 (a ∷ b ∷ c ∷ d ∷ e ∷ f ∷ g ∷ h ∷ []) (big_number 8 (a ∷ b ∷ c ∷ d ∷ e ∷ f ∷ g ∷ h ∷ rest)) refl eight
+    (omega arith)
   where
     eight : (i : ℕ) → get_or (a ∷ b ∷ c ∷ d ∷ e ∷ f ∷ g ∷ h ∷ []) i 0 < 256
     eight zero = fits 0
@@ -59,8 +63,17 @@ back_8 (a ∷ b ∷ c ∷ d ∷ e ∷ f ∷ g ∷ h ∷ rest) long fits = be_byt
     eight (suc (suc (suc (suc (suc (suc (suc zero))))))) = fits 7
     eight (suc (suc (suc (suc (suc (suc (suc (suc i)))))))) = omega arith
 
-pub back : (width : ℕ) (bytes : List ℕ) → IsWidth width → width ≤ length bytes → IsBytes bytes → big_bytes width (big_number width bytes) ≡ take width bytes
-back width bytes (inl e) long fits = subst (λ (w : ℕ). w ≤ length bytes → big_bytes w (big_number w bytes) ≡ take w bytes) (sym e) (λ l. back_1 bytes l fits) long
-back width bytes (inr (inl e)) long fits = subst (λ (w : ℕ). w ≤ length bytes → big_bytes w (big_number w bytes) ≡ take w bytes) (sym e) (λ l. back_2 bytes l fits) long
-back width bytes (inr (inr (inl e))) long fits = subst (λ (w : ℕ). w ≤ length bytes → big_bytes w (big_number w bytes) ≡ take w bytes) (sym e) (λ l. back_4 bytes l fits) long
-back width bytes (inr (inr (inr e))) long fits = subst (λ (w : ℕ). w ≤ length bytes → big_bytes w (big_number w bytes) ≡ take w bytes) (sym e) (λ l. back_8 bytes l fits) long
+pub back : (width : ℕ) (bytes : List ℕ) → IsWidth width → width ≤ length bytes → IsBytes bytes
+    → big_bytes width (big_number width bytes) ≡ take width bytes
+back width bytes (inl e) long fits = subst
+    (λ (w : ℕ). w ≤ length bytes → big_bytes w (big_number w bytes) ≡ take w bytes) (sym e)
+    (λ l. back_1 bytes l fits) long
+back width bytes (inr (inl e)) long fits =
+    subst (λ (w : ℕ). w ≤ length bytes → big_bytes w (big_number w bytes) ≡ take w bytes) (sym e)
+    (λ l. back_2 bytes l fits) long
+back width bytes (inr (inr (inl e))) long fits =
+    subst (λ (w : ℕ). w ≤ length bytes → big_bytes w (big_number w bytes) ≡ take w bytes) (sym e)
+    (λ l. back_4 bytes l fits) long
+back width bytes (inr (inr (inr e))) long fits =
+    subst (λ (w : ℕ). w ≤ length bytes → big_bytes w (big_number w bytes) ≡ take w bytes) (sym e)
+    (λ l. back_8 bytes l fits) long

@@ -25,32 +25,38 @@ ascends_from log (l ∷ ls) ascending = ascends_from (with_line log l) ls (one_m
 pub log_ascends : (lines : List Line) → IsAscending (log_of lines)
 log_ascends lines = ascends_from [] lines tt
 
-In_from : (line : Line) (log lines : List Line) → IsAscending log → In line log ⊎ In line lines → In line (fold with_line log lines)
+In_from : (line : Line) (log lines : List Line) → IsAscending log → In line log ⊎ In line lines
+    → In line (fold with_line log lines)
 In_from line log [] ascending (inl member) = member
 In_from line log [] ascending (inr never) = absurd never
-In_from line log (l ∷ ls) ascending member = In_from line (with_line log l) ls (one_more log l ascending).ascending (by member) where
-  by : In line log ⊎ In line (l ∷ ls) → In line (with_line log l) ⊎ In line ls
-  by (inl before) = inl (((one_more log l ascending).members line).1 (inl before))
-  by (inr (inl same)) = inl (((one_more log l ascending).members line).1 (inr (inl same)))
-  by (inr (inr later)) = inr later
+In_from line log (l ∷ ls) ascending member =
+    In_from line (with_line log l) ls (one_more log l ascending).ascending (by member) where
+      by : In line log ⊎ In line (l ∷ ls) → In line (with_line log l) ⊎ In line ls
+      by (inl before) = inl (((one_more log l ascending).members line).1 (inl before))
+      by (inr (inl same)) = inl (((one_more log l ascending).members line).1 (inr (inl same)))
+      by (inr (inr later)) = inr later
 
-from_In : (line : Line) (log lines : List Line) → IsAscending log → In line (fold with_line log lines) → In line log ⊎ In line lines
+from_In : (line : Line) (log lines : List Line) → IsAscending log → In line (fold with_line log lines)
+    → In line log ⊎ In line lines
 from_In line log [] ascending member = inl member
-from_In line log (l ∷ ls) ascending member = by (from_In line (with_line log l) ls (one_more log l ascending).ascending member) where
-  split : In line log ⊎ In line (l ∷ []) → In line log ⊎ In line (l ∷ ls)
-  split (inl before) = inl before
-  split (inr (inl same)) = inr (inl same)
-  split (inr (inr never)) = absurd never
+from_In line log (l ∷ ls) ascending member =
+    by (from_In line (with_line log l) ls (one_more log l ascending).ascending member) where
+      split : In line log ⊎ In line (l ∷ []) → In line log ⊎ In line (l ∷ ls)
+      split (inl before) = inl before
+      split (inr (inl same)) = inr (inl same)
+      split (inr (inr never)) = absurd never
 
-  by : In line (with_line log l) ⊎ In line ls → In line log ⊎ In line (l ∷ ls)
-  by (inl here) = split (((one_more log l ascending).members line).0 here)
-  by (inr later) = inr (inr later)
+      by : In line (with_line log l) ⊎ In line ls → In line log ⊎ In line (l ∷ ls)
+      by (inl here) = split (((one_more log l ascending).members line).0 here)
+      by (inr later) = inr (inr later)
 
 -- a log and the lines of another one after it
-pub log_joined : (lines others : List Line) → IsAscending others → log_of (lines ++ others) ≡ union (log_of lines) others
+pub log_joined : (lines others : List Line) → IsAscending others
+    → log_of (lines ++ others) ≡ union (log_of lines) others
 log_joined lines others ascending =
     fold-append with_line [] lines others
-    ∙ same_ascending line_order (fold with_line log others) (union log others) (ascends_from log others first) whole.ascending
+    ∙ same_ascending line_order (fold with_line log others) (union log others)
+    (ascends_from log others first) whole.ascending
     (λ line member. (whole.members line).1 (from_In line log others first member))
     (λ line member. In_from line log others first ((whole.members line).0 member)) where
       log : List Line
@@ -81,13 +87,15 @@ moved_In : (lines others : List Line) → IsPermutation lines others → (line :
 moved_In lines others moves line member =
     let P : Line → Type 0 = λ l. In l lines in
     let first : AllByRecursion P lines = every-from_In P lines (λ l inside. inside) in
-    every-In P line others (recursion_from_All P others (All-permutation P lines others moves (All-from_recursion P lines first))) member
+    every-In P line others (recursion_from_All P others
+    (All-permutation P lines others moves (All-from_recursion P lines first))) member
 
 pub log_moved : (lines others : List Line) → IsPermutation lines others → log_of others ≡ log_of lines
 log_moved lines others moves =
     same_ascending line_order (log_of others) (log_of lines) (log_ascends others) (log_ascends lines)
     (λ line member. In_from line [] lines tt (inr (by lines others moves line (from_In line [] others tt member))))
-    (λ line member. In_from line [] others tt (inr (by others lines (IsPermutation-sym lines others moves) line (from_In line [] lines tt member)))) where
+    (λ line member. In_from line [] others tt
+    (inr (by others lines (IsPermutation-sym lines others moves) line (from_In line [] lines tt member)))) where
       by : (xs ys : List Line) → IsPermutation xs ys → (line : Line) → In line [] ⊎ In line ys → In line xs
       by xs ys moves line (inl never) = absurd never
       by xs ys moves line (inr member) = moved_In xs ys moves line member

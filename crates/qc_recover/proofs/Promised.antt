@@ -15,7 +15,8 @@ still : (ps : List Prepared) (tx : TxId) (p : Prepared) → In p (without_prepar
 still ps tx p member = In-unfiltered (λ (q : Prepared). not (same_tx q.tx tx)) p ps member
 
 -- a promise after one record more is one of before, or that record's
-one_more : (k : Kept) (r : Record) (p : Prepared) → In p (keeps k r).promises → In p k.promises ⊎ (r ≡ records.Prepare p)
+one_more : (k : Kept) (r : Record) (p : Prepared) → In p (keeps k r).promises
+    → In p k.promises ⊎ (r ≡ records.Prepare p)
 one_more k records.Life p member = inl member
 one_more k (records.Prepare q) p member = by (In-more p q (without_prepared k.promises q.tx) member) where
   by : In p (without_prepared k.promises q.tx) ⊎ (p ≡ q) → In p k.promises ⊎ (records.Prepare q ≡ records.Prepare p)
@@ -27,7 +28,8 @@ one_more k (records.Install epoch clock lines) p member = absurd member
 one_more k (records.Commit commit) p member = inl member
 one_more k (records.Decide epoch clock lines) p member = inl member
 
-from_records : (rs : List Record) (k : Kept) (p : Prepared) → In p (fold keeps k rs).promises → In p k.promises ⊎ In (records.Prepare p) rs
+from_records : (rs : List Record) (k : Kept) (p : Prepared) → In p (fold keeps k rs).promises
+    → In p k.promises ⊎ In (records.Prepare p) rs
 from_records [] k p member = inl member
 from_records (r ∷ rs) k p member = by (from_records rs (keeps k r) p member) where
   first : In p k.promises ⊎ (r ≡ records.Prepare p) → In p k.promises ⊎ In (records.Prepare p) (r ∷ rs)
@@ -39,8 +41,10 @@ from_records (r ∷ rs) k p member = by (from_records rs (keeps k r) p member) w
   by (inr later) = inr (inr later)
 
 -- so what holds of each Prepare holds of each promise
-pub each_promise : (P : Prepared → Type 0) (rs : List Record) → ((p : Prepared) → In (records.Prepare p) rs → P p) → Every P (kept_by rs).promises
-each_promise P rs each = every-from_In P (kept_by rs).promises (λ p member. by p (from_records rs nothing_kept p member)) where
-  by : (p : Prepared) → In p [] ⊎ In (records.Prepare p) rs → P p
-  by p (inl never) = absurd never
-  by p (inr written) = each p written
+pub each_promise : (P : Prepared → Type 0) (rs : List Record) → ((p : Prepared) → In (records.Prepare p) rs → P p)
+    → Every P (kept_by rs).promises
+each_promise P rs each = every-from_In P (kept_by rs).promises
+    (λ p member. by p (from_records rs nothing_kept p member)) where
+      by : (p : Prepared) → In p [] ⊎ In (records.Prepare p) rs → P p
+      by p (inl never) = absurd never
+      by p (inr written) = each p written

@@ -1,5 +1,6 @@
 -- What is in order in the records of a site is so at the site that rises from them.
-use Rattle.std.proofs.Common.{◌≡◌, ◌⊎◌, inl, inr, ℕ, not, List, [], ◌∷◌, ◌++◌, fold, Option, Some, None, refl, sym, subst}
+use Rattle.std.proofs.Common.{◌≡◌, ◌⊎◌, inl, inr, ℕ, not, List, [], ◌∷◌, ◌++◌, fold, Option, Some, None, refl, sym}
+use Rattle.std.proofs.Common.{subst}
 use Rattle.std.specs.Option.{option_map_or}
 use Rattle.qc_entry.specs.declared.record.Prepared.{Prepared}
 use Rattle.qc_entry.specs.Line.{IsAscending}
@@ -24,7 +25,8 @@ record IsKeptSorted (k : Kept) : Type 0 where
 
 done_ascends : (prepares : List Prepared) (tx : TxId) (clock : ℕ) → IsAscending (done_lines prepares tx clock)
 done_ascends prepares tx clock = by (prepared_of prepares tx) where
-  by : (p : Option Prepared) → IsAscending (option_map_or (λ (q : Prepared). lines_of (done_stamp tx clock) tx q.own) p [])
+  by : (p : Option Prepared) → IsAscending
+      (option_map_or (λ (q : Prepared). lines_of (done_stamp tx clock) tx q.own) p [])
   by None = tt
   by (Some q) = ascending-stamped (done_stamp tx clock) tx [] q.own tt
 
@@ -36,11 +38,13 @@ one_more k records.Life w sorted = record { began = w.began; lines = w.lines; pr
 one_more k (records.Prepare p) w sorted = record {
   began = w.began;
   lines = ascending-union k.lines p.lines w.lines sorted.2;
-  promises = promises-push (without_prepared k.promises p.tx) p (left_sorted k.promises p.tx w.promises) sorted.0 sorted.1 sorted.2;
+  promises = promises-push (without_prepared k.promises p.tx) p
+      (left_sorted k.promises p.tx w.promises) sorted.0 sorted.1 sorted.2;
 }
 one_more k (records.Done tx clock) w sorted = record {
   began = w.began;
-  lines = ascending-union k.lines (without (done_lines k.prepares tx clock) k.began) w.lines (ascending-without (done_lines k.prepares tx clock) k.began (done_ascends k.prepares tx clock));
+  lines = ascending-union k.lines (without (done_lines k.prepares tx clock) k.began) w.lines
+      (ascending-without (done_lines k.prepares tx clock) k.began (done_ascends k.prepares tx clock));
   promises = left_sorted k.promises tx w.promises;
 }
 one_more k (records.Close epoch) w sorted = record { began = w.began; lines = w.lines; promises = w.promises }
@@ -48,11 +52,13 @@ one_more k (records.Install epoch clock lines) w sorted = record { began = sorte
 one_more k (records.Commit commit) w sorted = w
 one_more k (records.Decide epoch clock lines) w sorted = w
 
-from : (k : Kept) (rs : List Record) → IsKeptSorted k → ((r : Record) → In r rs → IsRecordSorted r) → IsKeptSorted (fold keeps k rs)
+from : (k : Kept) (rs : List Record) → IsKeptSorted k → ((r : Record) → In r rs → IsRecordSorted r)
+    → IsKeptSorted (fold keeps k rs)
 from k [] w each = w
 from k (r ∷ rs) w each = from (keeps k r) rs (one_more k r w (each r (inl refl))) (λ q later. each q (inr later))
 
-site_sorted : (number : ℕ) (rs : List Record) → ((r : Record) → In r rs → IsRecordSorted r) → IsSiteSorted (site_of number rs)
+site_sorted : (number : ℕ) (rs : List Record) → ((r : Record) → In r rs → IsRecordSorted r)
+    → IsSiteSorted (site_of number rs)
 site_sorted number rs each =
     let w = from nothing_kept rs (record { began = tt; lines = tt; promises = tt }) each in
     record {
@@ -63,8 +69,10 @@ site_sorted number rs each =
       prepared = w.promises;
     }
 
-pub risen_sorted : (number : ℕ) (rs : List Record) → ((r : Record) → In r rs → IsRecordSorted r) → IsSiteSorted (site_of number (rs ++ records.Life ∷ []))
-risen_sorted number rs each = site_sorted number (rs ++ records.Life ∷ []) (λ r member. by r (In-more r records.Life rs member)) where
-  by : (r : Record) → In r rs ⊎ (r ≡ records.Life) → IsRecordSorted r
-  by r (inl before) = each r before
-  by r (inr same) = subst IsRecordSorted (sym same) tt
+pub risen_sorted : (number : ℕ) (rs : List Record) → ((r : Record) → In r rs → IsRecordSorted r)
+    → IsSiteSorted (site_of number (rs ++ records.Life ∷ []))
+risen_sorted number rs each = site_sorted number (rs ++ records.Life ∷ [])
+    (λ r member. by r (In-more r records.Life rs member)) where
+      by : (r : Record) → In r rs ⊎ (r ≡ records.Life) → IsRecordSorted r
+      by r (inl before) = each r before
+      by r (inr same) = subst IsRecordSorted (sym same) tt

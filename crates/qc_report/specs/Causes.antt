@@ -7,8 +7,8 @@ use Rattle.qc_outside.specs.declared.shelf.ShelfFault.TheVariants as faults
 use Rattle.qc_report.specs.declared.cause.Cause.{Cause}
 use Rattle.qc_report.specs.declared.cause.Cause.TheVariants.{Done, Usage, Shelf, Declaration, Script}
 use Rattle.qc_report.specs.declared.cause.Cause.TheVariants.{Rack, Sink, Full, OutOfMemory}
-use Rattle.qc_msg.specs.declared.step.What.{What}
-use Rattle.qc_msg.specs.declared.step.What.TheVariants.{Steps, Operations, Carried}
+use Rattle.qc_msg.specs.declared.step.Quantity.{Quantity}
+use Rattle.qc_msg.specs.declared.step.Quantity.TheVariants.{Steps, Operations, Carried}
 use Rattle.qc_report.specs.Declarations.{status_of_refused, refused_text, no_memory_text}
 use Rattle.qc_report.specs.Scripts.{status_of_script, script_text}
 
@@ -54,7 +54,7 @@ rack_text (racks.NotEmpty actor) = disk_text actor (codes ": not empty\n")
 rack_text (racks.Failed actor) = disk_text actor (codes ": failed\n")
 rack_text racks.OutOfMemory = no_memory_text
 
-abbrev pub what_text : What → List ℕ
+abbrev pub what_text : Quantity → List ℕ
 what_text Steps = codes "steps "
 what_text Operations = codes "operations "
 what_text Carried = codes "lines "

@@ -10,7 +10,7 @@ use crate::script::{put_script, script_status};
 use itoa::Buffer;
 use qc_accept::DeclFault;
 use qc_list::OutOfMemory;
-use qc_msg::What;
+use qc_msg::Quantity;
 use qc_outside::{RackFault, ShelfFault};
 use qc_script::ScriptFault;
 use std::alloc::Global;
@@ -33,7 +33,7 @@ pub enum Cause {
     /// The output failed.
     Sink,
     /// A counted quantity reached its limit, and then had this number.
-    Full { what: What, number: u64 },
+    Full { what: Quantity, number: u64 },
     /// Memory was wanting.
     OutOfMemory,
 }
@@ -143,7 +143,7 @@ fn disk_text(page: &mut Page, actor: u8, what: &str) -> Result<(), OutOfMemory>
 }
 
 /// The line of a limit that was reached.
-fn full_text(page: &mut Page, what: What, number: u64) -> Result<(), OutOfMemory>
+fn full_text(page: &mut Page, what: Quantity, number: u64) -> Result<(), OutOfMemory>
     ensures { OnOk result (page.new ≡ page.old ++ cause_text_of (Cause.Full what number)) }
 {
     let mut digits = Buffer::new();
@@ -156,12 +156,12 @@ fn full_text(page: &mut Page, what: What, number: u64) -> Result<(), OutOfMemory
 }
 
 /// The word of a quantity, and a space.
-fn what_word(what: What) -> &'static str
+fn what_word(what: Quantity) -> &'static str
     ensures { result.now ≡ what_text what }
 {
     match what {
-        What::Steps => "steps ",
-        What::Operations => "operations ",
-        What::Carried => "lines ",
+        Quantity::Steps => "steps ",
+        Quantity::Operations => "operations ",
+        Quantity::Carried => "lines ",
     }
 }

@@ -1,5 +1,6 @@
 -- In a run without falls every actor is up, in each inbox.
-use Rattle.std.proofs.Common.{◌≡◌, ℕ, zero, suc, ◌+◌, ◌-◌, ◌==◌, Bool, true, false, if◌then◌else◌, List, [], ◌∷◌, ◌++◌, length, Option, Some, None, refl, ap, sym, subst, ◌∙◌}
+use Rattle.std.proofs.Common.{◌≡◌, ℕ, zero, suc, ◌+◌, ◌-◌, ◌==◌, Bool, true, false, if◌then◌else◌, List, [], ◌∷◌, ◌++◌}
+use Rattle.std.proofs.Common.{length, Option, Some, None, refl, ap, sym, subst, ◌∙◌}
 use Rattle.std.specs.Prelude.{get_or, replicate, set, slice_get}
 use Rattle.std.specs.List.{AllByRecursion as Every, fold}
 use Rattle.std.specs.Option.{option_map_or}
@@ -10,16 +11,17 @@ use Rattle.qc_msg.specs.declared.record.Record.{Record}
 use Rattle.qc_msg.specs.declared.reply.Reply.{Reply}
 use Rattle.qc_msg.specs.declared.step.Control.{Control}
 use Rattle.qc_msg.specs.declared.step.Control.TheVariants as controls
-use Rattle.qc_msg.specs.declared.step.Given.{Given}
-use Rattle.qc_msg.specs.declared.step.Given.TheVariants as given
+use Rattle.qc_msg.specs.declared.step.Input.{Input}
+use Rattle.qc_msg.specs.declared.step.Input.TheVariants as given
 use Rattle.qc_msg.specs.declared.step.Step.{Step}
 use Rattle.qc_msg.specs.declared.step.Step.TheVariants as steps
 use Rattle.qc_msg.specs.declared.turn.Posting.{Posting}
 use Rattle.qc_msg.specs.declared.turn.Turn.{Turn}
 use Rattle.qc_msg.specs.Deeds.{Deed, mail}
 use Rattle.qc_msg.specs.Steps.{Entry, by, marked, posted, sents, step_of, told, wrote}
-use Rattle.qc_msg.proofs.Growth.{by-posted}
-use Rattle.qc_script.specs.Inbox.{Inbox, acting, command_called, control_acted, copy_taken, everybody, inbox, inbox_at, is_up, loss_taken, opened, phase_begun, reply_told, wrote_record}
+use Rattle.qc_msg.proofs.GrownMail.{by-posted}
+use Rattle.qc_script.specs.Inbox.{Inbox, acting, command_called, control_acted, copy_taken, everybody, inbox, inbox_at}
+use Rattle.qc_script.specs.Inbox.{is_up, loss_taken, opened, phase_begun, reply_told, wrote_record}
 use Rattle.qc_script.specs.Ready.{step_of_control}
 use Rattle.qc_script.specs.Steady.{LeavesUp}
 use Rattle.qc_script.specs.Runs.{Runs, begins, takes, posts, phase, control}
@@ -64,9 +66,11 @@ phase_up a i (Some lines) = opened_up a _
 
 -- an actor that is up and writes a record changes no inbox
 pub wrote_up : (a : ℕ) (i : Inbox) (r : ℕ) → i.up ≡ everybody → wrote_record a i r ≡ i
-wrote_up a i r all = ap (λ (t : Bool). if t then i else control_acted a (record i { up = set i.up r true })) (is_up-everybody i.up r all)
+wrote_up a i r all = ap (λ (t : Bool). if t then i else control_acted a (record i { up = set i.up r true }))
+    (is_up-everybody i.up r all)
 
-pub step_up : (script : Script) (a : ℕ) (i : Inbox) (by : ℕ) (step : Step) → Stays step → i.up ≡ everybody → (inbox_at script a i by step).up ≡ everybody
+pub step_up : (script : Script) (a : ℕ) (i : Inbox) (by : ℕ) (step : Step) → Stays step → i.up ≡ everybody
+    → (inbox_at script a i by step).up ≡ everybody
 step_up script a i by (steps.Phase k) stays all = phase_up a i (slice_get script.phases (k - 1)) ∙ all
 step_up script a i by (steps.Cut x y) stays all = opened_up a _ ∙ all
 step_up script a i by (steps.Heal x y) stays all = opened_up a _ ∙ all
@@ -86,15 +90,17 @@ step_up script a i by (steps.Damaged offset) stays all = opened_up a _ ∙ all
 abbrev pub AllStay : List Entry → Type 0
 AllStay h = Every (λ (e : Entry). Stays e.step) h
 
-pub steps_up : (script : Script) (a : ℕ) (h : List Entry) (i : Inbox) → AllStay h → i.up ≡ everybody → (fold (λ i e. inbox_at script a i e.actor e.step) i h).up ≡ everybody
+pub steps_up : (script : Script) (a : ℕ) (h : List Entry) (i : Inbox) → AllStay h → i.up ≡ everybody
+    → (fold (λ i e. inbox_at script a i e.actor e.step) i h).up ≡ everybody
 steps_up script a [] i stays all = all
-steps_up script a (e ∷ h) i stays all = steps_up script a h (inbox_at script a i e.actor e.step) stays.1 (step_up script a i e.actor e.step stays.0 all)
+steps_up script a (e ∷ h) i stays all = steps_up script a h (inbox_at script a i e.actor e.step) stays.1
+    (step_up script a i e.actor e.step stays.0 all)
 
 join : (h k : List Entry) → AllStay h → AllStay k → AllStay (h ++ k)
 join [] k first second = second
 join (e ∷ h) k first second = (first.0, join h k first.1 second)
 
-input_stays : (a : ℕ) (g : Given) → AllStay (marked a (step_of g) ∷ [])
+input_stays : (a : ℕ) (g : Input) → AllStay (marked a (step_of g) ∷ [])
 input_stays a (given.Called command) = (tt {0}, tt {0})
 input_stays a (given.Got envelope) = (tt {0}, tt {0})
 input_stays a (given.Lost number) = (tt {0}, tt {0})
@@ -119,25 +125,35 @@ turn_stays a n turn =
 
 control_stays : (a : ℕ) (line : Control) (step : Step) → step_of_control line ≡ Some step → AllStay (marked a step ∷ [])
 control_stays a (controls.Phase k) step is = absurd (let no : ⊥ = cc in no)
-control_stays a (controls.Cut x y) step is = let e : steps.Cut x y ≡ step = cc in subst (λ (s : Step). AllStay (marked a s ∷ [])) e (tt {0}, tt {0})
-control_stays a (controls.Heal x y) step is = let e : steps.Heal x y ≡ step = cc in subst (λ (s : Step). AllStay (marked a s ∷ [])) e (tt {0}, tt {0})
+control_stays a (controls.Cut x y) step is = let e : steps.Cut x y ≡ step = cc in
+    subst (λ (s : Step). AllStay (marked a s ∷ [])) e (tt {0}, tt {0})
+control_stays a (controls.Heal x y) step is = let e : steps.Heal x y ≡ step = cc in
+    subst (λ (s : Step). AllStay (marked a s ∷ [])) e (tt {0}, tt {0})
 control_stays a (controls.Armed actor kind n) step is = absurd (let no : ⊥ = cc in no)
 control_stays a (controls.Crash x) step is = absurd (let no : ⊥ = cc in no)
 control_stays a (controls.Restart x) step is = absurd (let no : ⊥ = cc in no)
 
 -- nobody falls in a run without falls
-pub run_stays : (lawful : ℕ → List Deed → Turn → Type 0) (decl : Declaration) (script : Script) (h : List Entry) (inputs : List Bool) → Runs lawful decl script h inputs → AllStay h
+pub run_stays : (lawful : ℕ → List Deed → Turn → Type 0) (decl : Declaration) (script : Script) (h : List Entry)
+    (inputs : List Bool) → Runs lawful decl script h inputs → AllStay h
 run_stays lawful decl script h inputs begins = tt {0}
-run_stays lawful decl script h inputs (takes a g before older run free rdy) = join older _ (run_stays lawful decl script older before run) (input_stays a g)
-run_stays lawful decl script h inputs (posts a turn before older run taken law) = join older _ (run_stays lawful decl script older before run) (turn_stays a (length (mail older)) turn)
-run_stays lawful decl script h inputs (phase before older run none done quiet more) = join older _ (run_stays lawful decl script older before run) (tt {0}, tt {0})
-run_stays lawful decl script h inputs (control line lines step before older run left is) = join older _ (run_stays lawful decl script older before run) (control_stays (controller decl) line step is)
+run_stays lawful decl script h inputs (takes a g before older run free rdy) =
+    join older _ (run_stays lawful decl script older before run) (input_stays a g)
+run_stays lawful decl script h inputs (posts a turn before older run taken law) =
+    join older _ (run_stays lawful decl script older before run) (turn_stays a (length (mail older)) turn)
+run_stays lawful decl script h inputs (phase before older run none done quiet more) =
+    join older _ (run_stays lawful decl script older before run) (tt {0}, tt {0})
+run_stays lawful decl script h inputs (control line lines step before older run left is) =
+    join older _ (run_stays lawful decl script older before run) (control_stays (controller decl) line step is)
 
-pub run_up : (lawful : ℕ → List Deed → Turn → Type 0) (decl : Declaration) (script : Script) (h : List Entry) (inputs : List Bool) → Runs lawful decl script h inputs → (a : ℕ) → (inbox script a h).up ≡ everybody
+pub run_up : (lawful : ℕ → List Deed → Turn → Type 0) (decl : Declaration) (script : Script) (h : List Entry)
+    (inputs : List Bool) → Runs lawful decl script h inputs → (a : ℕ) → (inbox script a h).up ≡ everybody
 run_up lawful decl script h inputs run a = steps_up script a h _ (run_stays lawful decl script h inputs run) refl
 
-pub actor_up : (lawful : ℕ → List Deed → Turn → Type 0) (decl : Declaration) (script : Script) (h : List Entry) (inputs : List Bool) (a b : ℕ) → Runs lawful decl script h inputs → is_up (inbox script a h).up b ≡ true
-actor_up lawful decl script h inputs a b run = is_up-everybody (inbox script a h).up b (run_up lawful decl script h inputs run a)
+pub actor_up : (lawful : ℕ → List Deed → Turn → Type 0) (decl : Declaration) (script : Script) (h : List Entry)
+    (inputs : List Bool) (a b : ℕ) → Runs lawful decl script h inputs → is_up (inbox script a h).up b ≡ true
+actor_up lawful decl script h inputs a b run =
+    is_up-everybody (inbox script a h).up b (run_up lawful decl script h inputs run a)
 
 -- lines that leave everybody up have a step each
 pub acting-steady : (up : List Bool) (lines : List Control) → Every LeavesUp lines → acting up lines ≡ lines

@@ -1,5 +1,6 @@
 -- What a line asks for names what is declared, and has its numbers in range, where it is read.
-use Rattle.std.proofs.Common.{◌≡◌, ◌≢◌, ℕ, ◌+◌, ◌<◌, ◌≤◌, Bool, true, false, not, cond, Option, Some, None, refl, subst, arith}
+use Rattle.std.proofs.Common.{◌≡◌, ◌≢◌, ℕ, ◌+◌, ◌<◌, ◌≤◌, Bool, true, false, not, cond, Option, Some, None, refl, subst}
+use Rattle.std.proofs.Common.{arith}
 use Rattle.std.specs.Prelude.{◌==◌, IsTrue, length, nat_le, nat_lt, option_map}
 use Rattle.std.proofs.lemmas.Bool.{and_from, and_parts, eq-eqb, le-leb, leb-true, lt-ltb, ltb-true}
 use Rattle.qc_decl.specs.Actors.{administrator, client_actor, is_client}
@@ -19,8 +20,8 @@ use Rattle.qc_script.specs.declared.actor.ActorName.{ActorName}
 use Rattle.qc_script.specs.declared.actor.ActorName.TheVariants.{Site, Client, Administrator}
 use Rattle.qc_script.specs.declared.item.Item.{Item}
 use Rattle.qc_script.specs.declared.item.Item.TheVariants as items
-use Rattle.qc_script.specs.declared.line.Line.{Line}
-use Rattle.qc_script.specs.declared.line.Line.TheVariants as lines
+use Rattle.qc_script.specs.declared.line.ScriptLine.{ScriptLine}
+use Rattle.qc_script.specs.declared.line.ScriptLine.TheVariants as lines
 use Rattle.qc_script.specs.declared.line.Verb.{Verb}
 use Rattle.qc_script.specs.declared.line.Verb.TheVariants as verbs
 use Rattle.qc_script.specs.declared.script.CommandLine.{CommandLine}
@@ -43,7 +44,8 @@ IsNamedFor decl (items.Command line) = IsCommandFor decl line
 IsNamedFor decl (items.Epoch actor number) = actor ≡ administrator decl
 
 -- what a step that gave something stands on
-bound : {A B : Type 0} (o : Option A) (next : A → Option B) (y : B) → (o >>= next) ≡ Some y → (x : A) × (o ≡ Some x) × (next x ≡ Some y)
+bound : {A B : Type 0} (o : Option A) (next : A → Option B) (y : B) → (o >>= next) ≡ Some y
+    → (x : A) × (o ≡ Some x) × (next x ≡ Some y)
 bound None next y is = absurd (let never : ⊥ = cc in never)
 bound (Some x) next y is = (x, refl, is)
 
@@ -54,14 +56,19 @@ below n m x k is = by (nat_lt n m) refl is where
   by true less same = (ltb-true n m less, cc)
   by false past same = absurd (let never : ⊥ = cc in never)
 
-client_is : (decl : Declaration) (number a : ℕ) → client_in decl number ≡ Some a → IsTrue (is_client decl a) × IsActor decl a
+client_is : (decl : Declaration) (number a : ℕ) → client_in decl number ≡ Some a
+    → IsTrue (is_client decl a) × IsActor decl a
 client_is decl number a is =
     let b = below number decl.clients (client_actor decl number) a is in
-    let less = b.0 in let same = b.1 in
-    (and_from (nat_le decl.sites a) (nat_lt a (decl.sites + decl.clients)) (le-leb decl.sites a (omega arith)) (lt-ltb a (decl.sites + decl.clients) (omega arith)), omega arith)
+    let less = b.0 in let same = b.1 in (
+      and_from (nat_le decl.sites a) (nat_lt a (decl.sites + decl.clients)) (le-leb decl.sites a (omega arith))
+          (lt-ltb a (decl.sites + decl.clients) (omega arith)),
+      omega arith,
+    )
 
 actor_is : (decl : Declaration) (name : ActorName) (a : ℕ) → actor_in decl name ≡ Some a → IsActor decl a
-actor_is decl (Site number) a is = let b = below number decl.sites number a is in let less = b.0 in let same = b.1 in omega arith
+actor_is decl (Site number) a is = let b = below number decl.sites number a is in let less = b.0 in let same = b.1 in
+    omega arith
 actor_is decl (Client number) a is = (client_is decl number a is).1
 actor_is decl Administrator a is = let same : administrator decl ≡ a = cc in omega arith
 
@@ -72,20 +79,27 @@ end_is decl (Some name) e is = by (actor_in decl name) refl is where
   by None none is = absurd (let never : ⊥ = cc in never)
   by (Some a) some is = let same : Some a ≡ e = cc in subst (IsEnd decl) same (actor_is decl name a some)
 
-command_is : (decl : Declaration) (actor : ℕ) (verb : Verb) (command : Command) → IsTrue (is_client decl actor) → command_in decl verb ≡ Some command → IsAskedFor decl actor command
-command_is decl actor verbs.Begin command client is = let same : commands.Begin ≡ command = cc in subst (IsAskedFor decl actor) same client
+command_is : (decl : Declaration) (actor : ℕ) (verb : Verb) (command : Command) → IsTrue (is_client decl actor)
+    → command_in decl verb ≡ Some command → IsAskedFor decl actor command
+command_is decl actor verbs.Begin command client is = let same : commands.Begin ≡ command = cc in
+    subst (IsAskedFor decl actor) same client
 command_is decl actor (verbs.Do object inv) command client is =
-    let o = bound (object_named decl object) (λ of. inv_named decl of inv >>= (λ what. Some (commands.Do of what))) command is in
+    let o = bound (object_named decl object)
+    (λ of. inv_named decl of inv >>= (λ what. Some (commands.Do of what))) command is in
     let i = bound (inv_named decl o.0 inv) (λ what. Some (commands.Do o.0 what)) command o.2 in
     let done : Some (commands.Do o.0 i.0) ≡ Some command = i.2 in
     let same : commands.Do o.0 i.0 ≡ command = cc in
     subst (IsAskedFor decl actor) same (client, (object, o.1), (inv, i.1))
-command_is decl actor verbs.Commit command client is = let same : commands.Commit ≡ command = cc in subst (IsAskedFor decl actor) same client
-command_is decl actor verbs.Abort command client is = let same : commands.Abort ≡ command = cc in subst (IsAskedFor decl actor) same client
+command_is decl actor verbs.Commit command client is = let same : commands.Commit ≡ command = cc in
+    subst (IsAskedFor decl actor) same client
+command_is decl actor verbs.Abort command client is = let same : commands.Abort ≡ command = cc in
+    subst (IsAskedFor decl actor) same client
 
 -- two actors, and one
-two_named : (decl : Declaration) (first second : ActorName) (make : ℕ → ℕ → Item) (item : Item) → ((a b : ℕ) → IsActor decl a → IsActor decl b → IsNamedFor decl (make a b))
-    → (actor_in decl first >>= (λ a. actor_in decl second >>= (λ b. Some (make a b)))) ≡ Some item → IsNamedFor decl item
+two_named : (decl : Declaration) (first second : ActorName) (make : ℕ → ℕ → Item) (item : Item)
+    → ((a b : ℕ) → IsActor decl a → IsActor decl b → IsNamedFor decl (make a b))
+    → (actor_in decl first >>= (λ a. actor_in decl second >>= (λ b. Some (make a b)))) ≡ Some item
+    → IsNamedFor decl item
 two_named decl first second make item named is =
     let x = bound (actor_in decl first) (λ a. actor_in decl second >>= (λ b. Some (make a b))) item is in
     let y = bound (actor_in decl second) (λ b. Some (make x.0 b)) item x.2 in
@@ -93,7 +107,8 @@ two_named decl first second make item named is =
     let same : make x.0 y.0 ≡ item = cc in
     subst (IsNamedFor decl) same (named x.0 y.0 (actor_is decl first x.0 x.1) (actor_is decl second y.0 y.1))
 
-one_named : (decl : Declaration) (name : ActorName) (make : ℕ → Item) (item : Item) → ((a : ℕ) → IsActor decl a → IsNamedFor decl (make a))
+one_named : (decl : Declaration) (name : ActorName) (make : ℕ → Item) (item : Item)
+    → ((a : ℕ) → IsActor decl a → IsNamedFor decl (make a))
     → (actor_in decl name >>= (λ a. Some (make a))) ≡ Some item → IsNamedFor decl item
 one_named decl name make item named is =
     let x = bound (actor_in decl name) (λ a. Some (make a)) item is in
@@ -101,7 +116,8 @@ one_named decl name make item named is =
     let same : make x.0 ≡ item = cc in
     subst (IsNamedFor decl) same (named x.0 (actor_is decl name x.0 x.1))
 
-pub item_named : (decl : Declaration) (line : Line) (item : Item) → item_of decl line ≡ Some item → IsNamedFor decl item
+pub item_named : (decl : Declaration) (line : ScriptLine) (item : Item) → item_of decl line ≡ Some item
+    → IsNamedFor decl item
 item_named decl lines.Phase item is = let same : items.Phase ≡ item = cc in subst (IsNamedFor decl) same tt
 item_named decl (lines.Link from to ordinal rule) item is =
     let link : Option ℕ → Option ℕ → Link = λ f t. record { from = f; to = t; ordinal = ordinal; rule = rule } in
@@ -110,14 +126,20 @@ item_named decl (lines.Link from to ordinal rule) item is =
     let done : Some (items.Link (link x.0 y.0)) ≡ Some item = y.2 in
     let same : items.Link (link x.0 y.0) ≡ item = cc in
     subst (IsNamedFor decl) same (end_is decl from x.0 x.1, end_is decl to y.0 y.1)
-item_named decl (lines.Cut first second) item is = two_named decl first second (λ a b. items.Control (controls.Cut a b)) item (λ a b l m. (l, m)) is
-item_named decl (lines.Heal first second) item is = two_named decl first second (λ a b. items.Control (controls.Heal a b)) item (λ a b l m. (l, m)) is
-item_named decl (lines.Crash name) item is = one_named decl name (λ a. items.Control (controls.Crash a)) item (λ a l. l) is
-item_named decl (lines.Restart name) item is = one_named decl name (λ a. items.Control (controls.Restart a)) item (λ a l. l) is
-item_named decl (lines.Armed name kind at) item is = one_named decl name (λ a. items.Control (controls.Armed a kind at)) item (λ a l. l) is
+item_named decl (lines.Cut first second) item is =
+    two_named decl first second (λ a b. items.Control (controls.Cut a b)) item (λ a b l m. (l, m)) is
+item_named decl (lines.Heal first second) item is =
+    two_named decl first second (λ a b. items.Control (controls.Heal a b)) item (λ a b l m. (l, m)) is
+item_named decl (lines.Crash name) item is =
+    one_named decl name (λ a. items.Control (controls.Crash a)) item (λ a l. l) is
+item_named decl (lines.Restart name) item is =
+    one_named decl name (λ a. items.Control (controls.Restart a)) item (λ a l. l) is
+item_named decl (lines.Armed name kind at) item is =
+    one_named decl name (λ a. items.Control (controls.Armed a kind at)) item (λ a l. l) is
 item_named decl (lines.Command client verb) item is =
     let line : ℕ → Command → CommandLine = λ a c. record { actor = a; command = c } in
-    let x = bound (client_in decl client) (λ a. command_in decl verb >>= (λ c. Some (items.Command (line a c)))) item is in
+    let x = bound (client_in decl client) (λ a. command_in decl verb >>= (λ c. Some (items.Command (line a c)))) item is
+    in
     let y = bound (command_in decl verb) (λ c. Some (items.Command (line x.0 c))) item x.2 in
     let done : Some (items.Command (line x.0 y.0)) ≡ Some item = y.2 in
     let same : items.Command (line x.0 y.0) ≡ item = cc in
@@ -135,7 +157,8 @@ IsItemFor decl (items.Command line) = IsCommandFor decl line
 IsItemFor decl (items.Epoch actor number) = IsAskedFor decl actor (commands.Epoch number)
 
 between : (first last n : ℕ) → is_between first last n ≡ true → (first ≤ n) × (n ≤ last)
-between first last n is = let parts = and_parts (nat_le first n) (nat_le n last) is in (leb-true first n parts.0, leb-true n last parts.1)
+between first last n is = let parts = and_parts (nat_le first n) (nat_le n last) is in
+    (leb-true first n parts.0, leb-true n last parts.1)
 
 two_apart : (a b : ℕ) → not (a == b) ≡ true → a ≢ b
 two_apart a b is = λ same. let equal : (a == b) ≡ true = eq-eqb a b same in absurd (let never : ⊥ = cc in never)
@@ -144,7 +167,8 @@ ordinal_ranged : (ordinal : Option ℕ) → is_ordinal ordinal ≡ true → IsOr
 ordinal_ranged None is = tt
 ordinal_ranged (Some n) is = between 1 most_number n is
 
-control_ranged : (decl : Declaration) (control : Control) → NamesActors decl control → is_control_in_range control ≡ true → IsControlFor decl control
+control_ranged : (decl : Declaration) (control : Control) → NamesActors decl control
+    → is_control_in_range control ≡ true → IsControlFor decl control
 control_ranged decl (controls.Phase number) named is = named
 control_ranged decl (controls.Cut a b) named is = (named.0, named.1, two_apart a b is)
 control_ranged decl (controls.Heal a b) named is = (named.0, named.1, two_apart a b is)
@@ -152,9 +176,11 @@ control_ranged decl (controls.Armed actor kind at) named is = (named, between 1 
 control_ranged decl (controls.Crash actor) named is = named
 control_ranged decl (controls.Restart actor) named is = named
 
-pub item_ranged : (decl : Declaration) (item : Item) → IsNamedFor decl item → is_in_range decl item ≡ true → IsItemFor decl item
+pub item_ranged : (decl : Declaration) (item : Item) → IsNamedFor decl item → is_in_range decl item ≡ true
+    → IsItemFor decl item
 item_ranged decl items.Phase named is = tt
 item_ranged decl (items.Link link) named is = (named.0, named.1, ordinal_ranged link.ordinal is)
 item_ranged decl (items.Control control) named is = control_ranged decl control named is
 item_ranged decl (items.Command line) named is = named
-item_ranged decl (items.Epoch actor number) named is = let b = between 2 (length decl.plans) number is in (named, b.0, b.1)
+item_ranged decl (items.Epoch actor number) named is = let b = between 2 (length decl.plans) number is in
+    (named, b.0, b.1)

@@ -10,11 +10,12 @@ use Rattle.qc_script.specs.Forms.{actor_of, client_of, end_of, name_of, ordinal_
 use Rattle.qc_number.specs.Numbers.{number_of}
 use Rattle.qc_script.specs.Lines.{command_line, line_of, link_of, other_line, pair_of, verb_of}
 use Rattle.qc_script.specs.Options.{◌>>=◌}
-use Rattle.qc_script.specs.Written.{HasFewDigits, IsWritable, IsWritableActor, IsWritableEnd, IsWritableOrdinal, IsWritableVerb, actor_word, end_word, ordinal_word, rule_word, verb_words, words_in}
+use Rattle.qc_script.specs.Written.{HasFewDigits, IsWritable, IsWritableActor, IsWritableEnd, IsWritableOrdinal}
+use Rattle.qc_script.specs.Written.{IsWritableVerb, actor_word, end_word, ordinal_word, rule_word, verb_words, words_in}
 use Rattle.qc_script.specs.declared.actor.ActorName.{ActorName}
 use Rattle.qc_script.specs.declared.actor.ActorName.TheVariants.{Client}
-use Rattle.qc_script.specs.declared.line.Line.{Line}
-use Rattle.qc_script.specs.declared.line.Line.TheVariants as lines
+use Rattle.qc_script.specs.declared.line.ScriptLine.{ScriptLine}
+use Rattle.qc_script.specs.declared.line.ScriptLine.TheVariants as lines
 use Rattle.qc_script.specs.declared.line.Verb.{Verb}
 use Rattle.qc_script.specs.declared.line.Verb.TheVariants.{Begin, Do, Commit, Abort}
 
@@ -22,29 +23,37 @@ use Rattle.qc_script.specs.declared.line.Verb.TheVariants.{Begin, Do, Commit, Ab
 then : {A B : Type 0} (o : Option A) (x : A) (next : A → Option B) → o ≡ Some x → (o >>= next) ≡ next x
 then o x next is = ap (λ q. option_and_then next q) is
 
-pair_read : (a b : ActorName) → IsWritableActor a → IsWritableActor b → pair_of (actor_word a ∷ actor_word b ∷ []) ≡ Some (a, b)
+pair_read : (a b : ActorName) → IsWritableActor a → IsWritableActor b
+    → pair_of (actor_word a ∷ actor_word b ∷ []) ≡ Some (a, b)
 pair_read a b first second =
     then (actor_of (actor_word a)) a (λ x. actor_of (actor_word b) >>= (λ y. Some (x, y))) (actor_read a first)
     ∙ then (actor_of (actor_word b)) b (λ y. Some (a, y)) (actor_read b second)
 
-link_read : (from to : Option ActorName) (ordinal : Option ℕ) (what : Rule) → IsWritableEnd from → IsWritableEnd to → IsWritableOrdinal ordinal
-    → link_of (end_word from) (end_word to) (ordinal_word ordinal) (rule_word what) ≡ Some (lines.Link from to ordinal what)
+link_read : (from to : Option ActorName) (ordinal : Option ℕ) (what : Rule) → IsWritableEnd from → IsWritableEnd to
+    → IsWritableOrdinal ordinal
+    → link_of (end_word from) (end_word to) (ordinal_word ordinal) (rule_word what) ≡ Some
+    (lines.Link from to ordinal what)
 link_read from to ordinal what first second third =
     then (end_of (end_word from)) from
-    (λ f. end_of (end_word to) >>= (λ t. ordinal_of (ordinal_word ordinal) >>= (λ o. rule_of (rule_word what) >>= (λ r. Some (lines.Link f t o r))))) (end_read from first)
+    (λ f. end_of (end_word to) >>= (λ t. ordinal_of (ordinal_word ordinal) >>=
+    (λ o. rule_of (rule_word what) >>= (λ r. Some (lines.Link f t o r))))) (end_read from first)
     ∙ then (end_of (end_word to)) to
-    (λ t. ordinal_of (ordinal_word ordinal) >>= (λ o. rule_of (rule_word what) >>= (λ r. Some (lines.Link from t o r)))) (end_read to second)
-    ∙ then (ordinal_of (ordinal_word ordinal)) ordinal (λ o. rule_of (rule_word what) >>= (λ r. Some (lines.Link from to o r))) (ordinal_read ordinal third)
+    (λ t. ordinal_of (ordinal_word ordinal) >>= (λ o. rule_of (rule_word what) >>= (λ r. Some (lines.Link from t o r))))
+    (end_read to second)
+    ∙ then (ordinal_of (ordinal_word ordinal)) ordinal
+    (λ o. rule_of (rule_word what) >>= (λ r. Some (lines.Link from to o r))) (ordinal_read ordinal third)
     ∙ then (rule_of (rule_word what)) what (λ r. Some (lines.Link from to ordinal r)) (rule_read what)
 
 armed_read : (kind : ArmKind) (actor : ActorName) (at : ℕ) → IsWritableActor actor → HasFewDigits at
     → line_of (words_in (lines.Armed actor kind at)) ≡ Some (lines.Armed actor kind at)
 unfolding other_line
 armed_read Stop actor at first second =
-    then (actor_of (actor_word actor)) actor (λ a. number_of (decimal at) >>= (λ n. Some (lines.Armed a Stop n))) (actor_read actor first)
+    then (actor_of (actor_word actor)) actor (λ a. number_of (decimal at) >>= (λ n. Some (lines.Armed a Stop n)))
+    (actor_read actor first)
     ∙ then (number_of (decimal at)) at (λ n. Some (lines.Armed actor Stop n)) (number_read at second)
 armed_read Fail actor at first second =
-    then (actor_of (actor_word actor)) actor (λ a. number_of (decimal at) >>= (λ n. Some (lines.Armed a Fail n))) (actor_read actor first)
+    then (actor_of (actor_word actor)) actor (λ a. number_of (decimal at) >>= (λ n. Some (lines.Armed a Fail n)))
+    (actor_read actor first)
     ∙ then (number_of (decimal at)) at (λ n. Some (lines.Armed actor Fail n)) (number_read at second)
 
 verb_read : (verb : Verb) → IsWritableVerb verb → verb_of (verb_words verb) ≡ Some verb
@@ -56,7 +65,8 @@ verb_read Commit few = refl
 verb_read Abort few = refl
 
 -- a client's word is none of the words that begin the other lines
-client_line : (n : ℕ) (words : List (List ℕ)) → HasFewDigits n → line_of (actor_word (Client n) ∷ words) ≡ command_line (actor_word (Client n)) words
+client_line : (n : ℕ) (words : List (List ℕ)) → HasFewDigits n
+    → line_of (actor_word (Client n) ∷ words) ≡ command_line (actor_word (Client n)) words
 unfolding other_line
 client_line n words few =
     let cut = apart client_of (actor_word (Client n)) (codes "cut") n (client_read n few) refl in
@@ -64,17 +74,23 @@ client_line n words few =
     rw (cut, crash) refl
 
 -- the words of a line
-pub line_read : (line : Line) → IsWritable line → line_of (words_in line) ≡ Some line
+pub line_read : (line : ScriptLine) → IsWritable line → line_of (words_in line) ≡ Some line
 unfolding other_line
 line_read lines.Phase few = refl
 line_read (lines.Link from to ordinal what) few = link_read from to ordinal what few.0 few.1 few.2
-line_read (lines.Cut a b) few = then (pair_of (actor_word a ∷ actor_word b ∷ [])) (a, b) (λ p. Some (lines.Cut p.0 p.1)) (pair_read a b few.0 few.1)
-line_read (lines.Heal a b) few = then (pair_of (actor_word a ∷ actor_word b ∷ [])) (a, b) (λ p. Some (lines.Heal p.0 p.1)) (pair_read a b few.0 few.1)
-line_read (lines.Crash actor) few = then (actor_of (actor_word actor)) actor (λ a. Some (lines.Crash a)) (actor_read actor few)
-line_read (lines.Restart actor) few = then (actor_of (actor_word actor)) actor (λ a. Some (lines.Restart a)) (actor_read actor few)
+line_read (lines.Cut a b) few = then (pair_of (actor_word a ∷ actor_word b ∷ [])) (a, b) (λ p. Some (lines.Cut p.0 p.1))
+    (pair_read a b few.0 few.1)
+line_read (lines.Heal a b) few = then (pair_of (actor_word a ∷ actor_word b ∷ [])) (a, b)
+    (λ p. Some (lines.Heal p.0 p.1)) (pair_read a b few.0 few.1)
+line_read (lines.Crash actor) few = then (actor_of (actor_word actor)) actor (λ a. Some (lines.Crash a))
+    (actor_read actor few)
+line_read (lines.Restart actor) few = then (actor_of (actor_word actor)) actor (λ a. Some (lines.Restart a))
+    (actor_read actor few)
 line_read (lines.Armed actor kind at) few = armed_read kind actor at few.0 few.1
 line_read (lines.Command client verb) few =
     client_line client (verb_words verb) few.0
-    ∙ then (client_of (actor_word (Client client))) client (λ c. verb_of (verb_words verb) >>= (λ v. Some (lines.Command c v))) (client_read client few.0)
+    ∙ then (client_of (actor_word (Client client))) client
+    (λ c. verb_of (verb_words verb) >>= (λ v. Some (lines.Command c v))) (client_read client few.0)
     ∙ then (verb_of (verb_words verb)) verb (λ v. Some (lines.Command client v)) (verb_read verb few.1)
-line_read (lines.Epoch number) few = then (number_of (decimal number)) number (λ n. Some (lines.Epoch n)) (number_read number few)
+line_read (lines.Epoch number) few = then (number_of (decimal number)) number (λ n. Some (lines.Epoch n))
+    (number_read number few)

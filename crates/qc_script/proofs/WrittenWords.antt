@@ -1,19 +1,23 @@
 -- The words of each place are read as what they are written for.
-use Rattle.std.proofs.Common.{◌≡◌, ℕ, zero, suc, ◌<◌, ◌≤◌, ◌^◌, Bool, true, false, cond, codes, List, [], ◌∷◌, Option, Some, None, length, get_or, refl, ap, ◌∙◌, arith}
+use Rattle.std.proofs.Common.{◌≡◌, ℕ, zero, suc, ◌<◌, ◌≤◌, ◌^◌, Bool, true, false, cond, codes, List, [], ◌∷◌, Option}
+use Rattle.std.proofs.Common.{Some, None, length, get_or, refl, ap, ◌∙◌, arith}
 use Rattle.std.specs.Prelude.{option_map, option_and_then, decimal}
 use Rattle.std.specs.Char.{is_ascii_digit}
 use Rattle.std.specs.List.{list_all}
 use Rattle.std.specs.Str.{bytes_eq}
 use Rattle.std.specs.Str.Parse.{digits_value}
 use Rattle.std.proofs.lemmas.Bool.{le-leb, eqb-true, and_from}
-use Rattle.std.proofs.lemmas.Fmt.{decimal_digit, decimal_is_IsNumeral, decimal_nonempty, first_decimal, length-decimal-le}
+use Rattle.std.proofs.lemmas.Fmt.{decimal_digit, decimal_is_IsNumeral, decimal_nonempty, first_decimal}
+use Rattle.std.proofs.lemmas.Fmt.{length-decimal-le}
 use Rattle.std.proofs.lemmas.Slice.Eq.{bytes_eq-Decides}
 use Rattle.qc_link.specs.declared.rule.Rule.{Rule}
 use Rattle.qc_link.specs.declared.rule.Rule.TheVariants as rule
 use Rattle.qc_number.proofs.Numbers.{number_read}
 use Rattle.qc_number.specs.Numbers.{number_of}
-use Rattle.qc_script.specs.Forms.{actor_of, client_in, client_of, end_of, has_leading_zero, index_of, name_of, ordinal_of, rule_of}
-use Rattle.qc_script.specs.Written.{HasFewDigits, IsWritableActor, IsWritableEnd, IsWritableName, IsWritableOrdinal, actor_word, end_word, ordinal_word, rule_word}
+use Rattle.qc_script.specs.Forms.{actor_of, client_in, client_of, end_of, has_leading_zero, index_of, name_of}
+use Rattle.qc_script.specs.Forms.{ordinal_of, rule_of}
+use Rattle.qc_script.specs.Written.{HasFewDigits, IsWritableActor, IsWritableEnd, IsWritableName, IsWritableOrdinal}
+use Rattle.qc_script.specs.Written.{actor_word, end_word, ordinal_word, rule_word}
 use Rattle.qc_script.specs.declared.actor.ActorName.{ActorName}
 use Rattle.qc_script.specs.declared.actor.ActorName.TheVariants.{Site, Client, Administrator}
 
@@ -47,24 +51,28 @@ pub client_read : (n : ℕ) → HasFewDigits n → client_of (actor_word (Client
 client_read n few = ap (option_and_then client_in) (actor_read (Client n) few)
 
 -- a word that is read as something isn't one that isn't
-pub apart : {A : Type 0} (read : List ℕ → Option A) (word other : List ℕ) (x : A) → read word ≡ Some x → read other ≡ None → bytes_eq word other ≡ false
+pub apart : {A : Type 0} (read : List ℕ → Option A) (word other : List ℕ) (x : A) → read word ≡ Some x
+    → read other ≡ None → bytes_eq word other ≡ false
 apart read word other x some none = by (bytes_eq word other) refl
   where
     by : (b : Bool) → bytes_eq word other ≡ b → b ≡ false
-    by true is = let same : word ≡ other = (bytes_eq-Decides word other).0 is in let e = ap read same in absurd (let never : ⊥ = cc in never)
+    by true is = let same : word ≡ other = (bytes_eq-Decides word other).0 is in let e = ap read same in
+        absurd (let never : ⊥ = cc in never)
     by false is = refl
 
 -- a link's end
 pub end_read : (end : Option ActorName) → IsWritableEnd end → end_of (end_word end) ≡ Some end
 end_read None few = refl
 end_read (Some actor) few =
-    ap (λ t. cond t (Some None) (option_map Some (actor_of (actor_word actor)))) (apart actor_of (actor_word actor) (codes "*") actor (actor_read actor few) refl)
+    ap (λ t. cond t (Some None) (option_map Some (actor_of (actor_word actor))))
+    (apart actor_of (actor_word actor) (codes "*") actor (actor_read actor few) refl)
     ∙ ap (option_map Some) (actor_read actor few)
 
 pub ordinal_read : (ordinal : Option ℕ) → IsWritableOrdinal ordinal → ordinal_of (ordinal_word ordinal) ≡ Some ordinal
 ordinal_read None few = refl
 ordinal_read (Some n) few =
-    ap (λ t. cond t (Some None) (option_map Some (number_of (decimal n)))) (apart number_of (decimal n) (codes "*") n (number_read n few) refl)
+    ap (λ t. cond t (Some None) (option_map Some (number_of (decimal n))))
+    (apart number_of (decimal n) (codes "*") n (number_read n few) refl)
     ∙ ap (option_map Some) (number_read n few)
 
 pub rule_read : (what : Rule) → rule_of (rule_word what) ≡ Some what

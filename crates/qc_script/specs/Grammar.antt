@@ -17,7 +17,7 @@ use Rattle.qc_script.specs.Places.{has_place, with_item}
 use Rattle.qc_script.specs.Ranges.{is_in_range}
 use Rattle.qc_script.specs.Text.{is_skipped, lines_of, without_cr, words_of}
 use Rattle.qc_script.specs.declared.item.Item.{Item}
-use Rattle.qc_script.specs.declared.line.Line.{Line}
+use Rattle.qc_script.specs.declared.line.ScriptLine.{ScriptLine}
 use Rattle.qc_script.specs.declared.script.LineKind.{LineKind}
 use Rattle.qc_script.specs.declared.script.LineKind.TheVariants.{Words, Name, Number, Place}
 use Rattle.qc_script.specs.declared.script.Script.{Script}
@@ -28,7 +28,7 @@ tested true kind value = Ok value
 tested false kind value = Err kind
 
 -- what a line asks for, wherever it stands
-abbrev pub item_in : Declaration → Line → Result Item LineKind
+abbrev pub item_in : Declaration → ScriptLine → Result Item LineKind
 item_in decl line = do
   item ← ok_or (item_of decl line) Name
   tested (is_in_range decl item) Number item

@@ -11,8 +11,8 @@ use Rattle.qc_script.specs.declared.actor.ActorName.{ActorName}
 use Rattle.qc_script.specs.declared.actor.ActorName.TheVariants.{Site, Client, Administrator}
 use Rattle.qc_script.specs.declared.item.Item.{Item}
 use Rattle.qc_script.specs.declared.item.Item.TheVariants as items
-use Rattle.qc_script.specs.declared.line.Line.{Line}
-use Rattle.qc_script.specs.declared.line.Line.TheVariants as lines
+use Rattle.qc_script.specs.declared.line.ScriptLine.{ScriptLine}
+use Rattle.qc_script.specs.declared.line.ScriptLine.TheVariants as lines
 use Rattle.qc_script.specs.declared.line.Verb.{Verb}
 use Rattle.qc_script.specs.declared.line.Verb.TheVariants as verbs
 
@@ -45,7 +45,7 @@ command_in decl verbs.Commit = Some commands.Commit
 command_in decl verbs.Abort = Some commands.Abort
 
 -- the line, if each name in it is declared
-abbrev pub item_of : Declaration → Line → Option Item
+abbrev pub item_of : Declaration → ScriptLine → Option Item
 item_of decl lines.Phase = Some items.Phase
 item_of decl (lines.Link from to ordinal rule) = do
   sender ← end_in decl from

@@ -15,18 +15,18 @@ use Rattle.qc_script.specs.Forms.{actor_of, client_of, end_of, name_of, ordinal_
 use Rattle.qc_number.specs.Numbers.{number_of}
 use Rattle.qc_script.specs.Options.{◌>>=◌}
 use Rattle.qc_script.specs.declared.actor.ActorName.{ActorName}
-use Rattle.qc_script.specs.declared.line.Line.{Line}
-use Rattle.qc_script.specs.declared.line.Line.TheVariants as lines
+use Rattle.qc_script.specs.declared.line.ScriptLine.{ScriptLine}
+use Rattle.qc_script.specs.declared.line.ScriptLine.TheVariants as lines
 use Rattle.qc_script.specs.declared.line.Verb.{Verb}
 use Rattle.qc_script.specs.declared.line.Verb.TheVariants.{Begin, Do, Commit, Abort}
 
 -- each form by the words behind its first one
 
-abbrev pub phase_line : List (List ℕ) → Option Line
+abbrev pub phase_line : List (List ℕ) → Option ScriptLine
 phase_line [] = Some lines.Phase
 phase_line _ = None
 
-abbrev pub link_of : List ℕ → List ℕ → List ℕ → List ℕ → Option Line
+abbrev pub link_of : List ℕ → List ℕ → List ℕ → List ℕ → Option ScriptLine
 link_of from to ordinal rule = do
   sender ← end_of from
   receiver ← end_of to
@@ -34,7 +34,7 @@ link_of from to ordinal rule = do
   what ← rule_of rule
   Some (lines.Link sender receiver which what)
 
-abbrev pub link_line : List (List ℕ) → Option Line
+abbrev pub link_line : List (List ℕ) → Option ScriptLine
 link_line (from ∷ to ∷ ordinal ∷ rule ∷ []) = link_of from to ordinal rule
 link_line _ = None
 
@@ -46,12 +46,12 @@ pair_of (first ∷ second ∷ []) = do
   Some (a, b)
 pair_of _ = None
 
-abbrev pub cut_line : List (List ℕ) → Option Line
+abbrev pub cut_line : List (List ℕ) → Option ScriptLine
 cut_line words = do
   pair ← pair_of words
   Some (lines.Cut pair.0 pair.1)
 
-abbrev pub heal_line : List (List ℕ) → Option Line
+abbrev pub heal_line : List (List ℕ) → Option ScriptLine
 heal_line words = do
   pair ← pair_of words
   Some (lines.Heal pair.0 pair.1)
@@ -61,18 +61,18 @@ abbrev pub single_of : List (List ℕ) → Option ActorName
 single_of (word ∷ []) = actor_of word
 single_of _ = None
 
-abbrev pub crash_line : List (List ℕ) → Option Line
+abbrev pub crash_line : List (List ℕ) → Option ScriptLine
 crash_line words = do
   actor ← single_of words
   Some (lines.Crash actor)
 
-abbrev pub restart_line : List (List ℕ) → Option Line
+abbrev pub restart_line : List (List ℕ) → Option ScriptLine
 restart_line words = do
   actor ← single_of words
   Some (lines.Restart actor)
 
 -- an actor, `at` and a number
-abbrev pub armed_line : ArmKind → List (List ℕ) → Option Line
+abbrev pub armed_line : ArmKind → List (List ℕ) → Option ScriptLine
 armed_line kind (actor ∷ at ∷ number ∷ []) = if bytes_eq at (codes "at") then (do
   who ← actor_of actor
   when ← number_of number
@@ -80,7 +80,7 @@ armed_line kind (actor ∷ at ∷ number ∷ []) = if bytes_eq at (codes "at") t
 armed_line kind _ = None
 
 -- `epoch` and a number
-abbrev pub epoch_line : List (List ℕ) → Option Line
+abbrev pub epoch_line : List (List ℕ) → Option ScriptLine
 epoch_line (epoch ∷ number ∷ []) = if bytes_eq epoch (codes "epoch") then (do
   which ← number_of number
   Some (lines.Epoch which)) else None
@@ -104,14 +104,14 @@ verb_of (word ∷ []) = alone_of word
 verb_of (word ∷ object ∷ inv ∷ []) = do_of word object inv
 verb_of _ = None
 
-abbrev pub command_line : List ℕ → List (List ℕ) → Option Line
+abbrev pub command_line : List ℕ → List (List ℕ) → Option ScriptLine
 command_line word words = do
   client ← client_of word
   verb ← verb_of words
   Some (lines.Command client verb)
 
 -- a line that tells of an actor's fall or rise, of a disk, or of what is asked
-unfoldable pub other_line : List ℕ → List (List ℕ) → Option Line
+unfoldable pub other_line : List ℕ → List (List ℕ) → Option ScriptLine
 other_line word words =
     if bytes_eq word (codes "crash") then crash_line words
     else (if bytes_eq word (codes "restart") then restart_line words
@@ -121,7 +121,7 @@ other_line word words =
     else command_line word words))))
 
 -- the line that words are
-abbrev pub line_of : List (List ℕ) → Option Line
+abbrev pub line_of : List (List ℕ) → Option ScriptLine
 line_of [] = None
 line_of (word ∷ words) =
     if bytes_eq word (codes "phase") then phase_line words

@@ -6,8 +6,8 @@ use Rattle.qc_msg.specs.declared.message.Envelope.{Envelope}
 use Rattle.qc_msg.specs.declared.step.Command.{Command}
 use Rattle.qc_msg.specs.declared.step.Control.{Control}
 use Rattle.qc_msg.specs.declared.step.Control.TheVariants as controls
-use Rattle.qc_msg.specs.declared.step.Given.{Given}
-use Rattle.qc_msg.specs.declared.step.Given.TheVariants.{Called, Got, Lost}
+use Rattle.qc_msg.specs.declared.step.Input.{Input}
+use Rattle.qc_msg.specs.declared.step.Input.TheVariants.{Called, Got, Lost}
 use Rattle.qc_msg.specs.declared.step.Step.{Step}
 use Rattle.qc_msg.specs.declared.step.Step.TheVariants as steps
 use Rattle.qc_msg.specs.Steps.{Entry}
@@ -19,30 +19,30 @@ use Rattle.qc_script.specs.declared.script.Script.{Script}
 abbrev pub takes_commands : Declaration → ℕ → Bool
 takes_commands decl a = is_client decl a || (a == administrator decl)
 
-abbrev pub first_command : List Command → Option Given
+abbrev pub first_command : List Command → Option Input
 first_command [] = None
 first_command (command ∷ commands) = Some (Called command)
 
-abbrev pub first_lost : List ℕ → Option Given → Option Given
+abbrev pub first_lost : List ℕ → Option Input → Option Input
 first_lost [] other = other
 first_lost (n ∷ ns) other = Some (Lost n)
 
-abbrev pub first_copy : List Envelope → Option Given → Option Given
+abbrev pub first_copy : List Envelope → Option Input → Option Input
 first_copy [] other = other
 first_copy (e ∷ es) other = Some (Got e)
 
-abbrev pub command_in : Declaration → ℕ → Inbox → Option Given
+abbrev pub command_in : Declaration → ℕ → Inbox → Option Input
 command_in decl a i = cond (takes_commands decl a && not i.busy) (first_command i.commands) None
 
 -- nothing is taken between a phase's control lines
-abbrev pub after_controls : List Control → Option Given → Option Given
+abbrev pub after_controls : List Control → Option Input → Option Input
 after_controls [] given = given
 after_controls (c ∷ cs) given = None
 
-abbrev pub ready_in : Declaration → ℕ → Inbox → Option Given
+abbrev pub ready_in : Declaration → ℕ → Inbox → Option Input
 ready_in decl a i = after_controls i.controls (first_copy i.copies (first_lost i.lost (command_in decl a i)))
 
-abbrev pub ready : Declaration → Script → ℕ → List Entry → Option Given
+abbrev pub ready : Declaration → Script → ℕ → List Entry → Option Input
 ready decl script a h = ready_in decl a (inbox script a h)
 
 -- the control lines of the phase that haven't acted: every inbox has the same

@@ -4,7 +4,7 @@ use Rattle.std.specs.Prelude.{slice_get, slice_set}
 use Rattle.qc_decl.specs.declared.declaration.Declaration.{Declaration}
 use Rattle.qc_decl.specs.Actors.{actors, controller}
 use Rattle.qc_msg.specs.declared.step.Control.{Control}
-use Rattle.qc_msg.specs.declared.step.Given.{Given}
+use Rattle.qc_msg.specs.declared.step.Input.{Input}
 use Rattle.qc_msg.specs.declared.step.Step.{Step}
 use Rattle.qc_msg.specs.declared.step.Step.TheVariants.{Phase}
 use Rattle.qc_msg.specs.declared.turn.Turn.{Turn}
@@ -21,7 +21,7 @@ use Rattle.qc_script.specs.declared.script.Script.{Script}
 pub data Runs (lawful : ℕ → List Deed → Turn → Type 0) (decl : Declaration) (script : Script) : List Entry
     → List Bool → Type 0 where
   begins : Runs lawful decl script [] (replicate (actors decl) false)
-  takes : (a : ℕ) (given : Given) (open_inputs : List Bool) (h : List Entry) → Runs lawful decl script h open_inputs
+  takes : (a : ℕ) (given : Input) (open_inputs : List Bool) (h : List Entry) → Runs lawful decl script h open_inputs
       → slice_get open_inputs a ≡ Some false → ready decl script a h ≡ Some given
       → Runs lawful decl script (h ++ marked a (step_of given) ∷ []) (slice_set open_inputs a true)
   posts : (a : ℕ) (turn : Turn) (open_inputs : List Bool) (h : List Entry) → Runs lawful decl script h open_inputs

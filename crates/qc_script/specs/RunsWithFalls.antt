@@ -8,7 +8,7 @@ use Rattle.qc_msg.specs.declared.step.Control.{Control}
 use Rattle.qc_msg.specs.declared.step.Control.TheVariants.{Crash, Restart}
 use Rattle.qc_msg.specs.declared.step.Fall.{Fall}
 use Rattle.qc_msg.specs.declared.step.Fall.TheVariants as causes
-use Rattle.qc_msg.specs.declared.step.Given.{Given}
+use Rattle.qc_msg.specs.declared.step.Input.{Input}
 use Rattle.qc_msg.specs.declared.step.Step.{Step}
 use Rattle.qc_msg.specs.declared.step.Step.TheVariants.{Phase, Fell, Rose, Damaged}
 use Rattle.qc_msg.specs.declared.turn.Turn.{Turn}
@@ -29,7 +29,7 @@ use Rattle.qc_script.specs.declared.script.Script.{Script}
 pub data RunsWithFalls (lawful : ℕ → List Deed → Turn → Type 0) (fits : ℕ → List Record → Type 0) (decl : Declaration)
     (script : Script) : List Entry → List Bool → Type 0 where
   begins : RunsWithFalls lawful fits decl script [] (replicate (actors decl) false)
-  takes : (a : ℕ) (given : Given) (open_inputs : List Bool) (h : List Entry)
+  takes : (a : ℕ) (given : Input) (open_inputs : List Bool) (h : List Entry)
       → RunsWithFalls lawful fits decl script h open_inputs
       → slice_get open_inputs a ≡ Some false → ready decl script a h ≡ Some given
       → RunsWithFalls lawful fits decl script (h ++ marked a (step_of given) ∷ []) (slice_set open_inputs a true)

@@ -13,8 +13,8 @@ use Rattle.qc_script.specs.Grammar.{Refusal, item_in, numbered, placed}
 use Rattle.qc_script.specs.Ranges.{most_number}
 use Rattle.qc_script.specs.declared.actor.ActorName.{ActorName}
 use Rattle.qc_script.specs.declared.actor.ActorName.TheVariants.{Site, Client, Administrator}
-use Rattle.qc_script.specs.declared.line.Line.{Line}
-use Rattle.qc_script.specs.declared.line.Line.TheVariants as lines
+use Rattle.qc_script.specs.declared.line.ScriptLine.{ScriptLine}
+use Rattle.qc_script.specs.declared.line.ScriptLine.TheVariants as lines
 use Rattle.qc_script.specs.declared.line.Verb.{Verb}
 use Rattle.qc_script.specs.declared.line.Verb.TheVariants.{Begin, Do, Commit, Abort}
 use Rattle.qc_script.specs.declared.script.Script.{Script}
@@ -51,7 +51,7 @@ verb_words Commit = codes "commit" ∷ []
 verb_words Abort = codes "abort" ∷ []
 
 -- the words of a line
-abbrev pub words_in : Line → List (List ℕ)
+abbrev pub words_in : ScriptLine → List (List ℕ)
 words_in lines.Phase = codes "phase" ∷ []
 words_in (lines.Link from to ordinal rule) =
     codes "link" ∷ end_word from ∷ end_word to ∷ ordinal_word ordinal ∷ rule_word rule ∷ []
@@ -63,10 +63,10 @@ words_in (lines.Armed actor kind at) = arm_word kind ∷ actor_word actor ∷ co
 words_in (lines.Command client verb) = actor_word (Client client) ∷ verb_words verb
 words_in (lines.Epoch number) = codes "admin" ∷ codes "epoch" ∷ decimal number ∷ []
 
-abbrev pub text_of_line : Line → List ℕ
+abbrev pub text_of_line : ScriptLine → List ℕ
 text_of_line line = join_with_byte 32 (words_in line)
 
-abbrev pub text_of_lines : List Line → List ℕ
+abbrev pub text_of_lines : List ScriptLine → List ℕ
 text_of_lines [] = []
 text_of_lines (line ∷ more) = text_of_line line ++ 10 ∷ text_of_lines more
 
@@ -102,7 +102,7 @@ IsWritableVerb (Do object inv) = IsWritableName object × IsWritableName inv
 IsWritableVerb Commit = Unit {0}
 IsWritableVerb Abort = Unit {0}
 
-abbrev pub IsWritable : Line → Type 0
+abbrev pub IsWritable : ScriptLine → Type 0
 IsWritable lines.Phase = Unit {0}
 IsWritable (lines.Link from to ordinal rule) = IsWritableEnd from × IsWritableEnd to × IsWritableOrdinal ordinal
 IsWritable (lines.Cut a b) = IsWritableActor a × IsWritableActor b
@@ -113,11 +113,11 @@ IsWritable (lines.Armed actor kind at) = IsWritableActor actor × HasFewDigits a
 IsWritable (lines.Command client verb) = HasFewDigits client × IsWritableVerb verb
 IsWritable (lines.Epoch number) = HasFewDigits number
 
-abbrev pub AreWritable : List Line → Type 0
+abbrev pub AreWritable : List ScriptLine → Type 0
 AreWritable = Every IsWritable
 
 -- what lines ask for in a row, the first of which has this number, as the grammar has it once they are read
-abbrev pub with_written : Declaration → ℕ → Script → List Line → Result Script Refusal
+abbrev pub with_written : Declaration → ℕ → Script → List ScriptLine → Result Script Refusal
 with_written decl number script [] = Ok script
 with_written decl number script (line ∷ more) = do
   next ← numbered number (item_in decl line >>= placed script)

@@ -5,7 +5,7 @@ ghost use Rattle.qc_decl.specs.Named.{IsNamed};
 ghost use Rattle.qc_script.specs.Items.{site_in, client_in, actor_in, end_in, command_in, item_of};
 
 use crate::actor::ActorName;
-use crate::line::{Line, Verb};
+use crate::line::{ScriptLine, Verb};
 use crate::script::CommandLine;
 use qc_decl::Declaration;
 use qc_link::Link;
@@ -29,14 +29,14 @@ pub enum Item {
 
 impl Item {
     /// What a line asks for, if each of its names is declared.
-    pub(crate) fn of(line: Line<'_>, decl: &Declaration) -> Option<Item>
+    pub(crate) fn of(line: ScriptLine<'_>, decl: &Declaration) -> Option<Item>
         requires actors { decl.now.sites + decl.now.clients < 256 }
         requires named { IsNamed decl.now }
         ensures { result ≡ item_of decl.now line.entry }
     {
         match line {
-            Line::Phase => Some(Item::Phase),
-            Line::Link {
+            ScriptLine::Phase => Some(Item::Phase),
+            ScriptLine::Link {
                 from,
                 to,
                 ordinal,
@@ -47,14 +47,17 @@ impl Item {
                 ordinal,
                 rule,
             })),
-            Line::Cut(a, b) => Some(Item::Control(Control::Cut(actor(a, decl)?, actor(b, decl)?))),
-            Line::Heal(a, b) => Some(Item::Control(Control::Heal(
+            ScriptLine::Cut(a, b) => Some(Item::Control(Control::Cut(
                 actor(a, decl)?,
                 actor(b, decl)?,
             ))),
-            Line::Crash(name) => Some(Item::Control(Control::Crash(actor(name, decl)?))),
-            Line::Restart(name) => Some(Item::Control(Control::Restart(actor(name, decl)?))),
-            Line::Armed {
+            ScriptLine::Heal(a, b) => Some(Item::Control(Control::Heal(
+                actor(a, decl)?,
+                actor(b, decl)?,
+            ))),
+            ScriptLine::Crash(name) => Some(Item::Control(Control::Crash(actor(name, decl)?))),
+            ScriptLine::Restart(name) => Some(Item::Control(Control::Restart(actor(name, decl)?))),
+            ScriptLine::Armed {
                 actor: name,
                 kind,
                 at,
@@ -63,14 +66,14 @@ impl Item {
                 kind,
                 at,
             })),
-            Line::Command {
+            ScriptLine::Command {
                 client: number,
                 verb,
             } => Some(Item::Command(CommandLine {
                 actor: client(number, decl)?,
                 command: command(verb, decl)?,
             })),
-            Line::Epoch { number } => Some(Item::Epoch {
+            ScriptLine::Epoch { number } => Some(Item::Epoch {
                 actor: decl.administrator(),
                 number,
             }),

@@ -8,14 +8,14 @@ ghost use Rattle.qc_script.specs.Lines.{line_of};
 ghost use Rattle.qc_script.specs.Refused.{IsFirstRefused};
 ghost use Rattle.qc_script.specs.Text.{words_of};
 ghost use Rattle.qc_script.specs.Written.{AreWritable, IsWritable, text_of_line, text_of_lines, with_written};
-ghost use Rattle.qc_script.specs.declared.line.Line.{Line};
+ghost use Rattle.qc_script.specs.declared.line.ScriptLine.{ScriptLine};
 ghost use Rattle.qc_script.specs.declared.script.Script.{Script};
 
 /// Each form of a line, as it is written, is read as just that line. So what it
 /// asks for is left to its names and its numbers alone.
 pub fn lines_are_read_as_written()
-    ensures line { (line : Line) → IsWritable line → line_of (words_of (text_of_line line)) ≡ Some line }
-    ensures item { (decl : Declaration) (line : Line) → IsWritable line
+    ensures line { (line : ScriptLine) → IsWritable line → line_of (words_of (text_of_line line)) ≡ Some line }
+    ensures item { (decl : Declaration) (line : ScriptLine) → IsWritable line
         → read_words decl (words_of (text_of_line line)) ≡ item_in decl line }
 {}
 
@@ -23,7 +23,7 @@ pub fn lines_are_read_as_written()
 /// after another. So it is read where each line's names are declared, its
 /// numbers are in range and it has a place.
 pub fn scripts_are_read_as_written()
-    ensures { (decl : Declaration) (lines : List Line) → AreWritable lines
+    ensures { (decl : Declaration) (lines : List ScriptLine) → AreWritable lines
         → script_of decl (text_of_lines lines) ≡ with_written decl 1 empty_script lines }
 {}
 

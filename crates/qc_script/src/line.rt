@@ -16,7 +16,7 @@ use qc_outside::ArmKind;
 /// What a line's words say: its actors, numbers and names as they are written,
 /// declared or not.
 #[derive(Drop)]
-pub enum Line<'a> {
+pub enum ScriptLine<'a> {
     /// The next phase begins here.
     Phase,
     /// A rule of a link; none stands for all.
@@ -64,9 +64,9 @@ pub enum Verb<'a> {
     Abort,
 }
 
-impl<'a> Line<'a> {
+impl<'a> ScriptLine<'a> {
     /// The line that words are.
-    pub(crate) fn of(words: Words<'a>) -> Option<Line<'a>>
+    pub(crate) fn of(words: Words<'a>) -> Option<ScriptLine<'a>>
         ensures { result ≡ line_of words.entry }
     {
         let (word, words) = words.cut()?;
@@ -90,7 +90,7 @@ impl<'a> Line<'a> {
 /// A line that tells of an actor's fall or rise, of a disk, or of what is asked,
 /// behind its first word.
 #[tactic(auto, unfolding(crate::specs::Lines::other_line))]
-fn other<'a>(first: &[u8], words: Words<'a>) -> Option<Line<'a>>
+fn other<'a>(first: &[u8], words: Words<'a>) -> Option<ScriptLine<'a>>
     ensures { result ≡ other_line first.now words.entry }
 {
     if first == b"crash".as_slice() {
@@ -112,17 +112,17 @@ fn other<'a>(first: &[u8], words: Words<'a>) -> Option<Line<'a>>
 }
 
 /// `phase`, behind that word.
-fn phase<'a>(words: Words<'a>) -> Option<Line<'a>>
+fn phase<'a>(words: Words<'a>) -> Option<ScriptLine<'a>>
     ensures { result ≡ phase_line words.entry }
 {
     match words.cut() {
-        None => Some(Line::Phase),
+        None => Some(ScriptLine::Phase),
         Some(_) => None,
     }
 }
 
 /// `link FROM TO ORDINAL RULE`, behind its first word.
-fn link<'a>(words: Words<'a>) -> Option<Line<'a>>
+fn link<'a>(words: Words<'a>) -> Option<ScriptLine<'a>>
     ensures { result ≡ link_line words.entry }
 {
     let (from, to, ordinal, rule) = words.four()?;
@@ -130,10 +130,10 @@ fn link<'a>(words: Words<'a>) -> Option<Line<'a>>
 }
 
 /// A rule of a link, by its four words.
-fn link_of<'a>(from: &[u8], to: &[u8], ordinal: &[u8], rule: &[u8]) -> Option<Line<'a>>
+fn link_of<'a>(from: &[u8], to: &[u8], ordinal: &[u8], rule: &[u8]) -> Option<ScriptLine<'a>>
     ensures { result ≡ link_of from.now to.now ordinal.now rule.now }
 {
-    Some(Line::Link {
+    Some(ScriptLine::Link {
         from: form::end(from)?,
         to: form::end(to)?,
         ordinal: form::ordinal(ordinal)?,
@@ -152,19 +152,19 @@ fn pair(words: Words<'_>) -> Option<(ActorName, ActorName)>
 }
 
 /// `cut A B`, behind its first word.
-fn cut<'a>(words: Words<'a>) -> Option<Line<'a>>
+fn cut<'a>(words: Words<'a>) -> Option<ScriptLine<'a>>
     ensures { result ≡ cut_line words.entry }
 {
     let (a, b) = pair(words)?;
-    Some(Line::Cut(a, b))
+    Some(ScriptLine::Cut(a, b))
 }
 
 /// `heal A B`, behind its first word.
-fn heal<'a>(words: Words<'a>) -> Option<Line<'a>>
+fn heal<'a>(words: Words<'a>) -> Option<ScriptLine<'a>>
     ensures { result ≡ heal_line words.entry }
 {
     let (a, b) = pair(words)?;
-    Some(Line::Heal(a, b))
+    Some(ScriptLine::Heal(a, b))
 }
 
 /// One actor.
@@ -176,28 +176,28 @@ fn single(words: Words<'_>) -> Option<ActorName>
 }
 
 /// `crash A`, behind its first word.
-fn crash<'a>(words: Words<'a>) -> Option<Line<'a>>
+fn crash<'a>(words: Words<'a>) -> Option<ScriptLine<'a>>
     ensures { result ≡ crash_line words.entry }
 {
-    Some(Line::Crash(single(words)?))
+    Some(ScriptLine::Crash(single(words)?))
 }
 
 /// `restart A`, behind its first word.
-fn restart<'a>(words: Words<'a>) -> Option<Line<'a>>
+fn restart<'a>(words: Words<'a>) -> Option<ScriptLine<'a>>
     ensures { result ≡ restart_line words.entry }
 {
-    Some(Line::Restart(single(words)?))
+    Some(ScriptLine::Restart(single(words)?))
 }
 
 /// `stop A at K` and `fail A at K`, behind the first word.
-fn armed<'a>(kind: ArmKind, words: Words<'a>) -> Option<Line<'a>>
+fn armed<'a>(kind: ArmKind, words: Words<'a>) -> Option<ScriptLine<'a>>
     ensures { result ≡ armed_line kind words.entry }
 {
     let (actor, at, number_word) = words.three()?;
     if at.bytes() != b"at".as_slice() {
         return None;
     }
-    Some(Line::Armed {
+    Some(ScriptLine::Armed {
         actor: ActorName::of(actor.bytes())?,
         kind,
         at: number(number_word.bytes())?,
@@ -205,23 +205,23 @@ fn armed<'a>(kind: ArmKind, words: Words<'a>) -> Option<Line<'a>>
 }
 
 /// `admin epoch K`, behind its first word.
-fn epoch<'a>(words: Words<'a>) -> Option<Line<'a>>
+fn epoch<'a>(words: Words<'a>) -> Option<ScriptLine<'a>>
     ensures { result ≡ epoch_line words.entry }
 {
     let (word, number_word) = words.two()?;
     if word.bytes() != b"epoch".as_slice() {
         return None;
     }
-    Some(Line::Epoch {
+    Some(ScriptLine::Epoch {
         number: number(number_word.bytes())?,
     })
 }
 
 /// A client's word, and what it is asked.
-fn command<'a>(client: &[u8], words: Words<'a>) -> Option<Line<'a>>
+fn command<'a>(client: &[u8], words: Words<'a>) -> Option<ScriptLine<'a>>
     ensures { result ≡ command_line client.now words.entry }
 {
-    Some(Line::Command {
+    Some(ScriptLine::Command {
         client: actor::client(client)?,
         verb: verb_in(words)?,
     })

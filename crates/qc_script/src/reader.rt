@@ -10,7 +10,7 @@ ghost use Rattle.qc_script.specs.Text.{without_cr, is_skipped, words_of};
 
 use crate::draft::Draft;
 use crate::item::Item;
-use crate::line::Line;
+use crate::line::ScriptLine;
 use crate::script::{LineKind, Script, ScriptFault};
 use crate::word::Words;
 use qc_decl::Declaration;
@@ -19,7 +19,7 @@ use std::alloc::Global;
 /// The script that these bytes spell for the declaration.
 ///
 /// # Errors
-/// `Line` where the grammar refuses a line: the first such line, and what is
+/// `ScriptLine` where the grammar refuses a line: the first such line, and what is
 /// wrong with it.
 pub fn read(alloc: Global, bytes: &[u8], decl: &Declaration) -> Result<Script, ScriptFault>
     requires few { length bytes.now ≤ most_script_bytes }
@@ -88,7 +88,7 @@ fn item_in(line: &[u8], decl: &Declaration) -> Result<Item, LineKind>
     ensures read { result ≡ read_words decl.now (words_of line.now) }
     ensures fits { IfOk result FitsByte }
 {
-    let Some(line) = Line::of(Words::of(line)) else {
+    let Some(line) = ScriptLine::of(Words::of(line)) else {
         return Err(LineKind::Words);
     };
     let Some(item) = Item::of(line, decl) else {

@@ -10,21 +10,24 @@ use Rattle.qc_msg.specs.declared.message.Outcome.{Outcome}
 use Rattle.qc_msg.specs.declared.message.Outcome.TheVariants.{Committed, Aborted, Active}
 use Rattle.qc_msg.specs.declared.message.Want.{Want}
 use Rattle.qc_msg.specs.declared.message.Want.TheVariants.{Read, Append, Prepare}
-use Rattle.qc_msg.specs.declared.step.Given.{Given}
-use Rattle.qc_msg.specs.declared.step.Given.TheVariants as given
+use Rattle.qc_msg.specs.declared.step.Input.{Input}
+use Rattle.qc_msg.specs.declared.step.Input.TheVariants as inputs
 use Rattle.qc_msg.specs.Deeds.{Deed, Takes, Writes, Sends, Tells, Falls, Rises}
 use Rattle.qc_msg.specs.Turns.{quiet}
 use Rattle.qc_site.specs.Brought.{stamps_at, stamps_given, stamps_in, stamps_of, stamps_taken, stamps_told, view_in}
-use Rattle.qc_site.specs.Conduct.{clock_after, clock_asked, clock_told, latest, passed, site_after, site_does, site_on, site_takes}
+use Rattle.qc_site.specs.Conduct.{clock_after, clock_asked, clock_told, latest, passed, site_after, site_does, site_on}
+use Rattle.qc_site.specs.Conduct.{site_takes}
 use Rattle.qc_site.specs.Site.{SiteMove, SiteState, moved, new_site}
 use Rattle.qc_site.proofs.Cases.{state_cases}
 
 -- what a message does once the clock has passed leaves it as it is, or lets it rise
-pub clock_on : (decl : Declaration) (s : SiteState) (from number : ℕ) (message : Message) → clock_after s.clock message ≤ (site_on decl s from number message).site.clock
+pub clock_on : (decl : Declaration) (s : SiteState) (from number : ℕ) (message : Message)
+    → clock_after s.clock message ≤ (site_on decl s from number message).site.clock
 clock_on decl s from number message =
     let p : SiteState = passed s message in
     state_cases (λ (x : SiteState). p.clock ≤ x.clock) decl p from number message (omega arith)
-    (λ tx epoch life object inv is. omega arith) (λ tx epoch life object view own is. omega arith) (λ tx. omega arith) (λ tx verdict is final. omega arith) (λ tx stamp q is. omega arith)
+    (λ tx epoch life object inv is. omega arith) (λ tx epoch life object view own is. omega arith) (λ tx. omega arith)
+    (λ tx verdict is final. omega arith) (λ tx stamp q is. omega arith)
     (λ k is. omega arith) (λ k clock lines is later. omega arith)
 
 -- the latest of a clock and lines
@@ -32,12 +35,15 @@ clock_on decl s from number message =
 latest_later : (clock : ℕ) (lines : List Line) → clock ≤ latest clock lines
 latest_later clock [] = omega arith
 latest_later clock (l ∷ ls) =
-    let later : max clock l.stamp.clock ≤ latest (max clock l.stamp.clock) ls = latest_later (max clock l.stamp.clock) ls in omega arith
+    let later : max clock l.stamp.clock ≤ latest (max clock l.stamp.clock) ls =
+    latest_later (max clock l.stamp.clock) ls in omega arith
 
-latest_passes : (clock : ℕ) (lines : List Line) (stamp : Stamp) → In stamp (stamps_of lines) → stamp.clock ≤ latest clock lines
+latest_passes : (clock : ℕ) (lines : List Line) (stamp : Stamp) → In stamp (stamps_of lines)
+    → stamp.clock ≤ latest clock lines
 latest_passes clock [] stamp member = absurd member
 latest_passes clock (l ∷ ls) stamp (inl same) =
-    let later : max clock l.stamp.clock ≤ latest (max clock l.stamp.clock) ls = latest_later (max clock l.stamp.clock) ls in
+    let later : max clock l.stamp.clock ≤ latest (max clock l.stamp.clock) ls =
+    latest_later (max clock l.stamp.clock) ls in
     let is : stamp.clock ≡ l.stamp.clock = ap (λ (s : Stamp). s.clock) same in
     omega arith
 latest_passes clock (l ∷ ls) stamp (inr member) = latest_passes (max clock l.stamp.clock) ls stamp member
@@ -63,18 +69,22 @@ after_later clock (messages.Ask tx) = omega arith
 after_later clock (messages.Close epoch) = omega arith
 after_later clock (messages.Install epoch installed lines) = latest_later clock lines
 
-asked_passes : (clock : ℕ) (want : Want) (stamp : Stamp) → In stamp (stamps_of (view_in want)) → stamp.clock ≤ clock_asked clock want
+asked_passes : (clock : ℕ) (want : Want) (stamp : Stamp) → In stamp (stamps_of (view_in want))
+    → stamp.clock ≤ clock_asked clock want
 asked_passes clock (Read object inv) stamp member = absurd member
 asked_passes clock (Append object view own) stamp member = latest_passes clock view stamp member
 asked_passes clock Prepare stamp member = absurd member
 
-told_passes : (clock : ℕ) (verdict : Outcome) (stamp : Stamp) → In stamp (stamps_told verdict) → stamp.clock ≤ clock_told clock verdict
-told_passes clock (Committed told) stamp (inl same) = let is : stamp.clock ≡ told.clock = ap (λ (s : Stamp). s.clock) same in omega arith
+told_passes : (clock : ℕ) (verdict : Outcome) (stamp : Stamp) → In stamp (stamps_told verdict)
+    → stamp.clock ≤ clock_told clock verdict
+told_passes clock (Committed told) stamp (inl same) = let is : stamp.clock ≡ told.clock =
+    ap (λ (s : Stamp). s.clock) same in omega arith
 told_passes clock (Committed told) stamp (inr member) = absurd member
 told_passes clock Aborted stamp member = absurd member
 told_passes clock Active stamp member = absurd member
 
-after_passes : (clock : ℕ) (message : Message) (stamp : Stamp) → In stamp (stamps_in message) → stamp.clock ≤ clock_after clock message
+after_passes : (clock : ℕ) (message : Message) (stamp : Stamp) → In stamp (stamps_in message)
+    → stamp.clock ≤ clock_after clock message
 after_passes clock (messages.Request tx epoch life want) stamp member = asked_passes clock want stamp member
 after_passes clock (messages.Answer to answer) stamp member = absurd member
 after_passes clock (messages.Decision tx verdict) stamp member = told_passes clock verdict stamp member
@@ -83,24 +93,28 @@ after_passes clock (messages.Ask tx) stamp member = absurd member
 after_passes clock (messages.Close epoch) stamp member = absurd member
 after_passes clock (messages.Install epoch installed lines) stamp member = latest_passes clock lines stamp member
 
-pub never_falls : (decl : Declaration) (s : SiteState) (from number : ℕ) (message : Message) → s.clock ≤ (site_on decl s from number message).site.clock
+pub never_falls : (decl : Declaration) (s : SiteState) (from number : ℕ) (message : Message)
+    → s.clock ≤ (site_on decl s from number message).site.clock
 never_falls decl s from number message =
-    let on : clock_after s.clock message ≤ (site_on decl s from number message).site.clock = clock_on decl s from number message in
+    let on : clock_after s.clock message ≤ (site_on decl s from number message).site.clock =
+    clock_on decl s from number message in
     let later : s.clock ≤ clock_after s.clock message = after_later s.clock message in
     omega (arith, on, later)
 
-pub passes_stamps : (decl : Declaration) (s : SiteState) (from number : ℕ) (message : Message) (stamp : Stamp) → In stamp (stamps_in message) → stamp.clock ≤ (site_on decl s from number message).site.clock
+pub passes_stamps : (decl : Declaration) (s : SiteState) (from number : ℕ) (message : Message) (stamp : Stamp)
+    → In stamp (stamps_in message) → stamp.clock ≤ (site_on decl s from number message).site.clock
 passes_stamps decl s from number message stamp member =
-    let on : clock_after s.clock message ≤ (site_on decl s from number message).site.clock = clock_on decl s from number message in
+    let on : clock_after s.clock message ≤ (site_on decl s from number message).site.clock =
+    clock_on decl s from number message in
     let has : stamp.clock ≤ clock_after s.clock message = after_passes s.clock message stamp member in
     omega (arith, on, has)
 
 -- over deeds
 
-takes_later : (decl : Declaration) (s : SiteState) (g : Given) → s.clock ≤ (site_takes decl s g).site.clock
-takes_later decl s (given.Called command) = omega arith
-takes_later decl s (given.Got e) = never_falls decl s e.from e.number e.message
-takes_later decl s (given.Lost number) = omega arith
+takes_later : (decl : Declaration) (s : SiteState) (g : Input) → s.clock ≤ (site_takes decl s g).site.clock
+takes_later decl s (inputs.Called command) = omega arith
+takes_later decl s (inputs.Got e) = never_falls decl s e.from e.number e.message
+takes_later decl s (inputs.Lost number) = omega arith
 
 does_later : (decl : Declaration) (m : SiteMove) (d : Deed) → m.site.clock ≤ (site_does decl m d).site.clock
 does_later decl m (Takes g) = takes_later decl m.site g
@@ -110,19 +124,23 @@ does_later decl m (Tells reply) = omega arith
 does_later decl m (Falls cause pending) = omega arith
 does_later decl m (Rises records) = omega arith
 
-deeds_later : (decl : Declaration) (m : SiteMove) (ds : List Deed) → m.site.clock ≤ (fold (site_does decl) m ds).site.clock
+deeds_later : (decl : Declaration) (m : SiteMove) (ds : List Deed)
+    → m.site.clock ≤ (fold (site_does decl) m ds).site.clock
 deeds_later decl m [] = omega arith
 deeds_later decl m (d ∷ ds) =
     let here : m.site.clock ≤ (site_does decl m d).site.clock = does_later decl m d in
-    let rest : (site_does decl m d).site.clock ≤ (fold (site_does decl) (site_does decl m d) ds).site.clock = deeds_later decl (site_does decl m d) ds in
+    let rest : (site_does decl m d).site.clock ≤ (fold (site_does decl) (site_does decl m d) ds).site.clock =
+    deeds_later decl (site_does decl m d) ds in
     omega arith
 
-takes_passes : (decl : Declaration) (s : SiteState) (g : Given) (stamp : Stamp) → In stamp (stamps_given g) → stamp.clock ≤ (site_takes decl s g).site.clock
-takes_passes decl s (given.Called command) stamp member = absurd member
-takes_passes decl s (given.Got e) stamp member = passes_stamps decl s e.from e.number e.message stamp member
-takes_passes decl s (given.Lost number) stamp member = absurd member
+takes_passes : (decl : Declaration) (s : SiteState) (g : Input) (stamp : Stamp) → In stamp (stamps_given g)
+    → stamp.clock ≤ (site_takes decl s g).site.clock
+takes_passes decl s (inputs.Called command) stamp member = absurd member
+takes_passes decl s (inputs.Got e) stamp member = passes_stamps decl s e.from e.number e.message stamp member
+takes_passes decl s (inputs.Lost number) stamp member = absurd member
 
-does_passes : (decl : Declaration) (m : SiteMove) (d : Deed) (stamp : Stamp) → In stamp (stamps_at d) → stamp.clock ≤ (site_does decl m d).site.clock
+does_passes : (decl : Declaration) (m : SiteMove) (d : Deed) (stamp : Stamp) → In stamp (stamps_at d)
+    → stamp.clock ≤ (site_does decl m d).site.clock
 does_passes decl m (Takes g) stamp member = takes_passes decl m.site g stamp member
 does_passes decl m (Writes written) stamp member = absurd member
 does_passes decl m (Sends number to message) stamp member = absurd member
@@ -139,17 +157,22 @@ in_parts {X = X} x (z ∷ zs) ys (inr member) = by (in_parts x zs ys member)
     by (inl first) = inl (inr first)
     by (inr second) = inr second
 
-deeds_pass : (decl : Declaration) (m : SiteMove) (ds : List Deed) (stamp : Stamp) → In stamp (stamps_taken ds) → stamp.clock ≤ (fold (site_does decl) m ds).site.clock
+deeds_pass : (decl : Declaration) (m : SiteMove) (ds : List Deed) (stamp : Stamp) → In stamp (stamps_taken ds)
+    → stamp.clock ≤ (fold (site_does decl) m ds).site.clock
 deeds_pass decl m [] stamp member = absurd member
-deeds_pass decl m (d ∷ ds) stamp member = by (in_parts stamp (stamps_at d) (stamps_taken ds) member) (deeds_pass decl (site_does decl m d) ds stamp)
+deeds_pass decl m (d ∷ ds) stamp member =
+    by (in_parts stamp (stamps_at d) (stamps_taken ds) member) (deeds_pass decl (site_does decl m d) ds stamp)
   where
-    by : In stamp (stamps_at d) ⊎ In stamp (stamps_taken ds) → (In stamp (stamps_taken ds) → stamp.clock ≤ (fold (site_does decl) (site_does decl m d) ds).site.clock)
+    by : In stamp (stamps_at d) ⊎ In stamp (stamps_taken ds)
+        → (In stamp (stamps_taken ds) → stamp.clock ≤ (fold (site_does decl) (site_does decl m d) ds).site.clock)
         → stamp.clock ≤ (fold (site_does decl) (site_does decl m d) ds).site.clock
     by (inl here) rest =
         let now : stamp.clock ≤ (site_does decl m d).site.clock = does_passes decl m d stamp here in
-        let after : (site_does decl m d).site.clock ≤ (fold (site_does decl) (site_does decl m d) ds).site.clock = deeds_later decl (site_does decl m d) ds in
+        let after : (site_does decl m d).site.clock ≤ (fold (site_does decl) (site_does decl m d) ds).site.clock =
+        deeds_later decl (site_does decl m d) ds in
         omega arith
     by (inr later) rest = rest later
 
-pub passes_all : (decl : Declaration) (number : ℕ) (ds : List Deed) (stamp : Stamp) → In stamp (stamps_taken ds) → stamp.clock ≤ (site_after decl number ds).site.clock
+pub passes_all : (decl : Declaration) (number : ℕ) (ds : List Deed) (stamp : Stamp) → In stamp (stamps_taken ds)
+    → stamp.clock ≤ (site_after decl number ds).site.clock
 passes_all decl number ds stamp member = deeds_pass decl (moved (new_site number) quiet) ds stamp member

@@ -10,8 +10,10 @@ without_none [] = refl
 without_none (l ∷ ls) = ap (λ rest. l ∷ rest) (without_none ls)
 
 pub learned_first : (s : SiteState) (lines : List Line) → s.began ≡ [] → union s.log lines ≡ learned s lines
-learned_first s lines none = sym (ap (λ (began : List Line). union s.log (without lines began)) none ∙ ap (λ (ls : List Line). union s.log ls) (without_none lines))
+learned_first s lines none = sym (ap (λ (began : List Line). union s.log (without lines began)) none
+    ∙ ap (λ (ls : List Line). union s.log ls) (without_none lines))
 
 pub no_lines : (lines : List Line) → (length lines == 0) ≡ true → lines ≡ []
 no_lines [] none = refl
-no_lines (l ∷ ls) none = let same : length (l ∷ ls) ≡ 0 = eqb-true (length (l ∷ ls)) 0 none in absurd (omega (arith, same))
+no_lines (l ∷ ls) none = let same : length (l ∷ ls) ≡ 0 = eqb-true (length (l ∷ ls)) 0 none in
+    absurd (omega (arith, same))

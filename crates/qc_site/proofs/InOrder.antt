@@ -1,5 +1,6 @@
 -- The promised transactions, and the promises, in their order.
-use Rattle.std.proofs.Common.{◌≡◌, ◌⊎◌, ◌↔◌, ℕ, inl, inr, Bool, true, false, cond, Option, Some, List, [], ◌∷◌, fold, map, refl, sym, ◌∙◌, ap, subst}
+use Rattle.std.proofs.Common.{◌≡◌, ◌⊎◌, ◌↔◌, ℕ, inl, inr, Bool, true, false, cond, Option, Some, List, [], ◌∷◌, fold}
+use Rattle.std.proofs.Common.{map, refl, sym, ◌∙◌, ap, subst}
 use Rattle.std.specs.List.{AllByRecursion as Every, filter_map}
 use Rattle.std.specs.List.Sorted.{IsStrictlySortedBy}
 use Rattle.std.specs.Ordering.{eq_by_cmp, is_eq}
@@ -27,13 +28,16 @@ use Rattle.qc_site.proofs.Promised.{promiser}
 
 ascends_from : (txs more : List TxId) → Ascends tx_cmp txs → Ascends tx_cmp (fold (inserted tx_cmp) txs more)
 ascends_from txs [] ascends = ascends
-ascends_from txs (t ∷ ts) ascends = ascends_from (inserted tx_cmp txs t) ts (ascends-inserted tx_cmp tx_order.total txs t ascends)
+ascends_from txs (t ∷ ts) ascends = ascends_from (inserted tx_cmp txs t) ts
+    (ascends-inserted tx_cmp tx_order.total txs t ascends)
 
 In_from : (tx : TxId) (txs more : List TxId) → In tx txs ⊎ In tx more → In tx (fold (inserted tx_cmp) txs more)
 In_from tx txs [] (inl member) = member
 In_from tx txs [] (inr never) = absurd never
-In_from tx txs (t ∷ ts) (inl member) = In_from tx (inserted tx_cmp txs t) ts (inl (inserted_In tx_order tx t txs (inr member)))
-In_from tx txs (t ∷ ts) (inr (inl same)) = In_from tx (inserted tx_cmp txs t) ts (inl (inserted_In tx_order tx t txs (inl same)))
+In_from tx txs (t ∷ ts) (inl member) = In_from tx (inserted tx_cmp txs t) ts
+    (inl (inserted_In tx_order tx t txs (inr member)))
+In_from tx txs (t ∷ ts) (inr (inl same)) =
+    In_from tx (inserted tx_cmp txs t) ts (inl (inserted_In tx_order tx t txs (inl same)))
 In_from tx txs (t ∷ ts) (inr (inr later)) = In_from tx (inserted tx_cmp txs t) ts (inr later)
 
 from_In : (tx : TxId) (txs more : List TxId) → In tx (fold (inserted tx_cmp) txs more) → In tx txs ⊎ In tx more
@@ -64,7 +68,10 @@ below_all tx (t ∷ ts) every = (every.0, below_all tx ts every.1)
 
 ascends_sorted : (txs : List TxId) → IsStrictlySortedBy tx_cmp txs → Ascends tx_cmp txs
 ascends_sorted [] sorted = tt
-ascends_sorted (t ∷ ts) sorted = (below_all t ts (sorted_head tx_cmp t ts sorted), ascends_sorted ts (sorted_tail tx_cmp t ts sorted))
+ascends_sorted (t ∷ ts) sorted = (
+  below_all t ts (sorted_head tx_cmp t ts sorted),
+  ascends_sorted ts (sorted_tail tx_cmp t ts sorted),
+)
 
 -- tests and members
 
@@ -83,9 +90,11 @@ member_In (t ∷ ts) tx is = by (is_eq (tx_cmp tx t)) refl is (member_In ts tx) 
 In_member : (txs : List TxId) (tx : TxId) → In tx txs → is_member (eq_by_cmp tx_cmp) txs tx ≡ true
 In_member [] tx member = absurd member
 In_member (t ∷ ts) tx (inl same) =
-    let itself : is_eq (tx_cmp tx t) ≡ true = tx_same tx t ∙ subst (λ u. same_tx tx u ≡ true) same (same_tx_itself tx) in
+    let itself : is_eq (tx_cmp tx t) ≡ true = tx_same tx t
+    ∙ subst (λ u. same_tx tx u ≡ true) same (same_tx_itself tx) in
     ap (λ b. b || is_member (eq_by_cmp tx_cmp) ts tx) itself
-In_member (t ∷ ts) tx (inr later) = ap (λ b. is_eq (tx_cmp tx t) || b) (In_member ts tx later) ∙ or_true (is_eq (tx_cmp tx t))
+In_member (t ∷ ts) tx (inr later) = ap (λ b. is_eq (tx_cmp tx t) || b) (In_member ts tx later)
+    ∙ or_true (is_eq (tx_cmp tx t))
 
 prepared_In : (ps : List Prepared) (tx : TxId) → is_prepared ps tx ≡ true → In tx (map promiser ps)
 prepared_In [] tx is = absurd (let never : ⊥ = cc in never)
@@ -98,7 +107,8 @@ prepared_In (p ∷ ps) tx is = by (same_tx p.tx tx) refl is (prepared_In ps tx) 
 In_prepared : (ps : List Prepared) (tx : TxId) → In tx (map promiser ps) → is_prepared ps tx ≡ true
 In_prepared [] tx member = absurd member
 In_prepared (p ∷ ps) tx member = by (same_tx p.tx tx) refl member (In_prepared ps tx) where
-  by : (b : Bool) → same_tx p.tx tx ≡ b → In tx (map promiser (p ∷ ps)) → (In tx (map promiser ps) → is_prepared ps tx ≡ true)
+  by : (b : Bool) → same_tx p.tx tx ≡ b → In tx (map promiser (p ∷ ps))
+      → (In tx (map promiser ps) → is_prepared ps tx ≡ true)
       → is_some (cond b (Some p) (prepared_of ps tx)) ≡ true
   by true same member rest = refl
   by false same (inl is) rest =
@@ -110,7 +120,8 @@ In_prepared (p ∷ ps) tx member = by (same_tx p.tx tx) refl member (In_prepared
 pub keys_in_order : (keys : List TxId) (ps : List Prepared) → IsStrictlySortedBy tx_cmp keys
     → ((tx : TxId) → is_member (eq_by_cmp tx_cmp) keys tx ≡ is_prepared ps tx) → keys ≡ in_order (map promiser ps)
 keys_in_order keys ps sorted just =
-    same_ascending tx_order keys (in_order (map promiser ps)) (ascends_sorted keys sorted) (ascends_from [] (map promiser ps) tt)
+    same_ascending tx_order keys (in_order (map promiser ps)) (ascends_sorted keys sorted)
+    (ascends_from [] (map promiser ps) tt)
     (λ tx member. In_from tx [] (map promiser ps) (inr (prepared_In ps tx (sym (just tx) ∙ In_member keys tx member))))
     (λ tx member. member_In keys tx (just tx ∙ by tx (from_In tx [] (map promiser ps) member))) where
       by : (tx : TxId) → In tx [] ⊎ In tx (map promiser ps) → is_prepared ps tx ≡ true
@@ -119,7 +130,8 @@ keys_in_order keys ps sorted just =
 
 -- what holds of the transaction of each promise holds of each key
 
-of_promise : (P : TxId → Type 0) (ps : List Prepared) (tx : TxId) → Every (λ (p : Prepared). P p.tx) ps → In tx (map promiser ps) → P tx
+of_promise : (P : TxId → Type 0) (ps : List Prepared) (tx : TxId) → Every (λ (p : Prepared). P p.tx) ps
+    → In tx (map promiser ps) → P tx
 of_promise P [] tx every member = absurd member
 of_promise P (p ∷ ps) tx every (inl same) = subst P (sym same) every.0
 of_promise P (p ∷ ps) tx every (inr later) = of_promise P ps tx every.1 later
@@ -128,25 +140,32 @@ pub each_key : (P : TxId → Type 0) (keys : List TxId) (ps : List Prepared)
     → ((tx : TxId) → is_member (eq_by_cmp tx_cmp) keys tx ≡ is_prepared ps tx)
     → Every (λ (p : Prepared). P p.tx) ps → Every P keys
 each_key P keys ps just every =
-    every-from_In P keys (λ tx member. of_promise P ps tx every (prepared_In ps tx (sym (just tx) ∙ In_member keys tx member)))
+    every-from_In P keys (λ tx member. of_promise P ps tx every
+    (prepared_In ps tx (sym (just tx) ∙ In_member keys tx member)))
 
 -- promises in their order are those of the transactions in their order
 
-ordered_txs : (ps : List Prepared) (p : Prepared) → map promiser (inserted promise_cmp ps p) ≡ inserted tx_cmp (map promiser ps) p.tx
+ordered_txs : (ps : List Prepared) (p : Prepared)
+    → map promiser (inserted promise_cmp ps p) ≡ inserted tx_cmp (map promiser ps) p.tx
 ordered_txs [] p = refl
 ordered_txs (q ∷ qs) p = by (tx_cmp p.tx q.tx) (ordered_txs qs p) where
   by : (o : Ordering) → map promiser (inserted promise_cmp qs p) ≡ inserted tx_cmp (map promiser qs) p.tx
       → map promiser (by_order o (p ∷ q ∷ qs) (p ∷ qs) (q ∷ inserted promise_cmp qs p))
-      ≡ by_order o (p.tx ∷ q.tx ∷ map promiser qs) (p.tx ∷ map promiser qs) (q.tx ∷ inserted tx_cmp (map promiser qs) p.tx)
+      ≡ by_order o (p.tx ∷ q.tx ∷ map promiser qs) (p.tx ∷ map promiser qs)
+      (q.tx ∷ inserted tx_cmp (map promiser qs) p.tx)
   by Less rest = refl
   by Equal rest = refl
   by Greater rest = ap (λ txs. q.tx ∷ txs) rest
 
-txs_from : (before more : List Prepared) → map promiser (fold (inserted promise_cmp) before more) ≡ fold (inserted tx_cmp) (map promiser before) (map promiser more)
+txs_from : (before more : List Prepared)
+    → map promiser (fold (inserted promise_cmp) before more) ≡ fold (inserted tx_cmp) (map promiser before)
+    (map promiser more)
 txs_from before [] = refl
-txs_from before (p ∷ ps) = txs_from (inserted promise_cmp before p) ps ∙ ap (λ txs. fold (inserted tx_cmp) txs (map promiser ps)) (ordered_txs before p)
+txs_from before (p ∷ ps) = txs_from (inserted promise_cmp before p) ps
+    ∙ ap (λ txs. fold (inserted tx_cmp) txs (map promiser ps)) (ordered_txs before p)
 
-members_from : (q : Prepared) (before more : List Prepared) → In q (fold (inserted promise_cmp) before more) → In q before ⊎ In q more
+members_from : (q : Prepared) (before more : List Prepared) → In q (fold (inserted promise_cmp) before more)
+    → In q before ⊎ In q more
 members_from q before [] member = inl member
 members_from q before (p ∷ ps) member = by (members_from q (inserted promise_cmp before p) ps member) where
   first : (q ≡ p) ⊎ In q before → In q before ⊎ In q (p ∷ ps)
@@ -159,12 +178,14 @@ members_from q before (p ∷ ps) member = by (members_from q (inserted promise_c
 
 -- where each transaction has one promise at most, each promise is that of its transaction
 
-other_than : (p : Prepared) (ps : List Prepared) (q : Prepared) → AreOfOthers promiser p.tx ps → In q ps → same_tx q.tx p.tx ≡ false
+other_than : (p : Prepared) (ps : List Prepared) (q : Prepared) → AreOfOthers promiser p.tx ps → In q ps
+    → same_tx q.tx p.tx ≡ false
 other_than p [] q others member = absurd member
 other_than p (r ∷ rs) q others (inl same) = subst (λ (x : Prepared). same_tx x.tx p.tx ≡ false) (sym same) others.0
 other_than p (r ∷ rs) q others (inr later) = other_than p rs q others.1 later
 
-pub own_promise : (ps : List Prepared) (q : Prepared) → IsOneForEach promiser ps → In q ps → prepared_of ps q.tx ≡ Some q
+pub own_promise : (ps : List Prepared) (q : Prepared) → IsOneForEach promiser ps → In q ps
+    → prepared_of ps q.tx ≡ Some q
 own_promise [] q single member = absurd member
 own_promise (p ∷ ps) q single (inl same) =
     subst (λ (x : Prepared). prepared_of (p ∷ ps) x.tx ≡ Some x) (sym same)
@@ -183,17 +204,20 @@ own_promise (p ∷ ps) q single (inr later) =
           absurd (let never : ⊥ = cc in never)
       by false same = refl
 
-found_all : (f : TxId → Option Prepared) (qs : List Prepared) → ((q : Prepared) → In q qs → f q.tx ≡ Some q) → filter_map f (map promiser qs) ≡ qs
+found_all : (f : TxId → Option Prepared) (qs : List Prepared) → ((q : Prepared) → In q qs → f q.tx ≡ Some q)
+    → filter_map f (map promiser qs) ≡ qs
 found_all f [] each = refl
 found_all f (q ∷ qs) each =
     let here : f q.tx ≡ Some q = each q (inl refl) in
     let rest : filter_map f (map promiser qs) ≡ qs = found_all f qs (λ r later. each r (inr later)) in
     rw (here, rest) refl
 
-pub in_order_by_txs : (ps : List Prepared) → IsOneForEach promiser ps → filter_map (prepared_of ps) (in_order (map promiser ps)) ≡ promises_in_order ps
+pub in_order_by_txs : (ps : List Prepared) → IsOneForEach promiser ps
+    → filter_map (prepared_of ps) (in_order (map promiser ps)) ≡ promises_in_order ps
 in_order_by_txs ps single =
     ap (λ txs. filter_map (prepared_of ps) txs) (sym (txs_from [] ps))
-    ∙ found_all (prepared_of ps) (promises_in_order ps) (λ q member. own_promise ps q single (by q (members_from q [] ps member)))
+    ∙ found_all (prepared_of ps) (promises_in_order ps)
+    (λ q member. own_promise ps q single (by q (members_from q [] ps member)))
   where
     by : (q : Prepared) → In q [] ⊎ In q ps → In q ps
     by q (inl never) = absurd never

@@ -24,84 +24,114 @@ use Rattle.qc_site.specs.Conduct.{passed, site_at, site_on}
 use Rattle.qc_site.specs.Requests.{clashing, fault_of, grants, relation_at}
 use Rattle.qc_site.specs.Site.{SiteMove, SiteState, answers}
 use Rattle.qc_site.specs.Told.{answer_of, grants_in, refuses_in}
-use Rattle.qc_site.proofs.Cases.{append_cases, close_cases, fault_grants_not, fault_is, install_cases, never, join_cases, prepare_cases, read_cases, request_cases}
+use Rattle.qc_site.proofs.Cases.{append_cases, close_cases, fault_grants_not, fault_is, install_cases, never}
+use Rattle.qc_site.proofs.Cases.{join_cases, prepare_cases, read_cases, request_cases}
 
 -- what is granted conflicts with nothing
 
-read_free_at : (decl : Declaration) (s : SiteState) (from number : ℕ) (tx : TxId) (epoch life object inv : ℕ) (holder : Held) (line : OwnLine)
+read_free_at : (decl : Declaration) (s : SiteState) (from number : ℕ) (tx : TxId) (epoch life object inv : ℕ)
+    (holder : Held) (line : OwnLine)
     → In holder s.held → same_tx holder.tx tx ≡ false → In line holder.own → line.object ≡ object
     → grants_in (site_at decl s from number (messages.Request tx epoch life (Read object inv))).turn ≡ true
     → depends (relation_at decl object) inv line.event ≡ false
 read_free_at decl s from number tx epoch life object inv holder line holds another own here =
-    request_cases (λ (m : SiteMove). grants_in m.turn ≡ true → depends (relation_at decl object) inv line.event ≡ false) decl s from number tx epoch life (Read object inv)
-    never (λ fault is. fault_grants_not (depends (relation_at decl object) inv line.event ≡ false) s epoch life fault is)
-    (λ is. read_cases (λ (m : SiteMove). grants_in m.turn ≡ true → depends (relation_at decl object) inv line.event ≡ false) decl s from number tx object inv
+    request_cases (λ (m : SiteMove). grants_in m.turn ≡ true → depends (relation_at decl object) inv line.event ≡ false)
+    decl s from number tx epoch life (Read object inv)
+    never (λ fault is. fault_grants_not (depends (relation_at decl object) inv line.event ≡ false) s epoch life fault
+    is)
+    (λ is. read_cases (λ (m : SiteMove). grants_in m.turn ≡ true
+    → depends (relation_at decl object) inv line.event ≡ false) decl s from number tx object inv
     (λ free yes. read_free (relation_at decl object) s.held tx object inv holder line free holds another own here)
     (λ c clash. never))
 
-pub read_conflicts_not : (decl : Declaration) (s : SiteState) (from number : ℕ) (tx : TxId) (epoch life object inv : ℕ) (holder : Held) (line : OwnLine)
+pub read_conflicts_not : (decl : Declaration) (s : SiteState) (from number : ℕ) (tx : TxId) (epoch life object inv : ℕ)
+    (holder : Held) (line : OwnLine)
     → grants_in (site_on decl s from number (messages.Request tx epoch life (Read object inv))).turn ≡ true
     → In holder s.held → same_tx holder.tx tx ≡ false → In line holder.own → line.object ≡ object
     → depends (relation_at decl object) inv line.event ≡ false
 read_conflicts_not decl s from number tx epoch life object inv holder line granted holds another own here =
-    read_free_at decl (passed s (messages.Request tx epoch life (Read object inv))) from number tx epoch life object inv holder line holds another own here granted
+    read_free_at decl (passed s (messages.Request tx epoch life (Read object inv))) from number tx epoch life object inv
+    holder line holds another own here granted
 
-append_free_at : (decl : Declaration) (s : SiteState) (from number : ℕ) (tx : TxId) (epoch life object : ℕ) (view : List Line) (own : List OwnLine)
+append_free_at : (decl : Declaration) (s : SiteState) (from number : ℕ) (tx : TxId) (epoch life object : ℕ)
+    (view : List Line) (own : List OwnLine)
     (line : OwnLine) (holder : Held) (lock : ReadLock)
     → In line own → In holder s.held → same_tx holder.tx tx ≡ false → In lock holder.locks → lock.object ≡ line.object
     → grants_in (site_at decl s from number (messages.Request tx epoch life (Append object view own))).turn ≡ true
     → depends (relation_at decl object) lock.inv line.event ≡ false
 append_free_at decl s from number tx epoch life object view own line holder lock given holds another locked here =
-    request_cases (λ (m : SiteMove). grants_in m.turn ≡ true → depends (relation_at decl object) lock.inv line.event ≡ false) decl s from number tx epoch life (Append object view own)
-    never (λ fault is. fault_grants_not (depends (relation_at decl object) lock.inv line.event ≡ false) s epoch life fault is)
-    (λ is. append_cases (λ (m : SiteMove). grants_in m.turn ≡ true → depends (relation_at decl object) lock.inv line.event ≡ false) decl s from number tx object view own
-    (λ free yes. append_free (relation_at decl object) s.held tx own line holder lock free given holds another locked here)
+    request_cases (λ (m : SiteMove). grants_in m.turn ≡ true
+    → depends (relation_at decl object) lock.inv line.event ≡ false) decl s from number tx epoch life
+    (Append object view own)
+    never (λ fault is. fault_grants_not (depends (relation_at decl object) lock.inv line.event ≡ false) s epoch life
+    fault is)
+    (λ is. append_cases (λ (m : SiteMove). grants_in m.turn ≡ true
+    → depends (relation_at decl object) lock.inv line.event ≡ false) decl s from number tx object view own
+    (λ free yes. append_free (relation_at decl object) s.held tx own line holder lock free given holds another locked
+    here)
     (λ c clash. never))
 
-pub append_conflicts_not : (decl : Declaration) (s : SiteState) (from number : ℕ) (tx : TxId) (epoch life object : ℕ) (view : List Line) (own : List OwnLine)
+pub append_conflicts_not : (decl : Declaration) (s : SiteState) (from number : ℕ) (tx : TxId) (epoch life object : ℕ)
+    (view : List Line) (own : List OwnLine)
     (line : OwnLine) (holder : Held) (lock : ReadLock)
     → grants_in (site_on decl s from number (messages.Request tx epoch life (Append object view own))).turn ≡ true
     → In line own → In holder s.held → same_tx holder.tx tx ≡ false → In lock holder.locks → lock.object ≡ line.object
     → depends (relation_at decl object) lock.inv line.event ≡ false
-append_conflicts_not decl s from number tx epoch life object view own line holder lock granted given holds another locked here =
-    append_free_at decl (passed s (messages.Request tx epoch life (Append object view own))) from number tx epoch life object view own line holder lock given holds another locked here granted
+append_conflicts_not decl s from number tx epoch life object view own line holder lock granted given holds another
+    locked here =
+    append_free_at decl (passed s (messages.Request tx epoch life (Append object view own))) from number tx epoch life
+    object view own line holder lock given holds another locked here granted
 
 -- what is refused changes nothing but the clock, and writes nothing
 
 abbrev Unchanged : SiteState → SiteMove → Type 0
 Unchanged s m = refuses_in m.turn ≡ true → (m.site ≡ s) × (m.turn.write ≡ None)
 
-refused_want : (decl : Declaration) (s : SiteState) (from number : ℕ) (tx : TxId) (want : Want) → Unchanged s (grants decl s from number tx want)
-refused_want decl s from number tx (Read object inv) = read_cases (Unchanged s) decl s from number tx object inv (λ free. never) (λ c clash yes. (refl, refl))
-refused_want decl s from number tx (Append object view own) = append_cases (Unchanged s) decl s from number tx object view own (λ free. never) (λ c clash yes. (refl, refl))
-refused_want decl s from number tx Prepare = prepare_cases (Unchanged s) s from number tx (λ yes. (refl, refl)) (λ held stands. never) (λ held made. never)
+refused_want : (decl : Declaration) (s : SiteState) (from number : ℕ) (tx : TxId) (want : Want)
+    → Unchanged s (grants decl s from number tx want)
+refused_want decl s from number tx (Read object inv) =
+    read_cases (Unchanged s) decl s from number tx object inv (λ free. never) (λ c clash yes. (refl, refl))
+refused_want decl s from number tx (Append object view own) =
+    append_cases (Unchanged s) decl s from number tx object view own (λ free. never) (λ c clash yes. (refl, refl))
+refused_want decl s from number tx Prepare =
+    prepare_cases (Unchanged s) s from number tx (λ yes. (refl, refl)) (λ held stands. never) (λ held made. never)
 
-refused_at : (decl : Declaration) (s : SiteState) (from number : ℕ) (message : Message) → Unchanged s (site_at decl s from number message)
+refused_at : (decl : Declaration) (s : SiteState) (from number : ℕ) (message : Message)
+    → Unchanged s (site_at decl s from number message)
 refused_at decl s from number (messages.Request tx epoch life want) =
-    request_cases (Unchanged s) decl s from number tx epoch life want never (λ fault is yes. (refl, refl)) (λ is. refused_want decl s from number tx want)
+    request_cases (Unchanged s) decl s from number tx epoch life want never (λ fault is yes. (refl, refl))
+    (λ is. refused_want decl s from number tx want)
 refused_at decl s from number (messages.Answer to answer) = never
-refused_at decl s from number (messages.Decision tx (Committed stamp)) = join_cases (Unchanged s) s tx stamp (λ none. never) (λ p some. never)
+refused_at decl s from number (messages.Decision tx (Committed stamp)) =
+    join_cases (Unchanged s) s tx stamp (λ none. never) (λ p some. never)
 refused_at decl s from number (messages.Decision tx Aborted) = never
 refused_at decl s from number (messages.Decision tx Active) = never
 refused_at decl s from number (messages.Inquiry tx) = never
 refused_at decl s from number (messages.Ask tx) = never
-refused_at decl s from number (messages.Close k) = close_cases (Unchanged s) s from number k (λ answer yes. (refl, refl)) (λ near later. never)
-refused_at decl s from number (messages.Install k clock lines) = install_cases (Unchanged s) s from number k clock lines (λ answer yes. (refl, refl)) (λ later fits. never)
+refused_at decl s from number (messages.Close k) =
+    close_cases (Unchanged s) s from number k (λ answer yes. (refl, refl)) (λ near later. never)
+refused_at decl s from number (messages.Install k clock lines) =
+    install_cases (Unchanged s) s from number k clock lines (λ answer yes. (refl, refl)) (λ later fits. never)
 
 pub refusal_changes_nothing : (decl : Declaration) (s : SiteState) (from number : ℕ) (message : Message)
     → refuses_in (site_on decl s from number message).turn ≡ true
-    → ((site_on decl s from number message).site ≡ passed s message) × ((site_on decl s from number message).turn.write ≡ None)
+    → ((site_on decl s from number message).site ≡ passed s message)
+    × ((site_on decl s from number message).turn.write ≡ None)
 refusal_changes_nothing decl s from number message = refused_at decl (passed s message) from number message
 
 -- a clash that is told is the smallest conflict, and its holder's client is asked
 
-fault_clashes_not : (G : Type 0) (s : SiteState) (epoch life : ℕ) (d : Conflict) (fault : Answer) → fault_of s epoch life ≡ Some fault → Some fault ≡ Some (says.Clash d.holder d.inv d.event) → G
+fault_clashes_not : (G : Type 0) (s : SiteState) (epoch life : ℕ) (d : Conflict) (fault : Answer)
+    → fault_of s epoch life ≡ Some fault → Some fault ≡ Some (says.Clash d.holder d.inv d.event) → G
 fault_clashes_not G s epoch life d =
     fault_is (λ (a : Answer). Some a ≡ Some (says.Clash d.holder d.inv d.event) → G) s epoch life
-    (λ is. absurd (let none : ⊥ = cc in none)) (λ other is. absurd (let none : ⊥ = cc in none)) (λ is. absurd (let none : ⊥ = cc in none))
+    (λ is. absurd (let none : ⊥ = cc in none)) (λ other is. absurd (let none : ⊥ = cc in none))
+    (λ is. absurd (let none : ⊥ = cc in none))
 
-told_by : (decl : Declaration) (from number : ℕ) (IsConflict : Conflict → Type 0) (clash : Option Conflict) (c d : Conflict)
-    → IsSmallest IsConflict clash → clash ≡ Some c → Some (says.Clash c.holder c.inv c.event) ≡ Some (says.Clash d.holder d.inv d.event)
+told_by : (decl : Declaration) (from number : ℕ) (IsConflict : Conflict → Type 0) (clash : Option Conflict)
+    (c d : Conflict)
+    → IsSmallest IsConflict clash → clash ≡ Some c
+    → Some (says.Clash c.holder c.inv c.event) ≡ Some (says.Clash d.holder d.inv d.event)
     → IsSmallest IsConflict (Some d) × (clashing decl from number c ≡ clashing decl from number d)
 told_by decl from number IsConflict clash c d smallest is told =
     let holder : c.holder ≡ d.holder = cc in
@@ -115,39 +145,61 @@ told_by decl from number IsConflict clash c d smallest is told =
 abbrev ToldRead : Declaration → SiteState → ℕ → ℕ → TxId → ℕ → ℕ → Conflict → Turn → Type 0
 ToldRead decl s from number tx object inv d turn =
     answer_of turn ≡ Some (says.Clash d.holder d.inv d.event)
-    → IsSmallest (IsReadConflict (relation_at decl object) s.held tx object inv) (Some d) × (turn ≡ clashing decl from number d)
+    → IsSmallest (IsReadConflict (relation_at decl object) s.held tx object inv) (Some d)
+    × (turn ≡ clashing decl from number d)
 
-read_clash_at : (decl : Declaration) (s : SiteState) (from number : ℕ) (tx : TxId) (epoch life object inv : ℕ) (d : Conflict)
-    → ToldRead decl s from number tx object inv d (site_at decl s from number (messages.Request tx epoch life (Read object inv))).turn
+read_clash_at : (decl : Declaration) (s : SiteState) (from number : ℕ) (tx : TxId) (epoch life object inv : ℕ)
+    (d : Conflict)
+    → ToldRead decl s from number tx object inv d
+    (site_at decl s from number (messages.Request tx epoch life (Read object inv))).turn
 read_clash_at decl s from number tx epoch life object inv d =
-    request_cases (λ (m : SiteMove). ToldRead decl s from number tx object inv d m.turn) decl s from number tx epoch life (Read object inv)
+    request_cases (λ (m : SiteMove). ToldRead decl s from number tx object inv d m.turn) decl s from number tx epoch
+    life (Read object inv)
     (λ is. absurd (let none : ⊥ = cc in none))
-    (λ fault is. fault_clashes_not (IsSmallest (IsReadConflict (relation_at decl object) s.held tx object inv) (Some d) × (answers from number fault ≡ clashing decl from number d)) s epoch life d fault is)
-    (λ is. read_cases (λ (m : SiteMove). ToldRead decl s from number tx object inv d m.turn) decl s from number tx object inv
+    (λ fault is. fault_clashes_not (IsSmallest (IsReadConflict (relation_at decl object) s.held tx object inv) (Some d)
+    × (answers from number fault ≡ clashing decl from number d)) s epoch life d fault is)
+    (λ is. read_cases (λ (m : SiteMove). ToldRead decl s from number tx object inv d m.turn) decl s from number tx
+    object inv
     (λ free is. absurd (let none : ⊥ = cc in none))
-    (λ c clash. told_by decl from number (IsReadConflict (relation_at decl object) s.held tx object inv) (read_clash (relation_at decl object) s.held tx object inv) c d (read_smallest (relation_at decl object) s.held tx object inv) clash))
+    (λ c clash. told_by decl from number (IsReadConflict (relation_at decl object) s.held tx object inv)
+    (read_clash (relation_at decl object) s.held tx object inv) c d
+    (read_smallest (relation_at decl object) s.held tx object inv) clash))
 
-pub read_clash_is_smallest : (decl : Declaration) (s : SiteState) (from number : ℕ) (tx : TxId) (epoch life object inv : ℕ) (d : Conflict)
-    → ToldRead decl s from number tx object inv d (site_on decl s from number (messages.Request tx epoch life (Read object inv))).turn
+pub read_clash_is_smallest : (decl : Declaration) (s : SiteState) (from number : ℕ) (tx : TxId)
+    (epoch life object inv : ℕ) (d : Conflict)
+    → ToldRead decl s from number tx object inv d
+    (site_on decl s from number (messages.Request tx epoch life (Read object inv))).turn
 read_clash_is_smallest decl s from number tx epoch life object inv d =
-    read_clash_at decl (passed s (messages.Request tx epoch life (Read object inv))) from number tx epoch life object inv d
+    read_clash_at decl (passed s (messages.Request tx epoch life (Read object inv))) from number tx epoch life object
+    inv d
 
 abbrev ToldAppend : Declaration → SiteState → ℕ → ℕ → TxId → ℕ → List OwnLine → Conflict → Turn → Type 0
 ToldAppend decl s from number tx object own d turn =
     answer_of turn ≡ Some (says.Clash d.holder d.inv d.event)
-    → IsSmallest (IsAppendConflict (relation_at decl object) s.held tx own) (Some d) × (turn ≡ clashing decl from number d)
+    → IsSmallest (IsAppendConflict (relation_at decl object) s.held tx own) (Some d)
+    × (turn ≡ clashing decl from number d)
 
-append_clash_at : (decl : Declaration) (s : SiteState) (from number : ℕ) (tx : TxId) (epoch life object : ℕ) (view : List Line) (own : List OwnLine) (d : Conflict)
-    → ToldAppend decl s from number tx object own d (site_at decl s from number (messages.Request tx epoch life (Append object view own))).turn
+append_clash_at : (decl : Declaration) (s : SiteState) (from number : ℕ) (tx : TxId) (epoch life object : ℕ)
+    (view : List Line) (own : List OwnLine) (d : Conflict)
+    → ToldAppend decl s from number tx object own d
+    (site_at decl s from number (messages.Request tx epoch life (Append object view own))).turn
 append_clash_at decl s from number tx epoch life object view own d =
-    request_cases (λ (m : SiteMove). ToldAppend decl s from number tx object own d m.turn) decl s from number tx epoch life (Append object view own)
+    request_cases (λ (m : SiteMove). ToldAppend decl s from number tx object own d m.turn) decl s from number tx epoch
+    life (Append object view own)
     (λ is. absurd (let none : ⊥ = cc in none))
-    (λ fault is. fault_clashes_not (IsSmallest (IsAppendConflict (relation_at decl object) s.held tx own) (Some d) × (answers from number fault ≡ clashing decl from number d)) s epoch life d fault is)
-    (λ is. append_cases (λ (m : SiteMove). ToldAppend decl s from number tx object own d m.turn) decl s from number tx object view own
+    (λ fault is. fault_clashes_not (IsSmallest (IsAppendConflict (relation_at decl object) s.held tx own) (Some d)
+    × (answers from number fault ≡ clashing decl from number d)) s epoch life d fault is)
+    (λ is. append_cases (λ (m : SiteMove). ToldAppend decl s from number tx object own d m.turn) decl s from number tx
+    object view own
     (λ free is. absurd (let none : ⊥ = cc in none))
-    (λ c clash. told_by decl from number (IsAppendConflict (relation_at decl object) s.held tx own) (append_clash (relation_at decl object) s.held tx own) c d (append_smallest (relation_at decl object) s.held tx own) clash))
+    (λ c clash. told_by decl from number (IsAppendConflict (relation_at decl object) s.held tx own)
+    (append_clash (relation_at decl object) s.held tx own) c d
+    (append_smallest (relation_at decl object) s.held tx own) clash))
 
-pub append_clash_is_smallest : (decl : Declaration) (s : SiteState) (from number : ℕ) (tx : TxId) (epoch life object : ℕ) (view : List Line) (own : List OwnLine) (d : Conflict)
-    → ToldAppend decl s from number tx object own d (site_on decl s from number (messages.Request tx epoch life (Append object view own))).turn
+pub append_clash_is_smallest : (decl : Declaration) (s : SiteState) (from number : ℕ) (tx : TxId)
+    (epoch life object : ℕ) (view : List Line) (own : List OwnLine) (d : Conflict)
+    → ToldAppend decl s from number tx object own d
+    (site_on decl s from number (messages.Request tx epoch life (Append object view own))).turn
 append_clash_is_smallest decl s from number tx epoch life object view own d =
-    append_clash_at decl (passed s (messages.Request tx epoch life (Append object view own))) from number tx epoch life object view own d
+    append_clash_at decl (passed s (messages.Request tx epoch life (Append object view own))) from number tx epoch life
+    object view own d

@@ -1,5 +1,6 @@
 -- Which row answers a request: epoch, then whether it is closed, then life, then what it wants.
-use Rattle.std.proofs.Common.{◌≡◌, ◌⊎◌, inl, inr, ◌<◌, ◌≤◌, ◌≢◌, ◌+◌, ℕ, ◌==◌, nat_lt, nat_le, Bool, true, false, cond, List, [], ◌∷◌, fold, Option, Some, None, refl, sym, ap, ◌∙◌, arith}
+use Rattle.std.proofs.Common.{◌≡◌, ◌⊎◌, inl, inr, ◌<◌, ◌≤◌, ◌≢◌, ◌+◌, ℕ, ◌==◌, nat_lt, nat_le, Bool, true, false, cond}
+use Rattle.std.proofs.Common.{List, [], ◌∷◌, fold, Option, Some, None, refl, sym, ap, ◌∙◌, arith}
 use Rattle.std.proofs.lemmas.Bool.{eq-eqb, le-leb, leb-false, leb-true, lt-ltb, ltb-true, ne_eqb}
 use Rattle.qc_stamp.specs.declared.stamp.TxId.{TxId}
 use Rattle.qc_decl.specs.declared.declaration.Declaration.{Declaration}
@@ -48,16 +49,21 @@ ahead s epoch life less = rw (above_not epoch s.epoch less, lt-ltb epoch s.epoch
 here : (s : SiteState) (epoch life : ℕ) → epoch ≡ s.epoch → fault_of s epoch life ≡ closed_fault s life s.closed_for
 here s epoch life same = rw (itself_not s.epoch epoch (sym same), itself_not epoch s.epoch same) refl
 
-shut : (s : SiteState) (epoch life other : ℕ) → epoch ≡ s.epoch → s.closed_for ≡ Some other → fault_of s epoch life ≡ Some (says.Closed other)
+shut : (s : SiteState) (epoch life other : ℕ) → epoch ≡ s.epoch → s.closed_for ≡ Some other
+    → fault_of s epoch life ≡ Some (says.Closed other)
 shut s epoch life other same is = here s epoch life same ∙ ap (λ (o : Option ℕ). closed_fault s life o) is
 
-lived : (s : SiteState) (epoch life : ℕ) → epoch ≡ s.epoch → s.closed_for ≡ None → fault_of s epoch life ≡ life_fault s life
+lived : (s : SiteState) (epoch life : ℕ) → epoch ≡ s.epoch → s.closed_for ≡ None
+    → fault_of s epoch life ≡ life_fault s life
 lived s epoch life same is = here s epoch life same ∙ ap (λ (o : Option ℕ). closed_fault s life o) is
 
-restarted : (s : SiteState) (epoch life : ℕ) → epoch ≡ s.epoch → s.closed_for ≡ None → life ≢ 0 → life ≢ s.life → fault_of s epoch life ≡ Some (says.Restarted s.life)
-restarted s epoch life same is some other = lived s epoch life same is ∙ (rw (ne_eqb life 0 some, ne_eqb life s.life other) refl)
+restarted : (s : SiteState) (epoch life : ℕ) → epoch ≡ s.epoch → s.closed_for ≡ None → life ≢ 0 → life ≢ s.life
+    → fault_of s epoch life ≡ Some (says.Restarted s.life)
+restarted s epoch life same is some other = lived s epoch life same is
+    ∙ (rw (ne_eqb life 0 some, ne_eqb life s.life other) refl)
 
-free : (s : SiteState) (epoch life : ℕ) → epoch ≡ s.epoch → s.closed_for ≡ None → (life ≡ 0) ⊎ (life ≡ s.life) → fault_of s epoch life ≡ None
+free : (s : SiteState) (epoch life : ℕ) → epoch ≡ s.epoch → s.closed_for ≡ None → (life ≡ 0) ⊎ (life ≡ s.life)
+    → fault_of s epoch life ≡ None
 free s epoch life same is known = lived s epoch life same is ∙ by known
   where
     second : (t : Bool) → cond t None (cond true None (Some (says.Restarted s.life))) ≡ None
@@ -70,45 +76,62 @@ free s epoch life same is known = lived s epoch life same is ∙ by known
 
 -- what a request does, where what it names is declared
 
-asked : (decl : Declaration) (s : SiteState) (from number : ℕ) (tx : TxId) (epoch life : ℕ) (want : Want) (fault : Option Answer)
+asked : (decl : Declaration) (s : SiteState) (from number : ℕ) (tx : TxId) (epoch life : ℕ) (want : Want)
+    (fault : Option Answer)
     → names_declared decl tx want ≡ true → fault_of s epoch life ≡ fault
     → site_at decl s from number (messages.Request tx epoch life want) ≡ requested decl s from number tx want fault
 asked decl s from number tx epoch life want fault declared is =
     ap (λ (t : Bool). cond t (requested decl s from number tx want (fault_of s epoch life)) (moved s quiet)) declared
     ∙ ap (λ (o : Option Answer). requested decl s from number tx want o) is
 
-module _ (decl : Declaration) (s : SiteState) (from number : ℕ) (tx : TxId) (epoch life : ℕ) (want : Want) (declared : names_declared decl tx want ≡ true) where
+module _ (decl : Declaration) (s : SiteState) (from number : ℕ) (tx : TxId) (epoch life : ℕ) (want : Want)
+    (declared : names_declared decl tx want ≡ true) where
   pub told_behind : s.epoch < epoch
-      → site_on decl s from number (messages.Request tx epoch life want) ≡ moved (passed s (messages.Request tx epoch life want)) (answers from number (says.Behind s.epoch))
-  told_behind less = asked decl (passed s (messages.Request tx epoch life want)) from number tx epoch life want (Some (says.Behind s.epoch)) declared
+      → site_on decl s from number (messages.Request tx epoch life want) ≡ moved
+      (passed s (messages.Request tx epoch life want)) (answers from number (says.Behind s.epoch))
+  told_behind less = asked decl (passed s (messages.Request tx epoch life want)) from number tx epoch life want
+      (Some (says.Behind s.epoch)) declared
       (behind (passed s (messages.Request tx epoch life want)) epoch life less)
 
   pub told_closed : epoch < s.epoch
-      → site_on decl s from number (messages.Request tx epoch life want) ≡ moved (passed s (messages.Request tx epoch life want)) (answers from number (says.Closed s.epoch))
-  told_closed less = asked decl (passed s (messages.Request tx epoch life want)) from number tx epoch life want (Some (says.Closed s.epoch)) declared
+      → site_on decl s from number (messages.Request tx epoch life want) ≡ moved
+      (passed s (messages.Request tx epoch life want)) (answers from number (says.Closed s.epoch))
+  told_closed less = asked decl (passed s (messages.Request tx epoch life want)) from number tx epoch life want
+      (Some (says.Closed s.epoch)) declared
       (ahead (passed s (messages.Request tx epoch life want)) epoch life less)
 
   pub told_shut : (other : ℕ) → epoch ≡ s.epoch → s.closed_for ≡ Some other
-      → site_on decl s from number (messages.Request tx epoch life want) ≡ moved (passed s (messages.Request tx epoch life want)) (answers from number (says.Closed other))
-  told_shut other same is = asked decl (passed s (messages.Request tx epoch life want)) from number tx epoch life want (Some (says.Closed other)) declared
+      → site_on decl s from number (messages.Request tx epoch life want) ≡ moved
+      (passed s (messages.Request tx epoch life want)) (answers from number (says.Closed other))
+  told_shut other same is = asked decl (passed s (messages.Request tx epoch life want)) from number tx epoch life want
+      (Some (says.Closed other)) declared
       (shut (passed s (messages.Request tx epoch life want)) epoch life other same is)
 
   pub told_restarted : epoch ≡ s.epoch → s.closed_for ≡ None → life ≢ 0 → life ≢ s.life
-      → site_on decl s from number (messages.Request tx epoch life want) ≡ moved (passed s (messages.Request tx epoch life want)) (answers from number (says.Restarted s.life))
-  told_restarted same is some other = asked decl (passed s (messages.Request tx epoch life want)) from number tx epoch life want (Some (says.Restarted s.life)) declared
+      → site_on decl s from number (messages.Request tx epoch life want) ≡ moved
+      (passed s (messages.Request tx epoch life want)) (answers from number (says.Restarted s.life))
+  told_restarted same is some other = asked decl
+      (passed s (messages.Request tx epoch life want)) from number tx epoch life want
+      (Some (says.Restarted s.life)) declared
       (restarted (passed s (messages.Request tx epoch life want)) epoch life same is some other)
 
   pub looked_at : epoch ≡ s.epoch → s.closed_for ≡ None → (life ≡ 0) ⊎ (life ≡ s.life)
-      → site_on decl s from number (messages.Request tx epoch life want) ≡ grants decl (passed s (messages.Request tx epoch life want)) from number tx want
-  looked_at same is known = asked decl (passed s (messages.Request tx epoch life want)) from number tx epoch life want None declared
+      → site_on decl s from number (messages.Request tx epoch life want) ≡ grants decl
+      (passed s (messages.Request tx epoch life want)) from number tx want
+  looked_at same is known = asked decl (passed s (messages.Request tx epoch life want)) from number tx epoch life want
+      None declared
       (free (passed s (messages.Request tx epoch life want)) epoch life same is known)
 
 -- a request that names what isn't declared
 
-pub undeclared : (decl : Declaration) (s : SiteState) (from number : ℕ) (tx : TxId) (epoch life : ℕ) (want : Want) → names_declared decl tx want ≡ false
-    → site_on decl s from number (messages.Request tx epoch life want) ≡ moved (passed s (messages.Request tx epoch life want)) quiet
+pub undeclared : (decl : Declaration) (s : SiteState) (from number : ℕ) (tx : TxId) (epoch life : ℕ) (want : Want)
+    → names_declared decl tx want ≡ false
+    → site_on decl s from number (messages.Request tx epoch life want) ≡ moved
+    (passed s (messages.Request tx epoch life want)) quiet
 undeclared decl s from number tx epoch life want is =
-    ap (λ (t : Bool). cond t (requested decl (passed s (messages.Request tx epoch life want)) from number tx want (fault_of (passed s (messages.Request tx epoch life want)) epoch life)) (moved (passed s (messages.Request tx epoch life want)) quiet)) is
+    ap (λ (t : Bool). cond t (requested decl (passed s (messages.Request tx epoch life want)) from number tx want
+    (fault_of (passed s (messages.Request tx epoch life want)) epoch life))
+    (moved (passed s (messages.Request tx epoch life want)) quiet)) is
 
 -- a Close, by its rows
 
@@ -120,10 +143,12 @@ later_not a b less = by (nat_le b a) refl
     by false is = refl
 
 module _ (decl : Declaration) (s : SiteState) (from number k : ℕ) where
-  pub close_behind : s.epoch + 1 < k → site_on decl s from number (messages.Close k) ≡ moved s (answers from number (says.Behind s.epoch))
+  pub close_behind : s.epoch + 1 < k → site_on decl s from number (messages.Close k) ≡ moved s
+      (answers from number (says.Behind s.epoch))
   close_behind less = rw (lt-ltb (s.epoch + 1) k less) refl
 
-  pub close_closed : k ≤ s.epoch → site_on decl s from number (messages.Close k) ≡ moved s (answers from number (says.Closed s.epoch))
+  pub close_closed : k ≤ s.epoch → site_on decl s from number (messages.Close k) ≡ moved s
+      (answers from number (says.Closed s.epoch))
   close_closed low = rw (above_not k (s.epoch + 1) (omega arith), le-leb k s.epoch low) refl
 
   near : k ≡ s.epoch + 1 → nat_lt (s.epoch + 1) k ≡ false
@@ -132,13 +157,15 @@ module _ (decl : Declaration) (s : SiteState) (from number k : ℕ) where
   beyond : k ≡ s.epoch + 1 → nat_le k s.epoch ≡ false
   beyond same = later_not s.epoch k (omega arith)
 
-  pub close_again : k ≡ s.epoch + 1 → s.closed_for ≡ Some k → site_on decl s from number (messages.Close k) ≡ moved s (answers from number (shut_answer s))
+  pub close_again : k ≡ s.epoch + 1 → s.closed_for ≡ Some k
+      → site_on decl s from number (messages.Close k) ≡ moved s (answers from number (shut_answer s))
   close_again same is =
       let here : is_closed_for k s.closed_for ≡ true = ap (λ (o : Option ℕ). is_closed_for k o) is ∙ eq-eqb k k refl in
       rw (near same, beyond same, here) refl
 
   pub close_closes : k ≡ s.epoch + 1 → s.closed_for ≡ None
-      → site_on decl s from number (messages.Close k) ≡ moved (closed s k) (recording from number (records.Close k) (shut_answer (closed s k)))
+      → site_on decl s from number (messages.Close k) ≡ moved (closed s k)
+      (recording from number (records.Close k) (shut_answer (closed s k)))
   close_closes same is =
       let here : is_closed_for k s.closed_for ≡ false = ap (λ (o : Option ℕ). is_closed_for k o) is in
       rw (near same, beyond same, here) refl
@@ -147,41 +174,52 @@ module _ (decl : Declaration) (s : SiteState) (from number k : ℕ) where
 
 module _ (decl : Declaration) (s : SiteState) (from number k clock : ℕ) (lines : List Line) where
   pub install_known : k ≤ s.epoch
-      → site_on decl s from number (messages.Install k clock lines) ≡ moved (passed s (messages.Install k clock lines)) (answers from number says.Installed)
+      → site_on decl s from number (messages.Install k clock lines) ≡ moved (passed s (messages.Install k clock lines))
+      (answers from number says.Installed)
   install_known low = rw (le-leb k s.epoch low) refl
 
   pub install_long : s.epoch < k → most_record_bytes < epoch_length lines
-      → site_on decl s from number (messages.Install k clock lines) ≡ moved (passed s (messages.Install k clock lines)) (answers from number (says.Behind s.epoch))
+      → site_on decl s from number (messages.Install k clock lines) ≡ moved (passed s (messages.Install k clock lines))
+      (answers from number (says.Behind s.epoch))
   install_long later long = rw (later_not s.epoch k later, later_not most_record_bytes (epoch_length lines) long) refl
 
   pub install_begins : s.epoch < k → epoch_length lines ≤ most_record_bytes
       → site_on decl s from number (messages.Install k clock lines)
-      ≡ moved (installed (passed s (messages.Install k clock lines)) k clock lines) (recording from number (records.Install k clock lines) says.Installed)
+      ≡ moved (installed (passed s (messages.Install k clock lines)) k clock lines)
+      (recording from number (records.Install k clock lines) says.Installed)
   install_begins later fits = rw (later_not s.epoch k later, le-leb (epoch_length lines) most_record_bytes fits) refl
 
 -- the number stays; lives and epochs rise, and stay where the turn neither closes nor begins one
 
-pub number_stays : (decl : Declaration) (s : SiteState) (from number : ℕ) (message : Message) → (site_on decl s from number message).site.number ≡ s.number
+pub number_stays : (decl : Declaration) (s : SiteState) (from number : ℕ) (message : Message)
+    → (site_on decl s from number message).site.number ≡ s.number
 number_stays decl s from number message =
     state_cases (λ (x : SiteState). x.number ≡ s.number) decl (passed s message) from number message refl
-    (λ tx epoch life object inv is. refl) (λ tx epoch life object view own is. refl) (λ tx. refl) (λ tx verdict is final. refl) (λ tx stamp p is. refl) (λ k is. refl) (λ k clock lines is later. refl)
+    (λ tx epoch life object inv is. refl) (λ tx epoch life object view own is. refl) (λ tx. refl)
+    (λ tx verdict is final. refl) (λ tx stamp p is. refl) (λ k is. refl) (λ k clock lines is later. refl)
 
-pub life_rises : (decl : Declaration) (s : SiteState) (from number : ℕ) (message : Message) → s.life ≤ (site_on decl s from number message).site.life
+pub life_rises : (decl : Declaration) (s : SiteState) (from number : ℕ) (message : Message)
+    → s.life ≤ (site_on decl s from number message).site.life
 life_rises decl s from number message =
     state_cases (λ (x : SiteState). s.life ≤ x.life) decl (passed s message) from number message (omega arith)
-    (λ tx epoch life object inv is. omega arith) (λ tx epoch life object view own is. omega arith) (λ tx. omega arith) (λ tx verdict is final. omega arith) (λ tx stamp p is. omega arith)
+    (λ tx epoch life object inv is. omega arith) (λ tx epoch life object view own is. omega arith) (λ tx. omega arith)
+    (λ tx verdict is final. omega arith) (λ tx stamp p is. omega arith)
     (λ k is. omega arith) (λ k clock lines is later. omega arith)
 
-pub epoch_rises : (decl : Declaration) (s : SiteState) (from number : ℕ) (message : Message) → s.epoch ≤ (site_on decl s from number message).site.epoch
+pub epoch_rises : (decl : Declaration) (s : SiteState) (from number : ℕ) (message : Message)
+    → s.epoch ≤ (site_on decl s from number message).site.epoch
 epoch_rises decl s from number message =
     state_cases (λ (x : SiteState). s.epoch ≤ x.epoch) decl (passed s message) from number message (omega arith)
-    (λ tx epoch life object inv is. omega arith) (λ tx epoch life object view own is. omega arith) (λ tx. omega arith) (λ tx verdict is final. omega arith) (λ tx stamp p is. omega arith)
+    (λ tx epoch life object inv is. omega arith) (λ tx epoch life object view own is. omega arith) (λ tx. omega arith)
+    (λ tx verdict is final. omega arith) (λ tx stamp p is. omega arith)
     (λ k is. omega arith) (λ k clock lines is later. let above : s.epoch < k = leb-false k s.epoch later in omega arith)
 
-pub steady_stays : (A : Type 0) (part : SiteState → A) (decl : Declaration) (s : SiteState) (from number : ℕ) (message : Message)
+pub steady_stays : (A : Type 0) (part : SiteState → A) (decl : Declaration) (s : SiteState) (from number : ℕ)
+    (message : Message)
     → IsSteady (site_on decl s from number message).turn
     → ((x : SiteState) (clock : ℕ) → part (record x { clock = clock }) ≡ part x)
-    → ((x : SiteState) (log recorded : List Line) (held : List Held) (prepared : List Prepared) → part (record x { log = log; recorded = recorded; held = held; prepared = prepared }) ≡ part x)
+    → ((x : SiteState) (log recorded : List Line) (held : List Held) (prepared : List Prepared)
+    → part (record x { log = log; recorded = recorded; held = held; prepared = prepared }) ≡ part x)
     → part (site_on decl s from number message).site ≡ part s
 steady_stays A part decl s from number message steady clocked changed =
     let p : SiteState = passed s message in
@@ -193,16 +231,27 @@ steady_stays A part decl s from number message steady clocked changed =
     (λ tx verdict is final. changed p p.log p.recorded _ _ ∙ start)
     (λ tx stamp q is. changed p _ _ _ _ ∙ start) steady
 
-pub life_stays : (decl : Declaration) (s : SiteState) (from number : ℕ) (message : Message) → IsSteady (site_on decl s from number message).turn → (site_on decl s from number message).site.life ≡ s.life
-life_stays decl s from number message steady = steady_stays ℕ (λ (x : SiteState). x.life) decl s from number message steady (λ x clock. refl) (λ x log recorded held prepared. refl)
+pub life_stays : (decl : Declaration) (s : SiteState) (from number : ℕ) (message : Message)
+    → IsSteady (site_on decl s from number message).turn → (site_on decl s from number message).site.life ≡ s.life
+life_stays decl s from number message steady =
+    steady_stays ℕ (λ (x : SiteState). x.life) decl s from number message steady (λ x clock. refl)
+    (λ x log recorded held prepared. refl)
 
-pub epoch_stays : (decl : Declaration) (s : SiteState) (from number : ℕ) (message : Message) → IsSteady (site_on decl s from number message).turn → (site_on decl s from number message).site.epoch ≡ s.epoch
-epoch_stays decl s from number message steady = steady_stays ℕ (λ (x : SiteState). x.epoch) decl s from number message steady (λ x clock. refl) (λ x log recorded held prepared. refl)
+pub epoch_stays : (decl : Declaration) (s : SiteState) (from number : ℕ) (message : Message)
+    → IsSteady (site_on decl s from number message).turn → (site_on decl s from number message).site.epoch ≡ s.epoch
+epoch_stays decl s from number message steady =
+    steady_stays ℕ (λ (x : SiteState). x.epoch) decl s from number message steady (λ x clock. refl)
+    (λ x log recorded held prepared. refl)
 
-pub closing_stays : (decl : Declaration) (s : SiteState) (from number : ℕ) (message : Message) → IsSteady (site_on decl s from number message).turn → (site_on decl s from number message).site.closed_for ≡ s.closed_for
+pub closing_stays : (decl : Declaration) (s : SiteState) (from number : ℕ) (message : Message)
+    → IsSteady (site_on decl s from number message).turn
+    → (site_on decl s from number message).site.closed_for ≡ s.closed_for
 closing_stays decl s from number message steady =
-    steady_stays (Option ℕ) (λ (x : SiteState). x.closed_for) decl s from number message steady (λ x clock. refl) (λ x log recorded held prepared. refl)
+    steady_stays (Option ℕ) (λ (x : SiteState). x.closed_for) decl s from number message steady (λ x clock. refl)
+    (λ x log recorded held prepared. refl)
 
-pub began_stays : (decl : Declaration) (s : SiteState) (from number : ℕ) (message : Message) → IsSteady (site_on decl s from number message).turn → (site_on decl s from number message).site.began ≡ s.began
+pub began_stays : (decl : Declaration) (s : SiteState) (from number : ℕ) (message : Message)
+    → IsSteady (site_on decl s from number message).turn → (site_on decl s from number message).site.began ≡ s.began
 began_stays decl s from number message steady =
-    steady_stays (List Line) (λ (x : SiteState). x.began) decl s from number message steady (λ x clock. refl) (λ x log recorded held prepared. refl)
+    steady_stays (List Line) (λ (x : SiteState). x.began) decl s from number message steady (λ x clock. refl)
+    (λ x log recorded held prepared. refl)

@@ -11,8 +11,8 @@ use Rattle.qc_msg.specs.declared.message.Outcome.{Outcome}
 use Rattle.qc_msg.specs.declared.message.Outcome.TheVariants.{Committed, Aborted, Active}
 use Rattle.qc_msg.specs.declared.message.Want.{Want}
 use Rattle.qc_msg.specs.declared.message.Want.TheVariants.{Read, Append, Prepare}
-use Rattle.qc_msg.specs.declared.step.Given.{Given}
-use Rattle.qc_msg.specs.declared.step.Given.TheVariants as given
+use Rattle.qc_msg.specs.declared.step.Input.{Input}
+use Rattle.qc_msg.specs.declared.step.Input.TheVariants as inputs
 use Rattle.qc_msg.specs.Deeds.{Deed, Takes, Writes, Sends, Tells, Falls, Rises}
 use Rattle.qc_site.specs.Promise.{lines_of, prepared_of}
 
@@ -41,10 +41,10 @@ stamps_in (messages.Ask tx) = []
 stamps_in (messages.Close epoch) = []
 stamps_in (messages.Install epoch clock lines) = stamps_of lines
 
-abbrev pub stamps_given : Given → List Stamp
-stamps_given (given.Called command) = []
-stamps_given (given.Got envelope) = stamps_in envelope.message
-stamps_given (given.Lost number) = []
+abbrev pub stamps_given : Input → List Stamp
+stamps_given (inputs.Called command) = []
+stamps_given (inputs.Got envelope) = stamps_in envelope.message
+stamps_given (inputs.Lost number) = []
 
 abbrev pub stamps_at : Deed → List Stamp
 stamps_at (Takes given) = stamps_given given

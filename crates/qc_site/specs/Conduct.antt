@@ -9,8 +9,8 @@ use Rattle.qc_msg.specs.declared.message.Outcome.{Outcome}
 use Rattle.qc_msg.specs.declared.message.Outcome.TheVariants.{Committed, Aborted, Active}
 use Rattle.qc_msg.specs.declared.message.Want.{Want}
 use Rattle.qc_msg.specs.declared.message.Want.TheVariants.{Read, Append, Prepare}
-use Rattle.qc_msg.specs.declared.step.Given.{Given}
-use Rattle.qc_msg.specs.declared.step.Given.TheVariants as given
+use Rattle.qc_msg.specs.declared.step.Input.{Input}
+use Rattle.qc_msg.specs.declared.step.Input.TheVariants as inputs
 use Rattle.qc_msg.specs.Deeds.{Deed, Takes, Writes, Sends, Tells, Falls, Rises}
 use Rattle.qc_msg.specs.Turns.{quiet}
 use Rattle.qc_site.specs.Site.{SiteState, SiteMove, moved, new_site}
@@ -72,10 +72,10 @@ abbrev pub decision_on : Declaration → SiteState → ℕ → ℕ → TxId → 
 decision_on decl s from number tx verdict = site_on decl s from number (messages.Decision tx verdict)
 
 -- what it takes; it isn't commanded, and it waits for no answer
-abbrev pub site_takes : Declaration → SiteState → Given → SiteMove
-site_takes decl s (given.Called command) = moved s quiet
-site_takes decl s (given.Got envelope) = site_on decl s envelope.from envelope.number envelope.message
-site_takes decl s (given.Lost number) = moved s quiet
+abbrev pub site_takes : Declaration → SiteState → Input → SiteMove
+site_takes decl s (inputs.Called command) = moved s quiet
+site_takes decl s (inputs.Got envelope) = site_on decl s envelope.from envelope.number envelope.message
+site_takes decl s (inputs.Lost number) = moved s quiet
 
 -- a site over its deeds
 

@@ -7,8 +7,8 @@ use Rattle.qc_lock.specs.Held.{lock_cmp, own_cmp}
 use Rattle.qc_lock.specs.Sound.{IsSound}
 use Rattle.qc_msg.specs.declared.message.Message.{Message}
 use Rattle.qc_msg.specs.declared.message.Message.TheVariants as messages
-use Rattle.qc_msg.specs.declared.step.Given.{Given}
-use Rattle.qc_msg.specs.declared.step.Given.TheVariants as given
+use Rattle.qc_msg.specs.declared.step.Input.{Input}
+use Rattle.qc_msg.specs.declared.step.Input.TheVariants as inputs
 use Rattle.qc_msg.specs.Deeds.{Deed, Takes, Writes, Sends, Tells, Falls, Rises}
 use Rattle.qc_site.specs.Brought.{view_in}
 use Rattle.qc_site.specs.Site.{SiteState}
@@ -37,10 +37,10 @@ IsMessageSorted (messages.Ask tx) = Unit {0}
 IsMessageSorted (messages.Close epoch) = Unit {0}
 IsMessageSorted (messages.Install epoch clock lines) = IsAscending lines
 
-abbrev pub IsGivenSorted : Given → Type 0
-IsGivenSorted (given.Called command) = Unit {0}
-IsGivenSorted (given.Got envelope) = IsMessageSorted envelope.message
-IsGivenSorted (given.Lost number) = Unit {0}
+abbrev pub IsGivenSorted : Input → Type 0
+IsGivenSorted (inputs.Called command) = Unit {0}
+IsGivenSorted (inputs.Got envelope) = IsMessageSorted envelope.message
+IsGivenSorted (inputs.Lost number) = Unit {0}
 
 abbrev pub AreDeedsSorted : List Deed → Type 0
 AreDeedsSorted [] = Unit {0}

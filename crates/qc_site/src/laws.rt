@@ -31,7 +31,7 @@ ghost use Rattle.qc_msg.specs.declared.message.Want.{Want};
 ghost use Rattle.qc_msg.specs.declared.message.Want.TheVariants.{Read, Append};
 ghost use Rattle.qc_msg.specs.declared.record.Record.TheVariants as records;
 ghost use Rattle.qc_msg.specs.declared.step.Command.{Command};
-ghost use Rattle.qc_msg.specs.declared.step.Given.TheVariants.{Called, Lost};
+ghost use Rattle.qc_msg.specs.declared.step.Input.TheVariants.{Called, Lost};
 ghost use Rattle.qc_site.specs.Brought.{brought, stamps_in, stamps_taken};
 ghost use Rattle.qc_site.specs.Conduct.{decision_on, passed, request_on, site_after, site_on, site_takes};
 ghost use Rattle.qc_site.specs.Ended.{ends, is_final};

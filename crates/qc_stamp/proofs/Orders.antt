@@ -27,7 +27,8 @@ nat_apart a b h = grind (arith, nat_tests)
 
 pub stamp_order : IsOrder stamp_cmp
 stamp_order = record {
-  total = then_total (on_total (λ (s : Stamp). s.clock) nat_cmp_total) (on_total (λ (s : Stamp). s.client) nat_cmp_total);
+  total = then_total (on_total (λ (s : Stamp). s.clock) nat_cmp_total)
+      (on_total (λ (s : Stamp). s.client) nat_cmp_total);
   apart = λ a b h.
       let clock : a.clock ≡ b.clock = nat_apart _ _ (first_Equal _ _ h) in
       let client : a.client ≡ b.client = nat_apart _ _ (second_Equal (nat_cmp a.clock b.clock) _ h) in
@@ -36,9 +37,11 @@ stamp_order = record {
 
 pub tx_order : IsOrder tx_cmp
 tx_order = record {
-  total = then_total (on_total (λ (t : TxId). t.client) nat_cmp_total) (then_total (on_total (λ (t : TxId). t.life) nat_cmp_total) (on_total (λ (t : TxId). t.number) nat_cmp_total));
+  total = then_total (on_total (λ (t : TxId). t.client) nat_cmp_total)
+      (then_total (on_total (λ (t : TxId). t.life) nat_cmp_total) (on_total (λ (t : TxId). t.number) nat_cmp_total));
   apart = λ a b h.
-      let rest : ordering_then (nat_cmp a.life b.life) (nat_cmp a.number b.number) ≡ Equal = second_Equal (nat_cmp a.client b.client) _ h in
+      let rest : ordering_then (nat_cmp a.life b.life) (nat_cmp a.number b.number) ≡ Equal =
+      second_Equal (nat_cmp a.client b.client) _ h in
       let client : a.client ≡ b.client = nat_apart _ _ (first_Equal _ _ h) in
       let life : a.life ≡ b.life = nat_apart _ _ (first_Equal _ _ rest) in
       let number : a.number ≡ b.number = nat_apart _ _ (second_Equal (nat_cmp a.life b.life) _ rest) in
@@ -47,7 +50,8 @@ tx_order = record {
 
 -- a name is of its own transaction
 pub same_tx_itself : (tx : TxId) → same_tx tx tx ≡ true
-same_tx_itself tx = rw (eq-eqb tx.client tx.client refl, eq-eqb tx.life tx.life refl, eq-eqb tx.number tx.number refl) refl
+same_tx_itself tx = rw (eq-eqb tx.client tx.client refl, eq-eqb tx.life tx.life refl, eq-eqb tx.number tx.number refl)
+    refl
 
 -- names of one transaction are equal
 pub same_tx_is : (a b : TxId) → same_tx a b ≡ true → a ≡ b

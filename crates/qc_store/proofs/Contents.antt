@@ -29,7 +29,8 @@ pub rested_begun : (a b : Option Told) (end : ℕ) (bodies : List (List ℕ))
 rested_begun None None end bodies fell is = tt
 rested_begun (Some o) None end bodies fell is = absurd fell
 rested_begun None (Some n) end bodies fell is = absurd fell
-rested_begun (Some o) (Some n) end bodies fell is = λ image left. rest_is_journal end bodies o is image (fell.now image left)
+rested_begun (Some o) (Some n) end bodies fell is =
+    λ image left. rest_is_journal end bodies o is image (fell.now image left)
 
 -- a record was being written, and then the disk fell
 pub broken_off : (a b c : Option Told) (bodies : List (List ℕ)) (body : List ℕ)

@@ -1,5 +1,6 @@
 -- Events only grow in number as rows are added.
-use Rattle.std.proofs.Common.{◌≡◌, ℕ, ◌≤◌, Bool, false, cond, List, [], ◌∷◌, ◌++◌, ◌<◌, true, drop, drop-cons, get_or, ltb, suc, sym, ap, ◌∙◌, length, length-append, arith}
+use Rattle.std.proofs.Common.{◌≡◌, ℕ, ◌≤◌, Bool, false, cond, List, [], ◌∷◌, ◌++◌, ◌<◌, true, drop, drop-cons, get_or}
+use Rattle.std.proofs.Common.{ltb, suc, sym, ap, ◌∙◌, length, length-append, arith}
 use Rattle.std.specs.Prelude.{fold}
 use Rattle.std.specs.List.{list_any}
 use Rattle.std.proofs.lemmas.Bool.{lt-ltb}
@@ -15,15 +16,23 @@ longer events e = by (list_any (λ x. same_event x e) events)
     by false = omega (arith, length-append events (e ∷ []))
 
 -- with more rows there are as many events or more
-pub events_grow : (rows : List Row) (events : List Event) → length events ≤ length (fold (λ es row. with_event es (event_of row)) events rows)
+pub events_grow : (rows : List Row) (events : List Event)
+    → length events ≤ length (fold (λ es row. with_event es (event_of row)) events rows)
 events_grow [] events = omega arith
-events_grow (row ∷ rows) events = omega (arith, longer events (event_of row), events_grow rows (with_event events (event_of row)))
+events_grow (row ∷ rows) events = omega (
+  arith,
+  longer events (event_of row),
+  events_grow rows (with_event events (event_of row)),
+)
 
 -- where a row's event is one too many the rows have too many
 pub too_many : (rows : List Row) (events : List Event) (n : ℕ) (d : Row) → n < length rows
-    → fold (λ es row. with_event es (event_of row)) events (drop n rows) ≡ events_of rows → 64 < length (with_event events (event_of (get_or rows n d))) → ltb 64 (length (events_of rows)) ≡ true
+    → fold (λ es row. with_event es (event_of row)) events (drop n rows) ≡ events_of rows
+    → 64 < length (with_event events (event_of (get_or rows n d))) → ltb 64 (length (events_of rows)) ≡ true
 too_many rows events n d l whole many =
     let row : Row = get_or rows n d in
-    let rest : fold (λ es r. with_event es (event_of r)) events (drop n rows) ≡ fold (λ es r. with_event es (event_of r)) (with_event events (event_of row)) (drop (suc n) rows) =
+    let rest : fold (λ es r. with_event es (event_of r)) events (drop n rows) ≡ fold
+    (λ es r. with_event es (event_of r)) (with_event events (event_of row)) (drop (suc n) rows) =
     ap (fold (λ es r. with_event es (event_of r)) events) (drop-cons rows n d l) in
-    lt-ltb 64 (length (events_of rows)) (omega (arith, ap length (sym rest ∙ whole), events_grow (drop (suc n) rows) (with_event events (event_of row))))
+    lt-ltb 64 (length (events_of rows)) (omega
+    (arith, ap length (sym rest ∙ whole), events_grow (drop (suc n) rows) (with_event events (event_of row))))

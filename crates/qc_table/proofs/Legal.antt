@@ -10,10 +10,12 @@ abbrev pub is_legal : List Row → ℕ → Event → Bool
 is_legal rows state e = is_some (next_in rows state e)
 
 -- one more row in front
-pub legal_cons : (row : Row) (rows : List Row) (state : ℕ) (e : Event) → is_legal (row ∷ rows) state e ≡ (is_row_of state e row || is_legal rows state e)
+pub legal_cons : (row : Row) (rows : List Row) (state : ℕ) (e : Event)
+    → is_legal (row ∷ rows) state e ≡ (is_row_of state e row || is_legal rows state e)
 legal_cons row rows state e = by (is_row_of state e row)
   where
-    by : (b : Bool) → is_some (option_map (λ (r : Row). r.next) (cond b (Some row) (find (is_row_of state e) rows))) ≡ (b || is_legal rows state e)
+    by : (b : Bool) → is_some (option_map (λ (r : Row). r.next) (cond b (Some row) (find (is_row_of state e) rows))) ≡
+        (b || is_legal rows state e)
     by true = refl
     by false = refl
 

@@ -14,13 +14,16 @@ same_by a b Less false c s = refl
 same_by a b Greater false c s = refl
 same_by a b Equal true c s = refl
 same_by a b Equal false c s =
-    let same : same_tx a b ≡ true = subst (λ (u : TxId). same_tx a u ≡ true) (tx_order.apart a b c) (same_tx_itself a) in
+    let same : same_tx a b ≡ true = subst (λ (u : TxId). same_tx a u ≡ true) (tx_order.apart a b c)
+    (same_tx_itself a) in
     absurd (let never : ⊥ = cc in never)
 same_by a b Less true c s =
-    let tied : tx_cmp a b ≡ Equal = subst (λ (u : TxId). tx_cmp a u ≡ Equal) (same_tx_is a b s) (tied_itself tx_order.total a) in
+    let tied : tx_cmp a b ≡ Equal = subst (λ (u : TxId). tx_cmp a u ≡ Equal) (same_tx_is a b s)
+    (tied_itself tx_order.total a) in
     absurd (let never : ⊥ = cc in never)
 same_by a b Greater true c s =
-    let tied : tx_cmp a b ≡ Equal = subst (λ (u : TxId). tx_cmp a u ≡ Equal) (same_tx_is a b s) (tied_itself tx_order.total a) in
+    let tied : tx_cmp a b ≡ Equal = subst (λ (u : TxId). tx_cmp a u ≡ Equal) (same_tx_is a b s)
+    (tied_itself tx_order.total a) in
     absurd (let never : ⊥ = cc in never)
 
 pub same_key : (a b : TxId) → is_at (tx_cmp a) b ≡ same_tx a b

@@ -1,5 +1,6 @@
 -- What is held begins anew at the last cut among deeds.
-use Rattle.std.proofs.Common.{◌≡◌, ℕ, ◌+◌, ◌<◌, Bool, true, false, cond, List, [], ◌∷◌, ◌++◌, length, get_or, map, take, drop, sym, ap, ◌∙◌, append_assoc, take-append-drop}
+use Rattle.std.proofs.Common.{◌≡◌, ℕ, ◌+◌, ◌<◌, Bool, true, false, cond, List, [], ◌∷◌, ◌++◌, length, get_or, map, take}
+use Rattle.std.proofs.Common.{drop, sym, ap, ◌∙◌, append_assoc, take-append-drop}
 use Rattle.std.specs.Prelude.{fold}
 use Rattle.std.proofs.lemmas.List.{append-nil, map-append}
 use Rattle.std.proofs.lemmas.List.Sums.{fold-append}
@@ -24,7 +25,8 @@ anew h d = record { before = h.before ++ h.since ++ d ∷ []; since = [] }
 abbrev pub on : Holding → Deed → Holding
 on h d = record h { since = h.since ++ d ∷ [] }
 
-since_more : (h : Holding) (ds : List Deed) → AreNoCuts ds → fold with_cut h ds ≡ record { before = h.before; since = h.since ++ ds }
+since_more : (h : Holding) (ds : List Deed) → AreNoCuts ds
+    → fold with_cut h ds ≡ record { before = h.before; since = h.since ++ ds }
 since_more h [] none = ap (λ (v : List Deed). record { before = h.before; since = v }) (sym (append-nil h.since))
 since_more h (d ∷ ds) none =
     ap (λ (b : Bool). fold with_cut (cond b (anew h d) (on h d)) ds) none.0
@@ -46,11 +48,13 @@ together_more h d = by (cuts d)
 together_all : (h : Holding) (ds : List Deed) → together (fold with_cut h ds) ≡ together h ++ ds
 together_all h [] = sym (append-nil (together h))
 together_all h (d ∷ ds) =
-    together_all (with_cut h d) ds ∙ ap (λ (v : List Deed). v ++ ds) (together_more h d) ∙ append_assoc (together h) (d ∷ []) ds
+    together_all (with_cut h d) ds ∙ ap (λ (v : List Deed). v ++ ds) (together_more h d)
+    ∙ append_assoc (together h) (d ∷ []) ds
 
 -- at the last cut, and where there is none
 
-parted_at : (xs : List Deed) (d : Deed) (ys : List Deed) → cuts d ≡ true → AreNoCuts ys → last_cut (xs ++ d ∷ ys) ≡ record { before = xs ++ d ∷ []; since = ys }
+parted_at : (xs : List Deed) (d : Deed) (ys : List Deed) → cuts d ≡ true → AreNoCuts ys
+    → last_cut (xs ++ d ∷ ys) ≡ record { before = xs ++ d ∷ []; since = ys }
 parted_at xs d ys cut none =
     fold-append with_cut nothing xs (d ∷ ys)
     ∙ ap (λ (b : Bool). fold with_cut (cond b (anew (last_cut xs) d) (on (last_cut xs) d)) ys) cut
@@ -62,9 +66,14 @@ not_parted ds none = since_more nothing ds none
 
 -- deeds as code has them
 pub found_parted : (xs : List Found) (i : ℕ) (x d : Found) → i < length xs → x ≡ get_or xs i d → cuts (deed_of x) ≡ true
-    → AreNoCuts (map deed_of (drop (i + 1) xs)) → last_cut (map deed_of xs) ≡ record { before = map deed_of (take (i + 1) xs); since = map deed_of (drop (i + 1) xs) }
+    → AreNoCuts (map deed_of (drop (i + 1) xs))
+    → last_cut (map deed_of xs) ≡ record {
+      before = map deed_of (take (i + 1) xs);
+      since = map deed_of (drop (i + 1) xs);
+    }
 found_parted xs i x d l e cut none =
     ap last_cut (ap (map deed_of) (sym (take-append-drop i xs)) ∙ map-append deed_of (take i xs) (drop i xs)
     ∙ ap (λ (v : List Deed). map deed_of (take i xs) ++ v) (found_rest xs i x d l e))
     ∙ parted_at (map deed_of (take i xs)) (deed_of x) (map deed_of (drop (i + 1) xs)) cut none
-    ∙ ap (λ (v : List Deed). record { before = v; since = map deed_of (drop (i + 1) xs) }) (sym (found_more xs i x d l e))
+    ∙ ap (λ (v : List Deed). record { before = v; since = map deed_of (drop (i + 1) xs) })
+    (sym (found_more xs i x d l e))

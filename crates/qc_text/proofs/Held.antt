@@ -1,10 +1,11 @@
 -- What a site's deeds show that it holds is what those of its present life show: the last cut is a rise, or one since.
-use Rattle.std.proofs.Common.{◌≡◌, Bool, true, false, cond, List, [], ◌∷◌, ◌++◌, None, refl, sym, ap, subst, ◌∙◌, append_assoc}
+use Rattle.std.proofs.Common.{◌≡◌, Bool, true, false, cond, List, [], ◌∷◌, ◌++◌, None, refl, sym, ap, subst, ◌∙◌}
+use Rattle.std.proofs.Common.{append_assoc}
 use Rattle.std.specs.Prelude.{fold}
 use Rattle.std.proofs.lemmas.List.Sums.{fold-append}
 use Rattle.qc_msg.specs.declared.record.Record.{Record}
 use Rattle.qc_msg.specs.Deeds.{Deed, Takes, Writes, Sends, Tells, Falls, Rises}
-use Rattle.qc_msg.specs.Readings.{risen_in}
+use Rattle.qc_msg.specs.InputReadings.{risen_in}
 use Rattle.qc_promise.specs.Lifetimes.{Lifetime, begun_with, lifetime, with_deed}
 use Rattle.qc_promise.specs.SiteHeld.{Holding, cuts, held_shown, last_cut, with_cut}
 use Rattle.qc_promise.proofs.Lifetimes.{AreNoRises, life_begins, lived, lives_on, no_rises}
@@ -19,7 +20,8 @@ record Ends (kept : List Record) (c h : Holding) : Type 0 where
   pub none : AreNoRises h.since
 
 -- a deed more that is no rise
-ends_on : (kept : List Record) (c h : Holding) (d : Deed) → risen_in d ≡ None → Ends kept c h → Ends kept (with_cut c d) (with_cut h d)
+ends_on : (kept : List Record) (c h : Holding) (d : Deed) → risen_in d ≡ None → Ends kept c h
+    → Ends kept (with_cut c d) (with_cut h d)
 ends_on kept c h d stays ends = by (cuts d)
   where
     more : AreNoRises (h.since ++ d ∷ [])
@@ -52,25 +54,31 @@ ends_all l h [] ends = ends
 ends_all l h (d ∷ ds) ends = by d (λ (m : Lifetime) (i : Holding). ends_all m i ds)
   where
     All : Type 0
-    All = (m : Lifetime) (i : Holding) → Ends m.kept (last_cut m.since) i → Ends (fold with_deed m ds).kept (last_cut (fold with_deed m ds).since) (fold with_cut i ds)
+    All = (m : Lifetime) (i : Holding) → Ends m.kept (last_cut m.since) i
+        → Ends (fold with_deed m ds).kept (last_cut (fold with_deed m ds).since) (fold with_cut i ds)
 
     more : (e : Deed) → risen_in e ≡ None → Ends l.kept (last_cut (l.since ++ e ∷ [])) (with_cut h e)
     more e stays =
         subst (λ (c : Holding). Ends l.kept c (with_cut h e)) (sym (fold-append with_cut nothing l.since (e ∷ [])))
         (ends_on l.kept (last_cut l.since) h e stays ends)
 
-    by : (e : Deed) → All → Ends (fold with_deed l (e ∷ ds)).kept (last_cut (fold with_deed l (e ∷ ds)).since) (fold with_cut h (e ∷ ds))
+    by : (e : Deed) → All → Ends (fold with_deed l (e ∷ ds)).kept (last_cut (fold with_deed l (e ∷ ds)).since)
+        (fold with_cut h (e ∷ ds))
     by (Takes given) rest = rest (lived l (Takes given ∷ [])) (with_cut h (Takes given)) (more (Takes given) refl)
-    by (Writes written) rest = rest (lived l (Writes written ∷ [])) (with_cut h (Writes written)) (more (Writes written) refl)
-    by (Sends number to message) rest = rest (lived l (Sends number to message ∷ [])) (with_cut h (Sends number to message)) (more (Sends number to message) refl)
+    by (Writes written) rest = rest (lived l (Writes written ∷ [])) (with_cut h (Writes written))
+        (more (Writes written) refl)
+    by (Sends number to message) rest = rest (lived l (Sends number to message ∷ []))
+        (with_cut h (Sends number to message)) (more (Sends number to message) refl)
     by (Tells reply) rest = rest (lived l (Tells reply ∷ [])) (with_cut h (Tells reply)) (more (Tells reply) refl)
-    by (Falls cause pending) rest = rest (lived l (Falls cause pending ∷ [])) (with_cut h (Falls cause pending)) (more (Falls cause pending) refl)
+    by (Falls cause pending) rest = rest (lived l (Falls cause pending ∷ [])) (with_cut h (Falls cause pending))
+        (more (Falls cause pending) refl)
     by (Rises records) rest = rest (begun_with records) (with_cut h (Rises records)) (ends_anew records h)
 
 pub held_present : (ds : List Deed) → held_shown ds ≡ held_in (lifetime ds)
 held_present ds =
     ap (λ (l : Lifetime). held_by l.kept (record { before = l.since; since = (last_cut ds).since })) ends.before
-    ∙ ap (λ (v : List Deed). held_by (lifetime ds).kept (record { before = (last_cut (lifetime ds).since).before; since = v })) ends.since
+    ∙ ap (λ (v : List Deed). held_by (lifetime ds).kept
+    (record { before = (last_cut (lifetime ds).since).before; since = v })) ends.since
   where
     ends : Ends (lifetime ds).kept (last_cut (lifetime ds).since) (last_cut ds)
     ends = ends_all (begun_with []) nothing ds (record { before = refl; since = refl; none = tt })

@@ -1,9 +1,10 @@
 -- The life that deeds end in begins at the last rise among them.
-use Rattle.std.proofs.Common.{◌≡◌, ℕ, ◌+◌, ◌<◌, List, ◌∷◌, ◌++◌, Some, length, get_or, map, take, drop, sym, ap, ◌∙◌, take-append-drop}
+use Rattle.std.proofs.Common.{◌≡◌, ℕ, ◌+◌, ◌<◌, List, ◌∷◌, ◌++◌, Some, length, get_or, map, take, drop, sym, ap, ◌∙◌}
+use Rattle.std.proofs.Common.{take-append-drop}
 use Rattle.std.proofs.lemmas.List.{map-append}
 use Rattle.qc_msg.specs.declared.record.Record.{Record}
 use Rattle.qc_msg.specs.Deeds.{Deed, Takes, Writes, Sends, Tells, Falls, Rises}
-use Rattle.qc_msg.specs.Readings.{risen_in}
+use Rattle.qc_msg.specs.InputReadings.{risen_in}
 use Rattle.qc_promise.specs.Lifetimes.{lifetime}
 use Rattle.qc_promise.proofs.Lifetimes.{AreNoRises, life_after}
 use Rattle.qc_text.specs.Deeds.{deed_of}
@@ -18,9 +19,12 @@ is_rise (Tells reply) rs is = absurd (let never : ⊥ = cc in never)
 is_rise (Falls cause pending) rs is = absurd (let never : ⊥ = cc in never)
 is_rise (Rises kept) rs is = let same : kept ≡ rs = cc in ap Rises same
 
-pub rose_at : (xs : List Found) (i : ℕ) (x d : Found) (rs : List Record) → i < length xs → x ≡ get_or xs i d → Some rs ≡ risen_in (deed_of x)
-    → AreNoRises (map deed_of (drop (i + 1) xs)) → lifetime (map deed_of xs) ≡ record { kept = rs; since = map deed_of (drop (i + 1) xs) }
+pub rose_at : (xs : List Found) (i : ℕ) (x d : Found) (rs : List Record) → i < length xs → x ≡ get_or xs i d
+    → Some rs ≡ risen_in (deed_of x)
+    → AreNoRises (map deed_of (drop (i + 1) xs))
+    → lifetime (map deed_of xs) ≡ record { kept = rs; since = map deed_of (drop (i + 1) xs) }
 rose_at xs i x d rs l e is none =
     ap lifetime (ap (map deed_of) (sym (take-append-drop i xs)) ∙ map-append deed_of (take i xs) (drop i xs)
-    ∙ ap (λ (v : List Deed). map deed_of (take i xs) ++ v) (found_rest xs i x d l e ∙ ap (λ (v : Deed). v ∷ map deed_of (drop (i + 1) xs)) (is_rise (deed_of x) rs is)))
+    ∙ ap (λ (v : List Deed). map deed_of (take i xs) ++ v)
+    (found_rest xs i x d l e ∙ ap (λ (v : Deed). v ∷ map deed_of (drop (i + 1) xs)) (is_rise (deed_of x) rs is)))
     ∙ life_after (map deed_of (take i xs)) rs (map deed_of (drop (i + 1) xs)) none

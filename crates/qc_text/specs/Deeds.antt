@@ -1,7 +1,7 @@
 -- Messages and deeds as they lie in a history, and what they stand for.
 use Rattle.std.specs.Prelude.{ℕ, ◌==◌, cond, List, []}
 use Rattle.qc_msg.specs.declared.message.Envelope.{Envelope}
-use Rattle.qc_msg.specs.declared.step.Given.TheVariants as given
+use Rattle.qc_msg.specs.declared.step.Input.TheVariants as inputs
 use Rattle.qc_msg.specs.Deeds.{Deed, Takes, Writes, Sends, Tells, Falls, Rises, deed_at}
 use Rattle.qc_msg.specs.Steps.{Entry}
 use Rattle.qc_text.specs.declared.deeds.Deed.{Deed as Found}
@@ -12,9 +12,9 @@ abbrev pub envelope_in : Letter → Envelope
 envelope_in letter = record { number = letter.number; from = letter.from; to = letter.to; message = letter.message.now }
 
 abbrev pub deed_of : Found → Deed
-deed_of (Called command) = Takes (given.Called command)
-deed_of (Got letter) = Takes (given.Got (envelope_in letter))
-deed_of (Lost number) = Takes (given.Lost number)
+deed_of (Called command) = Takes (inputs.Called command)
+deed_of (Got letter) = Takes (inputs.Got (envelope_in letter))
+deed_of (Lost number) = Takes (inputs.Lost number)
 deed_of (Wrote written) = Writes written.now
 deed_of (Sent number to message) = Sends number to message.now
 deed_of (Told reply) = Tells reply

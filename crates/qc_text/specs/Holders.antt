@@ -12,8 +12,8 @@ use Rattle.qc_msg.specs.declared.message.Want.{Want}
 use Rattle.qc_msg.specs.declared.message.Want.TheVariants.{Read, Append, Prepare}
 use Rattle.qc_msg.specs.declared.record.Record.{Record}
 use Rattle.qc_msg.specs.declared.record.Record.TheVariants as records
-use Rattle.qc_msg.specs.declared.step.Given.{Given}
-use Rattle.qc_msg.specs.declared.step.Given.TheVariants as given
+use Rattle.qc_msg.specs.declared.step.Input.{Input}
+use Rattle.qc_msg.specs.declared.step.Input.TheVariants as inputs
 use Rattle.qc_msg.specs.Deeds.{Deed, Takes, Writes, Sends, Tells, Falls, Rises}
 use Rattle.qc_promise.specs.SiteEnds.{is_final}
 use Rattle.qc_promise.specs.SiteHeld.{grants, is_granted}
@@ -90,10 +90,10 @@ holders_by txs number (messages.Ask tx) after = txs
 holders_by txs number (messages.Close epoch) after = txs
 holders_by txs number (messages.Install epoch clock log) after = txs
 
-abbrev pub holders_given : List TxId → Given → List Deed → List TxId
-holders_given txs (given.Called command) after = txs
-holders_given txs (given.Got envelope) after = holders_by txs envelope.number envelope.message after
-holders_given txs (given.Lost number) after = txs
+abbrev pub holders_given : List TxId → Input → List Deed → List TxId
+holders_given txs (inputs.Called command) after = txs
+holders_given txs (inputs.Got envelope) after = holders_by txs envelope.number envelope.message after
+holders_given txs (inputs.Lost number) after = txs
 
 abbrev pub holders_at : List TxId → Deed → List Deed → List TxId
 holders_at txs (Takes given) after = holders_given txs given after

@@ -6,7 +6,7 @@ use Rattle.qc_entry.specs.declared.line.Line.{Line}
 use Rattle.qc_entry.specs.Log.{union}
 use Rattle.qc_lock.specs.declared.held.Held.{Held}
 use Rattle.qc_msg.specs.Begun.{first_epoch}
-use Rattle.qc_msg.specs.Readings.{written_in}
+use Rattle.qc_msg.specs.InputReadings.{written_in}
 use Rattle.qc_promise.specs.Lifetimes.{Lifetime}
 use Rattle.qc_promise.specs.SiteHeld.{last_cut}
 use Rattle.qc_promise.specs.SiteLogs.{Lines, lines_from, recorded_by}

@@ -3,8 +3,8 @@ use Rattle.std.specs.Prelude.{if◌then◌else◌, List}
 use Rattle.qc_stamp.specs.declared.stamp.TxId.{TxId}
 use Rattle.qc_msg.specs.declared.message.Message.{Message}
 use Rattle.qc_msg.specs.declared.message.Message.TheVariants as messages
-use Rattle.qc_msg.specs.declared.step.Given.{Given}
-use Rattle.qc_msg.specs.declared.step.Given.TheVariants as given
+use Rattle.qc_msg.specs.declared.step.Input.{Input}
+use Rattle.qc_msg.specs.declared.step.Input.TheVariants as inputs
 use Rattle.qc_msg.specs.Deeds.{Deed, Takes, Writes, Sends, Tells, Falls, Rises}
 use Rattle.qc_promise.specs.SiteEnds.{is_aborted}
 use Rattle.qc_text.specs.Holders.{holders_with, without_holder}
@@ -19,10 +19,10 @@ promised_by txs (messages.Ask tx) = txs
 promised_by txs (messages.Close epoch) = txs
 promised_by txs (messages.Install epoch clock log) = txs
 
-abbrev pub promised_given : List TxId → Given → List TxId
-promised_given txs (given.Called command) = txs
-promised_given txs (given.Got envelope) = promised_by txs envelope.message
-promised_given txs (given.Lost number) = txs
+abbrev pub promised_given : List TxId → Input → List TxId
+promised_given txs (inputs.Called command) = txs
+promised_given txs (inputs.Got envelope) = promised_by txs envelope.message
+promised_given txs (inputs.Lost number) = txs
 
 abbrev pub promised_at : List TxId → Deed → List TxId
 promised_at txs (Takes given) = promised_given txs given

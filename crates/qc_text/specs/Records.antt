@@ -2,7 +2,7 @@
 use Rattle.std.specs.Prelude.{ℕ}
 use Rattle.std.specs.Option.{option_map_or}
 use Rattle.qc_msg.specs.Deeds.{Deed}
-use Rattle.qc_msg.specs.Readings.{written_in}
+use Rattle.qc_msg.specs.InputReadings.{written_in}
 use Rattle.qc_promise.specs.SiteRecords.{epoch_by, life_by}
 
 abbrev pub life_at : ℕ → Deed → ℕ

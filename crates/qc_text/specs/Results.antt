@@ -6,8 +6,8 @@ use Rattle.qc_msg.specs.declared.reply.Half.{Half}
 use Rattle.qc_msg.specs.declared.reply.Half.TheVariants as halves
 use Rattle.qc_msg.specs.declared.reply.Reply.{Reply}
 use Rattle.qc_msg.specs.declared.reply.Reply.TheVariants as replies
-use Rattle.qc_msg.specs.declared.reply.Why.{Why}
-use Rattle.qc_msg.specs.declared.reply.Why.TheVariants as whys
+use Rattle.qc_msg.specs.declared.reply.AbortCause.{AbortCause}
+use Rattle.qc_msg.specs.declared.reply.AbortCause.TheVariants as whys
 use Rattle.qc_msg.specs.declared.step.Command.{Command}
 use Rattle.qc_msg.specs.declared.step.Command.TheVariants.{Begin, Do, Commit, Abort, Epoch}
 use Rattle.qc_text.specs.Names.{response_name}
@@ -48,7 +48,7 @@ restarted_text site old new =
     codes "! restarted " ++ (site_text site ++ (codes " " ++ (decimal old ++ (codes " " ++ decimal new))))
 
 -- why a transaction was aborted
-abbrev pub why_text : Why → List ℕ
+abbrev pub why_text : AbortCause → List ℕ
 why_text whys.Doomed = codes "! doomed"
 why_text (whys.Restarted site old new) = restarted_text site old new
 why_text (whys.Closed epoch site) = closed_text epoch site

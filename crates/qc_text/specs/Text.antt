@@ -2,7 +2,7 @@
 use Rattle.std.specs.Prelude.{ℕ, List, ◌++◌}
 use Rattle.qc_decl.specs.declared.declaration.Declaration.{Declaration}
 use Rattle.qc_msg.specs.Steps.{Entry}
-use Rattle.qc_onecopy.specs.Replay.{replay}
+use Rattle.theory_onecopy.specs.Replay.{replay}
 use Rattle.qc_promise.specs.Committed.{committed}
 use Rattle.qc_script.specs.declared.script.Script.{Script}
 use Rattle.qc_text.specs.Log.{log_text}

@@ -3,7 +3,7 @@
 ghost use Rattle.std.specs.Prelude.{◌≡◌, IfOk, fold, map, option_to_list};
 ghost use Rattle.std.specs.List.{filter_map};
 ghost use Rattle.qc_msg.specs.Counts as counts;
-ghost use Rattle.qc_onecopy.specs.Committed.{with_commit};
+ghost use Rattle.theory_onecopy.specs.Committed.{with_commit};
 ghost use Rattle.qc_promise.specs.Committed.{commits_in, committed};
 ghost use Rattle.qc_text.specs.Keys.{commit_of};
 

@@ -9,7 +9,7 @@ ghost use Rattle.qc_msg.specs.Steps.{by};
 ghost use Rattle.qc_msg.specs.declared.record.Record.TheVariants as records;
 ghost use Rattle.qc_msg.specs.declared.reply.Half.TheVariants as halves;
 ghost use Rattle.qc_msg.specs.declared.reply.Reply.TheVariants as replies;
-ghost use Rattle.qc_msg.specs.declared.reply.Why.TheVariants as whys;
+ghost use Rattle.qc_msg.specs.declared.reply.AbortCause.TheVariants as whys;
 ghost use Rattle.qc_msg.specs.declared.step.Command.{Command};
 ghost use Rattle.qc_msg.specs.declared.step.Fall.TheVariants as falls;
 ghost use Rattle.qc_msg.specs.declared.step.Step.TheVariants as steps;

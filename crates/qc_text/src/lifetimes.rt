@@ -1,7 +1,7 @@
 //! An actor's present life: what it is, it became since it rose last.
 
 ghost use Rattle.std.specs.Prelude.{◌≡◌, option_map, map};
-ghost use Rattle.qc_msg.specs.Readings.{risen_in};
+ghost use Rattle.qc_msg.specs.InputReadings.{risen_in};
 ghost use Rattle.qc_promise.specs.Lifetimes.{lifetime};
 ghost use Rattle.qc_text.specs.Deeds.{deed_of};
 ghost use Rattle.qc_text.specs.Lifetimes.{present};

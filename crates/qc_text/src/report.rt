@@ -12,9 +12,9 @@ use crate::states::put_states;
 use qc_decl::Declaration;
 use qc_list::OutOfMemory;
 use qc_msg::History;
-use qc_onecopy::replay;
 use qc_script::Script;
 use std::alloc::Global;
+use theory_onecopy::replay;
 
 /// What is printed of a run: the replies in the script's order, the committed
 /// transactions, the state of each object after them, and the sites.

@@ -11,7 +11,7 @@ use crate::page::{Page, Piece};
 use crate::parts::put_set;
 use qc_decl::Declaration;
 use qc_list::OutOfMemory;
-use qc_msg::{Command, Half, Reply, Why};
+use qc_msg::{AbortCause, Command, Half, Reply};
 
 /// Adds the result of a command.
 pub(crate) fn put_reply(
@@ -113,16 +113,16 @@ fn half_text(half: Half) -> &'static str
 }
 
 /// Adds why a transaction was aborted.
-fn put_why(page: &mut Page, why: Why) -> Result<(), OutOfMemory>
+fn put_why(page: &mut Page, why: AbortCause) -> Result<(), OutOfMemory>
     ensures { OnOk result (page.new ≡ page.old ++ why_text why) }
 {
     match why {
-        Why::Doomed => page.put("! doomed"),
-        Why::Restarted { site, old, new } => put_restarted(page, site, old, new),
-        Why::Closed { epoch, site } => put_closed(page, epoch, site),
-        Why::Fault { site } => put_with(page, "! fault ", Piece::Site(site)),
-        Why::NoAnswer { site } => put_with(page, "! no answer ", Piece::Site(site)),
-        Why::Forgot { site } => put_with(page, "! forgot ", Piece::Site(site)),
+        AbortCause::Doomed => page.put("! doomed"),
+        AbortCause::Restarted { site, old, new } => put_restarted(page, site, old, new),
+        AbortCause::Closed { epoch, site } => put_closed(page, epoch, site),
+        AbortCause::Fault { site } => put_with(page, "! fault ", Piece::Site(site)),
+        AbortCause::NoAnswer { site } => put_with(page, "! no answer ", Piece::Site(site)),
+        AbortCause::Forgot { site } => put_with(page, "! forgot ", Piece::Site(site)),
     }
 }
 

@@ -1,8 +1,9 @@
 -- How a call ends: with a run of its script and its text, with a word on its declaration, or with a cause that is due.
-use Rattle.std.proofs.Common.{◌≡◌, ◌⊎◌, ◌∙◌, ℕ, false, List, [], Option, Some, None, Result, Ok, Err, inl, inr, refl, sym, subst, arith}
+use Rattle.std.proofs.Common.{◌≡◌, ◌⊎◌, ◌∙◌, ℕ, false, List, [], Option, Some, None, Result, Ok, Err, inl, inr, refl}
+use Rattle.std.proofs.Common.{sym, subst, arith}
 use Rattle.std.specs.Prelude.{replicate}
 use Rattle.qc_core.specs.Conduct.{IsLawfulWithFalls}
-use Rattle.qc_due.specs.Whole.{IsWholeWithFalls}
+use Rattle.laws_due.specs.Whole.{IsWholeWithFalls}
 use Rattle.qc_decl.specs.Actors.{actors}
 use Rattle.qc_decl.specs.declared.declaration.Declaration.{Declaration}
 use Rattle.qc_msg.specs.Steps.{Entry}
@@ -19,7 +20,8 @@ use Rattle.qc_top.proofs.Right.{work_is}
 use Rattle.qc_fabric.specs.Limits.{IsBelow}
 use Rattle.qc_top.proofs.Runs.{run_atomic, run_due, run_known}
 use Rattle.qc_top.specs.Racks.{cause_of_rack}
-use Rattle.qc_top.specs.Top.{AreStatesKnown, IsFullCause, IsNoRack, IsNoShelf, IsRan, IsRight, IsRunnable, IsTold, Leaves, LeavesRun, OnPrinted, PrintsBetween, cause_of_words, output_of}
+use Rattle.qc_top.specs.Top.{AreStatesKnown, IsFullCause, IsNoRack, IsNoShelf, IsRan, IsRight, IsRunnable, IsTold}
+use Rattle.qc_top.specs.Top.{Leaves, LeavesRun, OnPrinted, PrintsBetween, cause_of_words, output_of}
 use Rattle.qc_words.specs.Asked.{IsTold as IsToldOf}
 use Rattle.qc_words.specs.Words.{AskedOf, asked}
 use Rattle.qc_words.specs.declared.fault.WordsFault.{WordsFault}
@@ -50,8 +52,11 @@ on_printed (causes.Rack fault) P here = tt
 on_printed (causes.Full what number) P here = tt
 
 -- what a run leaves
-pub leaves_run : (decl : Declaration) (script : Script) (output : Output) (h : List Entry) (old : Option (List ℕ)) (cause : Cause) (new : Option (List ℕ)) → IsRunnable decl script
-    → RunWithFalls (IsLawfulWithFalls decl) (fits_of decl) decl script h → IsRan cause → OnPrinted cause (IsWholeWithFalls (fits_of decl) decl script h) → PrintsBetween (output_of output decl script h) old cause new → LeavesRun decl script output old cause new h
+pub leaves_run : (decl : Declaration) (script : Script) (output : Output) (h : List Entry) (old : Option (List ℕ))
+    (cause : Cause) (new : Option (List ℕ)) → IsRunnable decl script
+    → RunWithFalls (IsLawfulWithFalls decl) (fits_of decl) decl script h → IsRan cause
+    → OnPrinted cause (IsWholeWithFalls (fits_of decl) decl script h)
+    → PrintsBetween (output_of output decl script h) old cause new → LeavesRun decl script output old cause new h
 leaves_run decl script output h old cause new ready run ran whole text = record {
   accepted = ready.accepted;
   due = ran;
@@ -68,7 +73,8 @@ pub want_between : (text : List ℕ) (taken : Option (List ℕ)) → PrintsBetwe
 want_between text None = tt
 want_between text (Some old) = refl
 
-leaves_want : (work : Caused Work) (taken : Option (List ℕ)) → ((w : Work) → work ≡ Ok w → IsRight w) → Leaves work taken causes.OutOfMemory taken []
+leaves_want : (work : Caused Work) (taken : Option (List ℕ)) → ((w : Work) → work ≡ Ok w → IsRight w)
+    → Leaves work taken causes.OutOfMemory taken []
 leaves_want (Err why) taken right = record { due = inr refl; history = refl; text = refl }
 leaves_want (Ok (works.Accept decl)) taken right = record {
   accepted = right (works.Accept decl) refl;
@@ -77,7 +83,8 @@ leaves_want (Ok (works.Accept decl)) taken right = record {
   text = want_between _ taken;
 }
 leaves_want (Ok (works.Run decl script output)) taken right =
-    leaves_run decl script output [] taken causes.OutOfMemory taken (right (works.Run decl script output) refl) (empty_run decl script) tt tt (want_between (output_of output decl script []) taken)
+    leaves_run decl script output [] taken causes.OutOfMemory taken (right (works.Run decl script output) refl)
+    (empty_run decl script) tt tt (want_between (output_of output decl script []) taken)
 
 -- the run that didn't begin, since the rack gave no disk, or for want of memory
 
@@ -91,49 +98,67 @@ unbegun_printed (racks.NotEmpty actor) P = tt
 unbegun_printed (racks.Failed actor) P = tt
 unbegun_printed racks.OutOfMemory P = tt
 
-unbegun_between : (fault : RackFault) (text : List ℕ) (taken : Option (List ℕ)) → PrintsBetween text taken (cause_of_rack fault) taken
+unbegun_between : (fault : RackFault) (text : List ℕ) (taken : Option (List ℕ))
+    → PrintsBetween text taken (cause_of_rack fault) taken
 unbegun_between (racks.NotEmpty actor) text None = tt
 unbegun_between (racks.NotEmpty actor) text (Some old) = refl
 unbegun_between (racks.Failed actor) text None = tt
 unbegun_between (racks.Failed actor) text (Some old) = refl
 unbegun_between racks.OutOfMemory text taken = want_between text taken
 
-pub leaves_unbegun : (decl : Declaration) (script : Script) (output : Output) (taken : Option (List ℕ)) (fault : RackFault) (cause : Cause) (h : List Entry) → IsRunnable decl script → h ≡ [] → cause ≡ cause_of_rack fault
+pub leaves_unbegun : (decl : Declaration) (script : Script) (output : Output) (taken : Option (List ℕ))
+    (fault : RackFault) (cause : Cause) (h : List Entry) → IsRunnable decl script → h ≡ [] → cause ≡ cause_of_rack fault
     → LeavesRun decl script output taken cause taken h
 leaves_unbegun decl script output taken fault cause h ready none is =
     subst (λ (c : Cause). LeavesRun decl script output taken c taken h) (sym is)
     (subst (λ (k : List Entry). LeavesRun decl script output taken (cause_of_rack fault) taken k) (sym none)
-    (leaves_run decl script output [] taken (cause_of_rack fault) taken ready (empty_run decl script) (unbegun_ran fault) (unbegun_printed fault (IsWholeWithFalls (fits_of decl) decl script []))
+    (leaves_run decl script output [] taken (cause_of_rack fault) taken ready (empty_run decl script)
+    (unbegun_ran fault) (unbegun_printed fault (IsWholeWithFalls (fits_of decl) decl script []))
     (unbegun_between fault (output_of output decl script []) taken)))
 
 -- nothing was to be done, for this cause
-pub leaves_refused : (asked : AskedOf) (answers : Answers) (taken : Option (List ℕ)) (cause : Cause) → Gives (work_of asked answers) (the_err cause) → Leaves (work_of asked answers) taken cause taken []
-leaves_refused asked answers taken cause (inl is) = subst (λ (w : Caused Work). Leaves w taken cause taken []) (sym is) (record { due = inl refl; history = refl; text = refl })
+pub leaves_refused : (asked : AskedOf) (answers : Answers) (taken : Option (List ℕ)) (cause : Cause)
+    → Gives (work_of asked answers) (the_err cause) → Leaves (work_of asked answers) taken cause taken []
+leaves_refused asked answers taken cause (inl is) =
+    subst (λ (w : Caused Work). Leaves w taken cause taken []) (sym is)
+    (record { due = inl refl; history = refl; text = refl })
 leaves_refused asked answers taken cause (inr wanting) =
-    subst (λ (c : Cause). Leaves (work_of asked answers) taken c taken []) (sym wanting) (leaves_want (work_of asked answers) taken (λ w is. work_is asked answers w is))
+    subst (λ (c : Cause). Leaves (work_of asked answers) taken c taken []) (sym wanting)
+    (leaves_want (work_of asked answers) taken (λ w is. work_is asked answers w is))
 
 -- words that weren't read
 
-pub unread_due : (words : List (List ℕ)) (fault : WordsFault) (cause : Cause) → cause ≡ cause_of_words fault → IsToldOf fault (asked words)
+pub unread_due : (words : List (List ℕ)) (fault : WordsFault) (cause : Cause) → cause ≡ cause_of_words fault
+    → IsToldOf fault (asked words)
     → ((cause ≡ causes.Usage) × (asked words ≡ None)) ⊎ (cause ≡ causes.OutOfMemory)
 unread_due words words_faults.Usage cause is told = inl (is, told)
 unread_due words words_faults.OutOfMemory cause is told = inr is
 
 pub unread_no_rack : (fault : WordsFault) (cause : Cause) → cause ≡ cause_of_words fault → IsNoRack cause
-unread_no_rack words_faults.Usage cause is = λ rack same. absurd (let both : causes.Usage ≡ causes.Rack rack = sym is ∙ same in let never : ⊥ = cc in never)
-unread_no_rack words_faults.OutOfMemory cause is = λ rack same. absurd (let both : causes.OutOfMemory ≡ causes.Rack rack = sym is ∙ same in let never : ⊥ = cc in never)
+unread_no_rack words_faults.Usage cause is =
+    λ rack same. absurd (let both : causes.Usage ≡ causes.Rack rack = sym is ∙ same in let never : ⊥ = cc in never)
+unread_no_rack words_faults.OutOfMemory cause is =
+    λ rack same. absurd (let both : causes.OutOfMemory ≡ causes.Rack rack = sym is
+    ∙ same in let never : ⊥ = cc in never)
 
 pub unread_no_shelf : (fault : WordsFault) (cause : Cause) → cause ≡ cause_of_words fault → IsNoShelf cause
-unread_no_shelf words_faults.Usage cause is = λ script same. absurd (let both : causes.Usage ≡ causes.Shelf script faults.Failed = sym is ∙ same in let never : ⊥ = cc in never)
-unread_no_shelf words_faults.OutOfMemory cause is = λ script same. absurd (let both : causes.OutOfMemory ≡ causes.Shelf script faults.Failed = sym is ∙ same in let never : ⊥ = cc in never)
+unread_no_shelf words_faults.Usage cause is =
+    λ script same. absurd (let both : causes.Usage ≡ causes.Shelf script faults.Failed = sym is
+    ∙ same in let never : ⊥ = cc in never)
+unread_no_shelf words_faults.OutOfMemory cause is =
+    λ script same. absurd (let both : causes.OutOfMemory ≡ causes.Shelf script faults.Failed = sym is
+    ∙ same in let never : ⊥ = cc in never)
 
 pub unread_no_sink : (fault : WordsFault) (cause : Cause) → cause ≡ cause_of_words fault → cause ≡ causes.Sink → ⊥
 unread_no_sink words_faults.Usage cause is same = let both : causes.Usage ≡ causes.Sink = sym is ∙ same in cc
-unread_no_sink words_faults.OutOfMemory cause is same = let both : causes.OutOfMemory ≡ causes.Sink = sym is ∙ same in cc
+unread_no_sink words_faults.OutOfMemory cause is same = let both : causes.OutOfMemory ≡ causes.Sink = sym is
+    ∙ same in cc
 
-pub unread_usage : (words : List (List ℕ)) (fault : WordsFault) (cause : Cause) → cause ≡ cause_of_words fault → IsToldOf fault (asked words) → cause ≡ causes.Usage → asked words ≡ None
+pub unread_usage : (words : List (List ℕ)) (fault : WordsFault) (cause : Cause) → cause ≡ cause_of_words fault
+    → IsToldOf fault (asked words) → cause ≡ causes.Usage → asked words ≡ None
 unread_usage words words_faults.Usage cause is told same = told
-unread_usage words words_faults.OutOfMemory cause is told same = absurd (let both : causes.OutOfMemory ≡ causes.Usage = sym is ∙ same in let never : ⊥ = cc in never)
+unread_usage words words_faults.OutOfMemory cause is told same =
+    absurd (let both : causes.OutOfMemory ≡ causes.Usage = sym is ∙ same in let never : ⊥ = cc in never)
 
 -- the causes with which words were read
 
@@ -174,9 +199,11 @@ refused_full causes.Sink h refusal none = absurd refusal
 refused_full (causes.Rack fault) h refusal none = absurd refusal
 refused_full (causes.Full what number) h refusal none = absurd refusal
 
-pub unread_full : (fault : WordsFault) (cause : Cause) (h : List Entry) → cause ≡ cause_of_words fault → h ≡ [] → IsFullCause cause h
+pub unread_full : (fault : WordsFault) (cause : Cause) (h : List Entry) → cause ≡ cause_of_words fault → h ≡ []
+    → IsFullCause cause h
 unread_full words_faults.Usage cause h is none = subst (λ (c : Cause). IsFullCause c h) (sym is) none
-unread_full words_faults.OutOfMemory cause h is none = subst (λ (c : Cause). IsFullCause c h) (sym is) (below_at_first h none)
+unread_full words_faults.OutOfMemory cause h is none =
+    subst (λ (c : Cause). IsFullCause c h) (sym is) (below_at_first h none)
 
 pub unbegun_full : (fault : RackFault) (h : List Entry) → h ≡ [] → IsFullCause (cause_of_rack fault) h
 unbegun_full (racks.NotEmpty actor) h none = none

@@ -3,12 +3,12 @@ use Rattle.std.proofs.Common.{ℕ, ◌+◌, List, [], ◌∷◌, Option, ap}
 use Rattle.std.specs.Prelude.{is_some}
 use Rattle.std.specs.List.{AllByRecursion as Every}
 use Rattle.qc_list.proofs.Members.{every-weaker}
-use Rattle.qc_due.specs.Declares.{IsPlanned}
-use Rattle.qc_due.specs.Planned.{IsRecordPlanned}
-use Rattle.qc_bounds.specs.Fitting.{AllFit, AllRiseFit}
-use Rattle.qc_bounds.specs.Records.{risen_at}
+use Rattle.laws_due.specs.Declares.{IsPlanned}
+use Rattle.laws_due.specs.Planned.{IsRecordPlanned}
+use Rattle.laws_bounds.specs.Fitting.{AllFit, AllRiseFit}
+use Rattle.laws_bounds.specs.Records.{risen_at}
 use Rattle.qc_decl.specs.declared.declaration.Declaration.{Declaration}
-use Rattle.qc_due.specs.Risen.{AllRisePlanned, RisesPlanned}
+use Rattle.laws_due.specs.Risen.{AllRisePlanned, RisesPlanned}
 use Rattle.qc_fit.specs.Said.{HasPlan, IsFit}
 use Rattle.qc_fit.proofs.Words.{as_said}
 use Rattle.qc_msg.specs.declared.record.Record.{Record}

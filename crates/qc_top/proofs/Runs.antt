@@ -1,15 +1,16 @@
 -- What is promised of every run of a script that was read.
-use Rattle.std.proofs.Common.{◌≡◌, ◌≤◌, ℕ, zero, suc, Bool, true, false, List, [], ◌∷◌, length, Some, refl, sym, ap, ◌∙◌, subst, arith, slice_get}
+use Rattle.std.proofs.Common.{◌≡◌, ◌≤◌, ℕ, zero, suc, Bool, true, false, List, [], ◌∷◌, length, Some, refl, sym, ap}
+use Rattle.std.proofs.Common.{◌∙◌, subst, arith, slice_get}
 use Rattle.std.specs.Prelude.{replicate}
-use Rattle.qc_due.proofs.AccountDeclared.{asks_declared, asks_epochs}
-use Rattle.qc_bounds.proofs.FitsNamed.{asks_known}
-use Rattle.qc_bounds.proofs.Rising.{run_rises_fit}
+use Rattle.laws_due.proofs.AccountDeclared.{asks_declared, asks_epochs}
+use Rattle.laws_bounds.proofs.FitsNamed.{asks_known}
+use Rattle.laws_bounds.proofs.Rising.{run_rises_fit}
 use Rattle.qc_core.specs.Conduct.{IsLawfulWithFalls}
 use Rattle.qc_decl.specs.Actors.{actors}
 use Rattle.qc_decl.specs.declared.declaration.Declaration.{Declaration}
-use Rattle.qc_due.proofs.AllDue.{runs_due}
-use Rattle.qc_due.proofs.WholeLaw.{is_whole}
-use Rattle.qc_due.specs.Whole.{IsClosedWithFalls, IsWholeWithFalls}
+use Rattle.laws_due.proofs.AllDue.{runs_due}
+use Rattle.laws_due.proofs.WholeLaw.{is_whole}
+use Rattle.laws_due.specs.Whole.{IsClosedWithFalls, IsWholeWithFalls}
 use Rattle.qc_fabric.specs.Events.{before_last_event}
 use Rattle.qc_fabric.specs.Limits.{IsBelow}
 use Rattle.qc_fabric.proofs.Limits.{first_reached, none_reached}
@@ -19,27 +20,29 @@ use Rattle.qc_node.specs.Ends.{HasEnded, IsScriptEnd}
 use Rattle.qc_node.specs.Rules.{fits_of}
 use Rattle.qc_node.specs.declared.ends.DriveEnd.{DriveEnd}
 use Rattle.qc_node.specs.declared.ends.DriveEnd.TheVariants as ends
-use Rattle.qc_onecopy.proofs.Copies.{replay_copies}
+use Rattle.theory_onecopy.proofs.Copies.{replays_are_one_copy}
 use Rattle.qc_promise.specs.Atomic.{Atomic}
 use Rattle.qc_promise.specs.Committed.{committed}
 use Rattle.qc_promise.specs.Due.{Due}
 use Rattle.qc_promise.specs.Kept.{Kept}
-use Rattle.qc_reach.proofs.RunLaws.{committed_apart, committed_one_copy}
+use Rattle.laws_reach.proofs.RunLaws.{committed_apart, committed_one_copy}
 use Rattle.qc_script.specs.RunsWithFalls.{RunWithFalls, RunsWithFalls}
 use Rattle.qc_script.specs.declared.script.Script.{Script}
-use Rattle.qc_reach.proofs.SightLaw.{after_seen}
-use Rattle.qc_reach.proofs.ToldRunLaws.{dealt, told}
+use Rattle.laws_reach.proofs.SightLaw.{records_follow_what_was_seen_through_falls}
+use Rattle.laws_reach.proofs.ToldRunLaws.{dealt, told}
 use Rattle.qc_top.proofs.OwnRises.{run_own}
 use Rattle.qc_top.proofs.Planned.{rises_planned}
 use Rattle.qc_top.specs.Top.{AreStatesKnown, IsEnd, IsRunnable}
 
-module _ (decl : Declaration) (script : Script) (ready : IsRunnable decl script) (h : List Entry) (run : RunWithFalls (IsLawfulWithFalls decl) (fits_of decl) decl script h) where
+module _ (decl : Declaration) (script : Script) (ready : IsRunnable decl script) (h : List Entry)
+    (run : RunWithFalls (IsLawfulWithFalls decl) (fits_of decl) decl script h) where
   pub run_atomic : Kept h → Atomic decl h
   run_atomic kept = record {
     apart = committed_apart (fits_of decl) decl script h run.0 ready.accepted ready.declared run.1 kept;
     one_copy = committed_one_copy (fits_of decl) decl script h run.0 ready.accepted ready.declared run.1 kept;
     dealt = dealt (fits_of decl) decl script h run.0 ready.accepted ready.declared run.1 kept;
-    seen = after_seen (fits_of decl) decl script h run.0 ready.accepted ready.declared run.1 kept;
+    seen = records_follow_what_was_seen_through_falls
+        (fits_of decl) decl script h run.0 ready.accepted ready.declared run.1 kept;
     told = told (fits_of decl) decl script h run.0 ready.accepted ready.declared run.1 kept;
   }
 
@@ -51,11 +54,13 @@ module _ (decl : Declaration) (script : Script) (ready : IsRunnable decl script)
 
   pub run_due : Due decl h
   run_due =
-      runs_due decl script (fits_of decl) ready.accepted (asks_declared decl script ready.accepted ready.declared) few h run.0 run.1
-      (rises_planned decl h (run_rises_fit decl script (fits_of decl) (λ a records fit. fit.0) h run.0 run.1)) (run_own decl script h run.0 run.1)
+      runs_due decl script (fits_of decl) ready.accepted
+      (asks_declared decl script ready.accepted ready.declared) few h run.0 run.1
+      (rises_planned decl h (run_rises_fit decl script (fits_of decl) (λ a records fit. fit.0) h run.0 run.1))
+      (run_own decl script h run.0 run.1)
 
   pub run_known : Kept h → AreStatesKnown decl h
-  run_known kept = (replay_copies decl (committed decl h)).1 (run_atomic kept).one_copy
+  run_known kept = (replays_are_one_copy decl (committed decl h)).1 (run_atomic kept).one_copy
 
 -- where no input is open, all bits are clear
 all_clear : (bits : List Bool) → ((a : ℕ) → slice_get bits a ≡ Some true → ⊥) → bits ≡ replicate (length bits) false
@@ -64,17 +69,25 @@ all_clear (true ∷ bits) none = absurd (none zero refl)
 all_clear (false ∷ bits) none = ap (λ (bs : List Bool). false ∷ bs) (all_clear bits (λ a is. none (suc a) is))
 
 module _ (decl : Declaration) (script : Script) (ready : IsRunnable decl script) (h : List Entry) where
-  pub ended_run : (end : DriveEnd) → HasEnded decl script h end → RunWithFalls (IsLawfulWithFalls decl) (fits_of decl) decl script h
+  pub ended_run : (end : DriveEnd) → HasEnded decl script h end
+      → RunWithFalls (IsLawfulWithFalls decl) (fits_of decl) decl script h
   ended_run end ended = (ended.inputs, ended.runs)
 
   -- where nothing is left to do, the run is whole
-  pub ended_whole : (end : DriveEnd) → HasEnded decl script h end → end ≡ ends.Quiet → IsWholeWithFalls (fits_of decl) decl script h
+  pub ended_whole : (end : DriveEnd) → HasEnded decl script h end → end ≡ ends.Quiet
+      → IsWholeWithFalls (fits_of decl) decl script h
   ended_whole end ended quiet =
-      let over : IsScriptEnd decl script h ended.inputs ends.Quiet = subst (λ (e : DriveEnd). IsScriptEnd decl script h ended.inputs e) quiet ended.ended in
-      let clear : ended.inputs ≡ replicate (actors decl) false = all_clear ended.inputs over.1.1.none_open ∙ ap (λ (n : ℕ). replicate n false) ended.opens in
-      let closed : IsClosedWithFalls (fits_of decl) decl script h = subst (λ (bits : List Bool). RunsWithFalls (IsLawfulWithFalls decl) (fits_of decl) decl script h bits) clear ended.runs in
-      is_whole decl script ready.accepted (asks_declared decl script ready.accepted ready.declared) (fits_of decl) h closed over.1.1.none_ready over.1.1.none_left
-      (asks_known decl ready.accepted script ready.declared (fits_of decl) (λ a records fit. fit.0)) (asks_epochs decl script ready.declared) over.1.0
+      let over : IsScriptEnd decl script h ended.inputs ends.Quiet =
+      subst (λ (e : DriveEnd). IsScriptEnd decl script h ended.inputs e) quiet ended.ended in
+      let clear : ended.inputs ≡ replicate (actors decl) false = all_clear ended.inputs over.1.1.none_open
+      ∙ ap (λ (n : ℕ). replicate n false) ended.opens in
+      let closed : IsClosedWithFalls (fits_of decl) decl script h =
+      subst (λ (bits : List Bool). RunsWithFalls (IsLawfulWithFalls decl) (fits_of decl) decl script h bits) clear
+      ended.runs in
+      is_whole decl script ready.accepted (asks_declared decl script ready.accepted ready.declared)
+      (fits_of decl) h closed over.1.1.none_ready over.1.1.none_left
+      (asks_known decl ready.accepted script ready.declared (fits_of decl) (λ a records fit. fit.0))
+      (asks_epochs decl script ready.declared) over.1.0
 
   pub ended_end : (end : DriveEnd) → HasEnded decl script h end → IsEnd end h
   ended_end ends.Quiet ended = none_reached h ended.ended.0
@@ -86,4 +99,5 @@ module _ (decl : Declaration) (script : Script) (ready : IsRunnable decl script)
 
 -- the history with no entry is below every limit, and so is what is before its last event
 pub begun_below : (h : List Entry) → h ≡ [] → IsBelow (before_last_event h)
-begun_below h none = subst (λ (k : List Entry). IsBelow (before_last_event k)) (sym none) (record { steps = omega arith; operations = omega arith; carried = omega arith })
+begun_below h none = subst (λ (k : List Entry). IsBelow (before_last_event k)) (sym none)
+    (record { steps = omega arith; operations = omega arith; carried = omega arith })

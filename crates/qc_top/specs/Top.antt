@@ -5,8 +5,8 @@ use Rattle.qc_promise.specs.Committed.{committed}
 use Rattle.qc_promise.specs.Due.{Due}
 use Rattle.qc_promise.specs.Kept.{Kept}
 use Rattle.qc_core.specs.Conduct.{IsLawfulWithFalls}
-use Rattle.qc_due.specs.Whole.{IsWholeWithFalls}
-use Rattle.qc_onecopy.specs.Replay.{replay}
+use Rattle.laws_due.specs.Whole.{IsWholeWithFalls}
+use Rattle.theory_onecopy.specs.Replay.{replay}
 use Rattle.qc_decl.specs.Accepted.{IsAccepted}
 use Rattle.qc_decl.specs.declared.declaration.Declaration.{Declaration}
 use Rattle.qc_msg.specs.Steps.{Entry}

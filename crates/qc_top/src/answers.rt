@@ -9,7 +9,7 @@ ghost use Rattle.qc_words.specs.Asked.{asked_in};
 use qc_decl::{MOST_DECLARATION_BYTES, MOST_SCRIPT_BYTES};
 use qc_list::List;
 use qc_outside::{Shelf, ShelfFault};
-use qc_words::Asked;
+use qc_words::Errand;
 
 /// A file's bytes, or why there are none.
 pub type Answer = Result<List<u8>, ShelfFault>;
@@ -26,7 +26,7 @@ pub struct Answers {
 
 /// Takes the files that the words name from the shelf: the declaration's, and
 /// then the script's.
-pub fn answers_for<F: Shelf>(asked: Asked<'_>, shelf: &mut F) -> Answers
+pub fn answers_for<F: Shelf>(asked: Errand<'_>, shelf: &mut F) -> Answers
     ensures answers { AreAnswers F.gives (F.files shelf.old) (asked_in asked.entry) shelf.old shelf.new result }
     ensures files { F.files shelf.new ≡ F.files shelf.old }
     ensures count { IsCounted (F.faults shelf.old) (F.faults shelf.new) result }
@@ -54,22 +54,22 @@ fn answer_for<F: Shelf>(name: Option<&str>, limit: u32, shelf: &mut F) -> Answer
 }
 
 /// The declaration's file, which is taken first.
-fn decl_file(asked: Asked<'_>) -> Option<&str>
+fn decl_file(asked: Errand<'_>) -> Option<&str>
     ensures { option_map (λ n. n.now) result ≡ decl_file (asked_in asked.entry) }
 {
     match asked {
-        Asked::Check { decl } | Asked::Run { decl, .. } => file_of(decl),
-        Asked::Load { .. } => None,
+        Errand::Check { decl } | Errand::Run { decl, .. } => file_of(decl),
+        Errand::Load { .. } => None,
     }
 }
 
 /// The script's file, which is taken where the declaration's was given.
-fn script_file<'a>(asked: Asked<'a>, answer: &Answer) -> Option<&'a str>
+fn script_file<'a>(asked: Errand<'a>, answer: &Answer) -> Option<&'a str>
     ensures { option_map (λ n. n.now) result ≡ script_file (asked_in asked.entry) answer.now }
 {
     match asked {
-        Asked::Run { decl, script, .. } if is_built_in(decl) || answer.is_ok() => Some(script),
-        Asked::Check { .. } | Asked::Run { .. } | Asked::Load { .. } => None,
+        Errand::Run { decl, script, .. } if is_built_in(decl) || answer.is_ok() => Some(script),
+        Errand::Check { .. } | Errand::Run { .. } | Errand::Load { .. } => None,
     }
 }
 

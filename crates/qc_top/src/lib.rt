@@ -30,9 +30,9 @@ mod work;
 
 pub use answers::{Answer, Answers, answers_for};
 pub use ended::Ended;
-pub use qc_msg::What;
+pub use qc_msg::Quantity;
 pub use qc_report::{Cause, cause_text};
 pub use qc_text::{summary, text};
-pub use qc_words::{Asked, WordsFault, asked_by};
+pub use qc_words::{Errand, WordsFault, asked_by};
 pub use top::{perform, quorum_words};
 pub use work::{Output, Work};

@@ -1,7 +1,7 @@
 //! The run of a script, and how it ends.
 
 ghost use Rattle.std.specs.Prelude.{◌≡◌, option_copied};
-ghost use Rattle.qc_due.specs.Whole.{IsWholeWithFalls};
+ghost use Rattle.laws_due.specs.Whole.{IsWholeWithFalls};
 ghost use Rattle.qc_fabric.specs.Events.{before_last_event};
 ghost use Rattle.qc_fabric.specs.Limits.{IsBelow};
 ghost use Rattle.qc_node.specs.Ends.{HasEnded};
@@ -17,7 +17,7 @@ use crate::ended::{Ended, without_run};
 use crate::printing::print;
 use crate::work::Output;
 use qc_decl::Declaration;
-use qc_node::{DriveEnd, Job, Ran, run_script};
+use qc_node::{DriveEnd, Job, RunResult, run_script};
 use qc_outside::{Gate, Rack, RackFault, Sink};
 use qc_report::Cause;
 use qc_script::Script;
@@ -73,7 +73,7 @@ fn rack_cause(fault: RackFault) -> Cause
 fn finish<K: Sink>(
     alloc: Global,
     decl: &Declaration,
-    ran: Ran,
+    ran: RunResult,
     output: Output,
     sink: &mut K,
 ) -> Ended
@@ -102,7 +102,7 @@ fn finish<K: Sink>(
 fn conclude<K: Sink>(
     alloc: Global,
     decl: &Declaration,
-    ran: &Ran,
+    ran: &RunResult,
     output: Output,
     sink: &mut K,
 ) -> Cause

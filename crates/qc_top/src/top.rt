@@ -26,7 +26,7 @@ use crate::work::{Work, work_for};
 use qc_node::Job;
 use qc_outside::{Gate, Rack, Shelf, ShelfFault, Sink};
 use qc_report::Cause;
-use qc_words::{Asked, WordsFault, asked_by};
+use qc_words::{Errand, WordsFault, asked_by};
 use std::alloc::Global;
 use std::sync::Wait;
 use std::thread::Threads;
@@ -101,7 +101,7 @@ fn words_cause(fault: WordsFault) -> Cause
 pub fn perform<T, G, K, R>(
     rt: &T,
     alloc: Global,
-    asked: Asked<'_>,
+    asked: Errand<'_>,
     answers: Answers,
     gate: &G,
     sink: &mut K,
@@ -140,7 +140,7 @@ fn do_work<T, G, K, R>(
     rt: &T,
     alloc: Global,
     work: Work,
-    asked: Asked<'_>,
+    asked: Errand<'_>,
     gate: &G,
     sink: &mut K,
     rack: &mut R,
@@ -177,21 +177,21 @@ where
 }
 
 /// How many workers are asked for.
-fn workers_of(asked: Asked<'_>) -> u8
+fn workers_of(asked: Errand<'_>) -> u8
     ensures { result ≡ workers_of (asked_in asked.entry) }
 {
     match asked {
-        Asked::Check { .. } => 1,
-        Asked::Run { workers, .. } | Asked::Load { workers, .. } => workers,
+        Errand::Check { .. } => 1,
+        Errand::Run { workers, .. } | Errand::Load { workers, .. } => workers,
     }
 }
 
 /// The folder that is asked for.
-fn folder_of(asked: Asked<'_>) -> Option<&str>
+fn folder_of(asked: Errand<'_>) -> Option<&str>
     ensures { option_copied result ≡ folder_of (asked_in asked.entry) }
 {
     match asked {
-        Asked::Run { dir, .. } => dir,
-        Asked::Check { .. } | Asked::Load { .. } => None,
+        Errand::Run { dir, .. } => dir,
+        Errand::Check { .. } | Errand::Load { .. } => None,
     }
 }

@@ -22,7 +22,7 @@ use qc_list::List;
 use qc_outside::ShelfFault;
 use qc_report::Cause;
 use qc_script::{Script, ScriptFault, read};
-use qc_words::Asked;
+use qc_words::Errand;
 use std::alloc::Global;
 
 /// What a call has to do.
@@ -59,7 +59,7 @@ pub(crate) enum Source {
 
 /// What a call has to do by what its words ask, or the cause for which it has
 /// nothing to do. A file that wasn't given comes before what the files hold.
-pub(crate) fn work_for(alloc: Global, asked: Asked<'_>, answers: Answers) -> Result<Work, Cause>
+pub(crate) fn work_for(alloc: Global, asked: Errand<'_>, answers: Answers) -> Result<Work, Cause>
     requires askable { IsAskable (asked_in asked) }
     requires short { IsShort answers.script }
     ensures work { Gives (work_of (asked_in asked.entry) answers) result }
@@ -67,9 +67,9 @@ pub(crate) fn work_for(alloc: Global, asked: Asked<'_>, answers: Answers) -> Res
 {
     let Answers { decl, script } = answers;
     match asked {
-        Asked::Check { decl: name } => accept_at(alloc, name, decl),
-        Asked::Run { decl: name, .. } => run_at(alloc, name, decl, script),
-        Asked::Load { count, seed, .. } => load_work(alloc, count, seed),
+        Errand::Check { decl: name } => accept_at(alloc, name, decl),
+        Errand::Run { decl: name, .. } => run_at(alloc, name, decl, script),
+        Errand::Load { count, seed, .. } => load_work(alloc, count, seed),
     }
 }
 

@@ -1,5 +1,6 @@
 -- What words ask has names that are values, and numbers within the limits.
-use Rattle.std.proofs.Common.{◌≡◌, ◌∙◌, ℕ, ◌+◌, ◌≤◌, ◌&&◌, Bool, true, false, not, List, [], ◌∷◌, Option, Some, None, cond, codes, refl, subst, arith}
+use Rattle.std.proofs.Common.{◌≡◌, ◌∙◌, ℕ, ◌+◌, ◌≤◌, ◌&&◌, Bool, true, false, not, List, [], ◌∷◌, Option, Some, None}
+use Rattle.std.proofs.Common.{cond, codes, refl, subst, arith}
 use Rattle.std.specs.List.{find, list_all}
 use Rattle.std.specs.Option.{option_map_or}
 use Rattle.std.specs.Prelude.{option_and_then, option_map, slice_get}
@@ -9,11 +10,14 @@ use Rattle.std.proofs.lemmas.List.Folds.{list_all-append}
 use Rattle.std.proofs.lemmas.Option.{cond_some, none-some, option_and_then_some, same_Some}
 use Rattle.clap.proofs.WalkLemmas.{both}
 use Rattle.qc_words.specs.Askable.{AreFew, IsAskable, IsName, IsNameIfAny}
-use Rattle.qc_words.specs.Forms.{Form, Part, Reading, Text, Values, are_given, ended, is_among, is_given, is_value, nothing_read, option_of, option_or_place, parts_of, placed, value_of, values_in, values_of, waits_for_none, with_named, with_next, with_part, with_word, with_words}
+use Rattle.qc_words.specs.Forms.{Form, Part, Reading, Text, Values, are_given, ended, is_among, is_given, is_value}
+use Rattle.qc_words.specs.Forms.{nothing_read, option_of, option_or_place, parts_of, placed, value_of, values_in}
+use Rattle.qc_words.specs.Forms.{values_of, waits_for_none, with_named, with_next, with_part, with_word, with_words}
 use Rattle.qc_words.specs.Limits.{greatest_seed, most_transactions, most_workers}
 use Rattle.qc_number.specs.Numbers.{number_of}
 use Rattle.qc_words.specs.Numbers.{number_within, within}
-use Rattle.qc_words.specs.Words.{AskedOf, Check, asked, asked_behind, check_form, check_of, load_form, load_of, run_form, run_of, workers_of}
+use Rattle.qc_words.specs.Words.{AskedOf, Check, asked, asked_behind, check_form, check_of, load_form, load_of}
+use Rattle.qc_words.specs.Words.{run_form, run_of, workers_of}
 
 bounds : (least most : ℕ) (o : Option ℕ) (n : ℕ) → within least most o ≡ Some n → (least ≤ n) × (n ≤ most)
 bounds least most None n is = absurd (none-some n is)
@@ -22,7 +26,8 @@ bounds least most (Some m) n is =
     let b = both _ _ t.0 in
     subst (λ k. (least ≤ k) × (k ≤ most)) t.1 (leb-true least m b.0, leb-true m most b.1)
 
-number_bounds : (least most : ℕ) (word : Text) (n : ℕ) → number_within least most word ≡ Some n → (least ≤ n) × (n ≤ most)
+number_bounds : (least most : ℕ) (word : Text) (n : ℕ) → number_within least most word ≡ Some n
+    → (least ≤ n) × (n ≤ most)
 number_bounds least most word n is = bounds least most (number_of word) n is
 
 workers_few : (values : Values) (n : ℕ) → workers_of values ≡ Some n → AreFew n
@@ -36,14 +41,17 @@ workers_few values n is = by (values (codes "workers")) is
 abbrev AreNames : List Part → Type 0
 AreNames parts = list_all (λ p. is_value p.value) parts ≡ true
 
-part_named : (name text : Text) (r end : Reading) → with_part name text r ≡ Some end → AreNames r.parts → AreNames end.parts
+part_named : (name text : Text) (r end : Reading) → with_part name text r ≡ Some end → AreNames r.parts
+    → AreNames end.parts
 part_named name text r end e were =
     let t = cond_some (is_value text && not (is_given name r.parts)) _ end e in
     let fits = (both (is_value text) (not (is_given name r.parts)) t.0).0 in
     let one : AreNames (record { name = name; value = text } ∷ []) = and_from _ _ fits refl in
-    subst (λ (end : Reading). AreNames end.parts) t.1 (list_all-append (λ p. is_value p.value) r.parts _ ∙ and_from _ _ were one)
+    subst (λ (end : Reading). AreNames end.parts) t.1
+    (list_all-append (λ p. is_value p.value) r.parts _ ∙ and_from _ _ were one)
 
-word_named : (form : Form) (waits : Option Text) (word : Text) (r end : Reading) → with_next form waits word r ≡ Some end → AreNames r.parts → AreNames end.parts
+word_named : (form : Form) (waits : Option Text) (word : Text) (r end : Reading)
+    → with_next form waits word r ≡ Some end → AreNames r.parts → AreNames end.parts
 word_named form (Some name) word r end e were = part_named name word r end e were
 word_named form None word r end e were = by (option_of word) e
   where
@@ -67,7 +75,8 @@ word_named form None word r end e were = by (option_of word) e
         go true e = said named.0 named.1 e
         go false e = absurd (none-some end e)
 
-words_named : (form : Form) (words : List Text) (r end : Reading) → with_words form r words ≡ Some end → AreNames r.parts → AreNames end.parts
+words_named : (form : Form) (words : List Text) (r end : Reading) → with_words form r words ≡ Some end
+    → AreNames r.parts → AreNames end.parts
 words_named form [] r end e were = subst (λ (end : Reading). AreNames end.parts) (same_Some r end e) were
 words_named form (word ∷ words) r end e were =
     option_and_then_some (λ more. with_words form more words) (with_word form r word) end e
@@ -84,11 +93,13 @@ named_values (p ∷ parts) are name text e =
     by (bytes_eq p.name name) b.0 (named_values parts b.1 name text) e
   where
     by : (t : Bool) → IsName p.value → (value_of name parts ≡ Some text → IsName text)
-        → option_map (λ (p : Part). p.value) (cond t (Some p) (find (λ p. bytes_eq p.name name) parts)) ≡ Some text → IsName text
+        → option_map (λ (p : Part). p.value) (cond t (Some p) (find (λ p. bytes_eq p.name name) parts)) ≡ Some text
+        → IsName text
     by true one rest e = subst IsName (same_Some p.value text e) one
     by false one rest e = rest e
 
-values_named : (form : Form) (words : List Text) (values : Values) → values_of form words ≡ Some values → GiveNames values
+values_named : (form : Form) (words : List Text) (values : Values) → values_of form words ≡ Some values
+    → GiveNames values
 values_named form words values e = by (parts_of form words) refl e
   where
     by : (o : Option (List Part)) → parts_of form words ≡ o → option_map values_in o ≡ Some values → GiveNames values
@@ -134,16 +145,23 @@ load_askable values a is =
     option_and_then_some _ (workers_of values) a e (λ workers few e.
     let c = number_bounds 1 most_transactions count transactions counted in
     let s = number_bounds 0 greatest_seed seed first seeded in
-    subst IsAskable (same_Some _ a e) (record { least = c.0; most = c.1; within = s.1; are_few = workers_few values workers few }))))))
+    subst IsAskable (same_Some _ a e) (record
+    { least = c.0; most = c.1; within = s.1; are_few = workers_few values workers few }))))))
 
 behind_askable : (command : Text) (words : List Text) (a : AskedOf) → asked_behind command words ≡ Some a → IsAskable a
-behind_askable command words a is = by (bytes_eq command (codes "check")) (bytes_eq command (codes "run")) (bytes_eq command (codes "load")) is
+behind_askable command words a is = by (bytes_eq command (codes "check")) (bytes_eq command (codes "run"))
+    (bytes_eq command (codes "load")) is
   where
     by : (check run load : Bool)
-        → cond check (option_and_then check_of (values_of check_form words)) (cond run (option_and_then run_of (values_of run_form words)) (cond load (option_and_then load_of (values_of load_form words)) None)) ≡ Some a → IsAskable a
-    by true run load e = option_and_then_some check_of (values_of check_form words) a e (λ values has e. check_askable values a (values_named check_form words values has) e)
-    by false true load e = option_and_then_some run_of (values_of run_form words) a e (λ values has e. run_askable values a (values_named run_form words values has) e)
-    by false false true e = option_and_then_some load_of (values_of load_form words) a e (λ values _ e. load_askable values a e)
+        → cond check (option_and_then check_of (values_of check_form words))
+        (cond run (option_and_then run_of (values_of run_form words))
+        (cond load (option_and_then load_of (values_of load_form words)) None)) ≡ Some a → IsAskable a
+    by true run load e = option_and_then_some check_of (values_of check_form words) a e
+        (λ values has e. check_askable values a (values_named check_form words values has) e)
+    by false true load e = option_and_then_some run_of (values_of run_form words) a e
+        (λ values has e. run_askable values a (values_named run_form words values has) e)
+    by false false true e = option_and_then_some load_of (values_of load_form words) a e
+        (λ values _ e. load_askable values a e)
     by false false false e = absurd (none-some a e)
 
 pub asks_askable : (words : List Text) (a : AskedOf) → asked words ≡ Some a → IsAskable a

@@ -1,9 +1,11 @@
 -- What `clap`'s walk makes of a word that the test takes, at a command without subcommands: a value of a place, an
 -- option, or an option's value.
-use Rattle.std.proofs.Common.{◌≡◌, ◌==◌, ℕ, List, [], ◌∷◌, Bool, true, false, Some, None, not, refl, rules, true≢false, sym}
+use Rattle.std.proofs.Common.{◌≡◌, ◌==◌, ℕ, List, [], ◌∷◌, Bool, true, false, Some, None, not, refl, rules, true≢false}
+use Rattle.std.proofs.Common.{sym}
 use Rattle.std.specs.Str.{bytes_eq}
 use Rattle.clap.specs.Lexer.{long_of, short_of}
-use Rattle.clap.specs.Walk.{Held, Rule, arg_by_id, arg_by_long, idle, most_values, next, option, pushed, reacted, settled, takes_values, value, word_met}
+use Rattle.clap.specs.Walk.{Held, Rule, arg_by_id, arg_by_long, idle, most_values, next, option, pushed, reacted}
+use Rattle.clap.specs.Walk.{settled, takes_values, value, word_met}
 use Rattle.qc_words.specs.Forms.{Text, option_of, is_value}
 
 -- a word that is no flag
@@ -52,12 +54,14 @@ bytes_same t = search rules
 pub value_met : (args : List Rule) (position : ℕ) (a : Rule) (id word : Text) (h : Held) → IsPlain word
     → arg_by_id args id ≡ Some a → most_values a ≡ 1 → id ≡ a.id → h.pending ≡ Some (id, [])
     → word_met args [] false (option id) position word h ≡ (pushed id word h, next idle)
-value_met args position a id word h p found one same waits = rw (p.dashes, p.long, p.short, found, one, waits, same) (rw (bytes_same a.id) refl)
+value_met args position a id word h p found one same waits =
+    rw (p.dashes, p.long, p.short, found, one, waits, same) (rw (bytes_same a.id) refl)
 
 pub option_met : (args : List Rule) (position : ℕ) (a : Rule) (word name : Text) (h : Held)
     → bytes_eq word (45 ∷ 45 ∷ []) ≡ false → long_of word ≡ Some (name, None)
     → arg_by_long args name ≡ Some a → takes_values a ≡ true
-    → word_met args [] false idle position word h ≡ (record (settled args h) { pending = Some (a.id, []) }, next (option a.id))
+    → word_met args [] false idle position word h ≡
+    (record (settled args h) { pending = Some (a.id, []) }, next (option a.id))
 option_met args position a word name h other long found takes = rw (other, long, found, takes) refl
 
 pub joined_met : (args : List Rule) (position : ℕ) (a : Rule) (word name v : Text) (h : Held)

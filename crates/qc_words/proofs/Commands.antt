@@ -1,5 +1,6 @@
 -- Commands to which rules are added, one after another.
-use Rattle.std.proofs.Common.{◌≡◌, ◌∙◌, ℕ, suc, ◌+◌, ◌<◌, List, [], ◌∷◌, ap, ap₂, append-nil, append_assoc, arith, drop, drop-cons, get_or, length, map, sym, Bor}
+use Rattle.std.proofs.Common.{◌≡◌, ◌∙◌, ℕ, suc, ◌+◌, ◌<◌, List, [], ◌∷◌, ap, ap₂, append-nil, append_assoc, arith, drop}
+use Rattle.std.proofs.Common.{drop-cons, get_or, length, map, sym, Bor}
 use Rattle.clap.specs.Simple.{App, on_top, with_rule}
 use Rattle.clap.specs.Walk.{Rule}
 use Rattle.qc_words.specs.Parts.{texts_of}
@@ -13,7 +14,8 @@ with_more : (a : App) (r : Rule) (rules : List Rule) → with_rules (with_rule a
 with_more a r rules = ap (λ all. on_top (λ s. record s { rules = all }) a) (append_assoc a.top.rules (r ∷ []) rules)
 
 -- a loop over names adds the next one's rule
-pub rule_added : (f : Text → Rule) (names : List (Bor Text)) (i : ℕ) (d : Bor Text) (start now after : App) → i < length names → after ≡ with_rule now (f (get_or names i d).now)
+pub rule_added : (f : Text → Rule) (names : List (Bor Text)) (i : ℕ) (d : Bor Text) (start now after : App)
+    → i < length names → after ≡ with_rule now (f (get_or names i d).now)
     → with_rules now (map f (texts_of (drop i names))) ≡ with_rules start (map f (texts_of names))
     → with_rules after (map f (texts_of (drop (i + 1) names))) ≡ with_rules start (map f (texts_of names))
 rule_added f names i d start now after lt is was =

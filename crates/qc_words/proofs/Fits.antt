@@ -1,5 +1,6 @@
 -- What `clap` reads of a form's command: where it finds the rule of each place and each option.
-use Rattle.std.proofs.Common.{◌≡◌, ◌⊎◌, ℕ, zero, suc, ◌+◌, ◌≤◌, ◌||◌, Bool, true, false, List, [], ◌∷◌, Some, codes, inl, inr, length, not, refl, subst, sym, true≢false, arith}
+use Rattle.std.proofs.Common.{◌≡◌, ◌⊎◌, ℕ, zero, suc, ◌+◌, ◌≤◌, ◌||◌, Bool, true, false, List, [], ◌∷◌, Some, codes}
+use Rattle.std.proofs.Common.{inl, inr, length, not, refl, subst, sym, true≢false, arith}
 use Rattle.std.specs.List.{list_all}
 use Rattle.std.specs.Prelude.{slice_get}
 use Rattle.std.specs.Str.{bytes_eq}
@@ -55,7 +56,8 @@ abbrev option_at : Text → Rule
 option_at name = with_index 0 (filled (option_rule name))
 
 -- rules in which a place's name, or an option's, is found are so for each name that is the same
-place_of : (rules : List Rule) (i : ℕ) (one name : Text) → arg_by_index rules i ≡ Some (place_at i one) → arg_by_id rules one ≡ Some (place_at i one)
+place_of : (rules : List Rule) (i : ℕ) (one name : Text) → arg_by_index rules i ≡ Some (place_at i one)
+    → arg_by_id rules one ≡ Some (place_at i one)
     → Some one ≡ Some name → IsPlace rules i name
 place_of rules i one name found by_id same = subst (IsPlace rules i) (same_Some one name same) (record {
   rule = place_at i one;
@@ -64,7 +66,8 @@ place_of rules i one name found by_id same = subst (IsPlace rules i) (same_Some 
   one = record { id = refl; action = refl; range = refl; parser = refl; trailing = refl };
 })
 
-option_of : (rules : List Rule) (one name : Text) → arg_by_long rules one ≡ Some (option_at one) → arg_by_id rules one ≡ Some (option_at one)
+option_of : (rules : List Rule) (one name : Text) → arg_by_long rules one ≡ Some (option_at one)
+    → arg_by_id rules one ≡ Some (option_at one)
     → one ≡ name → IsOption rules name
 option_of rules one name found by_id same = subst (IsOption rules) same (record {
   rule = option_at one;
@@ -73,23 +76,28 @@ option_of rules one name found by_id same = subst (IsOption rules) same (record 
   one = record { id = refl; action = refl; range = refl; parser = refl; trailing = refl };
 })
 
-among : (one : Text) (names : List Text) (name : Text) → is_among (one ∷ names) name ≡ true → (one ≡ name) ⊎ (is_among names name ≡ true)
+among : (one : Text) (names : List Text) (name : Text) → is_among (one ∷ names) name ≡ true
+    → (one ≡ name) ⊎ (is_among names name ≡ true)
 among one names name e = by (bytes_eq one name) refl e
   where
-    by : (t : Bool) → bytes_eq one name ≡ t → (t || is_among names name) ≡ true → (one ≡ name) ⊎ (is_among names name ≡ true)
+    by : (t : Bool) → bytes_eq one name ≡ t → (t || is_among names name) ≡ true
+        → (one ≡ name) ⊎ (is_among names name ≡ true)
     by true is e = inl ((bytes_eq-Decides one name).0 is)
     by false is e = inr e
 
-check_place : (i : ℕ) (name : Text) → slice_get check_form.places i ≡ Some name → IsPlace (shape check_form).rules (i + 1) name
+check_place : (i : ℕ) (name : Text) → slice_get check_form.places i ≡ Some name
+    → IsPlace (shape check_form).rules (i + 1) name
 check_place zero name e = place_of (shape check_form).rules 1 (codes "DECL") name refl refl e
 check_place (suc i) name e = absurd (none-some name e)
 
-run_place : (i : ℕ) (name : Text) → slice_get run_form.places i ≡ Some name → IsPlace (shape run_form).rules (i + 1) name
+run_place : (i : ℕ) (name : Text) → slice_get run_form.places i ≡ Some name
+    → IsPlace (shape run_form).rules (i + 1) name
 run_place zero name e = place_of (shape run_form).rules 1 (codes "DECL") name refl refl e
 run_place (suc zero) name e = place_of (shape run_form).rules 2 (codes "SCRIPT") name refl refl e
 run_place (suc (suc i)) name e = absurd (none-some name e)
 
-load_place : (i : ℕ) (name : Text) → slice_get load_form.places i ≡ Some name → IsPlace (shape load_form).rules (i + 1) name
+load_place : (i : ℕ) (name : Text) → slice_get load_form.places i ≡ Some name
+    → IsPlace (shape load_form).rules (i + 1) name
 load_place zero name e = place_of (shape load_form).rules 1 (codes "COUNT") name refl refl e
 load_place (suc zero) name e = place_of (shape load_form).rules 2 (codes "SEED") name refl refl e
 load_place (suc (suc i)) name e = absurd (none-some name e)
@@ -158,5 +166,9 @@ Suits form = (is_simple (command_for form) ≡ true) × Fits form (built (comman
 pub form_fits : (form : Form) → IsForm form → Suits form
 form_fits form is = elim is [
   | inl check ↦ subst Suits (sym check) (refl, check_fits)
-  | inr other ↦ elim other [ inl run ↦ subst Suits (sym run) (refl, run_fits) | inr load ↦ subst Suits (sym load) (refl, load_fits) ]
+  | inr other ↦ elim other [
+    | inl run ↦ subst Suits (sym run) (refl, run_fits)
+    | inr load ↦ subst Suits (sym load)
+        (refl, load_fits)
+  ]
 ]

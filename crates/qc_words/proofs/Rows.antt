@@ -1,10 +1,12 @@
 -- The rows that `clap` holds for parts, in their order.
-use Rattle.std.proofs.Common.{◌≡◌, ◌∙◌, ◌||◌, List, [], ◌∷◌, ◌++◌, Bool, true, false, Some, None, refl, ap, sym, map, append-nil, true≢false}
+use Rattle.std.proofs.Common.{◌≡◌, ◌∙◌, ◌||◌, List, [], ◌∷◌, ◌++◌, Bool, true, false, Some, None, refl, ap, sym, map}
+use Rattle.std.proofs.Common.{append-nil, true≢false}
 use Rattle.std.specs.List.{list_all}
 use Rattle.std.specs.Str.{bytes_eq}
 use Rattle.clap.proofs.WalkLemmas.{list_any-map}
 use Rattle.clap.specs.Takes as passes
-use Rattle.clap.specs.Walk.{Row, Rule, at_row, first_of, has_row, is_multiple, more_values, most_values, takes_several, takes_values, used}
+use Rattle.clap.specs.Walk.{Row, Rule, at_row, first_of, has_row, is_multiple, more_values, most_values, takes_several}
+use Rattle.clap.specs.Walk.{takes_values, used}
 use Rattle.clap.specs.declared.builder.action.ArgAction.TheVariants.{Set}
 use Rattle.clap.specs.declared.builder.value_parser.Reading.TheVariants.{AsWritten}
 use Rattle.clap.specs.declared.builder.value_parser.ValueParser.TheVariants as parsers
@@ -44,7 +46,8 @@ or_false true b e = absurd (true≢false e)
 or_false false b e = (refl, e)
 
 -- a row joins behind the others where none has its id
-at_no_row : (id : Text) (change : Row → List Row) (missing rows : List Row) → has_row id rows ≡ false → at_row id change missing rows ≡ rows ++ missing
+at_no_row : (id : Text) (change : Row → List Row) (missing rows : List Row) → has_row id rows ≡ false
+    → at_row id change missing rows ≡ rows ++ missing
 at_no_row id change missing [] none = refl
 at_no_row id change missing (r ∷ rows) none =
     let parts = or_false (bytes_eq r.id id) (has_row id rows) none in
@@ -54,7 +57,9 @@ pub used_once : (a : Rule) (name value : Text) (rows : List Row) → IsOne a nam
     → used a (value ∷ []) rows ≡ rows ++ row (record { name = name; value = value }) ∷ []
 used_once a name value rows one none =
     let kept = at_no_row name (λ _. []) [] rows none ∙ append-nil rows in
-    rw (one.action, one.parser, one.id) (rw kept (at_no_row name (more_values CommandLine (value ∷ [])) (row (record { name = name; value = value }) ∷ []) rows none))
+    rw (one.action, one.parser, one.id) (rw kept
+    (at_no_row name (more_values CommandLine (value ∷ []))
+    (row (record { name = name; value = value }) ∷ []) rows none))
 
 pub no_row_of : (name : Text) (parts : List Part) → is_given name parts ≡ false → has_row name (map row parts) ≡ false
 no_row_of name parts none = sym (list_any-map (λ r. bytes_eq r.id name) row parts) ∙ none
@@ -78,5 +83,6 @@ given_here name (p ∷ parts) = by (bytes_eq p.name name) refl (given_here name 
     by true is rest = rw is refl
     by false is rest = rw is rest
 
-pub given_rows : (names : List Text) (parts : List Part) → list_all (λ name. passes.is_given name (map row parts)) names ≡ are_given names parts
+pub given_rows : (names : List Text) (parts : List Part)
+    → list_all (λ name. passes.is_given name (map row parts)) names ≡ are_given names parts
 given_rows names parts = λ i. list_all (λ name. given_here name parts i) names

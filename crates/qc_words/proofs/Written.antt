@@ -29,24 +29,40 @@ number_is n few =
     (digits_are_value (decimal n) is.0 is.1, number_read n few)
 
 within_is : (least most n : ℕ) → least ≤ n → n ≤ most → most ≤ 99999 → number_within least most (decimal n) ≡ Some n
-within_is least most n above below few = rw ((number_is n (omega arith)).1, le-leb least n above, le-leb n most below) refl
+within_is least most n above below few =
+    rw ((number_is n (omega arith)).1, le-leb least n above, le-leb n most below) refl
 
 check_read : (decl : Text) → IsName decl → asked (words_in (Check decl)) ≡ Some (Check decl)
 check_read decl name = rw (no_option decl name, name) refl
 
-run_read : (decl script : Text) (workers : ℕ) (dir : Option Text) → IsRun decl script workers dir → asked (words_in (Run decl script workers dir)) ≡ Some (Run decl script workers dir)
+run_read : (decl script : Text) (workers : ℕ) (dir : Option Text) → IsRun decl script workers dir
+    → asked (words_in (Run decl script workers dir)) ≡ Some (Run decl script workers dir)
 run_read decl script workers None is =
     let few : workers ≤ 8 = is.are_few.1 in
     let number = number_is workers (omega arith) in
-    rw (no_option decl is.decl_is_name, is.decl_is_name, no_option script is.script_is_name, is.script_is_name, number.0)
+    rw (
+      no_option decl is.decl_is_name,
+      is.decl_is_name,
+      no_option script is.script_is_name,
+      is.script_is_name,
+      number.0,
+    )
     (rw (within_is 1 most_workers workers is.are_few.0 is.are_few.1 (omega arith)) refl)
 run_read decl script workers (Some dir) is =
     let few : workers ≤ 8 = is.are_few.1 in
     let number = number_is workers (omega arith) in
-    rw (no_option decl is.decl_is_name, is.decl_is_name, no_option script is.script_is_name, is.script_is_name, number.0, is.dir_is_name)
+    rw (
+      no_option decl is.decl_is_name,
+      is.decl_is_name,
+      no_option script is.script_is_name,
+      is.script_is_name,
+      number.0,
+      is.dir_is_name,
+    )
     (rw (within_is 1 most_workers workers is.are_few.0 is.are_few.1 (omega arith)) refl)
 
-load_read : (count seed workers : ℕ) → IsLoad count seed workers → asked (words_in (Load count seed workers)) ≡ Some (Load count seed workers)
+load_read : (count seed workers : ℕ) → IsLoad count seed workers
+    → asked (words_in (Load count seed workers)) ≡ Some (Load count seed workers)
 load_read count seed workers is =
     let few : workers ≤ 8 = is.are_few.1 in
     let most = is.most in
@@ -55,7 +71,11 @@ load_read count seed workers is =
     let seeded = number_is seed (omega arith) in
     let number = number_is workers (omega arith) in
     rw (no_option (decimal count) counted.0, counted.0, no_option (decimal seed) seeded.0, seeded.0, number.0)
-    (rw (within_is 1 most_transactions count is.least is.most (omega arith), within_is 0 greatest_seed seed (omega arith) is.within (omega arith), within_is 1 most_workers workers is.are_few.0 is.are_few.1 (omega arith)) refl)
+    (rw (
+      within_is 1 most_transactions count is.least is.most (omega arith),
+      within_is 0 greatest_seed seed (omega arith) is.within (omega arith),
+      within_is 1 most_workers workers is.are_few.0 is.are_few.1 (omega arith),
+    ) refl)
 
 pub read_as_written : (a : AskedOf) → IsAskable a → asked (words_in a) ≡ Some a
 read_as_written (Check decl) is = check_read decl is

@@ -1,12 +1,12 @@
 -- What code says that words ask, and tells where it doesn't, as the definition has it.
 use Rattle.std.specs.Prelude.{◌≡◌, Option, None, option_map}
 use Rattle.qc_words.specs.Words.{AskedOf, Check, Run, Load}
-use Rattle.qc_words.specs.declared.asked.Asked.{Asked}
-use Rattle.qc_words.specs.declared.asked.Asked.TheVariants as asks
+use Rattle.qc_words.specs.declared.asked.Errand.{Errand}
+use Rattle.qc_words.specs.declared.asked.Errand.TheVariants as asks
 use Rattle.qc_words.specs.declared.fault.WordsFault.{WordsFault}
 use Rattle.qc_words.specs.declared.fault.WordsFault.TheVariants.{Usage, OutOfMemory}
 
-abbrev pub asked_in : Asked → AskedOf
+abbrev pub asked_in : Errand → AskedOf
 asked_in (asks.Check decl) = Check decl.now
 asked_in (asks.Run decl script workers dir) = Run decl.now script.now workers (option_map (λ d. d.now) dir)
 asked_in (asks.Load count seed workers) = Load count seed workers

@@ -18,7 +18,7 @@ use std::alloc::Global;
 
 /// What the program is asked.
 #[derive(Clone, Copy, PartialEq, Eq)]
-pub enum Asked<'a> {
+pub enum Errand<'a> {
     /// Whether the declaration of this name is accepted.
     Check {
         /// The declaration's name.
@@ -69,7 +69,7 @@ const LOAD: Form<'static> = Form {
 /// # Errors
 /// `Usage` where the words have the form of no command, exactly. `OutOfMemory`
 /// may come in place of anything.
-pub fn asked_by<'a>(alloc: Global, words: &'a [&'a str]) -> Result<Asked<'a>, WordsFault>
+pub fn asked_by<'a>(alloc: Global, words: &'a [&'a str]) -> Result<Errand<'a>, WordsFault>
     ensures { MatchResult result
         (λ a. asked (texts_of words.entry.now) ≡ Some (asked_in a))
         (λ fault. IsTold fault (asked (texts_of words.entry.now))) }
@@ -81,7 +81,7 @@ pub fn asked_by<'a>(alloc: Global, words: &'a [&'a str]) -> Result<Asked<'a>, Wo
 }
 
 /// What the words ask, where they have the form of a command.
-fn read<'a>(alloc: Global, words: &'a [&'a str]) -> Result<Option<Asked<'a>>, OutOfMemory>
+fn read<'a>(alloc: Global, words: &'a [&'a str]) -> Result<Option<Errand<'a>>, OutOfMemory>
     ensures { IfOk result (λ a. option_map asked_in a ≡ asked (texts_of words.entry.now)) }
 {
     let [command, behind @ ..] = words else {
@@ -99,7 +99,7 @@ fn read<'a>(alloc: Global, words: &'a [&'a str]) -> Result<Option<Asked<'a>>, Ou
 }
 
 /// What `check` asks by the words behind it.
-fn check_by<'a>(alloc: Global, words: &'a [&'a str]) -> Result<Option<Asked<'a>>, OutOfMemory>
+fn check_by<'a>(alloc: Global, words: &'a [&'a str]) -> Result<Option<Errand<'a>>, OutOfMemory>
     ensures { IfOk result (λ a. option_map asked_in a
         ≡ option_and_then check_of (values_of check_form (texts_of words.entry.now))) }
 {
@@ -110,7 +110,7 @@ fn check_by<'a>(alloc: Global, words: &'a [&'a str]) -> Result<Option<Asked<'a>>
 }
 
 /// What `run` asks by the words behind it.
-fn run_by<'a>(alloc: Global, words: &'a [&'a str]) -> Result<Option<Asked<'a>>, OutOfMemory>
+fn run_by<'a>(alloc: Global, words: &'a [&'a str]) -> Result<Option<Errand<'a>>, OutOfMemory>
     ensures { IfOk result (λ a. option_map asked_in a
         ≡ option_and_then run_of (values_of run_form (texts_of words.entry.now))) }
 {
@@ -121,7 +121,7 @@ fn run_by<'a>(alloc: Global, words: &'a [&'a str]) -> Result<Option<Asked<'a>>, 
 }
 
 /// What `load` asks by the words behind it.
-fn load_by<'a>(alloc: Global, words: &'a [&'a str]) -> Result<Option<Asked<'a>>, OutOfMemory>
+fn load_by<'a>(alloc: Global, words: &'a [&'a str]) -> Result<Option<Errand<'a>>, OutOfMemory>
     ensures { IfOk result (λ a. option_map asked_in a
         ≡ option_and_then load_of (values_of load_form (texts_of words.entry.now))) }
 {
@@ -132,19 +132,19 @@ fn load_by<'a>(alloc: Global, words: &'a [&'a str]) -> Result<Option<Asked<'a>>,
 }
 
 /// What the values of `check` ask.
-fn check_of<'a>(values: &ArgMatches<'a>) -> Option<Asked<'a>>
+fn check_of<'a>(values: &ArgMatches<'a>) -> Option<Errand<'a>>
     ensures { option_map asked_in result ≡ check_of (found_in values.now) }
 {
-    Some(Asked::Check {
+    Some(Errand::Check {
         decl: values.get_str("DECL")?,
     })
 }
 
 /// What the values of `run` ask.
-fn run_of<'a>(values: &ArgMatches<'a>) -> Option<Asked<'a>>
+fn run_of<'a>(values: &ArgMatches<'a>) -> Option<Errand<'a>>
     ensures { option_map asked_in result ≡ run_of (found_in values.now) }
 {
-    Some(Asked::Run {
+    Some(Errand::Run {
         decl: values.get_str("DECL")?,
         script: values.get_str("SCRIPT")?,
         workers: workers_of(values)?,
@@ -153,12 +153,12 @@ fn run_of<'a>(values: &ArgMatches<'a>) -> Option<Asked<'a>>
 }
 
 /// What the values of `load` ask.
-fn load_of<'a>(values: &ArgMatches<'a>) -> Option<Asked<'a>>
+fn load_of<'a>(values: &ArgMatches<'a>) -> Option<Errand<'a>>
     ensures { option_map asked_in result ≡ load_of (found_in values.now) }
 {
     let count = values.get_str("COUNT")?;
     let seed = values.get_str("SEED")?;
-    Some(Asked::Load {
+    Some(Errand::Load {
         count: number_within(1, MOST_TRANSACTIONS, count)?,
         seed: number_within(0, GREATEST_SEED, seed)?,
         workers: workers_of(values)?,

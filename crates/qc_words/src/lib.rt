@@ -24,7 +24,7 @@ mod limits;
 mod matching;
 mod number;
 
-pub use asked::{Asked, asked_by};
+pub use asked::{Errand, asked_by};
 pub use fault::WordsFault;
 pub use laws::{
     options_are_one_word_or_two, options_stand_anywhere, words_are_read_as_written,

@@ -29,7 +29,7 @@ mod progress;
 use crate::progress::Progress;
 use qc_files::{FileRack, FileShelf, OutSink};
 use qc_outside::{Gate, MemRack, Tear};
-use qc_top::{Asked, Cause, Ended, WordsFault, asked_by, cause_text, quorum_words};
+use qc_top::{Cause, Ended, Errand, WordsFault, asked_by, cause_text, quorum_words};
 use std::alloc::{AllocError, Global};
 use std::env::Args;
 use std::io::{self, ErrorKind, Write};
@@ -82,8 +82,8 @@ fn name_a_folder(alloc: Global, words: &[&str]) -> Result<bool, AllocError>
     ensures { IfOk result (λ b. b ≡ is_some (folder_in (texts_of words.now))) }
 {
     match asked_by(alloc, words) {
-        Ok(Asked::Run { dir, .. }) => Ok(dir.is_some()),
-        Ok(Asked::Check { .. } | Asked::Load { .. }) | Err(WordsFault::Usage) => Ok(false),
+        Ok(Errand::Run { dir, .. }) => Ok(dir.is_some()),
+        Ok(Errand::Check { .. } | Errand::Load { .. }) | Err(WordsFault::Usage) => Ok(false),
         Err(WordsFault::OutOfMemory) => Err(AllocError),
     }
 }

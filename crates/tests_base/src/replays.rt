@@ -3,10 +3,10 @@
 use qc_decl::{Declaration, built_in};
 use qc_entry::{Commit, Op};
 use qc_list::{List, OutOfMemory};
-use qc_onecopy::replay;
 use qc_stamp::{Stamp, TxId};
 use std::alloc::Global;
 use std::test::Fail;
+use theory_onecopy::replay;
 
 const STAMP: Stamp = Stamp {
     clock: 1,

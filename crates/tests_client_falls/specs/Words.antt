@@ -16,7 +16,7 @@ use Rattle.qc_msg.specs.declared.record.Record.TheVariants as records
 use Rattle.qc_msg.specs.declared.reply.Reply.TheVariants as replies
 use Rattle.qc_msg.specs.declared.step.Command.{Command}
 use Rattle.qc_msg.specs.declared.step.Command.TheVariants as commands
-use Rattle.qc_msg.specs.declared.step.Given.TheVariants as given
+use Rattle.qc_msg.specs.declared.step.Input.TheVariants as inputs
 use Rattle.qc_msg.specs.Deeds.{Deed, Takes, Writes, Sends, Tells}
 
 -- a transaction, by its client, the client's life, and its number
@@ -49,10 +49,10 @@ commit stamp tx ops = records.Commit (record { stamp = stamp; tx = tx; ops = ops
 -- it is called, and gets a message of this number and sender
 
 abbrev pub called : Command → Deed
-called command = Takes (given.Called command)
+called command = Takes (inputs.Called command)
 
 abbrev pub got : ℕ → ℕ → Message → Deed
-got number from message = Takes (given.Got (record { number = number; from = from; to = 3; message = message }))
+got number from message = Takes (inputs.Got (record { number = number; from = from; to = 3; message = message }))
 
 -- what the others begin with: it writes an object blindly, tells a site that asks that its transaction is active, and
 -- commits

@@ -13,7 +13,7 @@ use Rattle.qc_msg.specs.declared.message.Answer.{Answer}
 use Rattle.qc_msg.specs.declared.message.Answer.TheVariants as answers
 use Rattle.qc_msg.specs.declared.message.Message.{Message}
 use Rattle.qc_msg.specs.declared.message.Message.TheVariants as messages
-use Rattle.qc_msg.specs.declared.reply.Why.{Why}
+use Rattle.qc_msg.specs.declared.reply.AbortCause.{AbortCause}
 use Rattle.qc_msg.specs.declared.step.Command.{Command}
 use Rattle.qc_msg.specs.declared.step.Command.TheVariants as commands
 use Rattle.qc_msg.specs.declared.turn.Turn.{Turn}
@@ -134,7 +134,7 @@ desk-learned desk (Some (answers.Answered verdict)) bound low small = low
 
 vote-clock : (desk : Desk) (number : ℕ) (answer : Option Answer) (bound : ℕ) → desk.clock.value ≤ bound → told answer ≤ bound → (desks.vote desk number answer).desk.clock.value ≤ bound + 1
 vote-clock desk number answer bound low small = by desk.voting where
-  out : (learned : Desk) (b : Begun) (o : Option Why) → learned.clock.value ≤ bound → (desks.counted_out learned b o).desk.clock.value ≤ bound + 1
+  out : (learned : Desk) (b : Begun) (o : Option AbortCause) → learned.clock.value ≤ bound → (desks.counted_out learned b o).desk.clock.value ≤ bound + 1
   out learned b (Some why) is = omega arith
   out learned b None is = omega arith
 

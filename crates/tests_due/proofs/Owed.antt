@@ -9,8 +9,8 @@ use Rattle.qc_msg.specs.declared.record.Record.TheVariants as records
 use Rattle.qc_msg.specs.declared.reply.Reply.{Reply}
 use Rattle.qc_msg.specs.declared.reply.Reply.TheVariants as replies
 use Rattle.qc_msg.specs.declared.step.Command.{Command}
-use Rattle.qc_msg.specs.declared.step.Given.{Given}
-use Rattle.qc_msg.specs.declared.step.Given.TheVariants as given
+use Rattle.qc_msg.specs.declared.step.Input.{Input}
+use Rattle.qc_msg.specs.declared.step.Input.TheVariants as inputs
 use Rattle.qc_msg.specs.Deeds.{Deed, Takes, Writes, Sends, Tells, Falls, Rises, deeds}
 use Rattle.qc_msg.specs.Steps.{Entry}
 use Rattle.qc_promise.specs.Account.{Account, new_account}
@@ -33,10 +33,10 @@ pub record Owed : Type 0 where
 abbrev nothing : Owed
 nothing = record { reply = None; command = None; commit = None; before = None; pending = None; acts = []; own = true }
 
-abbrev owed_for : Account → Option Reply → Given → Owed
-owed_for d row (given.Called command) = record nothing { reply = row; command = d.command }
-owed_for d row (given.Got envelope) = record nothing { reply = row }
-owed_for d row (given.Lost number) = record nothing { reply = row }
+abbrev owed_for : Account → Option Reply → Input → Owed
+owed_for d row (inputs.Called command) = record nothing { reply = row; command = d.command }
+owed_for d row (inputs.Got envelope) = record nothing { reply = row }
+owed_for d row (inputs.Lost number) = record nothing { reply = row }
 
 abbrev owed_record : Account → Option Reply → Record → Owed
 owed_record d row records.Life = nothing
@@ -71,10 +71,10 @@ abbrev all_given : Declaration → Account → List Deed → List Owed
 all_given decl d [] = []
 all_given decl d (x ∷ after) = given_at d x after ∷ all_given decl (account_at decl d x) after
 
-by_given : (d : Account) (row : Option Reply) (g : Given) → owed_for d row g ≡ nothing → IsInputDue d row g
-by_given d row (given.Called command) same = (ap (λ (o : Owed). o.reply) same, ap (λ (o : Owed). o.command) same)
-by_given d row (given.Got envelope) same = (ap (λ (o : Owed). o.reply) same, tt)
-by_given d row (given.Lost number) same = (ap (λ (o : Owed). o.reply) same, tt)
+by_given : (d : Account) (row : Option Reply) (g : Input) → owed_for d row g ≡ nothing → IsInputDue d row g
+by_given d row (inputs.Called command) same = (ap (λ (o : Owed). o.reply) same, ap (λ (o : Owed). o.command) same)
+by_given d row (inputs.Got envelope) same = (ap (λ (o : Owed). o.reply) same, tt)
+by_given d row (inputs.Lost number) same = (ap (λ (o : Owed). o.reply) same, tt)
 
 strange : ◌≡◌ {A = Bool} false true → ⊥
 strange e = let never : ⊥ = cc in never

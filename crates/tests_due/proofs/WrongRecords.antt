@@ -7,7 +7,7 @@ use Rattle.qc_msg.specs.Deeds.{deeds}
 use Rattle.qc_promise.specs.Replies.{AreRepliesDue}
 use Rattle.tests_histories.specs.Words.{operation, stamp, tx}
 use Rattle.tests_due.proofs.Places.{clock_told, count_written, due_at}
-use Rattle.qc_msg.specs.declared.reply.Why.TheVariants as causes
+use Rattle.qc_msg.specs.declared.reply.AbortCause.TheVariants as causes
 use Rattle.qc_msg.specs.declared.reply.Reply.TheVariants as replies
 use Rattle.tests_due.specs.WrongRecords as wrong_records
 

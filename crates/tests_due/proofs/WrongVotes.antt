@@ -6,7 +6,7 @@ use Rattle.qc_msg.specs.Deeds.{deeds}
 use Rattle.qc_promise.specs.Replies.{AreRepliesDue}
 use Rattle.tests_histories.specs.Words.{stamp}
 use Rattle.tests_due.proofs.Places.{due_at}
-use Rattle.qc_msg.specs.declared.reply.Why.TheVariants as causes
+use Rattle.qc_msg.specs.declared.reply.AbortCause.TheVariants as causes
 use Rattle.qc_msg.specs.declared.reply.Reply.TheVariants as replies
 use Rattle.tests_due.specs.WrongVotes as wrong_votes
 

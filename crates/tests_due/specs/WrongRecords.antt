@@ -4,7 +4,7 @@ use Rattle.qc_msg.specs.Steps.{Entry, marked}
 use Rattle.tests_histories.specs.Words.{tx, stamp, line, own_line, operation, read_lock, prepare, commit}
 use Rattle.qc_msg.specs.declared.step.Step.TheVariants.{Phase, Called, Got, Wrote, Sent, Told, Fell}
 use Rattle.qc_msg.specs.declared.message.Answer.TheVariants as answers
-use Rattle.qc_msg.specs.declared.reply.Why.TheVariants as causes
+use Rattle.qc_msg.specs.declared.reply.AbortCause.TheVariants as causes
 use Rattle.qc_msg.specs.declared.step.Command.TheVariants as commands
 use Rattle.qc_msg.specs.declared.message.Message.TheVariants as messages
 use Rattle.qc_msg.specs.declared.message.Outcome.TheVariants as outcomes

@@ -5,8 +5,8 @@ use Rattle.qc_msg.specs.declared.record.Record.{Record}
 use Rattle.qc_msg.specs.declared.record.Record.TheVariants as records
 use Rattle.qc_msg.specs.declared.reply.Reply.{Reply}
 use Rattle.qc_msg.specs.declared.step.Command.{Command}
-use Rattle.qc_msg.specs.declared.step.Given.{Given}
-use Rattle.qc_msg.specs.declared.step.Given.TheVariants as given
+use Rattle.qc_msg.specs.declared.step.Input.{Input}
+use Rattle.qc_msg.specs.declared.step.Input.TheVariants as inputs
 use Rattle.qc_msg.specs.Deeds.{Deed, Takes, Writes, Sends, Tells, Falls, Rises}
 use Rattle.qc_msg.specs.Readings.{Installing}
 use Rattle.qc_promise.specs.AdminAccount.{AdminAccount, new_admin_account}
@@ -28,10 +28,10 @@ pub record Owed : Type 0 where
 abbrev nothing : Owed
 nothing = record { reply = None; command = None; decision = None; before = None; pending = None; acts = []; own = true }
 
-abbrev owed_command : AdminAccount → Given → Option Command
-owed_command d (given.Called command) = d.command
-owed_command d (given.Got envelope) = None
-owed_command d (given.Lost number) = None
+abbrev owed_command : AdminAccount → Input → Option Command
+owed_command d (inputs.Called command) = d.command
+owed_command d (inputs.Got envelope) = None
+owed_command d (inputs.Lost number) = None
 
 abbrev owed_record : Declaration → AdminAccount → Record → Owed
 owed_record decl d records.Life = nothing
@@ -74,10 +74,10 @@ abbrev all_given : Declaration → AdminAccount → List Deed → List Owed
 all_given decl d [] = []
 all_given decl d (x ∷ after) = given_at decl d x after ∷ all_given decl (admin_account_at decl d x) after
 
-by_given : (decl : Declaration) (d : AdminAccount) (g : Given) → record nothing { reply = admin_due decl d false; before = d.written; command = owed_command d g } ≡ record nothing { before = decide_due decl d } → IsAdminInputDue decl d g
-by_given decl d (given.Called command) same = (ap (λ (o : Owed). o.reply) same, ap (λ (o : Owed). o.before) same, ap (λ (o : Owed). o.command) same)
-by_given decl d (given.Got envelope) same = (ap (λ (o : Owed). o.reply) same, ap (λ (o : Owed). o.before) same, tt)
-by_given decl d (given.Lost number) same = (ap (λ (o : Owed). o.reply) same, ap (λ (o : Owed). o.before) same, tt)
+by_given : (decl : Declaration) (d : AdminAccount) (g : Input) → record nothing { reply = admin_due decl d false; before = d.written; command = owed_command d g } ≡ record nothing { before = decide_due decl d } → IsAdminInputDue decl d g
+by_given decl d (inputs.Called command) same = (ap (λ (o : Owed). o.reply) same, ap (λ (o : Owed). o.before) same, ap (λ (o : Owed). o.command) same)
+by_given decl d (inputs.Got envelope) same = (ap (λ (o : Owed). o.reply) same, ap (λ (o : Owed). o.before) same, tt)
+by_given decl d (inputs.Lost number) same = (ap (λ (o : Owed). o.reply) same, ap (λ (o : Owed). o.before) same, tt)
 
 strange : ◌≡◌ {A = Bool} false true → ⊥
 strange e = let never : ⊥ = cc in never

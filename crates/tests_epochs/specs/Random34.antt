@@ -10,7 +10,7 @@ use Rattle.qc_msg.specs.declared.step.Step.TheVariants.{Phase, Cut, Heal, Called
 use Rattle.qc_msg.specs.declared.step.Step.TheVariants.{Wrote, Sent, Told, Armed, Fell, Rose}
 use Rattle.tests_epochs.specs.Words.{prepared}
 use Rattle.qc_msg.specs.declared.message.Answer.TheVariants as answers
-use Rattle.qc_msg.specs.declared.reply.Why.TheVariants as causes
+use Rattle.qc_msg.specs.declared.reply.AbortCause.TheVariants as causes
 use Rattle.qc_msg.specs.declared.step.Command.TheVariants as commands
 use Rattle.qc_msg.specs.declared.reply.Half.TheVariants as halves
 use Rattle.qc_msg.specs.declared.message.Message.TheVariants as messages

@@ -12,7 +12,7 @@ use Rattle.qc_outside.specs.declared.disk.ArmKind.{ArmKind}
 use Rattle.qc_msg.specs.Deeds.{Deed, Takes as TakesInput, Falls, Rises, deeds, deeds_as, sends_of, tells_of, writes_of}
 use Rattle.qc_msg.specs.declared.record.Record.{Record}
 use Rattle.qc_msg.specs.declared.reply.Reply.{Reply}
-use Rattle.qc_msg.specs.declared.step.Given.{Given}
+use Rattle.qc_msg.specs.declared.step.Input.{Input}
 use Rattle.qc_msg.specs.declared.step.Step.{Step}
 use Rattle.qc_msg.specs.declared.turn.Appended.{Appended}
 use Rattle.qc_msg.specs.declared.turn.Appended.TheVariants.{Done, Failed, Stopped}
@@ -96,7 +96,7 @@ module _ {z : TableId} {decl : Declaration} {p : Pass Step} {down : Bool} (q : P
   pub sees_on : Sees p q → IsSeat z decl q down
   sees_on see = stays q s see.pass see.does
 
-  pub takes_on : {L : ℕ → List Deed → Turn → Type 0} {F : ℕ → List Record → Type 0} {D : Declaration} {S : Script} (given : Given) → Takes L F D S p q given → IsSeat z decl q down
+  pub takes_on : {L : ℕ → List Deed → Turn → Type 0} {F : ℕ → List Record → Type 0} {D : Declaration} {S : Script} (given : Input) → Takes L F D S p q given → IsSeat z decl q down
   takes_on given takes = goes_on q s takes.pass down (TakesInput given ∷ []) takes.does refl
 
   pub posts_on : {L : ℕ → List Deed → Turn → Type 0} {F : ℕ → List Record → Type 0} {D : Declaration} {S : Script} (turn : Turn) (first : ℕ) → Posts L F D S p q turn first → IsSeat z decl q (down_after down turn.append)

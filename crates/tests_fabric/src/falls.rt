@@ -11,60 +11,60 @@ use crate::conduct::AnyTurn;
 use crate::seat::Seat;
 use crate::turn::{down_after, is_actor, is_controller, writing};
 use qc_decl::Declaration;
-use qc_fabric::{Named, Rising, Still};
+use qc_fabric::{FabricState, Rising, RunName};
 use qc_list::{List, OutOfMemory};
 use qc_msg::{Appended, Control, Fall, Record};
 use std::alloc::Global;
 
-impl<N: Named> Seat<N> {
+impl<N: RunName> Seat<N> {
     /// Whether it is an actor's, and no limit is reached.
-    fn may_act(&self, still: &Still<AnyTurn, N>, decl: &Declaration) -> bool
+    fn may_act(&self, state: &FabricState<AnyTurn, N>, decl: &Declaration) -> bool
         requires { decl.now ≡ N.declaration }
-        ensures { result ≡ true → (number self.now < actors N.declaration) × (full_of still.now.history ≡ None) }
+        ensures { result ≡ true → (number self.now < actors N.declaration) × (full_of state.now.history ≡ None) }
     {
-        is_actor(decl, self.pass.number()) && still.full().is_none()
+        is_actor(decl, self.pass.number()) && state.full().is_none()
     }
 
     /// The first control line left arms the seat's disk, where it does.
     pub(crate) fn arm(
         &mut self,
         controller: &mut Seat<N>,
-        still: &mut Still<AnyTurn, N>,
+        state: &mut FabricState<AnyTurn, N>,
         decl: &Declaration,
     ) -> Result<Saw, OutOfMemory>
         requires { decl.now ≡ N.declaration }
     {
-        if !is_controller(decl, controller.pass.number()) || !self.may_act(still, decl) {
+        if !is_controller(decl, controller.pass.number()) || !self.may_act(state, decl) {
             return Ok(Saw::MayNot);
         }
-        let Some(Control::Armed { actor, kind, at }) = still.next_control() else {
+        let Some(Control::Armed { actor, kind, at }) = state.next_control() else {
             return Ok(Saw::MayNot);
         };
         if actor != self.pass.number() {
             return Ok(Saw::MayNot);
         }
-        still.arm(&mut controller.pass, &mut self.pass, kind, at)?;
+        state.arm(&mut controller.pass, &mut self.pass, kind, at)?;
         Ok(Saw::Acted)
     }
 
     /// The first control line left crashes the actor, where it does.
     pub(crate) fn crash(
         &mut self,
-        still: &mut Still<AnyTurn, N>,
+        state: &mut FabricState<AnyTurn, N>,
         decl: &Declaration,
     ) -> Result<Saw, OutOfMemory>
         requires { decl.now ≡ N.declaration }
     {
-        if !self.may_act(still, decl) {
+        if !self.may_act(state, decl) {
             return Ok(Saw::MayNot);
         }
-        let Some(Control::Crash(actor)) = still.next_control() else {
+        let Some(Control::Crash(actor)) = state.next_control() else {
             return Ok(Saw::MayNot);
         };
         if actor != self.pass.number() {
             return Ok(Saw::MayNot);
         }
-        still.fall(&mut self.pass)?;
+        state.fall(&mut self.pass)?;
         self.down = true;
         Ok(Saw::Acted)
     }
@@ -74,16 +74,16 @@ impl<N: Named> Seat<N> {
     pub(crate) fn restart(
         &mut self,
         alloc: Global,
-        still: &mut Still<AnyTurn, N>,
+        state: &mut FabricState<AnyTurn, N>,
         decl: &Declaration,
         finds: Finds,
     ) -> Result<Saw, OutOfMemory>
         requires { decl.now ≡ N.declaration }
     {
-        if !self.may_act(still, decl) {
+        if !self.may_act(state, decl) {
             return Ok(Saw::MayNot);
         }
-        let Some(Control::Restart(actor)) = still.next_control() else {
+        let Some(Control::Restart(actor)) = state.next_control() else {
             return Ok(Saw::MayNot);
         };
         if actor != self.pass.number() {
@@ -92,9 +92,9 @@ impl<N: Named> Seat<N> {
         let Some(rising) = rising_of(alloc, finds)? else {
             return Ok(Saw::MayNot);
         };
-        still.room(&rising)?;
+        state.room(&rising)?;
         let down = down_by(self.down, &rising);
-        let first = still.rise(&mut self.pass, rising);
+        let first = state.rise(&mut self.pass, rising);
         self.down = down;
         Ok(Saw::Posted(first))
     }

@@ -8,12 +8,12 @@ use crate::seat::Seat;
 use crate::steps::short_of;
 use crate::turn::{down_after, is_actor, may_say, turn_of};
 use qc_decl::Declaration;
-use qc_fabric::{Fabric, Named};
+use qc_fabric::{Fabric, RunName};
 use qc_list::OutOfMemory;
 use std::alloc::Global;
 use std::sync::Wait;
 
-impl<N: Named> Seat<N> {
+impl<N: RunName> Seat<N> {
     /// The actor takes its next input.
     pub(crate) fn take_by_lock<R: Wait>(
         &mut self,
@@ -76,7 +76,7 @@ impl<N: Named> Seat<N> {
     {
         let is_last = fabric.next_order(rt, decl, 9).is_none();
         let mut held = fabric.hold(rt);
-        held.still.look(&mut self.pass);
-        is_last && !held.still.is_held(self.pass.number())
+        held.state.look(&mut self.pass);
+        is_last && !held.state.is_held(self.pass.number())
     }
 }

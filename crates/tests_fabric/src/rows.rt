@@ -7,7 +7,7 @@ use crate::calls::{Act, Row, Saw};
 use crate::conduct::AnyTurn;
 use crate::seat::Seat;
 use qc_decl::Declaration;
-use qc_fabric::{Named, Still};
+use qc_fabric::{FabricState, RunName};
 use qc_list::OutOfMemory;
 use std::alloc::Global;
 
@@ -22,28 +22,28 @@ fn caller(act: Act, count: usize) -> usize {
 }
 
 /// The call, and what it answers. Whoever has no seat may do nothing.
-fn act<N: Named>(
+fn act<N: RunName>(
     alloc: Global,
     decl: &Declaration,
-    still: &mut Still<AnyTurn, N>,
+    state: &mut FabricState<AnyTurn, N>,
     seats: &mut [Seat<N>],
     act: Act,
 ) -> Result<Saw, OutOfMemory>
     requires { decl.now ≡ N.declaration }
 {
     if let Act::Arm(actor) = act {
-        return arm(decl, still, seats, actor as usize);
+        return arm(decl, state, seats, actor as usize);
     }
     match seats.get_mut(caller(act, seats.len())) {
-        Some(seat) => seat.act(alloc, still, decl, act),
+        Some(seat) => seat.act(alloc, state, decl, act),
         None => Ok(Saw::MayNot),
     }
 }
 
 /// The controller, whose seat is the last, arms an actor's disk.
-fn arm<N: Named>(
+fn arm<N: RunName>(
     decl: &Declaration,
-    still: &mut Still<AnyTurn, N>,
+    state: &mut FabricState<AnyTurn, N>,
     seats: &mut [Seat<N>],
     actor: usize,
 ) -> Result<Saw, OutOfMemory>
@@ -53,23 +53,23 @@ fn arm<N: Named>(
         return Ok(Saw::MayNot);
     };
     match actors.get_mut(actor) {
-        Some(seat) => seat.arm(controller, still, decl),
+        Some(seat) => seat.arm(controller, state, decl),
         None => Ok(Saw::MayNot),
     }
 }
 
 /// How many rows answer what they are to, up to the first that doesn't.
-pub(crate) fn play<N: Named>(
+pub(crate) fn play<N: RunName>(
     alloc: Global,
     decl: &Declaration,
-    still: &mut Still<AnyTurn, N>,
+    state: &mut FabricState<AnyTurn, N>,
     seats: &mut [Seat<N>],
     rows: &[Row],
 ) -> usize
     requires { decl.now ≡ N.declaration }
 {
     for (place, row) in rows.iter().enumerate() {
-        if act(alloc, decl, still, seats, row.0) != Ok(row.1) {
+        if act(alloc, decl, state, seats, row.0) != Ok(row.1) {
             return place;
         }
     }

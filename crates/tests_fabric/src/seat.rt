@@ -10,7 +10,7 @@ use crate::conduct::AnyTurn;
 use crate::steps::short_of;
 use crate::turn::{down_after, is_actor, is_controller, may_say, turn_of};
 use qc_decl::Declaration;
-use qc_fabric::{Named, Still};
+use qc_fabric::{FabricState, RunName};
 use qc_list::OutOfMemory;
 use qc_msg::{Control, Step};
 use qc_pass::Pass;
@@ -19,13 +19,13 @@ use std::marker::{Model, PhantomData};
 
 /// A pass of the run's table, and whether its actor is down.
 #[derive(Drop)]
-pub(crate) struct Seat<N: Named> {
+pub(crate) struct Seat<N: RunName> {
     pub(crate) pass: Pass<Step>,
     pub(crate) down: bool,
     of: PhantomData<N>,
 }
 
-impl<N: Named> Model for Seat<N> {
+impl<N: RunName> Model for Seat<N> {
     ghost use Rattle.qc_pass.specs.declared.token.Pass.{Pass};
     ghost use Rattle.qc_msg.specs.declared.step.Step.{Step};
     ghost use Rattle.tests_fabric.specs.Seats.{IsSeat};
@@ -37,7 +37,7 @@ impl<N: Named> Model for Seat<N> {
     ghost invariant = { λ s. IsSeat N.table N.declaration s.pass s.down };
 }
 
-impl<N: Named> Seat<N> {
+impl<N: RunName> Seat<N> {
     /// The seat of a pass that has seen nothing: its actor is up.
     pub(crate) fn new(pass: Pass<Step>) -> Seat<N>
         requires table { pass_table pass ≡ N.table }
@@ -51,77 +51,77 @@ impl<N: Named> Seat<N> {
     }
 
     /// Whether it is the controller's, and no limit is reached.
-    fn may_order(&self, still: &Still<AnyTurn, N>, decl: &Declaration) -> bool
+    fn may_order(&self, state: &FabricState<AnyTurn, N>, decl: &Declaration) -> bool
         requires { decl.now ≡ N.declaration }
-        ensures { result ≡ true → (number self.now ≡ controller N.declaration) × (full_of still.now.history ≡ None) }
+        ensures { result ≡ true → (number self.now ≡ controller N.declaration) × (full_of state.now.history ≡ None) }
     {
-        is_controller(decl, self.pass.number()) && still.full().is_none()
+        is_controller(decl, self.pass.number()) && state.full().is_none()
     }
 
     /// The call, and what it answers.
     pub(crate) fn act(
         &mut self,
         alloc: Global,
-        still: &mut Still<AnyTurn, N>,
+        state: &mut FabricState<AnyTurn, N>,
         decl: &Declaration,
         act: Act,
     ) -> Result<Saw, OutOfMemory>
         requires { decl.now ≡ N.declaration }
     {
         match act {
-            Act::Phase => self.begin(still, decl),
-            Act::Control => self.control(still, decl),
+            Act::Phase => self.begin(state, decl),
+            Act::Control => self.control(state, decl),
             Act::Arm(_) => Ok(Saw::MayNot),
-            Act::Crash(_) => self.crash(still, decl),
-            Act::Restart(_, finds) => self.restart(alloc, still, decl, finds),
-            Act::Pick => Ok(Saw::Picked(still.pick(decl))),
-            Act::Take(_) => self.take(alloc, still, decl),
-            Act::Post(_, says) => self.post(alloc, still, decl, says),
-            Act::Leave(_) => Ok(self.leave(still)),
-            Act::Quiet => Ok(Saw::Is(still.quiet(decl))),
-            Act::Full => Ok(Saw::Is(still.full().is_some())),
-            Act::Held(actor) => Ok(Saw::Is(still.is_held(actor))),
+            Act::Crash(_) => self.crash(state, decl),
+            Act::Restart(_, finds) => self.restart(alloc, state, decl, finds),
+            Act::Pick => Ok(Saw::Picked(state.pick(decl))),
+            Act::Take(_) => self.take(alloc, state, decl),
+            Act::Post(_, says) => self.post(alloc, state, decl, says),
+            Act::Leave(_) => Ok(self.leave(state)),
+            Act::Quiet => Ok(Saw::Is(state.quiet(decl))),
+            Act::Full => Ok(Saw::Is(state.full().is_some())),
+            Act::Held(actor) => Ok(Saw::Is(state.is_held(actor))),
         }
     }
 
     /// The next phase begins, where it may.
     fn begin(
         &mut self,
-        still: &mut Still<AnyTurn, N>,
+        state: &mut FabricState<AnyTurn, N>,
         decl: &Declaration,
     ) -> Result<Saw, OutOfMemory>
         requires { decl.now ≡ N.declaration }
     {
-        let phase = still.phase();
+        let phase = state.phase();
         let Some(next) = phase.checked_add(1) else {
             return Ok(Saw::MayNot);
         };
-        let is_last = phase as usize >= still.script().phases.items().len();
-        if is_last || !self.may_order(still, decl) || !still.quiet(decl) {
+        let is_last = phase as usize >= state.script().phases.items().len();
+        if is_last || !self.may_order(state, decl) || !state.quiet(decl) {
             return Ok(Saw::MayNot);
         }
-        still.order(&mut self.pass, Control::Phase(next))?;
+        state.order(&mut self.pass, Control::Phase(next))?;
         Ok(Saw::Began)
     }
 
     /// The first control line left of the phase acts, where it may.
     fn control(
         &mut self,
-        still: &mut Still<AnyTurn, N>,
+        state: &mut FabricState<AnyTurn, N>,
         decl: &Declaration,
     ) -> Result<Saw, OutOfMemory>
         requires { decl.now ≡ N.declaration }
     {
-        if !self.may_order(still, decl) {
+        if !self.may_order(state, decl) {
             return Ok(Saw::MayNot);
         }
-        match still.next_control() {
+        match state.next_control() {
             Some(Control::Cut(a, b)) => {
-                still.order(&mut self.pass, Control::Cut(a, b))?;
+                state.order(&mut self.pass, Control::Cut(a, b))?;
                 Ok(Saw::Acted)
             }
             Some(Control::Heal(a, b)) => {
-                still.order(&mut self.pass, Control::Heal(a, b))?;
+                state.order(&mut self.pass, Control::Heal(a, b))?;
                 Ok(Saw::Acted)
             }
             _ => Ok(Saw::MayNot),
@@ -132,7 +132,7 @@ impl<N: Named> Seat<N> {
     fn take(
         &mut self,
         alloc: Global,
-        still: &mut Still<AnyTurn, N>,
+        state: &mut FabricState<AnyTurn, N>,
         decl: &Declaration,
     ) -> Result<Saw, OutOfMemory>
         requires { decl.now ≡ N.declaration }
@@ -141,7 +141,7 @@ impl<N: Named> Seat<N> {
         if !is_actor(decl, actor) {
             return Ok(Saw::MayNot);
         }
-        let taken = still.take(alloc, decl, &mut self.pass)?;
+        let taken = state.take(alloc, decl, &mut self.pass)?;
         Ok(Saw::Took(taken.map(|taken| short_of(actor, &taken.given))))
     }
 
@@ -149,7 +149,7 @@ impl<N: Named> Seat<N> {
     fn post(
         &mut self,
         alloc: Global,
-        still: &mut Still<AnyTurn, N>,
+        state: &mut FabricState<AnyTurn, N>,
         decl: &Declaration,
         says: Says,
     ) -> Result<Saw, OutOfMemory>
@@ -165,16 +165,16 @@ impl<N: Named> Seat<N> {
             return Ok(Saw::MayNot);
         }
         let append = turn.append;
-        still.reserve(&mut self.pass, &turn)?;
-        let first = still.post(&mut self.pass, turn);
+        state.reserve(&mut self.pass, &turn)?;
+        let first = state.post(&mut self.pass, turn);
         self.down = down_after(self.down, append);
         Ok(Saw::Posted(first))
     }
 
     /// The pass sees the history, and its actor isn't held any more.
-    fn leave(&mut self, still: &mut Still<AnyTurn, N>) -> Saw {
-        still.look(&mut self.pass);
-        still.leave(&mut self.pass);
+    fn leave(&mut self, state: &mut FabricState<AnyTurn, N>) -> Saw {
+        state.look(&mut self.pass);
+        state.leave(&mut self.pass);
         Saw::Left
     }
 }

@@ -1,7 +1,7 @@
 //! Steps and inputs in short.
 
 use qc_list::OutOfMemory;
-use qc_msg::{Entry, Fall, Given, Step};
+use qc_msg::{Entry, Fall, Input, Step};
 use std::alloc::Global;
 
 /// The actor, the kind's letter, and the number of the phase or message, or 0.
@@ -42,11 +42,11 @@ fn number_of(cause: Fall) -> u32 {
 }
 
 /// An input of an actor in short, by the letters of its step.
-pub(crate) fn short_of(actor: u8, given: &Given) -> Short {
+pub(crate) fn short_of(actor: u8, given: &Input) -> Short {
     match given {
-        Given::Called(_) => (actor, b'C', 0),
-        Given::Got(envelope) => (actor, b'G', envelope.number),
-        Given::Lost { number } => (actor, b'L', *number),
+        Input::Called(_) => (actor, b'C', 0),
+        Input::Got(envelope) => (actor, b'G', envelope.number),
+        Input::Lost { number } => (actor, b'L', *number),
     }
 }
 

@@ -9,7 +9,7 @@ use crate::conduct::AnyTurn;
 use crate::meeting::Meeting;
 use crate::seat::Seat;
 use qc_decl::Declaration;
-use qc_fabric::{Fabric, Named, Still};
+use qc_fabric::{Fabric, FabricState, RunName};
 use qc_list::OutOfMemory;
 use std::alloc::Global;
 use std::sync::Wait;
@@ -25,22 +25,22 @@ pub(crate) type Picker = [Saw; 5];
 pub(crate) type Both = (Result<Holder, OutOfMemory>, Result<Picker, OutOfMemory>);
 
 /// The state is shared by two threads, which serve these actors.
-pub(crate) fn serve_both<N: Named + Send + Sync, R: Threads + Wait + Sync>(
+pub(crate) fn serve_both<N: RunName + Send + Sync, R: Threads + Wait + Sync>(
     rt: &R,
     alloc: Global,
     decl: &Declaration,
-    still: Still<AnyTurn, N>,
+    state: FabricState<AnyTurn, N>,
     seats: (Seat<N>, Seat<N>),
-) -> (Still<AnyTurn, N>, Both)
+) -> (FabricState<AnyTurn, N>, Both)
     requires { decl.now ≡ N.declaration }
 {
-    let (fabric, meeting) = (Fabric::open(still), Meeting::new());
+    let (fabric, meeting) = (Fabric::open(state), Meeting::new());
     let both = join_both(rt, alloc, decl, &fabric, seats, &meeting);
     (fabric.close(), both)
 }
 
 /// Each seat's actor is served in a thread of its own.
-fn join_both<N: Named + Send + Sync, R: Threads + Wait + Sync>(
+fn join_both<N: RunName + Send + Sync, R: Threads + Wait + Sync>(
     rt: &R,
     alloc: Global,
     decl: &Declaration,
@@ -64,7 +64,7 @@ fn join_both<N: Named + Send + Sync, R: Threads + Wait + Sync>(
 
 /// The seat's actor is served. Where it wants memory it isn't held any more. This
 /// thread won't pick again, so it wakes the other.
-fn hold<N: Named, R: Wait>(
+fn hold<N: RunName, R: Wait>(
     rt: &R,
     alloc: Global,
     decl: &Declaration,
@@ -85,7 +85,7 @@ fn hold<N: Named, R: Wait>(
 /// The seat's actor takes an input. Once the other has one too it asks itself, and
 /// is picked: it is held, and nothing is ready for anybody else. It takes and posts
 /// again once the other's pick has come, and hasn't answered for a while.
-fn serve_and_hold<N: Named, R: Wait>(
+fn serve_and_hold<N: RunName, R: Wait>(
     rt: &R,
     alloc: Global,
     decl: &Declaration,
@@ -111,7 +111,7 @@ fn serve_and_hold<N: Named, R: Wait>(
 
 /// The seat's actor takes an input, and once the other has one too it asks the
 /// other's actor. When the other has picked, this thread picks.
-fn pick<N: Named, R: Wait>(
+fn pick<N: RunName, R: Wait>(
     rt: &R,
     alloc: Global,
     decl: &Declaration,
@@ -125,7 +125,7 @@ fn pick<N: Named, R: Wait>(
 }
 
 /// The same, by reference.
-fn serve_and_pick<N: Named, R: Wait>(
+fn serve_and_pick<N: RunName, R: Wait>(
     rt: &R,
     alloc: Global,
     decl: &Declaration,

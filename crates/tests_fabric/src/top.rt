@@ -16,7 +16,7 @@ use crate::seat::Seat;
 use crate::steps::{Short, shorts};
 use crate::threads::{Both, serve_both};
 use qc_decl::{Declaration, built_in};
-use qc_fabric::{Named, Still};
+use qc_fabric::{FabricState, RunName};
 use qc_list::OutOfMemory;
 use qc_msg::Step;
 use qc_pass::{Made, Pass, Passes};
@@ -84,7 +84,7 @@ fn run<R: Threads + Wait + Sync>(
 
 /// Plays the rows, by these passes. Threads share the state only where each row
 /// answers what it is to.
-fn run_named<N: Named + Send + Sync, R: Threads + Wait + Sync>(
+fn run_named<N: RunName + Send + Sync, R: Threads + Wait + Sync>(
     rt: &R,
     alloc: Global,
     decl: &Declaration,
@@ -101,12 +101,12 @@ fn run_named<N: Named + Send + Sync, R: Threads + Wait + Sync>(
     requires right { IsFirst N.table (controller N.declaration + 1) made.right }
     requires each { AreNew N.table made.each.items }
 {
-    let (mut still, mut seats) = begun::<N>(alloc, decl, script, made)?;
-    let count = play(alloc, decl, &mut still, seats.as_mut_slice(), rows);
+    let (mut state, mut seats) = begun::<N>(alloc, decl, script, made)?;
+    let count = play(alloc, decl, &mut state, seats.as_mut_slice(), rows);
     let are_shared = matches!(then, Then::Threads) && count == rows.len();
     let pair = pair_of(seats, are_shared);
-    let (still, both) = go_on(rt, alloc, decl, still, pair);
-    let steps = steps_of(alloc, still)?;
+    let (state, both) = go_on(rt, alloc, decl, state, pair);
+    let steps = steps_of(alloc, state)?;
     Ok(Ran {
         rows: count,
         both,
@@ -116,12 +116,12 @@ fn run_named<N: Named + Send + Sync, R: Threads + Wait + Sync>(
 
 /// The state at its beginning, with a seat for each pass.
 #[tactic(auto, using(crate::proofs::Seats::tells_where_down))]
-fn begun<N: Named>(
+fn begun<N: RunName>(
     alloc: Global,
     decl: &Declaration,
     script: Script,
     made: Made<Step>,
-) -> Result<(Still<AnyTurn, N>, Vec<Seat<N>>), OutOfMemory>
+) -> Result<(FabricState<AnyTurn, N>, Vec<Seat<N>>), OutOfMemory>
     requires declaration { decl.now ≡ N.declaration }
     requires script { script ≡ N.script }
     requires sound { IsScriptFor N.declaration N.script }
@@ -135,13 +135,13 @@ fn begun<N: Named>(
         right,
         each,
     } = made;
-    let still: Still<AnyTurn, N> = Still::make(alloc, decl, script, passes, right)?;
+    let state: FabricState<AnyTurn, N> = FabricState::make(alloc, decl, script, passes, right)?;
     let seats: Vec<Seat<N>> = seats_of(alloc, each)?;
-    Ok((still, seats))
+    Ok((state, seats))
 }
 
 /// A seat for each pass.
-fn seats_of<N: Named>(alloc: Global, each: Vec<Pass<Step>>) -> Result<Vec<Seat<N>>, OutOfMemory>
+fn seats_of<N: RunName>(alloc: Global, each: Vec<Pass<Step>>) -> Result<Vec<Seat<N>>, OutOfMemory>
     requires { AreNew N.table each.items }
 {
     let mut seats = Vec::new(alloc);
@@ -152,7 +152,7 @@ fn seats_of<N: Named>(alloc: Global, each: Vec<Pass<Step>>) -> Result<Vec<Seat<N
 }
 
 /// The seats of the actors 0 and 1, where they are asked for.
-fn pair_of<N: Named>(seats: Vec<Seat<N>>, are_shared: bool) -> Option<(Seat<N>, Seat<N>)> {
+fn pair_of<N: RunName>(seats: Vec<Seat<N>>, are_shared: bool) -> Option<(Seat<N>, Seat<N>)> {
     if !are_shared {
         return None;
     }
@@ -161,26 +161,29 @@ fn pair_of<N: Named>(seats: Vec<Seat<N>>, are_shared: bool) -> Option<(Seat<N>, 
 }
 
 /// The threads of two actors share the state, if there are any.
-fn go_on<N: Named + Send + Sync, R: Threads + Wait + Sync>(
+fn go_on<N: RunName + Send + Sync, R: Threads + Wait + Sync>(
     rt: &R,
     alloc: Global,
     decl: &Declaration,
-    still: Still<AnyTurn, N>,
+    state: FabricState<AnyTurn, N>,
     pair: Option<(Seat<N>, Seat<N>)>,
-) -> (Still<AnyTurn, N>, Option<Both>)
+) -> (FabricState<AnyTurn, N>, Option<Both>)
     requires { decl.now ≡ N.declaration }
 {
     match pair {
         Some(pair) => {
-            let (still, both) = serve_both(rt, alloc, decl, still, pair);
-            (still, Some(both))
+            let (state, both) = serve_both(rt, alloc, decl, state, pair);
+            (state, Some(both))
         }
-        None => (still, None),
+        None => (state, None),
     }
 }
 
 /// The history that the state leaves, in short.
-fn steps_of<N: Named>(alloc: Global, still: Still<AnyTurn, N>) -> Result<Vec<Short>, OutOfMemory> {
-    let (_, entries) = still.end();
+fn steps_of<N: RunName>(
+    alloc: Global,
+    state: FabricState<AnyTurn, N>,
+) -> Result<Vec<Short>, OutOfMemory> {
+    let (_, entries) = state.end();
     shorts(alloc, &entries)
 }

@@ -13,7 +13,7 @@ use Rattle.qc_msg.specs.declared.turn.Posting.{Posting}
 use Rattle.qc_msg.specs.declared.turn.Turn.{Turn}
 use Rattle.qc_msg.specs.Deeds.{own}
 use Rattle.qc_msg.specs.Steps.{Entry, by, fell, posted_as, sents, told, wrote}
-use Rattle.qc_msg.proofs.Growth.{by-append}
+use Rattle.qc_msg.proofs.GrownMail.{by-append}
 use Rattle.qc_promise.specs.Kept.{IsGivenBack, IsKeptAt, Journal, Kept, journal_of}
 use Rattle.tests_falls.specs.Perform.{given_back}
 

@@ -12,8 +12,8 @@ use Rattle.qc_msg.specs.declared.step.Control.{Control}
 use Rattle.qc_msg.specs.declared.step.Control.TheVariants as controls
 use Rattle.qc_msg.specs.declared.step.Fall.{Fall}
 use Rattle.qc_msg.specs.declared.step.Fall.TheVariants as causes
-use Rattle.qc_msg.specs.declared.step.Given.{Given}
-use Rattle.qc_msg.specs.declared.step.Given.TheVariants as given
+use Rattle.qc_msg.specs.declared.step.Input.{Input}
+use Rattle.qc_msg.specs.declared.step.Input.TheVariants as inputs
 use Rattle.qc_msg.specs.declared.step.Step.TheVariants as steps
 use Rattle.qc_msg.specs.declared.turn.Appended.{Appended}
 use Rattle.qc_msg.specs.declared.turn.Appended.TheVariants.{Done, Failed, Stopped}
@@ -76,12 +76,12 @@ lawful_in decl a h end t is = by (turn_with_falls decl a (deeds a [] h)) refl is
 
 -- each move is an event of a run
 
-input_kept : (h : List Entry) (a : ℕ) (given : Given) → KeptFrom h (marked a (step_of given) ∷ [])
-input_kept h a (given.Called command) = (tt, tt)
-input_kept h a (given.Got envelope) = (tt, tt)
-input_kept h a (given.Lost number) = (tt, tt)
+input_kept : (h : List Entry) (a : ℕ) (given : Input) → KeptFrom h (marked a (step_of given) ∷ [])
+input_kept h a (inputs.Called command) = (tt, tt)
+input_kept h a (inputs.Got envelope) = (tt, tt)
+input_kept h a (inputs.Lost number) = (tt, tt)
 
-takes_soundly : (decl : Declaration) (script : Script) (s t : Stage) (a : ℕ) (opened : Option Bool) (given : Option Given) → IsRunTo decl script s
+takes_soundly : (decl : Declaration) (script : Script) (s t : Stage) (a : ℕ) (opened : Option Bool) (given : Option Input) → IsRunTo decl script s
     → slice_get s.open_inputs a ≡ opened → ready decl script a s.history ≡ given → taken_by s a opened given ≡ Some t → IsRunTo decl script t
 takes_soundly decl script s t a None given run opens comes is = absurd (let never : ⊥ = cc in never)
 takes_soundly decl script s t a (Some true) given run opens comes is = absurd (let never : ⊥ = cc in never)

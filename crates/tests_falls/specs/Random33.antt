@@ -9,7 +9,7 @@ use Rattle.qc_msg.specs.declared.step.Step.TheVariants.{Phase, Called, Got, Lost
 use Rattle.qc_msg.specs.declared.turn.Appended.TheVariants.{Done, Failed}
 use Rattle.tests_falls.specs.Perform.{Move, Begins, Acts, Takes, Posts, Rises}
 use Rattle.qc_msg.specs.declared.message.Answer.TheVariants as answers
-use Rattle.qc_msg.specs.declared.reply.Why.TheVariants as causes
+use Rattle.qc_msg.specs.declared.reply.AbortCause.TheVariants as causes
 use Rattle.qc_msg.specs.declared.step.Command.TheVariants as commands
 use Rattle.qc_msg.specs.declared.reply.Half.TheVariants as halves
 use Rattle.qc_msg.specs.declared.message.Message.TheVariants as messages

@@ -8,7 +8,7 @@ use Rattle.qc_entry.specs.declared.line.ReadLock.{ReadLock}
 use Rattle.qc_msg.specs.declared.message.Message.{Message}
 use Rattle.qc_msg.specs.declared.record.Record.{Record}
 use Rattle.qc_msg.specs.declared.record.Record.TheVariants as records
-use Rattle.qc_msg.specs.declared.step.Given.TheVariants as given
+use Rattle.qc_msg.specs.declared.step.Input.TheVariants as inputs
 use Rattle.qc_msg.specs.Deeds.{Deed, Takes}
 
 -- a client's transaction, by the client's life and its number in it
@@ -42,4 +42,4 @@ prepare tx epoch locks own lines =
 -- a message is taken: its number, its sender, its receiver
 abbrev pub got : ℕ → ℕ → ℕ → Message → Deed
 got number from to message =
-    Takes (given.Got (record { number = number; from = from; to = to; message = message }))
+    Takes (inputs.Got (record { number = number; from = from; to = to; message = message }))

@@ -3,7 +3,7 @@
 use qc_decl::built_in;
 use qc_entry::{Commit, Op};
 use qc_list::{List, Marked, OutOfMemory};
-use qc_msg::{Entry, History, Record, Reply, Step, Why};
+use qc_msg::{AbortCause, Entry, History, Record, Reply, Step};
 use qc_stamp::{Stamp, TxId};
 use qc_text::summary;
 use std::alloc::Global;
@@ -119,7 +119,12 @@ fn what_committed_is_counted(rt: HostRuntime) {
                 (4, 2, (1, 1), &[(READ, Some(1)), (READ, Some(0))]),
                 (0, 9, (2, 2), &[(WRITE_1, Some(OK))]),
             ],
-            &[Reply::Aborted { why: Why::Doomed }, Reply::Dropped],
+            &[
+                Reply::Aborted {
+                    why: AbortCause::Doomed
+                },
+                Reply::Dropped
+            ],
             "load 500 65536\ncommitted 3\naborted 1\noperations 3\nwrites 1\nones 1\nlast 2.1\n",
         )
     );
@@ -133,7 +138,7 @@ fn nothing_committed(rt: HostRuntime) {
             (1, 0),
             &[],
             &[Reply::Aborted {
-                why: Why::Forgot { site: 0 }
+                why: AbortCause::Forgot { site: 0 }
             }],
             "load 1 0\ncommitted 0\naborted 1\noperations 0\nwrites 0\nones 0\nlast -\n",
         )

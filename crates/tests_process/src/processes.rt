@@ -7,7 +7,7 @@ ghost use Rattle.qc_decl.specs.Accepted.{IsAccepted};
 use qc_core::Actor;
 use qc_decl::{Declaration, built_in};
 use qc_list::OutOfMemory;
-use qc_msg::{Appended, Command, Fall, Given, Reply};
+use qc_msg::{Appended, Command, Fall, Input, Reply};
 use qc_outside::{ArmKind, MemDisk, RackFault, Tear};
 use qc_process::{Opened, Process};
 use std::alloc::Global;
@@ -150,7 +150,7 @@ fn tells_down(alloc: Global, decl: &Declaration, process: &mut Process<MemDisk>)
     requires accepted { IsAccepted decl.now }
     requires down { process.old.actor ≡ Down }
 {
-    let given = Given::Called(Command::Begin);
+    let given = Input::Called(Command::Begin);
     match process.take(alloc, decl, given) {
         Ok(turn) => matches!(turn.told, Some(Reply::Down)),
         Err(_) => false,

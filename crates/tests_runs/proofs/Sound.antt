@@ -8,7 +8,7 @@ use Rattle.qc_core.specs.Conduct.{IsLawful, turn_after}
 use Rattle.qc_decl.specs.declared.declaration.Declaration.{Declaration}
 use Rattle.qc_decl.specs.Actors.{actors}
 use Rattle.qc_msg.specs.declared.step.Control.{Control}
-use Rattle.qc_msg.specs.declared.step.Given.{Given}
+use Rattle.qc_msg.specs.declared.step.Input.{Input}
 use Rattle.qc_msg.specs.declared.step.Step.{Step}
 use Rattle.qc_msg.specs.declared.step.Step.TheVariants as steps
 use Rattle.qc_msg.specs.declared.turn.Turn.{Turn}
@@ -35,7 +35,7 @@ pub no_controls : (lines : List Control) → none_left lines ≡ true → lines 
 no_controls [] e = refl
 no_controls (line ∷ lines) e = absurd (let never : ⊥ = cc in never)
 
-is_no : (x : Option Given) → is_none x ≡ true → x ≡ None
+is_no : (x : Option Input) → is_none x ≡ true → x ≡ None
 is_no None e = refl
 is_no (Some given) e = absurd (let never : ⊥ = cc in never)
 
@@ -50,7 +50,7 @@ all_closed [] all = refl
 all_closed (true ∷ bs) all = absurd (let never : ⊥ = cc in never)
 all_closed (false ∷ bs) all = ap (λ (v : List Bool). false ∷ v) (all_closed bs all)
 
-all_below : (f : ℕ → Option Given) (n from a : ℕ) → list_all (λ a. is_none (f a)) (range_with_len from n) ≡ true
+all_below : (f : ℕ → Option Input) (n from a : ℕ) → list_all (λ a. is_none (f a)) (range_with_len from n) ≡ true
     → from ≤ a → a < from + n → f a ≡ None
 all_below f zero from a all low high = absurd (omega arith)
 all_below f (suc n) from a all low high = by_test (from == a) refl (λ further. all_below f n (from + 1) a (second_of_both (is_none (f from)) (list_all (λ a. is_none (f a)) (range_with_len (from + 1) n)) all) further (omega arith))
@@ -75,7 +75,7 @@ quiet_closed decl script s quiet =
 abbrev IsRunTo : Declaration → Script → Stage → Type 0
 IsRunTo decl script s = Runs (IsLawful decl) decl script s.history s.open_inputs
 
-takes_soundly : (decl : Declaration) (script : Script) (s t : Stage) (a : ℕ) (opened : Option Bool) (given : Option Given) → IsRunTo decl script s
+takes_soundly : (decl : Declaration) (script : Script) (s t : Stage) (a : ℕ) (opened : Option Bool) (given : Option Input) → IsRunTo decl script s
     → slice_get s.open_inputs a ≡ opened → ready decl script a s.history ≡ given → taken_by s a opened given ≡ Some t → IsRunTo decl script t
 takes_soundly decl script s t a None given run opens comes is = absurd (let never : ⊥ = cc in never)
 takes_soundly decl script s t a (Some true) given run opens comes is = absurd (let never : ⊥ = cc in never)

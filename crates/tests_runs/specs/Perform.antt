@@ -9,7 +9,7 @@ use Rattle.qc_core.specs.Conduct.{turn_after}
 use Rattle.qc_decl.specs.declared.declaration.Declaration.{Declaration}
 use Rattle.qc_decl.specs.Actors.{actors, controller}
 use Rattle.qc_msg.specs.declared.step.Control.{Control}
-use Rattle.qc_msg.specs.declared.step.Given.{Given}
+use Rattle.qc_msg.specs.declared.step.Input.{Input}
 use Rattle.qc_msg.specs.declared.step.Step.{Step}
 use Rattle.qc_msg.specs.declared.step.Step.TheVariants as steps
 use Rattle.qc_msg.specs.declared.turn.Turn.{Turn}
@@ -29,11 +29,11 @@ nothing_done decl = record { history = []; open_inputs = replicate (actors decl)
 
 -- an actor without an open input takes what is ready for it
 
-abbrev pub with_taken : Stage → ℕ → Given → Stage
+abbrev pub with_taken : Stage → ℕ → Input → Stage
 with_taken s a given =
     record { history = s.history ++ marked a (step_of given) ∷ []; open_inputs = slice_set s.open_inputs a true }
 
-abbrev pub taken_by : Stage → ℕ → Option Bool → Option Given → Option Stage
+abbrev pub taken_by : Stage → ℕ → Option Bool → Option Input → Option Stage
 taken_by s a None given = None
 taken_by s a (Some true) given = None
 taken_by s a (Some false) given = option_map (with_taken s a) given

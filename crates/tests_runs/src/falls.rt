@@ -5,7 +5,7 @@ ghost use Rattle.std.specs.Prelude.{◌≡◌, ◌++◌, [], ◌∷◌, Some, No
 ghost use Rattle.qc_decl.specs.One.{three};
 ghost use Rattle.qc_msg.specs.declared.step.Control.TheVariants.{Crash, Restart};
 ghost use Rattle.qc_msg.specs.declared.step.Fall.TheVariants.{Disk, Stop};
-ghost use Rattle.qc_msg.specs.declared.step.Given.TheVariants.{Got, Lost};
+ghost use Rattle.qc_msg.specs.declared.step.Input.TheVariants.{Got, Lost};
 ghost use Rattle.qc_script.specs.Ready.{controls_left, ready};
 ghost use Rattle.tests_runs.specs.Falls.{asked, asking, asking_in_vain, asking_lately, asking_who_is_down, begun};
 ghost use Rattle.tests_runs.specs.Falls.{crash_and_restart, fell, fell_by_script, of_lines, request_to, rose};

@@ -1,12 +1,12 @@
 //! Reading the words of a line, and what is to come of them.
 
-use qc_words::{Asked, WordsFault, asked_by};
+use qc_words::{Errand, WordsFault, asked_by};
 use std::alloc::Global;
 use std::process::Abort;
 
 /// Whether the words of a line, which stand with one space between them, are
 /// read as what is wanted. Want of memory never is.
-pub(crate) fn is_read_as(alloc: Global, line: &str, want: Result<Asked<'_>, WordsFault>) -> bool {
+pub(crate) fn is_read_as(alloc: Global, line: &str, want: Result<Errand<'_>, WordsFault>) -> bool {
     let mut words = Vec::new(alloc);
     for word in line.split(' ') {
         if words.push(word).is_err() {
@@ -19,7 +19,7 @@ pub(crate) fn is_read_as(alloc: Global, line: &str, want: Result<Asked<'_>, Word
 /// Each line asks whether the declaration of this name is accepted.
 pub(crate) fn check_checks(rt: &impl Abort, alloc: Global, rows: &[(&str, &str)]) {
     for (line, decl) in rows {
-        let want = Asked::Check { decl };
+        let want = Errand::Check { decl };
         assert!(rt; is_read_as(alloc, line, Ok(want)), "at {line}");
     }
 }
@@ -31,7 +31,7 @@ pub(crate) type Run<'a> = (&'a str, &'a str, &'a str, u8, Option<&'a str>);
 /// Each line asks this run.
 pub(crate) fn check_runs(rt: &impl Abort, alloc: Global, rows: &[Run<'_>]) {
     for (line, decl, script, workers, dir) in rows {
-        let want = Asked::Run {
+        let want = Errand::Run {
             decl,
             script,
             workers: *workers,
@@ -45,7 +45,7 @@ pub(crate) fn check_runs(rt: &impl Abort, alloc: Global, rows: &[Run<'_>]) {
 /// workers.
 pub(crate) fn check_loads(rt: &impl Abort, alloc: Global, rows: &[(&str, u32, u32, u8)]) {
     for (line, count, seed, workers) in rows {
-        let want = Asked::Load {
+        let want = Errand::Load {
             count: *count,
             seed: *seed,
             workers: *workers,

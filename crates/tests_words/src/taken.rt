@@ -1,7 +1,7 @@
 //! Words that ask something.
 
 use crate::reading::{check_checks, check_loads, check_runs};
-use qc_words::{Asked, asked_by};
+use qc_words::{Errand, asked_by};
 
 #[test]
 fn checks(rt: HostRuntime) {
@@ -114,7 +114,7 @@ fn loads(rt: HostRuntime) {
 #[test]
 fn words_may_have_spaces(rt: HostRuntime) {
     let words = ["run", "a b", " ", "--dir= d"];
-    let want = Asked::Run {
+    let want = Errand::Run {
         decl: "a b",
         script: " ",
         workers: 1,

@@ -9,4 +9,5 @@ returns-in-Ok c = document_read c.args.bytes.now (table_view c.in-Ok.table) c.in
 pub returns-in-Err-2 : goal.returns-in-Err-2
 returns-in-Err-2 c = λ known.
     no_document c.args.bytes.now
-    (c.in-Err.ensures.refused (λ memory. let told : c.is_memory.result ≡ true = c.is_memory.ensures.1 memory in let never : ⊥ = cc in never))
+    (c.in-Err.ensures.refused (λ memory. let told : c.is_memory.result ≡ true = c.is_memory.ensures.1 memory in
+    let never : ⊥ = cc in never))

@@ -8,7 +8,9 @@ loop-triple-init c = counted_nothing
 pub returns-then-counts-place-eq-MOST_ALIKE_TRIPLES : goal.returns-then-counts-place-eq-MOST_ALIKE_TRIPLES
 returns-then-counts-place-eq-MOST_ALIKE_TRIPLES c =
     let d : Triple = record { view = 0; log = 0; out = 0 } in
-    many_alike c.loop-triple.counts c.args.triples.now c.loop-triple.triple-index d c.loop-triple-test.true c.requires c.loop-triple.invariant c.if-counts-place-eq-MOST_ALIKE_TRIPLES.true
+    many_alike c.loop-triple.counts c.args.triples.now c.loop-triple.triple-index d c.loop-triple-test.true c.requires
+    c.loop-triple.invariant c.if-counts-place-eq-MOST_ALIKE_TRIPLES.true
 
 pub returns : goal.returns
-returns c = few_alike c.loop-triple.counts c.args.triples.now c.loop-triple.triple-index c.loop-triple-test.false c.requires c.loop-triple.invariant
+returns c = few_alike c.loop-triple.counts c.args.triples.now c.loop-triple.triple-index c.loop-triple-test.false
+    c.requires c.loop-triple.invariant

@@ -8,6 +8,7 @@ use Rattle.qc_accept.proofs.certificates.relation.Given as goal
 
 abbrev pub invariant-loop-item : goal.invariant-loop-item
 invariant-loop-item l = record {
-  reads : pairs_in (words_in l.words) (events_in l.events) (data_of l.items) ≡ read_each (with_read (pair_in (words_in l.words) (events_in l.events))) l.pairs (drop l.item-index (data_of l.items));
+  reads : pairs_in (words_in l.words) (events_in l.events) (data_of l.items) ≡ read_each
+      (with_read (pair_in (words_in l.words) (events_in l.events))) l.pairs (drop l.item-index (data_of l.items));
   within : All (λ (p : Pair). (p.inv < most_invocations) × (p.event < most_events)) l.pairs;
 }

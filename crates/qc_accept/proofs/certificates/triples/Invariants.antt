@@ -7,6 +7,7 @@ use Rattle.qc_accept.proofs.certificates.triples.Given as goal
 
 abbrev pub invariant-loop-item : goal.invariant-loop-item
 invariant-loop-item l = record {
-  reads : read_each (with_read (triple_in (words_in l.words) (events_in l.events))) [] (data_of l.items) ≡ read_each (with_read (triple_in (words_in l.words) (events_in l.events))) l.triples (drop l.item-index (data_of l.items));
+  reads : read_each (with_read (triple_in (words_in l.words) (events_in l.events))) [] (data_of l.items) ≡ read_each
+      (with_read (triple_in (words_in l.words) (events_in l.events))) l.triples (drop l.item-index (data_of l.items));
   within : All AreLow l.triples;
 }

@@ -9,7 +9,9 @@ use Rattle.qc_accept.proofs.epochs.weights.Goals as goal
 
 pub returns : goal.returns
 returns c =
-    then_answers (λ ws. ws) c.told.result (items (path_in c.args.fields.now) (table_in c.args.fields.now) (codes "weights") c.args.sites c.args.sites) _ (data_of c.in_ok-items.items.now)
+    then_answers (λ ws. ws) c.told.result (items (path_in c.args.fields.now) (table_in c.args.fields.now)
+    (codes "weights") c.args.sites c.args.sites) _ (data_of c.in_ok-items.items.now)
     c.in_ok-items.ensures
-    (told_answers (λ ws. ws) (path_in c.args.fields.now ++ codes "weights") (read_each with_weight [] (data_of c.in_ok-items.items.now)) c.read_weights.result c.told.result
+    (told_answers (λ ws. ws) (path_in c.args.fields.now ++ codes "weights")
+    (read_each with_weight [] (data_of c.in_ok-items.items.now)) c.read_weights.result c.told.result
     c.read_weights.ensures c.told.ensures)

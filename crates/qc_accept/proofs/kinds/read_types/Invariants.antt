@@ -7,7 +7,8 @@ use Rattle.qc_accept.proofs.kinds.read_types.Given as goal
 
 abbrev pub invariant-loop-item : goal.invariant-loop-item
 invariant-loop-item l = record {
-  read : each with_type (record { names = []; list = [] }) (data_of l.items) ≡ each with_type (types_in l.types) (drop l.item-index (data_of l.items));
+  read : each with_type (record { names = []; list = [] }) (data_of l.items) ≡ each with_type (types_in l.types)
+      (drop l.item-index (data_of l.items));
   long : length (types_in l.types).names ≡ l.item-index;
   few : length l.items ≤ most_types;
 }

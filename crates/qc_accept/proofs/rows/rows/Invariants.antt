@@ -5,4 +5,5 @@ use Rattle.qc_accept.specs.Views.{data_of, words_in}
 use Rattle.qc_accept.proofs.rows.rows.Given as goal
 
 abbrev pub invariant-loop-item : goal.invariant-loop-item
-invariant-loop-item l = rows_in (words_in l.words) (data_of l.items) ≡ read_each (with_read (row_in (words_in l.words))) l.rows (drop l.item-index (data_of l.items))
+invariant-loop-item l = rows_in (words_in l.words) (data_of l.items) ≡ read_each
+    (with_read (row_in (words_in l.words))) l.rows (drop l.item-index (data_of l.items))

@@ -4,7 +4,8 @@ use Rattle.qc_admin.proofs.closing.ask_all.Goals as goal
 
 pub returns-clause-sites : goal.returns-clause-sites
 returns-clause-sites c =
-    all_asked c.args.round.now c.asking.round c.asking.sites c.asking.invariant.sites (sym c.ask.ensures.told ∙ c.in_default.is)
+    all_asked c.args.round.now c.asking.round c.asking.sites c.asking.invariant.sites
+    (sym c.ask.ensures.told ∙ c.in_default.is)
 
 pub returns-clause-asked : goal.returns-clause-asked
 returns-clause-asked c =

@@ -17,7 +17,8 @@ one_weight plan weight is =
     let more = other.least weight is.closes in
     omega arith
 
-told : (result : Result RoundState AllocError) (some others : RoundState) → some ≡ others → IfOk result (λ round. round ≡ some) → IfOk result (λ round. round ≡ others)
+told : (result : Result RoundState AllocError) (some others : RoundState) → some ≡ others
+    → IfOk result (λ round. round ≡ some) → IfOk result (λ round. round ≡ others)
 told (Ok round) some others same is = is ∙ same
 told (Err e) some others same is = tt
 
@@ -26,5 +27,6 @@ returns-in-Some c =
     let plan : Plan = c.in-Some.plan.now in
     let there : plan_in c.args.decl.now c.args.epoch ≡ Some plan = c.in-Some.ensures.some in
     told c.start.result (start plan.weights 0 c.close_weight.result) (close_round c.args.decl.now c.args.epoch)
-    (ap (start plan.weights 0) (one_weight plan c.close_weight.result c.close_weight.ensures) ∙ ap close_round_by (sym there))
+    (ap (start plan.weights 0) (one_weight plan c.close_weight.result c.close_weight.ensures)
+    ∙ ap close_round_by (sym there))
     c.start.ensures

@@ -13,7 +13,8 @@ use Rattle.qc_admin.proofs.deciding.merged.Goals as goal
 same_values : {A B : Type 0} → (f g : A → B) → ((a : A) → f a ≡ g a) → f ≡ g
 same_values f g each = λ i a. each a i
 
-told : (result : Result (List Line) AllocError) (some others : List Line) → some ≡ others → IfOk result (λ log. log ≡ some) → IfOk result (λ log. log ≡ others)
+told : (result : Result (List Line) AllocError) (some others : List Line) → some ≡ others
+    → IfOk result (λ log. log ≡ some) → IfOk result (λ log. log ≡ others)
 told (Ok log) some others same is = is ∙ same
 told (Err e) some others same is = tt
 
@@ -22,7 +23,8 @@ returns c =
     let stamps = stamp_at c.in_ok-stamps.stamps in
     let shuts = c.items-shut-items.result.now in
     let past : length shuts ≤ c.shuts.shut-index = c.shuts-test.false in
-    let same : stamps ≡ stamp_of c.args.questions.now = same_values stamps (stamp_of c.args.questions.now) c.in_ok-stamps.ensures in
+    let same : stamps ≡ stamp_of c.args.questions.now =
+    same_values stamps (stamp_of c.args.questions.now) c.in_ok-stamps.ensures in
     told c.into_log.result c.shuts.lines (merged c.args.shuts.now c.args.questions.now)
     (ap (fold (with_shut_by stamps) c.shuts.lines) (sym (drop_of_length-le shuts past))
     ∙ c.shuts.invariant

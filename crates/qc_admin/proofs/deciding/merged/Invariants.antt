@@ -4,4 +4,5 @@ use Rattle.qc_admin.proofs.deciding.merged.Given as goal
 
 abbrev pub invariant-shuts : goal.invariant-shuts
 invariant-shuts l =
-    fold (with_shut_by (stamp_at l.stamps)) l.lines (drop l.shut-index l.shut-items) ≡ fold (with_shut_by (stamp_at l.stamps)) [] l.shuts
+    fold (with_shut_by (stamp_at l.stamps)) l.lines (drop l.shut-index l.shut-items) ≡ fold
+    (with_shut_by (stamp_at l.stamps)) [] l.shuts

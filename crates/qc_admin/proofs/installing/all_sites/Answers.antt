@@ -3,7 +3,8 @@ use Rattle.std.specs.List.{range_with_len}
 use Rattle.qc_admin.proofs.installing.all_sites.Goals as goal
 
 -- the sites from one on
-first_left : (end site : ℕ) → site < end → range_with_len site (end - site) ≡ site ∷ range_with_len (site + 1) (end - (site + 1))
+first_left : (end site : ℕ) → site < end
+    → range_with_len site (end - site) ≡ site ∷ range_with_len (site + 1) (end - (site + 1))
 first_left end site low =
     let more : end - site ≡ suc (end - (site + 1)) = omega arith in
     ap (range_with_len site) more

@@ -5,4 +5,5 @@ use Rattle.qc_admin.proofs.shut.in_asked_order.Given as goal
 
 abbrev pub invariant-loop-site : goal.invariant-loop-site
 invariant-loop-site l =
-    l.ordered ++ in_asked_order (drop l.site-index l.asked) (with_last l.shuts l.last) ≡ in_asked_order l.asked (with_last l.shuts l.last)
+    l.ordered ++ in_asked_order (drop l.site-index l.asked) (with_last l.shuts l.last) ≡ in_asked_order l.asked
+    (with_last l.shuts l.last)

@@ -10,5 +10,6 @@ rows-preserved c =
     subst (λ n. IsRow sets (n / 16) (n % 16) c.row_of.result) (sym c.rows.invariant.all) c.row_of.ensures in
     record {
       all = search rules;
-      rows = subst (AreRows sets) (sym c.in_ok-push.ensures.items) (rows_more sets c.rows.rows.items c.row_of.result c.rows.invariant.rows row);
+      rows = subst (AreRows sets) (sym c.in_ok-push.ensures.items)
+          (rows_more sets c.rows.rows.items c.row_of.result c.rows.invariant.rows row);
     }

@@ -13,9 +13,14 @@ returns-clause-added c = on_ok_weaker c.push.result added c.push.ensures
     within : c.place.result < length c.args.groups.now
     within = omega (arith, c.place.ensures.within, c.requires.all)
 
-    added : ((other : ℕ) → parts_within c.push.new.self other ≡ (parts_within (get_or c.args.groups.now c.place.result c.index-groups-place.result) other || is_within c.args.triple.now.out other))
+    added : ((other : ℕ) → parts_within c.push.new.self other ≡
+        (parts_within (get_or c.args.groups.now c.place.result c.index-groups-place.result) other
+        || is_within c.args.triple.now.out other))
         → (place out : ℕ) → parts_within (get_or (set c.args.groups.now c.place.result c.push.new.self) place []) out
-        ≡ (parts_within (get_or c.args.groups.now place []) out || any_within (outs_at (c.args.triple.now ∷ []) place) out)
-    added pushed = group_added c.args.groups.now c.args.triple.now c.place.result c.push.new.self c.place.ensures.place within
+        ≡ (parts_within (get_or c.args.groups.now place []) out
+        || any_within (outs_at (c.args.triple.now ∷ []) place) out)
+    added pushed = group_added c.args.groups.now c.args.triple.now c.place.result c.push.new.self c.place.ensures.place
+        within
         (λ out. pushed out ∙ ap (λ (p : List (List ℕ)). parts_within p out || is_within c.args.triple.now.out out)
-        (sym c.index-groups-place.is ∙ get_or_read c.args.groups.now c.place.result c.index-groups-place.result within c.index-groups-place.is []))
+        (sym c.index-groups-place.is ∙ get_or_read c.args.groups.now c.place.result c.index-groups-place.result within
+        c.index-groups-place.is []))

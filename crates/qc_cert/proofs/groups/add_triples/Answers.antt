@@ -1,5 +1,6 @@
 use Rattle.std.specs.Prelude.{◌||◌}
-use Rattle.std.proofs.Common.{◌≡◌, ◌+◌, ◌<◌, ◌∷◌, false, cond, List, [], length, get_or, drop, refl, sym, ap, ◌∙◌, arith}
+use Rattle.std.proofs.Common.{◌≡◌, ◌+◌, ◌<◌, ◌∷◌, false, cond, List, [], length, get_or, drop, refl, sym, ap, ◌∙◌}
+use Rattle.std.proofs.Common.{arith}
 use Rattle.qc_cert.proofs.Grouped.{group_more}
 use Rattle.qc_cert.proofs.Repeats.{marked_more}
 use Rattle.qc_cert.proofs.groups.add_triples.Goals as goal
@@ -25,9 +26,11 @@ triples-preserved c =
             all = ap length w.groups-is ∙ w.in_ok-add_triple.ensures.all;
             outs = λ group out.
                 ap (λ gs. parts_within (get_or gs group []) out || any_within (outs_at later group) out) w.groups-is
-                ∙ group_more (parts_within (get_or w.add_triple.new.groups group []) out) (parts_within (get_or c.triples.groups group []) out) x later group out
+                ∙ group_more (parts_within (get_or w.add_triple.new.groups group []) out)
+                (parts_within (get_or c.triples.groups group []) out) x later group out
                 (w.in_ok-add_triple.ensures.added group out)
-                ∙ ap (λ ts. parts_within (get_or c.triples.groups group []) out || any_within (outs_at ts group) out) (sym (left ∙ ap (λ b. cond b (x ∷ later) later) w.if-marks-place.true))
+                ∙ ap (λ ts. parts_within (get_or c.triples.groups group []) out || any_within (outs_at ts group) out)
+                (sym (left ∙ ap (λ b. cond b (x ∷ later) later) w.if-marks-place.true))
                 ∙ c.triples.invariant.outs group out;
           }
       | else-marks-place w ↦
@@ -35,7 +38,8 @@ triples-preserved c =
             all = ap length w.groups-is ∙ c.triples.invariant.all;
             outs = λ group out.
                 ap (λ gs. parts_within (get_or gs group []) out || any_within (outs_at later group) out) w.groups-is
-                ∙ ap (λ ts. parts_within (get_or c.triples.groups group []) out || any_within (outs_at ts group) out) (sym (left ∙ ap (λ b. cond b (x ∷ later) later) w.if-marks-place.false))
+                ∙ ap (λ ts. parts_within (get_or c.triples.groups group []) out || any_within (outs_at ts group) out)
+                (sym (left ∙ ap (λ b. cond b (x ∷ later) later) w.if-marks-place.false))
                 ∙ c.triples.invariant.outs group out;
           }
     ]

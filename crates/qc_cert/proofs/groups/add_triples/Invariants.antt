@@ -7,5 +7,7 @@ use Rattle.qc_cert.proofs.groups.add_triples.Given as goal
 abbrev pub invariant-triples : goal.invariant-triples
 invariant-triples l = record {
   all : length l.groups ≡ 4096;
-  outs : (group out : ℕ) → (parts_within (slice_index_or l.groups group []) out || any_within (outs_at (marked (drop l.place l.marks) (drop l.place l.list)) group) out) ≡ any_within (outs_at (marked l.marks l.list) group) out;
+  outs : (group out : ℕ) → (parts_within (slice_index_or l.groups group []) out
+      || any_within (outs_at (marked (drop l.place l.marks) (drop l.place l.list)) group) out) ≡ any_within
+      (outs_at (marked l.marks l.list) group) out;
 }

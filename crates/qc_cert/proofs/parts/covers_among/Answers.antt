@@ -11,10 +11,12 @@ turns-preserved c =
     record {
       small = without_small c.turns.rest (trailing_zeros w64 c.turns.rest) fits;
       left = left_more c.turns.rest c.turns._turn some fits c.turns.invariant.left;
-      looked = looked_more c.args.parts.now c.args.out c.args.events c.turns.rest events some fits (sym c.covers_at.ensures ∙ c.if-covers_at.false) c.turns.invariant.looked;
+      looked = looked_more c.args.parts.now c.args.out c.args.events c.turns.rest events some fits
+          (sym c.covers_at.ensures ∙ c.if-covers_at.false) c.turns.invariant.looked;
     }
 
 pub returns-clause-none : goal.returns-clause-none
 returns-clause-none c = λ _ k here.
     c.turns.invariant.looked k here
-    (none_past c.turns.rest c.turns.invariant.small (λ k here. let past : c.turns._turn ≤ k = c.turns.invariant.left k here in omega (arith, c.turns-test.false)) k)
+    (none_past c.turns.rest c.turns.invariant.small
+    (λ k here. let past : c.turns._turn ≤ k = c.turns.invariant.left k here in omega (arith, c.turns-test.false)) k)

@@ -7,5 +7,6 @@ abbrev pub invariant-turns : goal.invariant-turns
 invariant-turns l = record {
   small : l.rest < 2 ^ 64;
   left : (k : ℕ) → has l.rest k ≡ true → l._turn ≤ k;
-  looked : (k : ℕ) → has l.events k ≡ true → has l.rest k ≡ false → any_within (slice_index_or l.parts k []) l.out ≡ false;
+  looked : (k : ℕ) → has l.events k ≡ true → has l.rest k ≡ false
+      → any_within (slice_index_or l.parts k []) l.out ≡ false;
 }

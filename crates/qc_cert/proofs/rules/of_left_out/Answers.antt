@@ -6,6 +6,8 @@ use Rattle.qc_cert.proofs.rules.of_left_out.Goals as goal
 
 pub returns-then-is_some : goal.returns-then-is_some
 returns-then-is_some c =
-    let same : c.events-events.result.now ≡ events_of c.args.kind.now.table.rows = c.events-events.ensures.events ∙ ap (λ (k : Kind). events_of k.table.rows) c.plain.ensures in
-    let within : c.loop-event.event < length (events_of c.args.kind.now.table.rows) = rw (← same) c.loop-event-test.true in
+    let same : c.events-events.result.now ≡ events_of c.args.kind.now.table.rows = c.events-events.ensures.events
+    ∙ ap (λ (k : Kind). events_of k.table.rows) c.plain.ensures in
+    let within : c.loop-event.event < length (events_of c.args.kind.now.table.rows) =
+    rw (← same) c.loop-event-test.true in
     first_found _ _ _ _ within c.loop-event.invariant c.left_out-fault.ensures (search rules)

@@ -9,5 +9,6 @@ invariant-turns l = record {
   small : l.rest < 2 ^ 64;
   left : (k : ℕ) → has l.rest k ≡ true → l._turn ≤ k;
   within : (k : ℕ) → has l.rest k ≡ true → k < length (events_of l.kind.table.rows);
-  none : (k : ℕ) → k < length (events_of l.kind.table.rows) → has l.rest k ≡ false → taken_fault l.kind l.triples l.place l.triple l.inv k ≡ None;
+  none : (k : ℕ) → k < length (events_of l.kind.table.rows) → has l.rest k ≡ false
+      → taken_fault l.kind l.triples l.place l.triple l.inv k ≡ None;
 }

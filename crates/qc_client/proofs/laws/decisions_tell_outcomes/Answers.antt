@@ -5,4 +5,5 @@ use Rattle.qc_client.proofs.Outcomes.{takes-tells}
 use Rattle.qc_client.proofs.laws.decisions_tell_outcomes.Goals as goal
 
 pub returns : goal.returns
-returns c = λ decl number inputs given ready. takes-tells decl (after_inputs decl (new_client number) inputs) given (all-well decl number inputs ready)
+returns c = λ decl number inputs given ready. takes-tells decl (after_inputs decl (new_client number) inputs) given
+    (all-well decl number inputs ready)

@@ -16,7 +16,8 @@ others_of-requires-clause-second c =
 pub returns : goal.returns
 returns c =
     rw (
-      without-shared c.shared-n.result c.args.a.now c.args.b.now c.requires.first c.requires.second c.shared-n.ensures.alike,
+      without-shared c.shared-n.result c.args.a.now c.args.b.now c.requires.first c.requires.second
+          c.shared-n.ensures.alike,
       sym (whole-rest c.args.a.now c.shared-n.result),
       sym (whole-rest c.args.b.now c.shared-n.result),
     ) c.others_of.ensures

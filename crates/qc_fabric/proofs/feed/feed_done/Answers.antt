@@ -10,8 +10,10 @@ feed_sents-right-requires-clause-room c =
     let p = c.args.pass.now in
     let sent : length c.into_vec.result.items ≡ length c.args.turn.sends = ap length c.into_vec.ensures in
     can_start c.feed_wrote-right.new.log (length c.into_vec.result.items) _
-    (can_rest c.args.log.now c.feed_wrote-right.new.log _ (length c.args.turn.sends + length (told c.args.turn.told)) _ c.feed_wrote-right.ensures.log
-    (omega (arith, length-by (number p) (wrote c.args.turn.write), length-done c.args.first c.args.turn)) c.requires.room) (omega (arith, sent))
+    (can_rest c.args.log.now c.feed_wrote-right.new.log _
+    (length c.args.turn.sends + length (told c.args.turn.told)) _ c.feed_wrote-right.ensures.log
+    (omega (arith, length-by (number p) (wrote c.args.turn.write), length-done c.args.first c.args.turn))
+    c.requires.room) (omega (arith, sent))
 
 pub feed_told-requires-clause-room : goal.feed_told-requires-clause-room
 feed_told-requires-clause-room c =
@@ -19,15 +21,23 @@ feed_told-requires-clause-room c =
     let q = c.feed_wrote-right.new.pass in
     let sent : length c.into_vec.result.items ≡ length c.args.turn.sends = ap length c.into_vec.ensures in
     let mid : CanFeed c.feed_wrote-right.new.log (length c.args.turn.sends + length (told c.args.turn.told)) =
-    can_rest c.args.log.now c.feed_wrote-right.new.log _ (length c.args.turn.sends + length (told c.args.turn.told)) _ c.feed_wrote-right.ensures.log (omega (arith, length-by (number p) (wrote c.args.turn.write), length-done c.args.first c.args.turn)) c.requires.room in
-    can_rest c.feed_wrote-right.new.log c.feed_sents-right.new.log _ (length (told c.args.turn.told)) (length c.args.turn.sends + length (told c.args.turn.told)) c.feed_sents-right.ensures.log
-    (ap (λ n. n + length (told c.args.turn.told)) (length-by (number q) (sents c.args.first c.into_vec.result.items) ∙ (length-sents c.args.first c.into_vec.result.items ∙ sent))) mid
+    can_rest c.args.log.now c.feed_wrote-right.new.log _
+    (length c.args.turn.sends + length (told c.args.turn.told)) _ c.feed_wrote-right.ensures.log
+    (omega (arith, length-by (number p) (wrote c.args.turn.write), length-done c.args.first c.args.turn))
+    c.requires.room in
+    can_rest c.feed_wrote-right.new.log c.feed_sents-right.new.log _ (length (told c.args.turn.told))
+    (length c.args.turn.sends + length (told c.args.turn.told)) c.feed_sents-right.ensures.log
+    (ap (λ n. n + length (told c.args.turn.told))
+    (length-by (number q) (sents c.args.first c.into_vec.result.items)
+    ∙ (length-sents c.args.first c.into_vec.result.items ∙ sent))) mid
 
 pub returns-clause-fed : goal.returns-clause-fed
 returns-clause-fed c = rw (sym c.into_vec.ensures)
-    (fed_join _ _ _ _ _ _ _ _ c.feed_wrote-right.ensures.fed (fed_join _ _ _ _ _ _ _ _ c.feed_sents-right.ensures.fed c.feed_told.ensures.fed))
+    (fed_join _ _ _ _ _ _ _ _ c.feed_wrote-right.ensures.fed
+    (fed_join _ _ _ _ _ _ _ _ c.feed_sents-right.ensures.fed c.feed_told.ensures.fed))
 
 pub returns-clause-log : goal.returns-clause-log
 returns-clause-log c = rw (sym c.into_vec.ensures)
     (grown_join _ _ _ _ _ _ _ c.feed_wrote-right.ensures.fed.same_number c.feed_wrote-right.ensures.log
-    (grown_join _ _ _ _ _ _ _ c.feed_sents-right.ensures.fed.same_number c.feed_sents-right.ensures.log c.feed_told.ensures.log))
+    (grown_join _ _ _ _ _ _ _ c.feed_sents-right.ensures.fed.same_number c.feed_sents-right.ensures.log
+    c.feed_told.ensures.log))

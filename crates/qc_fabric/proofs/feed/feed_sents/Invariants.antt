@@ -10,7 +10,8 @@ invariant-loop-to l = record {
   can : (goal.iterator-loop-to).can_next l.to-iterator;
   finite : (goal.iterator-loop-to).is_finite l.to-iterator;
   number_is : l.number + length (into_iter_items l.to-iterator) ≡ l.fn.first + length l.fn.postings.items;
-  feeding : Feeding l.fn.pass l.fn.right l.pass l.right (sents l.fn.first l.fn.postings.items) (sents l.number (into_iter_items l.to-iterator)) l.fn.log l.log;
+  feeding : Feeding l.fn.pass l.fn.right l.pass l.right (sents l.fn.first l.fn.postings.items)
+      (sents l.number (into_iter_items l.to-iterator)) l.fn.log l.log;
   room : CanFeed l.log (length (into_iter_items l.to-iterator));
   pass : pass_table l.pass ≡ table_of l.passes;
   right : right_table l.right ≡ table_of l.passes;

@@ -1,4 +1,5 @@
-use Rattle.qc_falls.proofs.Falls.{another_waits, armed, armed_anew, armed_for_both, armed_in_opening, armed_over_crash, armed_over_reading, counted}
+use Rattle.qc_falls.proofs.Falls.{another_waits, armed, armed_anew, armed_for_both, armed_in_opening, armed_over_crash}
+use Rattle.qc_falls.proofs.Falls.{armed_over_reading, counted}
 use Rattle.qc_falls.proofs.disks.accounted_falls_are_taken.Goals as goal
 
 pub returns-clause-armed : goal.returns-clause-armed

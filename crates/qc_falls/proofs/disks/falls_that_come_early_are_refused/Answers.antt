@@ -1,4 +1,5 @@
-use Rattle.qc_falls.proofs.Falls.{early_after_damage, early_after_reading, early_in_opening, early_in_record, early_in_second}
+use Rattle.qc_falls.proofs.Falls.{early_after_damage, early_after_reading, early_in_opening, early_in_record}
+use Rattle.qc_falls.proofs.Falls.{early_in_second}
 use Rattle.qc_falls.proofs.disks.falls_that_come_early_are_refused.Goals as goal
 
 pub returns-clause-in_record : goal.returns-clause-in_record

@@ -1,4 +1,5 @@
-use Rattle.qc_falls.proofs.Falls.{armed_after, armed_another, armed_to_fail, armed_to_stop, counted_once, is_replaced, one_is_kept, stops_twice, unarmed}
+use Rattle.qc_falls.proofs.Falls.{armed_after, armed_another, armed_to_fail, armed_to_stop, counted_once, is_replaced}
+use Rattle.qc_falls.proofs.Falls.{one_is_kept, stops_twice, unarmed}
 use Rattle.qc_falls.proofs.disks.falls_that_nothing_armed_are_refused.Goals as goal
 
 pub returns-clause-unarmed : goal.returns-clause-unarmed

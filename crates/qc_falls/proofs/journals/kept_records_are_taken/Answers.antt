@@ -1,4 +1,5 @@
-use Rattle.qc_falls.proofs.Records.{given_at_last, later_kept, not_missed, pending_away, pending_dropped, pending_given, pending_stays, two_kept}
+use Rattle.qc_falls.proofs.Records.{given_at_last, later_kept, not_missed, pending_away, pending_dropped, pending_given}
+use Rattle.qc_falls.proofs.Records.{pending_stays, two_kept}
 use Rattle.qc_falls.proofs.journals.kept_records_are_taken.Goals as goal
 
 pub returns-clause-all : goal.returns-clause-all

@@ -1,4 +1,5 @@
-use Rattle.qc_falls.proofs.Records.{pending_alone, pending_before, pending_doubled, pending_gone, pending_late, pending_takes}
+use Rattle.qc_falls.proofs.Records.{pending_alone, pending_before, pending_doubled, pending_gone, pending_late}
+use Rattle.qc_falls.proofs.Records.{pending_takes}
 use Rattle.qc_falls.proofs.journals.wrong_pending_records_are_refused.Goals as goal
 
 pub returns-clause-alone : goal.returns-clause-alone

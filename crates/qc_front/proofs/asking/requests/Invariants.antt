@@ -5,4 +5,5 @@ use Rattle.qc_front.proofs.asking.requests.Given as goal
 -- the requests so far, with those to the sites that are left, are all of them
 abbrev pub invariant-loop-site : goal.invariant-loop-site
 invariant-loop-site l =
-    l.sends ++ map (request_of l.begun l.want) (drop l.site-index l.site-items) ≡ map (request_of l.begun l.want) l.sites
+    l.sends ++ map (request_of l.begun l.want) (drop l.site-index l.site-items) ≡ map
+    (request_of l.begun l.want) l.sites

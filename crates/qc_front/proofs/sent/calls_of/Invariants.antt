@@ -6,7 +6,8 @@ use Rattle.qc_front.proofs.sent.calls_of.Given as goal
 -- the calls so far, with those to the sites that are left, are all of them; there is one at most for each site so far
 abbrev pub invariant-loop-asked : goal.invariant-loop-asked
 invariant-loop-asked l = record {
-  all : l.calls ++ calls_from l.number (awaited (record l.round { asked = drop l.asked-index l.round.asked })) ≡ calls_from l.first (awaited l.round);
+  all : l.calls ++ calls_from l.number (awaited (record l.round { asked = drop l.asked-index l.round.asked }))
+      ≡ calls_from l.first (awaited l.round);
   few : length l.calls ≤ l.asked-index;
   numbers : l.number ≤ l.first + l.asked-index;
 }

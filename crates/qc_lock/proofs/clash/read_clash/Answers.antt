@@ -4,7 +4,8 @@ use Rattle.std.proofs.lemmas.Nat.Bits.{bit_at-trailing_zeros}
 use Rattle.qc_lock.specs.declared.clash.Clash.{Clash}
 use Rattle.qc_lock.specs.Conflict.{IsSmallest}
 use Rattle.qc_lock.specs.Places.{IsPlaced}
-use Rattle.qc_lock.proofs.Lowest.{Passed, left_more, none_left, none_passed, none_past, passed_all, passed_more, without, without_small}
+use Rattle.qc_lock.proofs.Lowest.{Passed, left_more, none_left, none_passed, none_past, passed_all, passed_more}
+use Rattle.qc_lock.proofs.Lowest.{without, without_small}
 use Rattle.qc_table.specs.Sets.{has}
 use Rattle.qc_lock.proofs.clash.read_clash.Goals as goal
 
@@ -14,7 +15,8 @@ turns-init c =
     record {
       small = fits;
       left = λ k here. omega arith;
-      best = none_passed (λ n d. IsPlaced c.args.relation.now c.args.lines.now c.args.tx c.args.object n c.args.inv n d) c.depended-rest.result
+      best = none_passed (λ n d. IsPlaced c.args.relation.now c.args.lines.now c.args.tx c.args.object n c.args.inv n d)
+          c.depended-rest.result
           (λ n d placed. ap (λ set. has set n) c.depended-rest.ensures ∙ placed.depended);
     }
 
@@ -27,16 +29,23 @@ turns-preserved c =
       small = without_small c.turns.rest (trailing_zeros w64 c.turns.rest) fits;
       left = left_more c.turns.rest c.turns._turn some fits c.turns.invariant.left;
       best =
-          subst (λ (o : Option Clash). IsSmallest (Passed (λ n d. IsPlaced c.args.relation.now c.args.lines.now c.args.tx c.args.object n c.args.inv n d) (without c.turns.rest (trailing_zeros w64 c.turns.rest))) o) (sym c.smaller_of-best.ensures)
-          (passed_more (λ n d. IsPlaced c.args.relation.now c.args.lines.now c.args.tx c.args.object n c.args.inv n d) c.turns.rest (trailing_zeros w64 c.turns.rest) c.turns.best c.clash_at-clash.result low fits
+          subst (λ (o : Option Clash). IsSmallest (Passed
+          (λ n d. IsPlaced c.args.relation.now c.args.lines.now c.args.tx c.args.object n c.args.inv n d)
+          (without c.turns.rest (trailing_zeros w64 c.turns.rest))) o) (sym c.smaller_of-best.ensures)
+          (passed_more (λ n d. IsPlaced c.args.relation.now c.args.lines.now c.args.tx c.args.object n c.args.inv n d)
+          c.turns.rest (trailing_zeros w64 c.turns.rest) c.turns.best c.clash_at-clash.result low fits
           c.turns.invariant.best c.clash_at-clash.ensures);
     }
 
 pub returns-then-rest-eq0 : goal.returns-then-rest-eq0
 returns-then-rest-eq0 c =
-    passed_all (λ n d. IsPlaced c.args.relation.now c.args.lines.now c.args.tx c.args.object n c.args.inv n d) c.turns.rest c.turns.best (none_left c.turns.rest c.if-rest-eq0.true) c.turns.invariant.best
+    passed_all (λ n d. IsPlaced c.args.relation.now c.args.lines.now c.args.tx c.args.object n c.args.inv n d)
+    c.turns.rest c.turns.best (none_left c.turns.rest c.if-rest-eq0.true) c.turns.invariant.best
 
 pub returns : goal.returns
 returns c =
-    passed_all (λ n d. IsPlaced c.args.relation.now c.args.lines.now c.args.tx c.args.object n c.args.inv n d) c.turns.rest c.turns.best
-    (none_past c.turns.rest c.turns.invariant.small (λ k here. let past : c.turns._turn ≤ k = c.turns.invariant.left k here in omega (arith, past, c.turns-test.false))) c.turns.invariant.best
+    passed_all (λ n d. IsPlaced c.args.relation.now c.args.lines.now c.args.tx c.args.object n c.args.inv n d)
+    c.turns.rest c.turns.best
+    (none_past c.turns.rest c.turns.invariant.small
+    (λ k here. let past : c.turns._turn ≤ k = c.turns.invariant.left k here in
+    omega (arith, past, c.turns-test.false))) c.turns.invariant.best

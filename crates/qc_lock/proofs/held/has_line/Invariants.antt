@@ -3,4 +3,5 @@ use Rattle.qc_lock.specs.Places.{has_line}
 use Rattle.qc_lock.proofs.held.has_line.Given as goal
 
 abbrev pub invariant-own : goal.invariant-own
-invariant-own l = has_line (drop l.other-index l.own) l.line.object l.line.event ≡ has_line l.own l.line.object l.line.event
+invariant-own l = has_line (drop l.other-index l.own) l.line.object l.line.event
+    ≡ has_line l.own l.line.object l.line.event

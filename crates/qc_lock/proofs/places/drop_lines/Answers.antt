@@ -11,15 +11,22 @@ pub own-preserved : goal.own-preserved
 own-preserved c =
     let here : OwnLine = get_or c.args.own.now c.own.line-index (record { op = 0; object = 0; event = 0 }) in
     let within : c.own.line-index < length c.args.own.now = c.own-test.true in
-    let more : Grows (has_line (take c.own.line-index c.args.own.now)) (has_line (take (c.own.line-index + 1) c.args.own.now)) here.object here.event =
-    λ a b. list_any_more (λ (l : OwnLine). (l.object == a) && (l.event == b)) c.args.own.now c.own.line-index (record { op = 0; object = 0; event = 0 }) within in
+    let more : Grows (has_line (take c.own.line-index c.args.own.now))
+    (has_line (take (c.own.line-index + 1) c.args.own.now)) here.object here.event =
+    λ a b. list_any_more (λ (l : OwnLine). (l.object == a) && (l.event == b)) c.args.own.now c.own.line-index
+    (record { op = 0; object = 0; event = 0 }) within in
     elim c.if-not-has_line.branch [
       | then-not-has_line w ↦
-          subst (λ (s : BTreeSet Place). Narrows c.args.places.now s c.args.tx (has_line (take (c.own.line-index + 1) c.args.own.now)) (has_line c.args.kept.now)) (sym w.places-is)
-          (narrows_more c.args.places.now c.own.places w.drop_place.new.places c.args.tx (has_line (take c.own.line-index c.args.own.now)) (has_line (take (c.own.line-index + 1) c.args.own.now)) (has_line c.args.kept.now)
+          subst (λ (s : BTreeSet Place). Narrows c.args.places.now s c.args.tx
+          (has_line (take (c.own.line-index + 1) c.args.own.now)) (has_line c.args.kept.now)) (sym w.places-is)
+          (narrows_more c.args.places.now c.own.places w.drop_place.new.places c.args.tx
+          (has_line (take c.own.line-index c.args.own.now)) (has_line (take (c.own.line-index + 1) c.args.own.now))
+          (has_line c.args.kept.now)
           here.object here.event (sym w.if-not-has_line.ensures) c.own.invariant w.drop_place.ensures more)
       | else-not-has_line w ↦
-          subst (λ (s : BTreeSet Place). Narrows c.args.places.now s c.args.tx (has_line (take (c.own.line-index + 1) c.args.own.now)) (has_line c.args.kept.now)) (sym w.places-is)
-          (narrows_spared c.args.places.now c.own.places c.args.tx (has_line (take c.own.line-index c.args.own.now)) (has_line (take (c.own.line-index + 1) c.args.own.now)) (has_line c.args.kept.now)
+          subst (λ (s : BTreeSet Place). Narrows c.args.places.now s c.args.tx
+          (has_line (take (c.own.line-index + 1) c.args.own.now)) (has_line c.args.kept.now)) (sym w.places-is)
+          (narrows_spared c.args.places.now c.own.places c.args.tx (has_line (take c.own.line-index c.args.own.now))
+          (has_line (take (c.own.line-index + 1) c.args.own.now)) (has_line c.args.kept.now)
           here.object here.event (sym w.if-not-has_line.ensures) c.own.invariant more)
     ]

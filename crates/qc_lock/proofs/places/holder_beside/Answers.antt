@@ -9,4 +9,5 @@ pub returns-in-Some : goal.returns-in-Some
 returns-in-Some c =
     let same : c.in-Some.holder ≡ c.args.tx = tx_apart c.in-Some.holder c.args.tx (sym c.if-eq.ensures) in
     beside_next c.args.places.now c.args.object c.args.number c.args.tx c.next_holder.result
-    (subst (λ (t : TxId). IsFirst c.args.places.now c.args.object c.args.number (λ other. true) (Some t)) same c.in-Some.ensures) c.next_holder.ensures
+    (subst (λ (t : TxId). IsFirst c.args.places.now c.args.object c.args.number (λ other. true) (Some t)) same
+    c.in-Some.ensures) c.next_holder.ensures

@@ -18,23 +18,30 @@ less_is Less h = refl
 less_is Equal h = absurd (let never : ⊥ = cc in never)
 less_is Greater h = absurd (let never : ⊥ = cc in never)
 
-from : (object number : ℕ) (start tx : TxId) → is_lt (tx_cmp start tx) ≡ true → IsLtBy place_cmp (place object number start) (place object number tx)
+from : (object number : ℕ) (start tx : TxId) → is_lt (tx_cmp start tx) ≡ true
+    → IsLtBy place_cmp (place object number start) (place object number tx)
 from object number start tx after = place_at object number start tx ∙ less_is (tx_cmp start tx) after
 
 pub returns-in_err-place : goal.returns-in_err-place
 returns-in_err-place c =
     let start : TxId = c.args.tx in
     let lo : Bound Place = Excluded (place c.args.object c.args.number start) in
-    subst (λ (o : Option TxId). IsFirst c.args.places.now c.args.object c.args.number (λ other. is_lt (tx_cmp start other)) o) (sym c.from_residual.ensures)
-    (none_found c.args.places.now c.args.object c.args.number lo (λ other. is_lt (tx_cmp start other)) (from c.args.object c.args.number start)
-    (subst (λ (r : List Place). IsKeyRangeOf place_cmp lo Unbounded c.args.places.now r) c.in_err-place.ensures.steps.0 (c.range.ensures.in_range tt)))
+    subst (λ (o : Option TxId). IsFirst c.args.places.now c.args.object c.args.number
+    (λ other. is_lt (tx_cmp start other)) o) (sym c.from_residual.ensures)
+    (none_found c.args.places.now c.args.object c.args.number lo (λ other. is_lt (tx_cmp start other))
+    (from c.args.object c.args.number start)
+    (subst (λ (r : List Place). IsKeyRangeOf place_cmp lo Unbounded c.args.places.now r) c.in_err-place.ensures.steps.0
+    (c.range.ensures.in_range tt)))
 
 pub returns : goal.returns
 returns c =
     let start : TxId = c.args.tx in
     let lo : Bound Place = Excluded (place c.args.object c.args.number start) in
-    subst (λ (o : Option TxId). IsFirst c.args.places.now c.args.object c.args.number (λ other. is_lt (tx_cmp start other)) o) (sym c.holder_at.ensures)
-    (one_found c.args.places.now c.args.object c.args.number lo start (λ other. is_lt (tx_cmp start other)) c.in_ok-place.place.now c.next.new.self
+    subst (λ (o : Option TxId). IsFirst c.args.places.now c.args.object c.args.number
+    (λ other. is_lt (tx_cmp start other)) o) (sym c.holder_at.ensures)
+    (one_found c.args.places.now c.args.object c.args.number lo start
+    (λ other. is_lt (tx_cmp start other)) c.in_ok-place.place.now c.next.new.self
     (from c.args.object c.args.number start) (λ q after. ap is_gt after)
     (λ tx after. ap is_lt (sym (place_at c.args.object c.args.number start tx) ∙ after))
-    (subst (λ (r : List Place). IsKeyRangeOf place_cmp lo Unbounded c.args.places.now r) c.in_ok-place.ensures.steps (c.range.ensures.in_range tt)))
+    (subst (λ (r : List Place). IsKeyRangeOf place_cmp lo Unbounded c.args.places.now r) c.in_ok-place.ensures.steps
+    (c.range.ensures.in_range tt)))

@@ -8,6 +8,7 @@ use Rattle.qc_link.specs.Limits.{most_actors}
 abbrev pub invariant-actors : goal.invariant-actors
 invariant-actors l = record {
   long : length l.boxes.items ≡ most_actors;
-  trays : map tray l.boxes.items ≡ map (tray_losing l.fallen) (map tray (take l.actor l.initial.boxes.items)) ++ map tray (drop l.actor l.initial.boxes.items);
+  trays : map tray l.boxes.items ≡ map (tray_losing l.fallen) (map tray (take l.actor l.initial.boxes.items))
+      ++ map tray (drop l.actor l.initial.boxes.items);
   kept : (room : ℕ) → Every (HasRoom room) l.initial.boxes.items → Every (HasRoom room) l.boxes.items;
 }

@@ -6,4 +6,5 @@ use Rattle.qc_mailbox.proofs.boxes.take.Goals as goal
 pub returns-clause-trays : goal.returns-clause-trays
 returns-clause-trays c =
     let within : c.args.actor < length c.args.boxes.now.items = omega arith in
-    changed c.args.boxes.now.items c.args.actor c.index_mut.result.now c.take.new.self within c.index_mut.ensures.value tray_taken c.take.ensures.tray
+    changed c.args.boxes.now.items c.args.actor c.index_mut.result.now c.take.new.self within c.index_mut.ensures.value
+    tray_taken c.take.ensures.tray

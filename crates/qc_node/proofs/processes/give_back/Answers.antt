@@ -4,7 +4,7 @@ use Rattle.std.specs.Prelude.{is_some, slice_get, vec_len, option_copied}
 use Rattle.std.specs.Vec.Iter.{into_iter_items}
 use Rattle.qc_outside.specs.Places.{IsPutBack}
 use Rattle.qc_process.specs.Stored.{IsOnDisk, IsProcess}
-use Rattle.qc_bounds.specs.Places.{place_of}
+use Rattle.laws_bounds.specs.Places.{place_of}
 use Rattle.qc_store.specs.Contents.{DiskHasJournal}
 use Rattle.qc_node.specs.Starts.{IsGivenBack}
 use Rattle.qc_node.proofs.News.{at_place}

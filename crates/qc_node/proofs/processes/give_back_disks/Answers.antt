@@ -2,7 +2,7 @@ use Rattle.std.proofs.Common.{rules, ◌≡◌, ◌+◌, ◌∷◌, ◌++◌, �
 use Rattle.std.specs.Prelude.{is_some, option_copied}
 use Rattle.std.specs.Vec.Iter.{into_iter_items}
 use Rattle.qc_outside.specs.Places.{IsPutBack}
-use Rattle.qc_bounds.specs.Places.{place_of}
+use Rattle.laws_bounds.specs.Places.{place_of}
 use Rattle.qc_node.specs.Starts.{IsBackFrom}
 use Rattle.qc_node.proofs.Starts.{first_unwritten, rest_unwritten}
 use Rattle.qc_node.proofs.Unwritten.{one_more_from}

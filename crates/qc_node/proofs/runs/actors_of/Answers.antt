@@ -28,7 +28,7 @@ unreachable-requires g c =
     let split : c.loop-pass.yielded ++ c.in-Some.pass ∷ into_iter_items c.next.new.self ≡ c.args.passes.items =
     ap (λ l. c.loop-pass.yielded ++ l) (sym first) ∙ c.loop-pass.invariant.split in
     let none : into_iter_len c.loop-pass.processes ≡ 0 = c.in_default.ensures.cases.0 in
-    let passes : length c.args.passes.items ≡ actors g.N.Named.declaration = search rules in
+    let passes : length c.args.passes.items ≡ actors g.N.RunName.declaration = search rules in
     omega (
       arith,
       none,
@@ -45,7 +45,7 @@ new-requires-clause-fresh g c κs within =
     search rules in
     let split : c.loop-pass.yielded ++ c.in-Some.pass ∷ into_iter_items c.next.new.self ≡ c.args.passes.items =
     ap (λ l. c.loop-pass.yielded ++ l) (sym first) ∙ c.loop-pass.invariant.split in
-    is_new g.N.Named.table c.args.passes.items c.loop-pass.yielded (into_iter_items c.next.new.self) c.in-Some.pass
+    is_new g.N.RunName.table c.args.passes.items c.loop-pass.yielded (into_iter_items c.next.new.self) c.in-Some.pass
     split c.requires.fresh
 
 pub new-requires-clause-actor : goal.new-requires-clause-actor
@@ -54,9 +54,9 @@ new-requires-clause-actor g c κs within =
     search rules in
     let split : c.loop-pass.yielded ++ c.in-Some.pass ∷ into_iter_items c.next.new.self ≡ c.args.passes.items =
     ap (λ l. c.loop-pass.yielded ++ l) (sym first) ∙ c.loop-pass.invariant.split in
-    let count : length c.args.passes.items ≡ actors g.N.Named.declaration = search rules in
-    is_below g.N.Named.table c.args.passes.items c.loop-pass.yielded (into_iter_items c.next.new.self) c.in-Some.pass
-    split c.requires.fresh (actors g.N.Named.declaration) count
+    let count : length c.args.passes.items ≡ actors g.N.RunName.declaration = search rules in
+    is_below g.N.RunName.table c.args.passes.items c.loop-pass.yielded (into_iter_items c.next.new.self) c.in-Some.pass
+    split c.requires.fresh (actors g.N.RunName.declaration) count
 
 pub new-requires-clause-process : goal.new-requires-clause-process
 new-requires-clause-process g c κs within =
@@ -65,7 +65,8 @@ new-requires-clause-process g c κs within =
     let split : c.loop-pass.yielded ++ c.in-Some.pass ∷ into_iter_items c.next.new.self ≡ c.args.passes.items =
     ap (λ l. c.loop-pass.yielded ++ l) (sym first) ∙ c.loop-pass.invariant.split in
     let number_is : number c.in-Some.pass ≡ length c.loop-pass.yielded =
-    number_here g.N.Named.table c.args.passes.items c.loop-pass.yielded (into_iter_items c.next.new.self) c.in-Some.pass
+    number_here g.N.RunName.table c.args.passes.items c.loop-pass.yielded
+    (into_iter_items c.next.new.self) c.in-Some.pass
     split c.requires.fresh in
     let rest = into_iter_items c.next-in-loop-pass.new.self in
     let left : (k : ℕ) → slice_get (c.in-Some-next.process ∷ rest) k
@@ -73,7 +74,7 @@ new-requires-clause-process g c κs within =
     λ k. ap (λ l. slice_get l k) (sym c.in-Some-next.ensures.items) ∙ c.loop-pass.invariant.left k in
     let here : slice_get c.args.processes.items (length c.loop-pass.yielded) ≡ Some c.in-Some-next.process =
     left_here c.args.processes.items rest (length c.loop-pass.yielded) c.in-Some-next.process left in
-    subst (λ (a : ℕ). IsProcess g.N.Named.tells g.N.Named.declaration a [] c.in-Some-next.process) (sym number_is)
+    subst (λ (a : ℕ). IsProcess g.N.RunName.tells g.N.RunName.declaration a [] c.in-Some-next.process) (sym number_is)
     (c.requires.begun (length c.loop-pass.yielded) c.in-Some-next.process here)
 
 pub loop-pass-preserved : goal.loop-pass-preserved
@@ -94,7 +95,7 @@ loop-pass-preserved g c =
       split = append_assoc c.loop-pass.yielded (c.in-Some.pass ∷ []) (into_iter_items c.next.new.self) ∙ split;
       count = omega (arith, more, c.push_reserved.ensures.len, c.loop-pass.invariant.count);
       room =
-          subst (λ (n : ℕ). actors g.N.Named.declaration ≤ n) (sym c.push_reserved.ensures.capacity)
+          subst (λ (n : ℕ). actors g.N.RunName.declaration ≤ n) (sym c.push_reserved.ensures.capacity)
           c.loop-pass.invariant.room;
       many = omega (arith, more, c.in-Some-next.ensures.len, c.loop-pass.invariant.many);
       left =
@@ -105,7 +106,7 @@ loop-pass-preserved g c =
 pub returns : goal.returns
 returns g c =
     let none : length (into_iter_items c.loop-pass.pass-iterator) ≡ 0 = search (rules, arith) in
-    let passes : length c.args.passes.items ≡ actors g.N.Named.declaration = search rules in
+    let passes : length c.args.passes.items ≡ actors g.N.RunName.declaration = search rules in
     record {
       whole =
           omega (

@@ -11,7 +11,7 @@ invariant-loop-pass g l = record {
   finite : (goal.iterator-loop-pass g).is_finite l.pass-iterator;
   split : l.yielded ++ into_iter_items l.pass-iterator ≡ l.fn.passes.items;
   count : vec_len l.cells ≡ length l.yielded;
-  room : actors g.N.Named.declaration ≤ vec_capacity l.cells;
+  room : actors g.N.RunName.declaration ≤ vec_capacity l.cells;
   many : length l.yielded + into_iter_len l.processes ≡ vec_len l.fn.processes;
   left : (k : ℕ) → slice_get (into_iter_items l.processes) k ≡ slice_get l.fn.processes.items (length l.yielded + k);
 }

@@ -2,13 +2,13 @@ use Rattle.std.proofs.Common.{◌≡◌, ◌∙◌, subst}
 use Rattle.std.specs.Prelude.{vec_len, option_copied}
 use Rattle.qc_decl.specs.Actors.{actors, controller}
 use Rattle.qc_decl.specs.declared.declaration.Declaration.{Declaration}
-use Rattle.qc_laws.proofs.Downs.{tells}
+use Rattle.laws_turns.proofs.Downs.{tells}
 use Rattle.qc_node.specs.Starts.{AreProcesses, IsHandedBelow}
 use Rattle.qc_node.proofs.Starts.{all_handed, empty_before, started_tells}
 use Rattle.qc_node.proofs.runs.run_named.Goals as goal
 
 pub make-requires-clause-down : goal.make-requires-clause-down
-make-requires-clause-down g c = tells g.N.Named.declaration
+make-requires-clause-down g c = tells g.N.RunName.declaration
 
 pub cells_of-cells-requires-clause-processes : goal.cells_of-cells-requires-clause-processes
 cells_of-cells-requires-clause-processes g c κs within =
@@ -17,20 +17,23 @@ cells_of-cells-requires-clause-processes g c κs within =
 
 pub cells_of-cells-requires-clause-begun : goal.cells_of-cells-requires-clause-begun
 cells_of-cells-requires-clause-begun g c κs within =
-    subst (λ (d : Declaration). AreProcesses g.N.Named.tells d c.in_ok-processes.processes.items)
+    subst (λ (d : Declaration). AreProcesses g.N.RunName.tells d c.in_ok-processes.processes.items)
     c.requires.declaration
-    (c.in_ok-processes.ensures.each g.N.Named.tells (λ is. c.requires.tells ∙ is))
+    (c.in_ok-processes.ensures.each g.N.RunName.tells (λ is. c.requires.tells ∙ is))
 
 pub run_cells-requires-clause-tells : goal.run_cells-requires-clause-tells
 run_cells-requires-clause-tells g c κs within =
-    started_tells (option_copied c.args.job.now.dir) (controller c.args.job.now.decl.now) (g.K.Rack.places c.args.rack.now)
+    started_tells (option_copied c.args.job.now.dir) (controller c.args.job.now.decl.now)
+    (g.K.Rack.places c.args.rack.now)
     (g.K.Rack.places c.start.new.rack) c.in_ok-processes.ensures.started.places ∙ c.requires.tells
 
 pub run_cells-requires-clause-handed : goal.run_cells-requires-clause-handed
 run_cells-requires-clause-handed g c κs within =
-    all_handed (option_copied c.args.job.now.dir) (controller g.N.Named.declaration) (g.K.Rack.places c.args.rack.now) (g.K.Rack.places c.start.new.rack)
+    all_handed (option_copied c.args.job.now.dir) (controller g.N.RunName.declaration) (g.K.Rack.places c.args.rack.now)
+    (g.K.Rack.places c.start.new.rack)
     (subst
-    (λ (d : Declaration). IsHandedBelow (option_copied c.args.job.now.dir) (controller d) (g.K.Rack.places c.args.rack.now)
+    (λ (d : Declaration). IsHandedBelow (option_copied c.args.job.now.dir) (controller d)
+    (g.K.Rack.places c.args.rack.now)
     (g.K.Rack.places c.start.new.rack)) c.requires.declaration c.in_ok-processes.ensures.started.places)
 
 pub returns-clause-spent : goal.returns-clause-spent
@@ -39,7 +42,9 @@ returns-clause-spent g c short =
 
 pub returns-clause-empty : goal.returns-clause-empty
 returns-clause-empty g c =
-    empty_before (option_copied c.args.job.now.dir) g.N.Named.declaration (g.K.Rack.places c.args.rack.now) (g.K.Rack.places c.start.new.rack)
+    empty_before (option_copied c.args.job.now.dir) g.N.RunName.declaration (g.K.Rack.places c.args.rack.now)
+    (g.K.Rack.places c.start.new.rack)
     (subst
-    (λ (d : Declaration). IsHandedBelow (option_copied c.args.job.now.dir) (controller d) (g.K.Rack.places c.args.rack.now)
+    (λ (d : Declaration). IsHandedBelow (option_copied c.args.job.now.dir) (controller d)
+    (g.K.Rack.places c.args.rack.now)
     (g.K.Rack.places c.start.new.rack)) c.requires.declaration c.in_ok-processes.ensures.started.places)

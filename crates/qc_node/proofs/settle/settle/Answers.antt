@@ -12,7 +12,7 @@ loop-cell-init g c = record {
   same = refl;
   count = search (rules, arith);
   settling =
-      settling_none g.N.Named.tells g.N.Named.declaration c.args.roll.now.history (option_copied c.args.dir)
+      settling_none g.N.RunName.tells g.N.RunName.declaration c.args.roll.now.history (option_copied c.args.dir)
       c.args.roll.now.rooms
       (g.K.Rack.faults c.args.rack.now) (g.K.Rack.places c.args.rack.now) c.requires.tells c.requires.handed;
 }
@@ -28,7 +28,8 @@ loop-cell-preserved g c =
       count = search (rules, arith);
       settling =
           subst
-          (λ (n : ℕ). IsSettling (option_copied c.args.dir) g.N.Named.tells g.N.Named.declaration c.settle_one.new.roll.history
+          (λ (n : ℕ). IsSettling (option_copied c.args.dir) g.N.RunName.tells g.N.RunName.declaration
+          c.settle_one.new.roll.history
           c.settle_one.new.roll.rooms n (g.K.Rack.faults c.args.rack.now) (g.K.Rack.faults c.settle_one.new.rack)
           (g.K.Rack.places c.settle_one.new.rack)) (sym more)
           (c.settle_one.ensures.one (length c.loop-cell.yielded) (g.K.Rack.faults c.args.rack.now)
@@ -37,8 +38,9 @@ loop-cell-preserved g c =
 
 pub returns-clause-settled : goal.returns-clause-settled
 returns-clause-settled g c =
-    let count : length c.loop-cell.yielded ≡ actors g.N.Named.declaration = search (rules, arith) in
+    let count : length c.loop-cell.yielded ≡ actors g.N.RunName.declaration = search (rules, arith) in
     subst
-    (λ (n : ℕ). IsSettling (option_copied c.args.dir) g.N.Named.tells g.N.Named.declaration c.loop-cell.roll.history c.loop-cell.roll.rooms n
+    (λ (n : ℕ). IsSettling (option_copied c.args.dir) g.N.RunName.tells g.N.RunName.declaration c.loop-cell.roll.history
+    c.loop-cell.roll.rooms n
     (g.K.Rack.faults c.args.rack.now) (g.K.Rack.faults c.loop-cell.rack) (g.K.Rack.places c.loop-cell.rack)) count
     c.loop-cell.invariant.settling

@@ -12,6 +12,7 @@ invariant-loop-cell g l = record {
   same : l.roll.history ≡ l.initial.roll.history;
   count : length l.yielded + length (into_iter_items l.cell-iterator) ≡ vec_len l.fn.cells.cells;
   settling :
-      IsSettling (option_copied l.fn.dir) g.N.Named.tells g.N.Named.declaration l.roll.history l.roll.rooms (length l.yielded)
+      IsSettling (option_copied l.fn.dir) g.N.RunName.tells g.N.RunName.declaration l.roll.history l.roll.rooms
+      (length l.yielded)
       (g.K.Rack.faults l.initial.rack) (g.K.Rack.faults l.rack) (g.K.Rack.places l.rack);
 }

@@ -9,8 +9,8 @@ use Rattle.qc_node.proofs.settle.settle_one.Goals as goal
 
 pub returns-clause-one : goal.returns-clause-one
 returns-clause-one g c =
-    let decl = g.N.Named.declaration in
-    let tells = g.N.Named.tells in
+    let decl = g.N.RunName.declaration in
+    let tells = g.N.RunName.tells in
     let now = c.call.new.self.history in
     let p = c.cell.inside.pass in
     let q = c.call.new.pass in
@@ -26,6 +26,7 @@ returns-clause-one g c =
     c.cell.inside.given_up c.cell.invariant.known in
     called_one tells decl c.args.roll.now.history now c.args.roll.now.rooms c.call.new.self.rooms p q
     c.call.ensures.history c.call.ensures.saw c.call.ensures.seen c.call.ensures.first c.call.ensures.called
-    (option_copied c.args.dir) c.number-actor.result c.number-actor.ensures low told disk on (g.K.Rack.faults c.args.rack.now)
+    (option_copied c.args.dir) c.number-actor.result c.number-actor.ensures low told disk on
+    (g.K.Rack.faults c.args.rack.now)
     (g.K.Rack.faults c.keep.new.self) c.keep.ensures.kept (g.K.Rack.places c.args.rack.now)
     (g.K.Rack.places c.keep.new.self) c.keep.ensures.put

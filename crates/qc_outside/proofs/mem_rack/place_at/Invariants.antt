@@ -3,4 +3,5 @@ use Rattle.qc_outside.specs.MemRack.{is_at}
 use Rattle.qc_outside.proofs.mem_rack.place_at.Given as goal
 
 abbrev pub invariant-loop-kept : goal.invariant-loop-kept
-invariant-loop-kept l = (l.index ≡ l.kept-index) × (find (is_at (record { folder = option_copied l.dir; actor = l.actor })) (take l.kept-index l.places) ≡ None)
+invariant-loop-kept l = (l.index ≡ l.kept-index)
+    × (find (is_at (record { folder = option_copied l.dir; actor = l.actor })) (take l.kept-index l.places) ≡ None)

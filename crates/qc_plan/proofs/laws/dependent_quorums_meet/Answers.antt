@@ -6,5 +6,6 @@ use Rattle.qc_plan.proofs.laws.dependent_quorums_meet.Goals as goal
 
 pub returns : goal.returns
 returns c plan kinds objects object number kind inv event a b admitted numbered typed low known dependent reads writes =
-    let heavy : total plan.weights < need_of plan.initial object inv + need_of plan.last object event = admitted.meets object number kind inv event numbered typed low known dependent in
+    let heavy : total plan.weights < need_of plan.initial object inv + need_of plan.last object event =
+    admitted.meets object number kind inv event numbered typed low known dependent in
     meet plan.weights a b (omega arith)

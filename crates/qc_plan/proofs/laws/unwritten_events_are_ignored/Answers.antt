@@ -9,4 +9,5 @@ pub returns : goal.returns
 returns c plan kinds objects object number kind inv event admitted numbered typed low known unwritten =
     let light : need_of plan.initial object inv ≤ total plan.weights = admitted.initial_light object inv in
     false_from_ne_true (depends kind.relation inv event)
-    (λ dependent. let heavy : total plan.weights < need_of plan.initial object inv + need_of plan.last object event = admitted.meets object number kind inv event numbered typed low known dependent in absurd (omega arith))
+    (λ dependent. let heavy : total plan.weights < need_of plan.initial object inv + need_of plan.last object event =
+    admitted.meets object number kind inv event numbered typed low known dependent in absurd (omega arith))

@@ -4,4 +4,7 @@ use Rattle.qc_plan.specs.Weights.{weight}
 use Rattle.qc_plan.proofs.quorum.weight.Given as goal
 
 abbrev pub invariant-loop-site : goal.invariant-loop-site
-invariant-loop-site l = record { so_far : l.sum ≡ weight (has l.sites) (take l.site l.weights); few : l.sum ≤ 255 * l.site }
+invariant-loop-site l = record {
+  so_far : l.sum ≡ weight (has l.sites) (take l.site l.weights);
+  few : l.sum ≤ 255 * l.site;
+}

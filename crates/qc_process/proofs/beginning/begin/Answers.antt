@@ -10,7 +10,8 @@ returns-then-is_empty-clause-stored g c tells decl a still =
     let zero : length c.in-Ok.bodies.items ≡ 0 = search rules in
     let none : c.in-Ok.bodies.items ≡ [] = none_in c.in-Ok.bodies.items zero in
     begun tells decl a _ o refl c.in-Ok.ensures.account
-    (subst (λ l. Rests (g.D.Disk.told c.in-Ok.journal.disk.inner) c.in-Ok.journal.end (lists l)) none c.in-Ok.ensures.rests)
+    (subst (λ l. Rests (g.D.Disk.told c.in-Ok.journal.disk.inner) c.in-Ok.journal.end (lists l)) none
+    c.in-Ok.ensures.rests)
     (c.in-Ok.ensures.records ∙ ap length none) (λ yes. c.in-Ok.ensures.tells (still yes))
 
 pub returns-clause-refused : goal.returns-clause-refused

@@ -16,6 +16,7 @@ pub record ReadSoFar (legal spell fit place offset few bound : Type 0) : Type 0 
 
 abbrev pub invariant-bodies : goal.invariant-bodies
 invariant-bodies l =
-    ReadSoFar (AreLegal l.records.items) (bodies_of l.records.items ++ lists (drop l.body-index l.bodies) ≡ lists l.bodies)
+    ReadSoFar (AreLegal l.records.items) (bodies_of l.records.items ++ lists (drop l.body-index l.bodies)
+    ≡ lists l.bodies)
     (all_fit l.decl l.actor 0 l.records.items ≡ true) (l.place ≡ length l.records.items)
     (l.offset ≡ bytes_of (bodies_of l.records.items)) (l.place ≤ most_records) (l.offset ≤ 65541 * l.place)

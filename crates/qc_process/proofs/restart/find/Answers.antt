@@ -16,7 +16,8 @@ prepare-requires-after_bounds g c κs outlives =
     let reads : ReadsFit decl c.args.number (lists c.args.bodies.now) c.in-Fit.records.items =
     subst (λ (r : Reading). ReadsAs decl c.args.number c.args.bodies.now r) fit c.in_ok-records.ensures in
     life_may_wait c.args.store.now c.in_ok-actor-in-Fit.turn.write (length c.args.bodies.now)
-    (life_waits decl c.args.number c.as_slice.result.now c.in_ok-actor-in-Fit.actor c.in_ok-actor-in-Fit.turn c.in_ok-actor-in-Fit.ensures)
+    (life_waits decl c.args.number c.as_slice.result.now c.in_ok-actor-in-Fit.actor c.in_ok-actor-in-Fit.turn
+    c.in_ok-actor-in-Fit.ensures)
     c.requires.up c.requires.records (few_bodies decl c.args.number c.args.bodies.now c.in-Fit.records.items reads)
 
 pub returns-in_ok-prepare-in-Fit-clause-found : goal.returns-in_ok-prepare-in-Fit-clause-found
@@ -26,14 +27,18 @@ returns-in_ok-prepare-in-Fit-clause-found g c =
     let reads : ReadsFit decl c.args.number (lists c.args.bodies.now) c.in-Fit.records.items =
     subst (λ (r : Reading). ReadsAs decl c.args.number c.args.bodies.now r) fit c.in_ok-records.ensures in
     let made : c.from_vec.result ≡ c.in-Fit.records.items = search rules in
-    let rises : actor_rises decl c.args.number c.in-Fit.records.items ≡ moved c.in_ok-actor-in-Fit.actor c.in_ok-actor-in-Fit.turn =
+    let rises : actor_rises decl c.args.number c.in-Fit.records.items
+    ≡ moved c.in_ok-actor-in-Fit.actor c.in_ok-actor-in-Fit.turn =
     ap (actor_rises decl c.args.number) (sym c.as_slice.ensures.value) ∙ c.in_ok-actor-in-Fit.ensures in
-    let low : length c.args.bodies.now ≤ most_records = few_bodies decl c.args.number c.args.bodies.now c.in-Fit.records.items reads in
+    let low : length c.args.bodies.now ≤ most_records =
+    few_bodies decl c.args.number c.args.bodies.now c.in-Fit.records.items reads in
     rw made (record {
       reads = reads;
       rises = rises;
-      is_up = risen_is_up decl c.args.number c.in-Fit.records.items c.in_ok-actor-in-Fit.actor c.in_ok-actor-in-Fit.turn rises;
-      write_is = life_waits decl c.args.number c.in-Fit.records.items c.in_ok-actor-in-Fit.actor c.in_ok-actor-in-Fit.turn rises;
+      is_up = risen_is_up decl c.args.number c.in-Fit.records.items c.in_ok-actor-in-Fit.actor c.in_ok-actor-in-Fit.turn
+          rises;
+      write_is = life_waits decl c.args.number c.in-Fit.records.items c.in_ok-actor-in-Fit.actor
+          c.in_ok-actor-in-Fit.turn rises;
       waits = ap (λ (s : StoreView). s.spelling) c.in_ok-prepare-in-Fit.ensures.ok;
       few =
           subst HasFewRecords (sym c.in_ok-prepare-in-Fit.ensures.ok)

@@ -5,7 +5,8 @@ use Rattle.qc_process.proofs.rising.risen.Goals as goal
 
 pub site_of-requires-clause-few : goal.site_of-requires-clause-few
 site_of-requires-clause-few c =
-    let low : length c.args.records.now ≤ most_records = few c.args.decl.now c.args.actor c.args.records.now c.requires.fit in
+    let low : length c.args.records.now ≤ most_records =
+    few c.args.decl.now c.args.actor c.args.records.now c.requires.fit in
     omega (arith, low)
 
 pub site_of-requires-clause-clients : goal.site_of-requires-clause-clients
@@ -14,5 +15,6 @@ site_of-requires-clause-clients c p there =
 
 pub client_of-requires : goal.client_of-requires
 client_of-requires c =
-    let low : length c.args.records.now ≤ most_records = few c.args.decl.now c.args.actor c.args.records.now c.requires.fit in
+    let low : length c.args.records.now ≤ most_records =
+    few c.args.decl.now c.args.actor c.args.records.now c.requires.fit in
     omega (arith, low)

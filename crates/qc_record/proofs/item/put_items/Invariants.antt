@@ -3,4 +3,5 @@ use Rattle.qc_record.specs.Form.{items_spelled}
 use Rattle.qc_record.proofs.item.put_items.Given as goal
 
 abbrev pub invariant-loop-item : goal.invariant-loop-item
-invariant-loop-item g l = l.out.items ≡ l.initial.out.items ++ items_spelled g.T.Item.form None (take l.item-index l.items)
+invariant-loop-item g l = l.out.items ≡ l.initial.out.items ++ items_spelled g.T.Item.form None
+    (take l.item-index l.items)

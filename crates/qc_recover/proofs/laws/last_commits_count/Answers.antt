@@ -9,7 +9,8 @@ use Rattle.qc_recover.proofs.laws.last_commits_count.Goals as goal
 
 pub returns-clause-last : goal.returns-clause-last
 returns-clause-last c = λ client rs commit.
-    ap (λ (k : Kept). outcome_by (known_by (record_of k.commits commit.tx)) false) (kept_more rs (records.Commit commit ∷ []))
+    ap (λ (k : Kept). outcome_by (known_by (record_of k.commits commit.tx)) false)
+    (kept_more rs (records.Commit commit ∷ []))
     ∙ ap (λ o. outcome_by (known_by o) false) (last_known (kept_by rs).commits commit)
 
 pub returns-clause-beside : goal.returns-clause-beside

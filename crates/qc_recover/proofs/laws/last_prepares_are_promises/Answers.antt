@@ -12,11 +12,13 @@ returns-clause-prepared c = λ number rs p.
 
 pub returns-clause-done : goal.returns-clause-done
 returns-clause-done c = λ number rs tx clock.
-    ap (λ ps. prepared_of ps tx) (promises_more number rs (records.Done tx clock)) ∙ prepared-without (kept_by rs).promises tx
+    ap (λ ps. prepared_of ps tx) (promises_more number rs (records.Done tx clock))
+    ∙ prepared-without (kept_by rs).promises tx
 
 pub returns-clause-beside_prepared : goal.returns-clause-beside_prepared
 returns-clause-beside_prepared c = λ number rs p tx other.
-    ap (λ ps. prepared_of ps tx) (promises_more number rs (records.Prepare p)) ∙ promise_other (kept_by rs).promises p tx other
+    ap (λ ps. prepared_of ps tx) (promises_more number rs (records.Prepare p))
+    ∙ promise_other (kept_by rs).promises p tx other
 
 pub returns-clause-beside_done : goal.returns-clause-beside_done
 returns-clause-beside_done c = λ number rs tx other clock apart.

@@ -10,10 +10,11 @@ use Rattle.qc_recover.proofs.laws.risen_clients_fit.Goals as goal
 -- the clock after a rise's own record
 far : (rs : List Record) → ((c : Commit) → In (records.Commit c) rs → c.stamp.clock < 2 ^ 63)
     → (kept_by (rs ++ records.Life ∷ [])).clock < 2 ^ 63
-far rs each = subst (λ (k : Kept). k.clock < 2 ^ 63) (sym (kept_more rs (records.Life ∷ []))) (by (clocks_reached nothing_kept rs)) where
-  by : IsReached nothing_kept.clock rs (kept_by rs).clock → (kept_by rs).clock < 2 ^ 63
-  by (inl none) = omega arith
-  by (inr (c, member, is)) = let bound = each c member in omega arith
+far rs each = subst (λ (k : Kept). k.clock < 2 ^ 63) (sym (kept_more rs (records.Life ∷ [])))
+    (by (clocks_reached nothing_kept rs)) where
+      by : IsReached nothing_kept.clock rs (kept_by rs).clock → (kept_by rs).clock < 2 ^ 63
+      by (inl none) = omega arith
+      by (inr (c, member, is)) = let bound = each c member in omega arith
 
 pub returns : goal.returns
 returns c = λ client rs each.

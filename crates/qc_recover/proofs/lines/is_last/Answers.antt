@@ -14,8 +14,10 @@ returns-in-Some c = λ told.
     let log = c.args.log.now in
     let last : Line = c.in-Some.last.now in
     let test : is_eq (line_cmp last c.args.line.now) ≡ true = search rules in
-    let same : last ≡ c.args.line.now = line_order.apart last c.args.line.now (equal_is (line_cmp last c.args.line.now) test) in
+    let same : last ≡ c.args.line.now = line_order.apart last c.args.line.now
+    (equal_is (line_cmp last c.args.line.now) test) in
     let at : slice_get log (length log - 1) ≡ Some last =
     sym (c.in-Some.ensures.value ∙ ap (λ ls. slice_get ls (length ls - 1)) c.lines.ensures.value) in
-    let member : In last log = every-at (λ l. In l log) log (length log - 1) last (every-from_In (λ l. In l log) log (λ l inside. inside)) at in
+    let member : In last log = every-at (λ l. In l log) log (length log - 1) last
+    (every-from_In (λ l. In l log) log (λ l inside. inside)) at in
     subst (λ l. In l log) same member

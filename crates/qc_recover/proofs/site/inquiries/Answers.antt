@@ -16,8 +16,10 @@ transactions-init c =
     let gives : c.into_iter-tx-iterator.result ≡ keys = c.into_iter-tx-iterator.ensures.into_iter_gives in (
       tt,
       tt,
-      ap (λ sends. sends ++ map (inquiry c.args.decl.now) (take most_inquiries c.into_iter-tx-iterator.result)) c.new-sends.ensures
-          ∙ ap (λ (txs : List TxId). map (inquiry c.args.decl.now) (take most_inquiries txs)) (gives ∙ keys_in_order keys c.args.promises.now told.ascending told.just),
+      ap (λ sends. sends ++ map (inquiry c.args.decl.now) (take most_inquiries c.into_iter-tx-iterator.result))
+          c.new-sends.ensures
+          ∙ ap (λ (txs : List TxId). map (inquiry c.args.decl.now) (take most_inquiries txs))
+          (gives ∙ keys_in_order keys c.args.promises.now told.ascending told.just),
       subst (Every (λ (tx : TxId). tx.client < most_clients)) (sym gives)
           (each_key (λ (tx : TxId). tx.client < most_clients) keys c.args.promises.now told.just c.requires.clients),
     )
@@ -27,13 +29,16 @@ transactions-preserved c =
     let decl = c.args.decl.now in
     let rest = c.next.new.self in
     let is_next = c.in-Some.ensures.steps in
-    let more = asked_more (inquiry decl) c.transactions.sends c.transactions.left c.in-Some.tx.now rest c.transactions.tx-iterator
+    let more = asked_more (inquiry decl) c.transactions.sends c.transactions.left c.in-Some.tx.now rest
+    c.transactions.tx-iterator
     (λ none. omega (arith, none, c.if-left-eq0.false)) is_next in
     let sent : c.push.new.self ≡ c.transactions.sends ++ inquiry decl c.in-Some.tx.now ∷ [] =
     c.in_ok-push.ensures.ok
-    ∙ ap (λ (to : ℕ). c.transactions.sends ++ record { to = to; message = messages.Inquiry c.in-Some.tx.now } ∷ []) c.client_actor.ensures in (
+    ∙ ap (λ (to : ℕ). c.transactions.sends ++ record { to = to; message = messages.Inquiry c.in-Some.tx.now } ∷ [])
+    c.client_actor.ensures in (
       tt,
       tt,
-      ap (λ (sends : List Posting). sends ++ map (inquiry decl) (take (c.transactions.left - 1) rest)) sent ∙ more ∙ c.transactions.invariant.2,
+      ap (λ (sends : List Posting). sends ++ map (inquiry decl) (take (c.transactions.left - 1) rest)) sent ∙ more
+          ∙ c.transactions.invariant.2,
       (subst (Every (λ (tx : TxId). tx.client < most_clients)) is_next c.transactions.invariant.3).1,
     )

@@ -14,7 +14,9 @@ transactions-init c =
     let gives : c.into_iter-tx-iterator.result ≡ keys = c.into_iter-tx-iterator.ensures.into_iter_gives in (
       tt,
       tt,
-      ap (λ (list : List Prepared). list ++ filter_map (prepared_of promises) c.into_iter-tx-iterator.result) c.new-list.ensures
-          ∙ ap (λ (txs : List TxId). filter_map (prepared_of promises) txs) (gives ∙ keys_in_order keys promises told.ascending told.just)
+      ap (λ (list : List Prepared). list ++ filter_map (prepared_of promises) c.into_iter-tx-iterator.result)
+          c.new-list.ensures
+          ∙ ap (λ (txs : List TxId). filter_map (prepared_of promises) txs)
+          (gives ∙ keys_in_order keys promises told.ascending told.just)
           ∙ in_order_by_txs promises told.single,
     )

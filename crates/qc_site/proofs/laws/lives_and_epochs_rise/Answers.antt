@@ -8,5 +8,6 @@ returns c = record {
   epochs = epoch_rises;
   life = λ decl s from number message closes installs. life_stays decl s from number message (closes, installs);
   epoch = λ decl s from number message closes installs. epoch_stays decl s from number message (closes, installs);
-  closed_for = λ decl s from number message closes installs. closing_stays decl s from number message (closes, installs);
+  closed_for = λ decl s from number message closes installs. closing_stays decl s from number message
+      (closes, installs);
 }

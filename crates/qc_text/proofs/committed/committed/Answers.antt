@@ -9,10 +9,12 @@ entries-preserved c =
     elim c.if-is_client.branch [
       | then-is_client+in_ok-keys w ↦
           ap (λ s. map commit_of s.keys) w.keys-is
-          ∙ step_added c.args.decl.now c.args.entries.now c.entries.entry-index c.entry-item.result _ c.entries.keys.keys w.in_ok-keys.keys.keys c.entries-test.true c.entry-item.is
+          ∙ step_added c.args.decl.now c.args.entries.now c.entries.entry-index c.entry-item.result _
+          c.entries.keys.keys w.in_ok-keys.keys.keys c.entries-test.true c.entry-item.is
           (sym c.is_client.ensures ∙ w.if-is_client.true) w.in_ok-keys.ensures c.entries.invariant
       | else-is_client w ↦
           ap (λ s. map commit_of s.keys) w.keys-is
-          ∙ nothing_added c.args.decl.now c.args.entries.now c.entries.entry-index c.entry-item.result _ c.entries.keys.keys c.entries-test.true c.entry-item.is
+          ∙ nothing_added c.args.decl.now c.args.entries.now c.entries.entry-index c.entry-item.result _
+          c.entries.keys.keys c.entries-test.true c.entry-item.is
           (sym c.is_client.ensures ∙ w.if-is_client.false) c.entries.invariant
     ]

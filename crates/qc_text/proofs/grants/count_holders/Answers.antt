@@ -15,7 +15,9 @@ returns c =
     let known = c.deeds.invariant in
     let kept = c.args.current.now.kept.now in
     let parts = c.holding_of-holding.result in
-    let walked : known.0 ≡ holders_from (fold promised_at (fold holders_with [] kept) (map deed_of parts.before.now)) (map deed_of parts.since.now) =
-    ap (λ (ds : List Deed). holders_from known.0 (map deed_of ds)) (sym (drop_all c.deeds.place parts.since.now c.deeds-test.false)) ∙ known.2 in
+    let walked : known.0 ≡ holders_from (fold promised_at (fold holders_with [] kept) (map deed_of parts.before.now))
+    (map deed_of parts.since.now) =
+    ap (λ (ds : List Deed). holders_from known.0 (map deed_of ds))
+    (sym (drop_all c.deeds.place parts.since.now c.deeds-test.false)) ∙ known.2 in
     c.count.ensures known.0 known.1 ∙ ap length walked ∙ holders_counted kept (parted parts)
     ∙ ap (λ (h : Holding). length (held_by kept h)) c.holding_of-holding.ensures

@@ -10,4 +10,5 @@ abbrev pub invariant-deeds : goal.invariant-deeds
 invariant-deeds l =
     (txs : List TxId) × IsSetOf txs l.holders
     × (holders_from txs (map deed_of (drop l.place l.holding.since.now))
-    ≡ holders_from (fold promised_at (fold holders_with [] l.current.kept.now) (map deed_of l.holding.before.now)) (map deed_of l.holding.since.now))
+    ≡ holders_from (fold promised_at (fold holders_with [] l.current.kept.now) (map deed_of l.holding.before.now))
+    (map deed_of l.holding.since.now))

@@ -8,4 +8,5 @@ use Rattle.qc_text.proofs.lines.lines_of.Given as goal
 
 abbrev pub invariant-own : goal.invariant-own
 invariant-own l =
-    fold (λ (lines : List Line) (o : OwnLine). union lines (stamped l.stamp l.tx o ∷ [])) l.lines (drop l.line-index l.own) ≡ lines_of l.stamp l.tx l.own
+    fold (λ (lines : List Line) (o : OwnLine). union lines (stamped l.stamp l.tx o ∷ [])) l.lines
+    (drop l.line-index l.own) ≡ lines_of l.stamp l.tx l.own

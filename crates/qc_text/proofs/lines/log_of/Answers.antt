@@ -9,5 +9,6 @@ deeds-init c =
       life.kept.now,
       c.in_ok-give_all.ensures.last,
       ap (λ (lines : Lines). lines_from lines life.kept.now (map deed_of life.since.now))
-          (c.in_ok-give_all.ensures.given ∙ ap (λ (lines : Lines). recorded_from lines [] life.kept.now) c.in_ok-known.ensures),
+          (c.in_ok-give_all.ensures.given ∙ ap (λ (lines : Lines). recorded_from lines [] life.kept.now)
+          c.in_ok-known.ensures),
     )

@@ -8,4 +8,5 @@ use Rattle.qc_text.proofs.lines.log_of.Given as goal
 
 abbrev pub invariant-deeds : goal.invariant-deeds
 invariant-deeds l =
-    (before : List Record) × AreLast l.prepares before × (lines_from l.known before (map deed_of (drop l.place l.current.since.now)) ≡ lines_in (present l.current))
+    (before : List Record) × AreLast l.prepares before
+    × (lines_from l.known before (map deed_of (drop l.place l.current.since.now)) ≡ lines_in (present l.current))

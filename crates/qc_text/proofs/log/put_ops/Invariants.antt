@@ -6,4 +6,5 @@ use Rattle.qc_text.proofs.log.put_ops.Given as goal
 
 abbrev pub invariant-ops : goal.invariant-ops
 invariant-ops l =
-    shadow (Utf8 l.before) × (l.page ++ ops_text l.decl l.before (drop l.op-index l.ops) ≡ l.initial.page ++ ops_text l.decl (codes " ") l.ops)
+    shadow (Utf8 l.before) × (l.page ++ ops_text l.decl l.before (drop l.op-index l.ops) ≡ l.initial.page
+    ++ ops_text l.decl (codes " ") l.ops)

@@ -6,4 +6,5 @@ use Rattle.qc_text.proofs.promises.promised_kept.Given as goal
 
 abbrev pub invariant-records : goal.invariant-records
 invariant-records l =
-    (txs : List TxId) × IsSetOf txs l.holders × (fold holders_with txs (drop l.written-index l.kept) ≡ fold holders_with [] l.kept)
+    (txs : List TxId) × IsSetOf txs l.holders
+    × (fold holders_with txs (drop l.written-index l.kept) ≡ fold holders_with [] l.kept)

@@ -15,14 +15,16 @@ entries-preserved c =
           record {
             all = ap length after ∙ length-set _ _ _ ∙ known.all;
             told = λ a la. ap (λ (q : List (List Reply)). get_or q a []) after
-                ∙ told_reply c.entries.queues c.args.entries.now c.entries.entry-index c.entry-item.result _ w.in-Some.reply c.entries-test.true c.entry-item.is known.all told.within
+                ∙ told_reply c.entries.queues c.args.entries.now c.entries.entry-index c.entry-item.result _
+                w.in-Some.reply c.entries-test.true c.entry-item.is known.all told.within
                 (sym c.reply_in.ensures ∙ w.in-Some.is) known.told a la;
           }
       | in_default w ↦
           record {
             all = ap length w.queues-is ∙ known.all;
             told = λ a la. ap (λ (q : List (List Reply)). get_or q a []) w.queues-is
-                ∙ told_nothing c.entries.queues c.args.entries.now c.entries.entry-index c.entry-item.result _ c.entries-test.true c.entry-item.is
+                ∙ told_nothing c.entries.queues c.args.entries.now c.entries.entry-index c.entry-item.result _
+                c.entries-test.true c.entry-item.is
                 (sym c.reply_in.ensures ∙ w.in_default.is) known.told a la;
           }
     ]

@@ -10,10 +10,14 @@ commands-preserved c =
     let known = c.commands.invariant in
     record {
       all = ap length taken.rest ∙ length-set _ _ _ ∙ known.all;
-      left = λ a la. ap (λ (q : List (List Reply)). get_or q a []) taken.rest ∙ left_more c.commands.queues c.args.entries.now c.args.commands.now c.commands.line-index _ _ c.commands-test.true refl known.all taken.within known.left a la;
+      left = λ a la. ap (λ (q : List (List Reply)). get_or q a []) taken.rest
+          ∙ left_more c.commands.queues c.args.entries.now c.args.commands.now c.commands.line-index _ _
+          c.commands-test.true refl known.all taken.within known.left a la;
       text =
-          text_more c.args.decl.now c.args.entries.now c.args.commands.now c.commands.line-index _ _ c.take_reply-reply.result c.commands.page c.put_line.new.page _
+          text_more c.args.decl.now c.args.entries.now c.args.commands.now c.commands.line-index _ _
+          c.take_reply-reply.result c.commands.page c.put_line.new.page _
           c.commands-test.true refl
-          (taken.reply ∙ first_reply c.commands.queues c.args.entries.now c.args.commands.now c.commands.line-index _ taken.within known.left)
+          (taken.reply ∙ first_reply c.commands.queues c.args.entries.now c.args.commands.now c.commands.line-index _
+          taken.within known.left)
           c.in_ok-put_line.ensures known.text;
     }

@@ -4,4 +4,5 @@ use Rattle.qc_text.specs.States.{state_line}
 use Rattle.qc_text.proofs.states.put_states.Given as goal
 
 abbrev pub invariant-objects : goal.invariant-objects
-invariant-objects l = l.page ≡ l.initial.page ++ flat_map (state_line l.decl (option_map (λ v. v.items) l.states)) (range_with_len 0 l.object)
+invariant-objects l = l.page ≡ l.initial.page ++ flat_map (state_line l.decl (option_map (λ v. v.items) l.states))
+    (range_with_len 0 l.object)

@@ -17,7 +17,8 @@ use Rattle.qc_top.proofs.top.quorum_words.Goals as goal
 -- words that were read
 
 pub perform-requires-clause-askable : goal.perform-requires-clause-askable
-perform-requires-clause-askable g c = λ _ _. asks_askable (texts_of c.args.words.now) (asked_in c.in-Ok.asked) c.in-Ok.ensures
+perform-requires-clause-askable g c = λ _ _. asks_askable (texts_of c.args.words.now)
+    (asked_in c.in-Ok.asked) c.in-Ok.ensures
 
 pub perform-requires-clause-short : goal.perform-requires-clause-short
 perform-requires-clause-short g c = λ _ _.
@@ -38,7 +39,8 @@ returns-in-Ok-clause-leaves g c = inr (
 )
 
 pub returns-in-Ok-clause-words : goal.returns-in-Ok-clause-words
-returns-in-Ok-clause-words g c = λ none. absurd (let both : Some (asked_in c.in-Ok.asked) ≡ None = sym c.in-Ok.ensures ∙ none in let never : ⊥ = cc in never)
+returns-in-Ok-clause-words g c = λ none. absurd
+    (let both : Some (asked_in c.in-Ok.asked) ≡ None = sym c.in-Ok.ensures ∙ none in let never : ⊥ = cc in never)
 
 pub returns-in-Ok-clause-usage : goal.returns-in-Ok-clause-usage
 returns-in-Ok-clause-usage g c = λ is. absurd (c.perform.ensures.asked is)

@@ -4,4 +4,5 @@ use Rattle.qc_view.proofs.view.own_state.Given as goal
 
 -- the events that are left lead from the state so far to where all lead from the first state
 abbrev pub invariant-loop-event : goal.invariant-loop-event
-invariant-loop-event l = reached (step_of l.table.rows) l.state (drop l.event-index l.own) ≡ reached (step_of l.table.rows) l.fn.from l.own
+invariant-loop-event l = reached (step_of l.table.rows) l.state (drop l.event-index l.own) ≡ reached
+    (step_of l.table.rows) l.fn.from l.own

@@ -7,5 +7,6 @@ use Rattle.qc_words.proofs.matching.with_options.Goals as goal
 pub names-preserved : goal.names-preserved
 names-preserved c =
     let added = c.in_ok-command.ensures.shape c.option.ensures.local in
-    rule_added option_rule c.args.names.now c.names.name-index _ (app_of c.args.command) (app_of c.names.command) (app_of c.in_ok-command.command)
+    rule_added option_rule c.args.names.now c.names.name-index _ (app_of c.args.command) (app_of c.names.command)
+    (app_of c.in_ok-command.command)
     c.names-test.true (added ∙ ap (with_rule (app_of c.names.command)) c.option.ensures.rule) c.names.invariant

@@ -7,5 +7,6 @@ loop-key-init c = (
   tt,
   tt,
   sym (other_in (map (λ k. k.now) c.args.known.now) c.args.self.now.table.now.entries)
-      ∙ ap (other_of (map (λ k. k.now) c.args.known.now)) (sym (c.into_iter-key-iterator.ensures.into_iter_gives ∙ c.keys-key-items.ensures.rest)),
+      ∙ ap (other_of (map (λ k. k.now) c.args.known.now))
+      (sym (c.into_iter-key-iterator.ensures.into_iter_gives ∙ c.keys-key-items.ensures.rest)),
 )

@@ -15,21 +15,28 @@ use Rattle.qc_accept.proofs.fields.Fields.optional.Goals as goal
 
 pub returns-in_default : goal.returns-in_default
 returns-in_default c =
-    ap (λ (found : Option Data). told (path_in c.args.self.now ++ c.args.key.now) (option_map_or (λ d. option_map listed (as_array d)) found (Some [])))
-    (sym (table_get c.get.result c.args.key.now c.args.self.now.table.now.entries c.get.ensures.value) ∙ ap (option_map (λ (v : Bor Value). view v.now)) c.in_default.is)
+    ap (λ (found : Option Data). told (path_in c.args.self.now ++ c.args.key.now)
+    (option_map_or (λ d. option_map listed (as_array d)) found (Some [])))
+    (sym (table_get c.get.result c.args.key.now c.args.self.now.table.now.entries c.get.ensures.value)
+    ∙ ap (option_map (λ (v : Bor Value). view v.now)) c.in_default.is)
 
 pub returns-in-Some-as_array : goal.returns-in-Some-as_array
 returns-in-Some-as_array c =
-    ap (λ (found : Option Data). told (path_in c.args.self.now ++ c.args.key.now) (option_map_or (λ d. option_map listed (as_array d)) found (Some [])))
-    (sym (table_get c.get.result c.args.key.now c.args.self.now.table.now.entries c.get.ensures.value) ∙ ap (option_map (λ (v : Bor Value). view v.now)) c.in-Some.is)
+    ap (λ (found : Option Data). told (path_in c.args.self.now ++ c.args.key.now)
+    (option_map_or (λ d. option_map listed (as_array d)) found (Some [])))
+    (sym (table_get c.get.result c.args.key.now c.args.self.now.table.now.entries c.get.ensures.value)
+    ∙ ap (option_map (λ (v : Bor Value). view v.now)) c.in-Some.is)
     ∙ ap (λ (array : Option Items). told (path_in c.args.self.now ++ c.args.key.now) (option_map listed array))
     (sym c.as_array.ensures ∙ ap (option_map (λ (v : Bor (Vec Value Global)). array_view v.now)) c.in-Some-as_array.is)
-    ∙ ap (λ (ds : List Data). let answer : Answer (List Data) = Ok ds in answer) (listed_view c.in-Some-as_array.items.now.items ∙ ap (map view) (sym c.as_slice.ensures.value))
+    ∙ ap (λ (ds : List Data). let answer : Answer (List Data) = Ok ds in answer)
+    (listed_view c.in-Some-as_array.items.now.items ∙ ap (map view) (sym c.as_slice.ensures.value))
 
 pub returns-in-None : goal.returns-in-None
 returns-in-None c = λ known.
-    ap (λ (found : Option Data). told (path_in c.args.self.now ++ c.args.key.now) (option_map_or (λ d. option_map listed (as_array d)) found (Some [])))
-    (sym (table_get c.get.result c.args.key.now c.args.self.now.table.now.entries c.get.ensures.value) ∙ ap (option_map (λ (v : Bor Value). view v.now)) c.in-Some.is)
+    ap (λ (found : Option Data). told (path_in c.args.self.now ++ c.args.key.now)
+    (option_map_or (λ d. option_map listed (as_array d)) found (Some [])))
+    (sym (table_get c.get.result c.args.key.now c.args.self.now.table.now.entries c.get.ensures.value)
+    ∙ ap (option_map (λ (v : Bor Value). view v.now)) c.in-Some.is)
     ∙ ap (λ (array : Option Items). told (path_in c.args.self.now ++ c.args.key.now) (option_map listed array))
     (sym c.as_array.ensures ∙ ap (option_map (λ (v : Bor (Vec Value Global)). array_view v.now)) c.in-None.is)
     ∙ ap (λ (e : DeclFault). Err e) (sym (c.fault.ensures known))

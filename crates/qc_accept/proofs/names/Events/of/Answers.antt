@@ -9,8 +9,11 @@ loop-event-init c = c.new-events.ensures.empty
 
 pub loop-event-preserved : goal.loop-event-preserved
 loop-event-preserved c =
-    event_inserted c.events-event-items.result.now c.loop-event.event-index c.loop-event.events.keys c.insert.new.self.keys _ _
-    (subst AreDistinct (sym c.events-event-items.ensures.events) (events_distinct c.args.table.now.rows)) c.loop-event-test.true refl c.loop-event.invariant c.in_ok-insert.ensures.keys
+    event_inserted c.events-event-items.result.now c.loop-event.event-index c.loop-event.events.keys
+    c.insert.new.self.keys _ _
+    (subst AreDistinct (sym c.events-event-items.ensures.events) (events_distinct c.args.table.now.rows))
+    c.loop-event-test.true refl c.loop-event.invariant c.in_ok-insert.ensures.keys
 
 pub returns : goal.returns
-returns c = c.loop-event.invariant ∙ take_all c.loop-event.event-index c.events-event-items.result.now c.loop-event-test.false ∙ c.events-event-items.ensures.events
+returns c = c.loop-event.invariant ∙ take_all c.loop-event.event-index c.events-event-items.result.now
+    c.loop-event-test.false ∙ c.events-event-items.ensures.events

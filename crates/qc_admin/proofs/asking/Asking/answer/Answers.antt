@@ -12,6 +12,7 @@ returns-clause-ok c =
     let a = c.args.self.now in
     let number = c.args.number in
     let outcome : Option Outcome = c.outcome_in-outcome.result in
-    asked_last c.args.decl.now c.settle.result a number (option_copied c.args.answer) outcome c.take-2.new.self (asking_of a)
+    asked_last c.args.decl.now c.settle.result a number (option_copied c.args.answer) outcome c.take-2.new.self
+    (asking_of a)
     c.outcome_in-outcome.ensures (c.take-2.ensures ∙ ap (map (taken_for number outcome)) c.in_ok-questions.ensures)
     (sym (c.ends_with.ensures outcome) ∙ c.if-not-ends_with.false) c.settle.ensures

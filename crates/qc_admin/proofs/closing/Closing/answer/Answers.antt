@@ -17,7 +17,8 @@ go_on-requires-clause-fit c =
 
 pub returns-clause-ok : goal.returns-clause-ok
 returns-clause-ok c =
-    answered_on c.args.decl.now c.go_on.result c.args.self.now c.in-Some.site c.args.number (option_copied c.args.answer)
+    answered_on c.args.decl.now c.go_on.result c.args.self.now c.in-Some.site c.args.number
+    (option_copied c.args.answer)
     c.without_call-calls.result c.note.new.self c.in_ok-shut.shut (closing_of c.go_on.new.self)
     (sym c.site_called.ensures ∙ c.in-Some.is)
     c.without_call-calls.ensures

@@ -16,7 +16,8 @@ ask-requires-clause-fit c =
 pub returns-in_ok-shuts-in-Met-clause-ok : goal.returns-in_ok-shuts-in-Met-clause-ok
 returns-in_ok-shuts-in-Met-clause-ok c =
     let all : List ShutSite = with_last c.args.self.now.shuts c.args.shut in
-    closed_met c.args.decl.now c.ask.result c.args.self.now c.args.calls c.args.round all c.in_ok-shuts-in-Met.shuts (closing_of c.args.self.now)
+    closed_met c.args.decl.now c.ask.result c.args.self.now c.args.calls c.args.round all c.in_ok-shuts-in-Met.shuts
+    (closing_of c.args.self.now)
     (sym c.verdict.ensures ∙ c.in-Met.is)
     (c.in_ok-shuts-in-Met.ensures ∙ ap (λ (asked : List Asked). in_asked_order asked all) c.asked_sites.ensures)
     c.ask.ensures

@@ -15,8 +15,10 @@ site_set-requires-2 c =
     let room = c.requires.told in
     elim c.if-is_installed.branch [
       | then-is_installed+in_ok-push w ↦
-          let is : c.if-is_installed.self.installed ≡ old.installed ++ c.in-Some.site ∷ [] = ap (λ (i : Installing). i.installed) w.self-is ∙ w.in_ok-push.ensures.ok in
-          let sum : site_set c.if-is_installed.self.installed ≡ site_set (old.installed ++ c.in-Some.site ∷ []) = ap site_set is in
+          let is : c.if-is_installed.self.installed ≡ old.installed ++ c.in-Some.site ∷ [] =
+          ap (λ (i : Installing). i.installed) w.self-is ∙ w.in_ok-push.ensures.ok in
+          let sum : site_set c.if-is_installed.self.installed ≡ site_set (old.installed ++ c.in-Some.site ∷ []) =
+          ap site_set is in
           omega (arith, sum, last, bit, room)
       | else-is_installed w ↦
           let is : c.if-is_installed.self.installed ≡ old.installed = ap (λ (i : Installing). i.installed) w.self-is in

@@ -11,7 +11,8 @@ use Rattle.qc_admin.proofs.Asked.{stamp_shown}
 use Rattle.qc_admin.proofs.questions.Questions.stamps.Goals as goal
 
 -- stamps of questions that tell the same
-told : (result : Result Stamps AllocError) (qs others : List Question) → ((tx : TxId) → stamp_of qs tx ≡ stamp_of others tx)
+told : (result : Result Stamps AllocError) (qs others : List Question)
+    → ((tx : TxId) → stamp_of qs tx ≡ stamp_of others tx)
     → IfOk result (λ stamps. (tx : TxId) → stamp_at stamps tx ≡ stamp_of qs tx)
     → IfOk result (λ stamps. (tx : TxId) → stamp_at stamps tx ≡ stamp_of others tx)
 told (Ok stamps) qs others same are = λ tx. are tx ∙ same tx

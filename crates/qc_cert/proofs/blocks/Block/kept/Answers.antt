@@ -10,8 +10,10 @@ returns c =
     let place = c.args.number * 16 + c.piece.result in
     let rows = c.self.inside.rows.items in
     let at : place ≡ c.args.number * 16 + some = omega (arith, c.piece.ensures) in
-    let within : place < length rows = omega (arith, at, piece_small c.args.out c.args.number, c.requires, c.self.invariant.all) in
-    let is : c.index.result.now ≡ get_or rows place no_row = get_or_read rows place c.index.result.now within c.index.ensures no_row in
+    let within : place < length rows = omega
+    (arith, at, piece_small c.args.out c.args.number, c.requires, c.self.invariant.all) in
+    let is : c.index.result.now ≡ get_or rows place no_row =
+    get_or_read rows place c.index.result.now within c.index.ensures no_row in
     subst (λ sets. IsRow sets c.args.number some c.index.result.now) c.self.view_is
     (row_at c.self.inside.sets.items rows c.args.number some place c.index.result.now
     c.self.invariant.told c.self.invariant.all c.requires (piece_small c.args.out c.args.number) at is)

@@ -11,5 +11,6 @@ invariant_of-self c =
 
 pub invariant_of-self-in-None : goal.invariant_of-self-in-None
 invariant_of-self-in-None c =
-    let all : union c.self.inside.lines.items c.args.lines.now ≡ c.in_ok-self-inside-in-None.field-0.items = search rules in
+    let all : union c.self.inside.lines.items c.args.lines.now ≡ c.in_ok-self-inside-in-None.field-0.items =
+    search rules in
     subst IsAscending all (ascending-union _ _ c.self.invariant c.requires)

@@ -14,4 +14,5 @@ returns-then-all_are_of c =
     search rules
 
 pub invariant_of-result : goal.invariant_of-result
-invariant_of-result c = rw (c.in_ok-of_one.ensures, c.as_slice-2.ensures.value) (ascends-filter line_cmp _ _ c.self.invariant)
+invariant_of-result c = rw (c.in_ok-of_one.ensures, c.as_slice-2.ensures.value)
+    (ascends-filter line_cmp _ _ c.self.invariant)

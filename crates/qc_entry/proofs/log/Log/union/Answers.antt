@@ -8,5 +8,9 @@ use Rattle.qc_entry.proofs.log.Log.union.Goals as goal
 pub invariant_of-result : goal.invariant_of-result
 invariant_of-result c =
     let all : union c.self.inside.lines.items c.args.other.now ≡ c.match-behind.lines.items =
-    elim c.match-behind.branch [ in-Some+in_ok-lines-in-Some w ↦ search rules | in-None+in_ok-lines-in-None w ↦ search rules ] in
+    elim c.match-behind.branch [
+      | in-Some+in_ok-lines-in-Some w ↦ search rules
+      | in-None+in_ok-lines-in-None w ↦ search
+          rules
+    ] in
     subst IsAscending all (ascending-union _ _ c.self.invariant c.lines.ensures.ascending)

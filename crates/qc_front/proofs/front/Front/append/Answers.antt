@@ -4,5 +4,6 @@ use Rattle.qc_front.proofs.front.Front.append.Goals as goal
 
 pub returns-in-Waiting : goal.returns-in-Waiting
 returns-in-Waiting c =
-    append_asked c.args.decl.now c.args.self.now c.args.draft c.args.inv c.args.event c.args.calls c.args.round c.ask_to_append.result
+    append_asked c.args.decl.now c.args.self.now c.args.draft c.args.inv c.args.event c.args.calls c.args.round
+    c.ask_to_append.result
     c.requires.draft (sym c.verdict.ensures ∙ c.in-Waiting.is) c.ask_to_append.ensures

@@ -3,4 +3,5 @@ use Rattle.qc_link.proofs.Firsts.{first_receiver}
 use Rattle.qc_link.proofs.plan.LinkPlan.first_from.Goals as goal
 
 pub returns : goal.returns
-returns c = c.min.ensures ∙ (λ i. min (c.first_to.ensures i) (c.first_to-2.ensures i)) ∙ first_receiver c.args.from c.args.to c.args.ordinal c.args.self.now
+returns c = c.min.ensures ∙ (λ i. min (c.first_to.ensures i) (c.first_to-2.ensures i))
+    ∙ first_receiver c.args.from c.args.to c.args.ordinal c.args.self.now

@@ -8,12 +8,18 @@ use Rattle.qc_lock.proofs.numbered.Entries.of.Goals as goal
 
 pub returns-in_err-number : goal.returns-in_err-number
 returns-in_err-number c =
-    let none : entry_of c.args.self.now c.args.tx ≡ None = subst (λ hs. entry_of hs c.args.tx ≡ None) c.self.view_is (entry_none holder c.self.inside.entries.entries c.args.tx (sym (c.in_err-number.ensures.value ∙ c.self.invariant.known c.args.tx))) in
-    subst (λ o. MatchOption o (entry_of c.args.self.now c.args.tx ≡ None) (λ h. entry_of c.args.self.now c.args.tx ≡ Some h.now)) (sym c.from_residual.ensures) none
+    let none : entry_of c.args.self.now c.args.tx ≡ None =
+    subst (λ hs. entry_of hs c.args.tx ≡ None) c.self.view_is
+    (entry_none holder c.self.inside.entries.entries c.args.tx
+    (sym (c.in_err-number.ensures.value ∙ c.self.invariant.known c.args.tx))) in
+    subst (λ o. MatchOption o (entry_of c.args.self.now c.args.tx ≡ None)
+    (λ h. entry_of c.args.self.now c.args.tx ≡ Some h.now)) (sym c.from_residual.ensures) none
 
 pub returns : goal.returns
 returns c =
-    let number : number_of holder c.self.inside.entries.entries c.args.tx ≡ Some c.in_ok-number.number.now = sym (c.in_ok-number.ensures.value ∙ c.self.invariant.known c.args.tx) in
+    let number : number_of holder c.self.inside.entries.entries c.args.tx ≡ Some c.in_ok-number.number.now =
+    sym (c.in_ok-number.ensures.value ∙ c.self.invariant.known c.args.tx) in
     let found : option_copied c.get-2.result ≡ entry_of c.args.self.now c.args.tx =
-    c.get-2.ensures.value ∙ entry_at holder c.self.inside.entries.entries c.args.tx c.in_ok-number.number.now c.self.invariant.ordered number ∙ ap (λ hs. entry_of hs c.args.tx) c.self.view_is in
+    c.get-2.ensures.value ∙ entry_at holder c.self.inside.entries.entries c.args.tx c.in_ok-number.number.now
+    c.self.invariant.ordered number ∙ ap (λ hs. entry_of hs c.args.tx) c.self.view_is in
     lent c.get-2.result (entry_of c.args.self.now c.args.tx) found

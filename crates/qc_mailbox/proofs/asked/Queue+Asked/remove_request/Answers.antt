@@ -8,5 +8,6 @@ use Rattle.qc_mailbox.proofs.asked.Queue+Asked.remove_request.Goals as goal
 
 pub returns-clause-requests : goal.returns-clause-requests
 returns-clause-requests c =
-    ap asked (filter_same _ (λ (m : Asked). not (m.number == c.args.number)) _ (λ x b f k. search rules) _ _ c.retain.ensures.filtered)
+    ap asked (filter_same _ (λ (m : Asked). not (m.number == c.args.number)) _
+    (λ x b f k. search rules) _ _ c.retain.ensures.filtered)
     ∙ asked-without (items c.args.self.now) c.args.number

@@ -7,7 +7,8 @@ use Rattle.qc_link.specs.Limits.{most_actors}
 
 abbrev pub invariant-postings : goal.invariant-postings
 invariant-postings l = record {
-  sent : after_sends l.self.inboxes l.actor (drop l.posting-index l.postings) ≡ after_sends l.initial.self.inboxes l.actor l.postings;
+  sent : after_sends l.self.inboxes l.actor (drop l.posting-index l.postings)
+      ≡ after_sends l.initial.self.inboxes l.actor l.postings;
   all : l.self.inboxes.counts.all ≡ l.initial.self.inboxes.counts.all + l.posting-index;
   receivers : Every (λ (p : Posting). p.to < most_actors) (drop l.posting-index l.postings);
   room : l.self.room + l.posting-index ≡ l.initial.self.room;

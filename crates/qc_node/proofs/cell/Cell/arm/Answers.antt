@@ -6,13 +6,19 @@ use Rattle.qc_node.proofs.cell.Cell.arm.Goals as goal
 
 pub invariant_of-self-2 : goal.invariant_of-self-2
 invariant_of-self-2 g c =
-    let cell : IsCell g.N.Named.tells g.N.Named.table g.N.Named.declaration false c.self.inside.process c.self.inside.pass =
-    subst (λ (b : Bool). IsCell g.N.Named.tells g.N.Named.table g.N.Named.declaration b c.self.inside.process c.self.inside.pass) c.if-self.false c.self.invariant in
+    let cell : IsCell g.N.RunName.tells g.N.RunName.table g.N.RunName.declaration false c.self.inside.process
+    c.self.inside.pass =
+    subst (λ (b : Bool). IsCell g.N.RunName.tells g.N.RunName.table g.N.RunName.declaration b c.self.inside.process
+    c.self.inside.pass) c.if-self.false c.self.invariant in
     let is : c.in-Some-Armed.field-0 ≡ controls.Armed c.in-Some-Armed.actor c.in-Some-Armed.kind c.in-Some-Armed.at =
     first_of (assumption (c.in-Some-Armed.field-0-is), cc (c.in-Some-Armed.field-0-is), cc, search rules) in
-    subst (λ (b : Bool). IsCell g.N.Named.tells g.N.Named.table g.N.Named.declaration b c.arm-2.new.self c.arm.new.pass) (sym c.if-self.false)
-    (armed_cell g.N.Named.tells g.N.Named.table g.N.Named.declaration c.self.inside.pass c.self.inside.process cell c.arm.new.pass c.arm-2.new.self _ _ c.in-Some-Armed.kind c.in-Some-Armed.at
+    subst (λ (b : Bool). IsCell g.N.RunName.tells g.N.RunName.table g.N.RunName.declaration b c.arm-2.new.self
+    c.arm.new.pass) (sym c.if-self.false)
+    (armed_cell g.N.RunName.tells g.N.RunName.table g.N.RunName.declaration c.self.inside.pass c.self.inside.process
+    cell c.arm.new.pass c.arm-2.new.self _ _ c.in-Some-Armed.kind c.in-Some-Armed.at
     c.in_ok-arm.ensures.ok
-    (armed_some g.N.Named.declaration g.N.Named.script c.requires.runnable _ _ _ c.in-Some-Armed.field-0 c.in-Some-Armed.actor c.in-Some-Armed.kind
+    (armed_some g.N.RunName.declaration g.N.RunName.script c.requires.runnable _ _ _ c.in-Some-Armed.field-0
+    c.in-Some-Armed.actor c.in-Some-Armed.kind
     c.in-Some-Armed.at c.in-Some-Armed.ensures.some is)
-    c.arm-2.ensures.same.0 c.arm-2.ensures.same.1 (λ a h now. c.arm-2.ensures.goes g.N.Named.tells g.N.Named.declaration a h now))
+    c.arm-2.ensures.same.0 c.arm-2.ensures.same.1
+    (λ a h now. c.arm-2.ensures.goes g.N.RunName.tells g.N.RunName.declaration a h now))

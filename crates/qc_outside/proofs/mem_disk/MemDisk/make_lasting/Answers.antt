@@ -10,11 +10,13 @@ use Rattle.qc_outside.proofs.mem_disk.MemDisk.make_lasting.Goals as goal
 pub invariant_of-self : goal.invariant_of-self
 invariant_of-self c =
     let self = c.args.self.now in
-    let now = told_change self.tear self.changes.items self.written.items c.note.new.changes.items Synced self.whole c.note.ensures.items in
+    let now = told_change self.tear self.changes.items self.written.items c.note.new.changes.items Synced self.whole
+    c.note.ensures.items in
     record {
       whole = ap counts c.note.ensures.items ∙ counts_push self.changes.items Synced ∙ omega (arith, self.whole);
       bytes_are = self.bytes_are ∙ ap (λ (t : Told). as_read t.now) (sym now);
-      left_are = c.copy_from.ensures.items ∙ c.deref.ensures.value ∙ self.bytes_are ∙ ap (λ (t : Told). left_by self.tear t.now) (sym now);
+      left_are = c.copy_from.ensures.items ∙ c.deref.ensures.value ∙ self.bytes_are
+          ∙ ap (λ (t : Told). left_by self.tear t.now) (sym now);
       at_rest = λ _. ap (λ (t : Told). t.now.writes) now;
       same_are = ap (take c.len-self.result) (c.copy_from.ensures.items ∙ c.deref.ensures.value);
       same_is = omega (arith, c.copy_from.ensures.len, c.deref.ensures.len, c.len-self.ensures);
@@ -27,10 +29,13 @@ pub returns-clause-moments : goal.returns-clause-moments
 returns-clause-moments c =
     let self = c.args.self.now in
     let old = told_by self.tear self.changes.items self.written.items in
-    let now = told_change self.tear self.changes.items self.written.items c.note.new.changes.items Synced self.whole c.note.ensures.items in
-    since_step (IsImage old.now) old _ (settled (as_read old.now)) (image_now old) (settled_leaves old.now (as_read old.now) (read_is_image old.now)) now
+    let now = told_change self.tear self.changes.items self.written.items c.note.new.changes.items Synced self.whole
+    c.note.ensures.items in
+    since_step (IsImage old.now) old _ (settled (as_read old.now)) (image_now old)
+    (settled_leaves old.now (as_read old.now) (read_is_image old.now)) now
 
 pub returns-clause-noted : goal.returns-clause-noted
 returns-clause-noted c =
     let self = c.args.self.now in
-    told_change self.tear self.changes.items self.written.items c.note.new.changes.items Synced self.whole c.note.ensures.items
+    told_change self.tear self.changes.items self.written.items c.note.new.changes.items Synced self.whole
+    c.note.ensures.items

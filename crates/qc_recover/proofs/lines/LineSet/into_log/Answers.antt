@@ -18,7 +18,13 @@ pub lines-preserved : goal.lines-preserved
 lines-preserved c =
     let lines = c.as_slice-line-items.result.now in
     let i = c.lines.line-index in
-    let line : Line = get_or lines i (record { stamp = record { clock = 0; client = 0 }; tx = record { client = 0; life = 0; number = 0 }; op = 0; object = 0; event = 0 }) in
+    let line : Line = get_or lines i (record {
+      stamp = record { clock = 0; client = 0 };
+      tx = record { client = 0; life = 0; number = 0 };
+      op = 0;
+      object = 0;
+      event = 0;
+    }) in
     let whole : fold with_line (with_line c.lines.log line) (drop (i + 1) lines) ≡ log_of lines =
     step c.lines.log lines i _ c.lines-test.true c.lines.invariant.rest in
     elim c.if-not-is_last.branch [

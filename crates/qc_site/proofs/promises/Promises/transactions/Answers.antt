@@ -13,7 +13,8 @@ has_number : (es : List (ℕ × Prepared)) (tx : TxId) → is_some (number_of pr
 has_number [] tx = refl
 has_number (e ∷ es) tx = by (same_tx e.1.tx tx) (has_number es tx) where
   by : (t : Bool) → is_some (number_of promiser es tx) ≡ is_prepared (values_of es) tx
-      → is_some (cond t (Some e.0) (number_of promiser es tx)) ≡ is_some (cond t (Some e.1) (prepared_of (values_of es) tx))
+      → is_some (cond t (Some e.0) (number_of promiser es tx)) ≡ is_some
+      (cond t (Some e.1) (prepared_of (values_of es) tx))
   by true rest = refl
   by false rest = rest
 

@@ -7,6 +7,10 @@ use Rattle.qc_view.proofs.view.View.state.Goals as goal
 pub returns : goal.returns
 returns c =
     c.own_state.ensures
-    ∙ ap (λ (o : Option ℕ). reached (step_of c.args.table.now.rows) o c.items.result.now) (c.committed_state.ensures ∙ ap (λ (ls : List Line). after (step_of c.args.table.now.rows) c.args.table.now.start (map (λ (l : Line). l.event) ls)) c.lines.ensures.value)
-    ∙ ap (λ (own : List ℕ). reached (step_of c.args.table.now.rows) (after (step_of c.args.table.now.rows) c.args.table.now.start (map (λ (l : Line). l.event) c.args.self.now.log)) own) c.items.ensures
+    ∙ ap (λ (o : Option ℕ). reached (step_of c.args.table.now.rows) o c.items.result.now)
+    (c.committed_state.ensures ∙ ap (λ (ls : List Line). after
+    (step_of c.args.table.now.rows) c.args.table.now.start (map (λ (l : Line). l.event) ls)) c.lines.ensures.value)
+    ∙ ap (λ (own : List ℕ). reached (step_of c.args.table.now.rows)
+    (after (step_of c.args.table.now.rows) c.args.table.now.start (map (λ (l : Line). l.event) c.args.self.now.log))
+    own) c.items.ensures
     ∙ state_joined c.args.table.now c.args.self.now

@@ -1,0 +1,197 @@
+-- The administrator's decisions are in form, where what he takes is, and a client tells of the transaction that it was
+-- asked about.
+use Rattle.std.proofs.Common.{◌≡◌, ℕ, ◌≤◌, true, List, [], ◌∷◌, ◌++◌, Option, Some, None, sym, subst}
+use Rattle.std.specs.Prelude.{option_to_list}
+use Rattle.std.specs.List.{AllByRecursion as Every}
+use Rattle.qc_list.specs.Members.{In}
+use Rattle.qc_list.proofs.Members.{every-append, every-weaker}
+use Rattle.qc_decl.specs.declared.declaration.Declaration.{Declaration}
+use Rattle.qc_entry.proofs.Union.{ascending-union, every-union}
+use Rattle.qc_epoch.specs.Admin.{Admin, AdminMove, Question}
+use Rattle.qc_epoch.specs.Answers.{is_number, outcome_in}
+use Rattle.qc_epoch.specs.Conduct.{admin_takes, sent_one}
+use Rattle.qc_msg.specs.declared.message.Answer.{Answer}
+use Rattle.qc_msg.specs.declared.message.Answer.TheVariants as answers
+use Rattle.qc_msg.specs.declared.message.Message.{Message}
+use Rattle.qc_msg.specs.declared.message.Message.TheVariants as messages
+use Rattle.qc_msg.specs.declared.message.Outcome.{Outcome}
+use Rattle.qc_msg.specs.declared.record.Record.{Record}
+use Rattle.qc_msg.specs.declared.record.Record.TheVariants as records
+use Rattle.qc_msg.specs.declared.step.Command.TheVariants as commands
+use Rattle.qc_msg.specs.declared.step.Input.{Input}
+use Rattle.qc_msg.specs.declared.step.Input.TheVariants as inputs
+use Rattle.qc_msg.specs.declared.turn.Posting.{Posting}
+use Rattle.qc_record.specs.Legal.{IsWithin}
+use Rattle.qc_recover.specs.Admins.{admin_of}
+use Rattle.qc_site.proofs.Sorted.{ascending-stamped}
+use Rattle.qc_stamp.proofs.Orders.{same_tx_is}
+use Rattle.qc_stamp.specs.declared.stamp.TxId.{TxId}
+use Rattle.laws_bounds.specs.AdminParts.{AdminKeeps, AnyNumber, ToldKeeps}
+use Rattle.laws_bounds.proofs.AdminKeeps.{AdminMoveKeeps, CameKeeps, GivenKeeps, Keeping, RecordKeeps, SendKeeps}
+use Rattle.laws_bounds.proofs.AdminKeeps.{ShutCame, WriteKeeps, admin_keeps, admin_risen_keeps, admin_sends_keep}
+use Rattle.laws_bounds.proofs.AdminKeeps.{questions_in}
+use Rattle.laws_bounds.proofs.Forms.{CameInForm, LineInForm, LinesInForm, MessageInForm, PromiseInForm, RecordInForm}
+use Rattle.laws_bounds.proofs.Forms.{SendsInForm, TakenInForm, VerdictInForm, WriteInForm}
+use Rattle.laws_bounds.proofs.HeldInForm.{lines_form}
+
+abbrev AnyClock : ℕ → Type 0
+AnyClock clock = Unit {0}
+
+abbrev IsEpoch : ℕ → Type 0
+IsEpoch epoch = IsWithin 1 8 epoch
+
+abbrev pub AdminInForm : Admin → Type 0
+AdminInForm m = AdminKeeps AnyClock LinesInForm PromiseInForm VerdictInForm IsEpoch AnyNumber m
+
+keeping : Keeping AnyClock LinesInForm PromiseInForm VerdictInForm
+keeping = record {
+  first = tt;
+  later = λ x y here there. tt;
+  stamped = λ tx stamp here. tt;
+  none = record { each_is = tt; ascend = tt };
+  both = λ xs ys here there. record {
+    each_is = every-union LineInForm xs ys here.each_is there.each_is;
+    ascend = ascending-union xs ys here.ascend there.ascend;
+  };
+  promised = λ p stamp has here. record {
+    each_is = lines_form stamp p.tx p.own here has.tx has.own;
+    ascend = ascending-stamped stamp p.tx [] p.own tt;
+  };
+  agree = λ t u verdict same here. subst (λ (v : TxId). VerdictInForm v verdict) (same_tx_is t u same) here;
+}
+
+-- what he takes: what a client tells is of the transaction that it was asked about
+
+abbrev pub ToldForm : TxId → Option Outcome → Type 0
+ToldForm tx told = ToldKeeps AnyClock LinesInForm PromiseInForm VerdictInForm IsEpoch AnyNumber tx told
+
+abbrev pub IsToldIn : Admin → ℕ → Option Answer → Type 0
+IsToldIn m number answer =
+    (q : Question) → In q (questions_in m.doing)
+    → is_number number q.number ≡ true
+    → ToldForm q.tx (outcome_in answer)
+
+abbrev pub MessageToldIn : Admin → Message → Type 0
+MessageToldIn m (messages.Request tx epoch life want) = Unit {0}
+MessageToldIn m (messages.Answer to answer) = IsToldIn m to (Some answer)
+MessageToldIn m (messages.Decision tx verdict) = Unit {0}
+MessageToldIn m (messages.Inquiry tx) = Unit {0}
+MessageToldIn m (messages.Ask tx) = Unit {0}
+MessageToldIn m (messages.Close epoch) = Unit {0}
+MessageToldIn m (messages.Install epoch clock log) = Unit {0}
+
+abbrev pub GivenToldIn : Admin → Input → Type 0
+GivenToldIn m (inputs.Called command) = Unit {0}
+GivenToldIn m (inputs.Got e) = MessageToldIn m e.message
+GivenToldIn m (inputs.Lost number) = Unit {0}
+
+shut_came : (answer : Option Answer) → CameInForm answer
+    → ShutCame AnyClock LinesInForm PromiseInForm VerdictInForm IsEpoch AnyNumber answer
+shut_came None here = tt
+shut_came (Some (answers.Granted life clock log)) here = tt
+shut_came (Some (answers.Clash holder inv event)) here = tt
+shut_came (Some (answers.Closed epoch)) here = tt
+shut_came (Some (answers.Behind epoch)) here = tt
+shut_came (Some (answers.Restarted life)) here = tt
+shut_came (Some answers.Stale) here = tt
+shut_came (Some answers.Fault) here = tt
+shut_came (Some (answers.Yes clock)) here = tt
+shut_came (Some (answers.Shut clock log prepared)) here = (tt, here.0, here.1)
+shut_came (Some answers.Installed) here = tt
+shut_came (Some (answers.Answered verdict)) here = tt
+
+given_keeps : (m : Admin) (g : Input) → TakenInForm g → GivenToldIn m g
+    → GivenKeeps AnyClock LinesInForm PromiseInForm VerdictInForm IsEpoch AnyNumber m g
+given_keeps m (inputs.Called commands.Begin) here told = tt
+given_keeps m (inputs.Called (commands.Do object inv)) here told = tt
+given_keeps m (inputs.Called commands.Commit) here told = tt
+given_keeps m (inputs.Called commands.Abort) here told = tt
+given_keeps m (inputs.Called (commands.Epoch number)) here told = here
+given_keeps m (inputs.Got e) here told = heard e.message here told
+  where
+    heard : (message : Message) → MessageInForm message → MessageToldIn m message
+        → GivenKeeps AnyClock LinesInForm PromiseInForm VerdictInForm IsEpoch AnyNumber m
+        (inputs.Got (record e { message = message }))
+    heard (messages.Request tx epoch life want) form told = tt
+    heard (messages.Answer to answer) form told = record { shut = shut_came (Some answer) form; told = told }
+    heard (messages.Decision tx verdict) form told = tt
+    heard (messages.Inquiry tx) form told = tt
+    heard (messages.Ask tx) form told = tt
+    heard (messages.Close epoch) form told = tt
+    heard (messages.Install epoch clock log) form told = tt
+given_keeps m (inputs.Lost number) here told = tt
+
+-- what he sends and writes
+
+send_form : (message : Message) → SendKeeps AnyClock LinesInForm PromiseInForm VerdictInForm IsEpoch AnyNumber message
+    → MessageInForm message
+send_form (messages.Request tx epoch life want) keeps = absurd keeps
+send_form (messages.Answer to answer) keeps = absurd keeps
+send_form (messages.Decision tx verdict) keeps = absurd keeps
+send_form (messages.Inquiry tx) keeps = absurd keeps
+send_form (messages.Ask tx) keeps = tt
+send_form (messages.Close epoch) keeps = keeps
+send_form (messages.Install epoch clock log) keeps = record { epoch_is = keeps.epoch_is; lines_are = keeps.lines_are }
+
+write_form : (write : Option Record) → WriteKeeps AnyClock LinesInForm PromiseInForm VerdictInForm IsEpoch AnyNumber
+    write
+    → Every WriteInForm (option_to_list write)
+write_form None keeps = tt
+write_form (Some records.Life) keeps = absurd keeps
+write_form (Some (records.Prepare p)) keeps = absurd keeps
+write_form (Some (records.Done tx clock)) keeps = absurd keeps
+write_form (Some (records.Close epoch)) keeps = absurd keeps
+write_form (Some (records.Install epoch clock lines)) keeps = absurd keeps
+write_form (Some (records.Commit commit)) keeps = absurd keeps
+write_form (Some (records.Decide epoch clock lines)) keeps =
+    ((record { epoch_is = keeps.0.epoch_is; lines_are = keeps.0.lines_are }, keeps.1), tt)
+
+pub record AdminMoveInForm (move : AdminMove) : Type 0 where
+  pub admin : AdminInForm move.admin
+  pub sends : SendsInForm move.turn.sends
+  pub write : Every WriteInForm (option_to_list move.turn.write)
+
+pub admin_takes_form : (decl : Declaration) (m : Admin) (g : Input) → AdminInForm m → TakenInForm g → GivenToldIn m g
+    → AdminMoveInForm (admin_takes decl m g)
+admin_takes_form decl m g w here told = record {
+  admin = on.admin;
+  sends =
+      every-weaker
+      (λ (p : Posting). SendKeeps AnyClock LinesInForm PromiseInForm VerdictInForm IsEpoch AnyNumber p.message)
+      (λ (p : Posting). MessageInForm p.message) (λ p keeps. send_form p.message keeps)
+      (admin_takes decl m g).turn.sends
+      on.sends;
+  write = write_form (admin_takes decl m g).turn.write on.write;
+} where
+  on : AdminMoveKeeps AnyClock LinesInForm PromiseInForm VerdictInForm IsEpoch AnyNumber (admin_takes decl m g)
+  on =
+      admin_keeps AnyClock LinesInForm PromiseInForm VerdictInForm IsEpoch AnyNumber keeping decl m w g
+      (given_keeps m g here told)
+
+pub admin_sends_form : (m : Admin) (number to : ℕ) (message : Message) → AdminInForm m
+    → AdminInForm (sent_one m number to message)
+admin_sends_form m number to message w =
+    admin_sends_keep AnyClock LinesInForm PromiseInForm VerdictInForm IsEpoch AnyNumber m number to message
+    (λ u is. tt) w
+
+-- as he rises
+
+record_keeps : (r : Record) → RecordInForm r
+    → RecordKeeps AnyClock LinesInForm PromiseInForm VerdictInForm IsEpoch AnyNumber r
+record_keeps records.Life here = tt
+record_keeps (records.Prepare p) here = tt
+record_keeps (records.Done tx clock) here = tt
+record_keeps (records.Close epoch) here = tt
+record_keeps (records.Install epoch clock lines) here = tt
+record_keeps (records.Commit commit) here = tt
+record_keeps (records.Decide epoch clock lines) here =
+    record { epoch_is = here.epoch_is; clock_is = tt; lines_are = here.lines_are }
+
+pub admin_risen_form : (rs : List Record) → Every RecordInForm rs → AdminInForm (admin_of (rs ++ records.Life ∷ []))
+admin_risen_form rs all =
+    admin_risen_keeps AnyClock LinesInForm PromiseInForm VerdictInForm IsEpoch AnyNumber (rs ++ records.Life ∷ [])
+    (every-append (RecordKeeps AnyClock LinesInForm PromiseInForm VerdictInForm IsEpoch AnyNumber) rs
+    (records.Life ∷ [])
+    (every-weaker RecordInForm (RecordKeeps AnyClock LinesInForm PromiseInForm VerdictInForm IsEpoch AnyNumber)
+    record_keeps rs all)
+    (tt, tt))

@@ -1,0 +1,234 @@
+-- What the administrator becomes, sends and writes for one input stays within a bound that what he takes keeps to.
+use Rattle.std.proofs.Common.{ℕ, ◌≤◌, List, [], ◌∷◌, Option, Some, None, sym, subst, arith}
+use Rattle.std.specs.Prelude.{option_to_list}
+use Rattle.std.specs.List.{AllByRecursion as Every}
+use Rattle.qc_list.proofs.Members.{every-weaker}
+use Rattle.laws_bounds.specs.AdminParts as parts
+use Rattle.laws_bounds.specs.AdminParts.{AnyNumber}
+use Rattle.laws_bounds.specs.AdminWithin.{AdminWithin, AnyEpoch, ClockWithin, DecidedWithin, PromiseWithin}
+use Rattle.laws_bounds.specs.AdminWithin.{VerdictWithin}
+use Rattle.laws_bounds.specs.Within.{AreWithin, TurnWithin}
+use Rattle.laws_bounds.proofs.AdminKeeps.{AdminMoveKeeps, CameKeeps, GivenKeeps, Keeping, SendKeeps, ShutCame}
+use Rattle.laws_bounds.proofs.AdminKeeps.{WriteKeeps, admin_keeps, admin_sends_keep}
+use Rattle.laws_bounds.proofs.RisenWithin.{stamped_within}
+use Rattle.qc_core.proofs.AdminWrites.{admin_written}
+use Rattle.qc_decl.specs.declared.declaration.Declaration.{Declaration}
+use Rattle.qc_entry.specs.declared.line.Line.{Line}
+use Rattle.qc_entry.specs.declared.record.Prepared.{Prepared}
+use Rattle.qc_entry.proofs.Union.{every-union}
+use Rattle.qc_epoch.specs.Admin.{Admin, AdminMove, Decided, Doing, Question, ShutSite, Resting, Closing, Asking}
+use Rattle.qc_epoch.specs.Admin.{Installing}
+use Rattle.qc_epoch.specs.Answers.{outcome_in}
+use Rattle.qc_epoch.specs.Conduct.{admin_takes, sent_one}
+use Rattle.laws_turns.proofs.Greater.{lines-le, promises-le}
+use Rattle.laws_turns.specs.Within.{AnswerWithin, GivenWithin, LinesWithin, MessageWithin, OutcomeWithin, SendsWithin}
+use Rattle.qc_msg.specs.declared.message.Answer.{Answer}
+use Rattle.qc_msg.specs.declared.message.Answer.TheVariants as answers
+use Rattle.qc_msg.specs.declared.message.Message.{Message}
+use Rattle.qc_msg.specs.declared.message.Message.TheVariants as messages
+use Rattle.qc_msg.specs.declared.message.Outcome.{Outcome}
+use Rattle.qc_msg.specs.declared.message.Outcome.TheVariants.{Committed, Aborted, Active}
+use Rattle.qc_msg.specs.declared.record.Record.{Record}
+use Rattle.qc_msg.specs.declared.record.Record.TheVariants as records
+use Rattle.qc_msg.specs.declared.step.Command.TheVariants as commands
+use Rattle.qc_msg.specs.declared.step.Input.{Input}
+use Rattle.qc_msg.specs.declared.step.Input.TheVariants as inputs
+use Rattle.qc_msg.specs.declared.turn.Posting.{Posting}
+use Rattle.qc_stamp.specs.declared.stamp.TxId.{TxId}
+
+-- a greater bound
+
+module _ (low high : ℕ) (le : low ≤ high) where
+  shut_le : (s : ShutSite) → parts.ShutKeeps (ClockWithin low) (LinesWithin low) (PromiseWithin low)
+      (VerdictWithin low) AnyEpoch AnyNumber s
+      → parts.ShutKeeps (ClockWithin high) (LinesWithin high) (PromiseWithin high)
+      (VerdictWithin high) AnyEpoch AnyNumber s
+  shut_le s w = record {
+    clock = (let c : s.clock ≤ low = w.clock in omega arith);
+    log = lines-le low high le s.log w.log;
+    prepared = promises-le low high le s.prepared w.prepared;
+  }
+
+  shuts_le : (shuts : List ShutSite) → parts.ShutsKeep (ClockWithin low) (LinesWithin low) (PromiseWithin low)
+      (VerdictWithin low) AnyEpoch AnyNumber shuts
+      → parts.ShutsKeep (ClockWithin high) (LinesWithin high) (PromiseWithin high)
+      (VerdictWithin high) AnyEpoch AnyNumber shuts
+  shuts_le = every-weaker (parts.ShutKeeps (ClockWithin low) (LinesWithin low) (PromiseWithin low)
+      (VerdictWithin low) AnyEpoch AnyNumber) (parts.ShutKeeps (ClockWithin high) (LinesWithin high)
+      (PromiseWithin high) (VerdictWithin high) AnyEpoch AnyNumber) shut_le
+
+  outcome_le : (verdict : Outcome) → OutcomeWithin low verdict → OutcomeWithin high verdict
+  outcome_le (Committed stamp) here = (let c : stamp.clock ≤ low = here in omega arith)
+  outcome_le Aborted here = tt
+  outcome_le Active here = tt
+
+  taken_le : (tx : TxId) (taken : Option (Option Outcome))
+      → parts.TakenKeeps (ClockWithin low) (LinesWithin low) (PromiseWithin low)
+      (VerdictWithin low) AnyEpoch AnyNumber tx taken
+      → parts.TakenKeeps (ClockWithin high) (LinesWithin high) (PromiseWithin high)
+      (VerdictWithin high) AnyEpoch AnyNumber tx taken
+  taken_le tx None here = tt
+  taken_le tx (Some None) here = tt
+  taken_le tx (Some (Some verdict)) here = outcome_le verdict here
+
+  questions_le : (qs : List Question) → parts.QuestionsKeep (ClockWithin low) (LinesWithin low) (PromiseWithin low)
+      (VerdictWithin low) AnyEpoch AnyNumber qs
+      → parts.QuestionsKeep (ClockWithin high) (LinesWithin high) (PromiseWithin high)
+      (VerdictWithin high) AnyEpoch AnyNumber qs
+  questions_le =
+      every-weaker (parts.QuestionKeeps (ClockWithin low) (LinesWithin low) (PromiseWithin low)
+      (VerdictWithin low) AnyEpoch AnyNumber) (parts.QuestionKeeps (ClockWithin high) (LinesWithin high)
+      (PromiseWithin high) (VerdictWithin high) AnyEpoch AnyNumber)
+      (λ q here. (taken_le q.tx q.taken here.0, here.1))
+
+  decided_le : (o : Option Decided) → DecidedWithin low o → DecidedWithin high o
+  decided_le None here = tt
+  decided_le (Some d) here = record {
+    epoch_is = tt;
+    clock_is = (let c : d.clock ≤ low = here.clock_is in omega arith);
+    lines_are = lines-le low high le d.lines here.lines_are;
+  }
+
+  doing_le : (d : Doing) → parts.DoingKeeps (ClockWithin low) (LinesWithin low) (PromiseWithin low)
+      (VerdictWithin low) AnyEpoch AnyNumber d
+      → parts.DoingKeeps (ClockWithin high) (LinesWithin high) (PromiseWithin high)
+      (VerdictWithin high) AnyEpoch AnyNumber d
+  doing_le Resting here = tt
+  doing_le (Closing epoch calls round shuts) here = (tt, shuts_le shuts here.1)
+  doing_le (Asking epoch shuts questions) here = (tt, shuts_le shuts here.1, questions_le questions here.2)
+  doing_le (Installing closed awaits calls installed) here = tt
+
+  pub admin_le : (m : Admin) → AdminWithin low m → AdminWithin high m
+  admin_le m w = record { decided = decided_le m.decided w.decided; doing = doing_le m.doing w.doing }
+
+module _ (bound : ℕ) where
+  keeping : Keeping (ClockWithin bound) (LinesWithin bound) (PromiseWithin bound) (VerdictWithin bound)
+  keeping = record {
+    first = omega arith;
+    later = λ x y here there. omega arith;
+    stamped = λ tx stamp here. here;
+    none = tt;
+    both = λ xs ys here there. every-union (λ (l : Line). l.stamp.clock ≤ bound) xs ys here there;
+    promised = λ p stamp has here. stamped_within bound stamp p.tx [] p.own here tt;
+    agree = λ t u verdict same here. here;
+  }
+
+  -- what he takes
+
+  abbrev CameWithin : Option Answer → Type 0
+  CameWithin None = Unit {0}
+  CameWithin (Some answer) = AnswerWithin bound answer
+
+  shut_came : (answer : Option Answer) → CameWithin answer
+      → ShutCame (ClockWithin bound) (LinesWithin bound) (PromiseWithin bound)
+      (VerdictWithin bound) AnyEpoch AnyNumber answer
+  shut_came None here = tt
+  shut_came (Some (answers.Granted life clock log)) here = tt
+  shut_came (Some (answers.Clash holder inv event)) here = tt
+  shut_came (Some (answers.Closed epoch)) here = tt
+  shut_came (Some (answers.Behind epoch)) here = tt
+  shut_came (Some (answers.Restarted life)) here = tt
+  shut_came (Some answers.Stale) here = tt
+  shut_came (Some answers.Fault) here = tt
+  shut_came (Some (answers.Yes clock)) here = tt
+  shut_came (Some (answers.Shut clock log prepared)) here = (here.0, here.1, here.2)
+  shut_came (Some answers.Installed) here = tt
+  shut_came (Some (answers.Answered verdict)) here = tt
+
+  told : (tx : TxId) (answer : Option Answer) → CameWithin answer
+      → parts.ToldKeeps (ClockWithin bound) (LinesWithin bound) (PromiseWithin bound)
+      (VerdictWithin bound) AnyEpoch AnyNumber tx (outcome_in answer)
+  told tx None here = tt
+  told tx (Some (answers.Granted life clock log)) here = tt
+  told tx (Some (answers.Clash holder inv event)) here = tt
+  told tx (Some (answers.Closed epoch)) here = tt
+  told tx (Some (answers.Behind epoch)) here = tt
+  told tx (Some (answers.Restarted life)) here = tt
+  told tx (Some answers.Stale) here = tt
+  told tx (Some answers.Fault) here = tt
+  told tx (Some (answers.Yes clock)) here = tt
+  told tx (Some (answers.Shut clock log prepared)) here = tt
+  told tx (Some answers.Installed) here = tt
+  told tx (Some (answers.Answered verdict)) here = here
+
+  came : (m : Admin) (number : ℕ) (answer : Option Answer) → CameWithin answer
+      → CameKeeps (ClockWithin bound) (LinesWithin bound) (PromiseWithin bound)
+      (VerdictWithin bound) AnyEpoch AnyNumber m number answer
+  came m number answer here = record { shut = shut_came answer here; told = λ q among is. told q.tx answer here }
+
+  given_keeps : (m : Admin) (g : Input) → GivenWithin bound g
+      → GivenKeeps (ClockWithin bound) (LinesWithin bound) (PromiseWithin bound)
+      (VerdictWithin bound) AnyEpoch AnyNumber m g
+  given_keeps m (inputs.Called commands.Begin) here = tt
+  given_keeps m (inputs.Called (commands.Do object inv)) here = tt
+  given_keeps m (inputs.Called commands.Commit) here = tt
+  given_keeps m (inputs.Called commands.Abort) here = tt
+  given_keeps m (inputs.Called (commands.Epoch number)) here = tt
+  given_keeps m (inputs.Got e) here = heard e.message here
+    where
+      heard : (message : Message) → MessageWithin bound message
+          → GivenKeeps (ClockWithin bound) (LinesWithin bound) (PromiseWithin bound)
+          (VerdictWithin bound) AnyEpoch AnyNumber m (inputs.Got (record e { message = message }))
+      heard (messages.Request tx epoch life want) within = tt
+      heard (messages.Answer to answer) within = came m to (Some answer) within
+      heard (messages.Decision tx verdict) within = tt
+      heard (messages.Inquiry tx) within = tt
+      heard (messages.Ask tx) within = tt
+      heard (messages.Close epoch) within = tt
+      heard (messages.Install epoch clock log) within = tt
+  given_keeps m (inputs.Lost number) here = tt
+
+  -- what he sends and writes
+
+  send_within : (message : Message) → SendKeeps (ClockWithin bound) (LinesWithin bound) (PromiseWithin bound)
+      (VerdictWithin bound) AnyEpoch AnyNumber message → MessageWithin bound message
+  send_within (messages.Request tx epoch life want) keeps = absurd keeps
+  send_within (messages.Answer to answer) keeps = absurd keeps
+  send_within (messages.Decision tx verdict) keeps = absurd keeps
+  send_within (messages.Inquiry tx) keeps = absurd keeps
+  send_within (messages.Ask tx) keeps = tt
+  send_within (messages.Close epoch) keeps = tt
+  send_within (messages.Install epoch clock log) keeps = (keeps.clock_is, keeps.lines_are)
+
+  sends_within : (ps : List Posting) → Every
+      (λ (p : Posting). SendKeeps (ClockWithin bound) (LinesWithin bound) (PromiseWithin bound)
+      (VerdictWithin bound) AnyEpoch AnyNumber p.message) ps → SendsWithin bound ps
+  sends_within [] all = tt
+  sends_within (p ∷ ps) all = (send_within p.message all.0, sends_within ps all.1)
+
+  write_within : (write : Option Record) → WriteKeeps (ClockWithin bound) (LinesWithin bound) (PromiseWithin bound)
+      (VerdictWithin bound) AnyEpoch AnyNumber write → AreWithin bound (option_to_list write)
+  write_within None keeps = tt
+  write_within (Some records.Life) keeps = absurd keeps
+  write_within (Some (records.Prepare p)) keeps = absurd keeps
+  write_within (Some (records.Done tx clock)) keeps = absurd keeps
+  write_within (Some (records.Close epoch)) keeps = absurd keeps
+  write_within (Some (records.Install epoch clock lines)) keeps = absurd keeps
+  write_within (Some (records.Commit commit)) keeps = absurd keeps
+  write_within (Some (records.Decide epoch clock lines)) keeps = ((keeps.0.clock_is, keeps.0.lines_are), tt)
+
+pub record AdminMoveWithin (bound : ℕ) (move : AdminMove) : Type 0 where
+  pub admin : AdminWithin bound move.admin
+  pub turn : TurnWithin bound move.turn
+
+pub admin_takes_within : (bound : ℕ) (decl : Declaration) (m : Admin) → AdminWithin bound m → (g : Input)
+    → GivenWithin bound g
+    → AdminMoveWithin bound (admin_takes decl m g)
+admin_takes_within bound decl m w g here = record {
+  admin = on.admin;
+  turn = record {
+    sends = sends_within bound (admin_takes decl m g).turn.sends on.sends;
+    failed_sends = subst (SendsWithin bound) (sym (admin_written decl m g).failed_sends) tt;
+    write = write_within bound (admin_takes decl m g).turn.write on.write;
+  };
+} where
+  on : AdminMoveKeeps (ClockWithin bound) (LinesWithin bound) (PromiseWithin bound)
+      (VerdictWithin bound) AnyEpoch AnyNumber (admin_takes decl m g)
+  on = admin_keeps (ClockWithin bound) (LinesWithin bound) (PromiseWithin bound)
+      (VerdictWithin bound) AnyEpoch AnyNumber (keeping bound) decl m w g (given_keeps bound m g here)
+
+pub admin_sends_within : (bound : ℕ) (m : Admin) (number to : ℕ) (message : Message) → AdminWithin bound m
+    → AdminWithin bound (sent_one m number to message)
+admin_sends_within bound m number to message w =
+    admin_sends_keep (ClockWithin bound) (LinesWithin bound) (PromiseWithin bound)
+    (VerdictWithin bound) AnyEpoch AnyNumber m number to message (λ u is. tt) w

@@ -1,0 +1,116 @@
+-- What an accepted declaration has is in form: objects, invocations, responses and events stay below their limits; so
+-- do commands of it, and answers of views.
+use Rattle.std.proofs.Common.{◌≡◌, ℕ, zero, suc, ◌<◌, ◌≤◌, ◌-◌, ◌==◌, nat_lt, Bool, true, false, cond, length, Option}
+use Rattle.std.proofs.Common.{Some, None, refl}
+use Rattle.std.proofs.Common.{slice_get, subst, arith}
+use Rattle.std.specs.Prelude.{option_and_then, option_map, position}
+use Rattle.std.proofs.lemmas.Bool.{eqb-false, leb-false}
+use Rattle.std.proofs.lemmas.Option.{slice_get_within}
+use Rattle.qc_decl.specs.Accepted.{IsAccepted}
+use Rattle.qc_decl.specs.Lookup.{plan_in, table_at}
+use Rattle.qc_plan.specs.declared.plan.Plan.{Plan}
+use Rattle.qc_record.specs.Legal.{IsWithin}
+use Rattle.qc_decl.specs.declared.declaration.Declaration.{Declaration}
+use Rattle.qc_fit.specs.Said.{HasEvent, HasInvocation, HasResponse}
+use Rattle.qc_front.specs.Answering.{resp_of}
+use Rattle.qc_msg.specs.declared.step.Command.{Command}
+use Rattle.qc_msg.specs.declared.step.Command.TheVariants.{Abort, Begin, Commit, Do, Epoch}
+use Rattle.qc_table.specs.Faults.{fault_of, first_repeat, is_unknown, ranked}
+use Rattle.qc_table.specs.Limits.{most_events}
+use Rattle.qc_table.specs.Rules.{Rules, events_of}
+use Rattle.qc_table.specs.Sound.{IsSound}
+use Rattle.qc_table.specs.declared.kind.Kind.{Kind}
+use Rattle.laws_bounds.proofs.EventsNamed.{EventNamed, answer_named}
+use Rattle.laws_bounds.proofs.Names.{CommandNamed}
+use Rattle.laws_bounds.proofs.Forms.{CommandInForm, EventInForm, InvocationInForm}
+use Rattle.laws_bounds.proofs.FrontsInForm.{AnswersInForm}
+
+positive : (n : ℕ) → (n ≡ 0 → ⊥) → 1 ≤ n
+positive zero none = absurd (none refl)
+positive (suc n) none = omega arith
+
+-- rows without fault have few events
+
+not_many : (unknown repeat : Option ℕ) (many : Bool) → ranked unknown repeat many ≡ None → many ≡ false
+not_many (Some row) repeat many is = absurd (let never : ⊥ = cc in never)
+not_many None (Some row) many is = absurd (let never : ⊥ = cc in never)
+not_many None None true is = absurd (let never : ⊥ = cc in never)
+not_many None None false is = refl
+
+few_events : (rules : Rules) → fault_of rules ≡ None → length (events_of rules.rows) ≤ most_events
+few_events rules none =
+    let few : length (events_of rules.rows) < 65 =
+    leb-false 65 (length (events_of rules.rows))
+    (not_many (position (is_unknown rules.states rules.invs rules.resps) rules.rows) (first_repeat rules.rows)
+    (nat_lt 64 (length (events_of rules.rows))) none) in
+    omega arith
+
+-- an object that has a type is declared, and its type is sound
+record IsTyped (object : ℕ) (rules : Rules) : Type 0 where
+  low : object ≤ 15
+  sound : IsSound rules
+
+module _ (decl : Declaration) (accepted : IsAccepted decl) where
+  typed : (object : ℕ) (rules : Rules) → table_at decl object ≡ Some rules → IsTyped object rules
+  typed object rules is = by (slice_get decl.objects object) refl is
+    where
+      at : (number : ℕ) (k : Option Kind) → slice_get decl.objects object ≡ Some number
+          → slice_get decl.kinds number ≡ k → option_map (λ (k : Kind). k.table) k ≡ Some rules
+          → IsTyped object rules
+      at number None numbered kind found = absurd (let never : ⊥ = cc in never)
+      at number (Some k) numbered kind found =
+          let within : object < length decl.objects = slice_get_within decl.objects object number numbered in
+          let few : length decl.objects ≤ 16 = accepted.objects in
+          let same : k.table ≡ rules = cc in
+          record {
+            low = omega (arith, within, few);
+            sound = subst IsSound same (accepted.right number k kind).sound;
+          }
+
+      by : (o : Option ℕ) → slice_get decl.objects object ≡ o
+          → option_and_then (λ (n : ℕ). option_map (λ (k : Kind). k.table) (slice_get decl.kinds n)) o ≡ Some rules
+          → IsTyped object rules
+      by None numbered found = absurd (let never : ⊥ = cc in never)
+      by (Some number) numbered found = at number (slice_get decl.kinds number) numbered refl found
+
+  invocation_form : (object inv : ℕ) → HasInvocation decl object inv → InvocationInForm object inv
+  invocation_form object inv has =
+      let its : IsTyped object has.table = typed object has.table has.declared in
+      let few : has.table.invs ≤ 32 = its.sound.invs in
+      let low : inv < has.table.invs = has.below in
+      record { object_is = its.low; inv_is = omega (arith, few, low) }
+
+  event_form : (object event resp : ℕ) → HasEvent decl object event → HasResponse decl object (Some resp)
+      → EventInForm object event resp
+  event_form object event resp has tells =
+      let its : IsTyped object has.table = typed object has.table has.declared in
+      let few : length (events_of has.table.rows) ≤ 64 = few_events has.table its.sound.faultless in
+      let low : event < length (events_of has.table.rows) = has.below in
+      let most : tells.table.resps ≤ 32 = (typed object tells.table tells.declared).sound.resps in
+      let below : resp < tells.table.resps = tells.below in
+      record { object_is = its.low; event_is = omega (arith, few, low); resp_is = omega (arith, most, below) }
+
+  pub answers_in_form : AnswersInForm decl
+  answers_in_form t object inv event is =
+      let named : EventNamed decl object event = answer_named decl accepted t object inv event is in
+      event_form object event (resp_of decl object event) named.event_is named.resp_is
+
+  -- an epoch with a plan
+  epoch_form : (number : ℕ) (plan : Plan) → plan_in decl number ≡ Some plan → IsWithin 1 8 number
+  epoch_form number plan is = by (number == 0) refl is
+    where
+      by : (b : Bool) → (number == 0) ≡ b → cond b None (slice_get decl.plans (number - 1)) ≡ Some plan
+          → IsWithin 1 8 number
+      by true none is = absurd (let never : ⊥ = cc in never)
+      by false some is =
+          let place : number - 1 < length decl.plans = slice_get_within decl.plans (number - 1) plan is in
+          let few : length decl.plans ≤ 8 = accepted.epochs in
+          let past : number ≡ 0 → ⊥ = eqb-false number 0 some in
+          (let low : 1 ≤ number = positive number past in low, omega (arith, place, few))
+
+  pub command_form : (c : Command) → CommandNamed decl c → CommandInForm c
+  command_form Begin named = tt
+  command_form (Do object inv) named = invocation_form object inv named
+  command_form Commit named = tt
+  command_form Abort named = tt
+  command_form (Epoch number) named = epoch_form number named.0 named.1

@@ -1,0 +1,89 @@
+-- Where a turn's record isn't written at most one message is sent, to who sent what was taken.
+use Rattle.std.proofs.Common.{ℕ, ◌<◌, ◌≤◌, List, length, sym, subst, arith}
+use Rattle.std.specs.List.{AllByRecursion as Every}
+use Rattle.qc_core.specs.declared.actor.Actor.{Actor}
+use Rattle.qc_core.specs.declared.actor.Actor.TheVariants.{Site, Client, Admin, Down}
+use Rattle.qc_core.specs.Actors.{IsFrom, actor_takes}
+use Rattle.qc_core.proofs.AdminWrites.{admin_written}
+use Rattle.qc_core.proofs.Written.{client_written}
+use Rattle.qc_decl.specs.declared.declaration.Declaration.{Declaration}
+use Rattle.qc_link.specs.Limits.{most_actors}
+use Rattle.qc_msg.specs.declared.message.Message.{Message}
+use Rattle.qc_msg.specs.declared.message.Message.TheVariants as messages
+use Rattle.qc_msg.specs.declared.message.Outcome.{Outcome}
+use Rattle.qc_msg.specs.declared.message.Outcome.TheVariants.{Committed, Aborted, Active}
+use Rattle.qc_msg.specs.declared.message.Want.{Want}
+use Rattle.qc_msg.specs.declared.message.Want.TheVariants.{Read, Append, Prepare}
+use Rattle.qc_msg.specs.declared.step.Input.{Input}
+use Rattle.qc_msg.specs.declared.step.Input.TheVariants as inputs
+use Rattle.qc_msg.specs.declared.turn.Posting.{Posting}
+use Rattle.qc_site.specs.Conduct.{passed, site_at, site_takes}
+use Rattle.qc_site.specs.Promise.{finishes}
+use Rattle.qc_site.specs.Requests.{grants}
+use Rattle.qc_site.specs.Site.{SiteMove, SiteState}
+use Rattle.qc_site.proofs.Cases.{append_cases, close_rows, install_rows, join_cases, prepare_cases, read_cases}
+use Rattle.qc_site.proofs.Cases.{request_cases}
+use Rattle.qc_stamp.specs.declared.stamp.TxId.{TxId}
+use Rattle.laws_bounds.specs.Calls.{IsFailedShort}
+
+module _ (decl : Declaration) (s : SiteState) (from number : ℕ) (low : from < most_actors) where
+  abbrev Short : SiteMove → Type 0
+  Short m = IsFailedShort m.turn
+
+  granted : (tx : TxId) (want : Want) → Short (grants decl s from number tx want)
+  granted tx (Read object inv) =
+      read_cases Short decl s from number tx object inv (λ free. record { few = omega arith; receivers = tt })
+      (λ c clash. record { few = omega arith; receivers = tt })
+  granted tx (Append object view own) =
+      append_cases Short decl s from number tx object view own (λ free. record { few = omega arith; receivers = tt })
+      (λ c clash. record { few = omega arith; receivers = tt })
+  granted tx Prepare =
+      prepare_cases Short s from number tx (record { few = omega arith; receivers = tt })
+      (λ held stands. record { few = omega arith; receivers = tt })
+      (λ held made. record { few = omega arith; receivers = (low, tt) })
+
+  finished : (tx : TxId) (verdict : Outcome) → Short (finishes s tx verdict)
+  finished tx (Committed stamp) =
+      join_cases Short s tx stamp (λ none. record { few = omega arith; receivers = tt })
+      (λ p some. record { few = omega arith; receivers = tt })
+  finished tx Aborted = record { few = omega arith; receivers = tt }
+  finished tx Active = record { few = omega arith; receivers = tt }
+
+  at : (message : Message) → Short (site_at decl s from number message)
+  at (messages.Request tx epoch life want) =
+      request_cases Short decl s from number tx epoch life want (record { few = omega arith; receivers = tt })
+      (λ fault is. record { few = omega arith; receivers = tt }) (λ is. granted tx want)
+  at (messages.Answer to answer) = record { few = omega arith; receivers = tt }
+  at (messages.Decision tx verdict) = finished tx verdict
+  at (messages.Inquiry tx) = record { few = omega arith; receivers = tt }
+  at (messages.Ask tx) = record { few = omega arith; receivers = tt }
+  at (messages.Close k) =
+      close_rows Short s from number k (record { few = omega arith; receivers = tt })
+      (record { few = omega arith; receivers = tt }) (record { few = omega arith; receivers = tt })
+      (record { few = omega arith; receivers = (low, tt) })
+  at (messages.Install k clock lines) =
+      install_rows Short s from number k clock lines (record { few = omega arith; receivers = tt })
+      (record { few = omega arith; receivers = tt }) (record { few = omega arith; receivers = (low, tt) })
+
+site_short : (decl : Declaration) (s : SiteState) (g : Input) → IsFrom g → IsFailedShort (site_takes decl s g).turn
+site_short decl s (inputs.Called command) from = record { few = omega arith; receivers = tt }
+site_short decl s (inputs.Got e) from = at decl (passed s e.message) e.from e.number from e.message
+site_short decl s (inputs.Lost number) from = record { few = omega arith; receivers = tt }
+
+pub failed_short : (decl : Declaration) (v : Actor) (g : Input) → IsFrom g → IsFailedShort (actor_takes decl v g).turn
+failed_short decl (Site s) g from = site_short decl s g from
+failed_short decl (Client c) g from = record {
+  few = subst (λ (ps : List Posting). length ps ≤ 1) (sym (client_written decl c g).failed_sends) (omega arith);
+  receivers =
+      subst (λ (ps : List Posting). Every (λ (p : Posting). p.to < most_actors) ps)
+      (sym (client_written decl c g).failed_sends) tt;
+}
+failed_short decl (Admin m) g from = record {
+  few = subst (λ (ps : List Posting). length ps ≤ 1) (sym (admin_written decl m g).failed_sends) (omega arith);
+  receivers =
+      subst (λ (ps : List Posting). Every (λ (p : Posting). p.to < most_actors) ps)
+      (sym (admin_written decl m g).failed_sends) tt;
+}
+failed_short decl Down (inputs.Called command) from = record { few = omega arith; receivers = tt }
+failed_short decl Down (inputs.Got e) from = record { few = omega arith; receivers = tt }
+failed_short decl Down (inputs.Lost number) from = record { few = omega arith; receivers = tt }

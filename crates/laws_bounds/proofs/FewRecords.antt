@@ -1,0 +1,126 @@
+-- Where records are kept, an actor's journal, and what it rises with, has at most as many records as there are steps.
+use Rattle.std.proofs.Common.{◌≡◌, ℕ, ◌+◌, ◌≤◌, ◌==◌, eqb-true, Bool, true, false, cond, List, [], ◌∷◌, ◌++◌, fold}
+use Rattle.std.proofs.Common.{length, map, Option, Some, None, inl, inr, refl, sym, ap, ◌∙◌, subst, arith, append_assoc}
+use Rattle.std.proofs.Common.{length-append}
+use Rattle.std.specs.Prelude.{option_to_list}
+use Rattle.std.proofs.lemmas.List.{append-nil}
+use Rattle.std.proofs.lemmas.List.Sums.{fold-append}
+use Rattle.qc_msg.specs.declared.record.Record.{Record}
+use Rattle.qc_msg.specs.declared.step.Step.{Step}
+use Rattle.qc_msg.specs.declared.step.Step.TheVariants as steps
+use Rattle.qc_msg.specs.Deeds.{own}
+use Rattle.qc_msg.specs.Steps.{Entry}
+use Rattle.qc_msg.proofs.Growth.{own-append}
+use Rattle.qc_promise.specs.Kept.{IsGivenBack, IsKeptAt, Journal, Kept, journal_of, journal_with, no_journal}
+use Rattle.qc_promise.specs.Kept.{pending_with}
+use Rattle.laws_bounds.specs.Bounds.{RiseWithFew}
+use Rattle.laws_bounds.specs.Records.{risen_at}
+
+abbrev pub HasFew : ℕ → Journal → Type 0
+HasFew n j = length j.records + length (option_to_list j.pending) ≤ n
+
+back_few : (n : ℕ) (j : Journal) (rs : List Record) → HasFew n j → IsGivenBack j rs → length rs ≤ n
+back_few n j rs few (inl same) = (let is : length rs ≡ length j.records = ap length same in omega arith)
+back_few n j rs few (inr more) =
+    (let is : length rs ≡ length (j.records ++ option_to_list j.pending) = ap length more in
+    let both : length (j.records ++ option_to_list j.pending) ≡ length j.records + length (option_to_list j.pending) =
+    length-append j.records (option_to_list j.pending) in
+    omega arith)
+
+step_few : (n : ℕ) (before : List Step) (step : Step) → HasFew n (journal_of before) → IsKeptAt before step
+    → HasFew (n + 1) (journal_with (journal_of before) step)
+step_few n before (steps.Phase k) few kept = omega arith
+step_few n before (steps.Cut x y) few kept = omega arith
+step_few n before (steps.Heal x y) few kept = omega arith
+step_few n before (steps.Armed actor kind at) few kept = omega arith
+step_few n before (steps.Called command) few kept = omega arith
+step_few n before (steps.Got k) few kept = omega arith
+step_few n before (steps.Lost k) few kept = omega arith
+step_few n before (steps.Wrote written) few kept =
+    (let longer : length ((journal_of before).records ++ written ∷ []) ≡ length
+    (journal_of before).records + 1 = length-append (journal_of before).records (written ∷ []) in omega arith)
+step_few n before (steps.Sent k to message) few kept = omega arith
+step_few n before (steps.Told reply) few kept = omega arith
+step_few n before (steps.Fell cause pending) few kept = by pending
+  where
+    by : (o : Option Record)
+        → length (journal_of before).records + length
+        (option_to_list (pending_with (journal_of before).pending o)) ≤ n + 1
+    by None = omega arith
+    by (Some written) = omega arith
+step_few n before (steps.Rose rs) few kept =
+    (let less : length rs ≤ n = back_few n (journal_of before) rs few kept in omega arith)
+step_few n before (steps.Damaged offset) few kept = absurd kept
+
+-- an entry more, of whichever actor
+
+entry_few : (n c : ℕ) (past : List Entry) (e : Entry) → ((a : ℕ) → HasFew n (journal_of (own a past)))
+    → IsKeptAt (own e.actor past) e.step
+    → HasFew (n + 1) (journal_of (own c (past ++ e ∷ [])))
+entry_few n c past e few kept =
+    subst (HasFew (n + 1))
+    (sym
+    (ap journal_of (own-append c past (e ∷ [])) ∙ fold-append journal_with no_journal (own c past) (own c (e ∷ []))))
+    (by (e.actor == c) refl)
+  where
+    by : (t : Bool) → (e.actor == c) ≡ t
+        → HasFew (n + 1)
+        (fold journal_with (journal_of (own c past)) (map (λ (k : Entry). k.step) (cond t (e ∷ []) [])))
+    by true same =
+        subst (λ (k : ℕ). HasFew (n + 1) (journal_with (journal_of (own k past)) e.step)) (eqb-true e.actor c same)
+        (step_few n (own e.actor past) e.step (few e.actor) kept)
+    by false other = (let less : HasFew n (journal_of (own c past)) = few c in omega arith)
+
+risen_few : (n : ℕ) (past : List Entry) (a : ℕ) (step : Step) → HasFew n (journal_of (own a past))
+    → IsKeptAt (own a past) step → length (risen_at step) ≤ n
+risen_few n past a (steps.Phase k) few kept = omega arith
+risen_few n past a (steps.Cut x y) few kept = omega arith
+risen_few n past a (steps.Heal x y) few kept = omega arith
+risen_few n past a (steps.Armed actor kind at) few kept = omega arith
+risen_few n past a (steps.Called command) few kept = omega arith
+risen_few n past a (steps.Got k) few kept = omega arith
+risen_few n past a (steps.Lost k) few kept = omega arith
+risen_few n past a (steps.Wrote written) few kept = omega arith
+risen_few n past a (steps.Sent k to message) few kept = omega arith
+risen_few n past a (steps.Told reply) few kept = omega arith
+risen_few n past a (steps.Fell cause pending) few kept = omega arith
+risen_few n past a (steps.Rose rs) few kept = back_few n (journal_of (own a past)) rs few kept
+risen_few n past a (steps.Damaged offset) few kept = absurd kept
+
+record IsFew (n : ℕ) (h rest : List Entry) : Type 0 where
+  journals : (a : ℕ) → HasFew n (journal_of (own a h))
+  rises : RiseWithFew n rest
+
+module _ (h : List Entry) (kept : Kept h) where
+  goes_on : (past rest : List Entry) → past ++ rest ≡ h → ((a : ℕ) → HasFew (length past) (journal_of (own a past)))
+      → IsFew (length h) h rest
+  goes_on past [] is few = record {
+    journals =
+        λ a. subst (λ (k : List Entry). HasFew (length k) (journal_of (own a k))) (sym (append-nil past) ∙ is) (few a);
+    rises = tt;
+  }
+  goes_on past (e ∷ rest) is few =
+      let here : IsKeptAt (own e.actor past) e.step = kept past rest e is in
+      let longer : length (past ++ e ∷ []) ≡ length past + 1 = length-append past (e ∷ []) in
+      let whole : length h ≡ length past + length (e ∷ rest) = sym (ap length is) ∙ length-append past (e ∷ rest) in
+      let later : IsFew (length h) h rest =
+      goes_on (past ++ e ∷ []) rest (append_assoc past (e ∷ []) rest ∙ is)
+      (λ a. subst (λ (n : ℕ). HasFew n (journal_of (own a (past ++ e ∷ [])))) (sym longer)
+      (entry_few (length past) a past e few here)) in
+      record {
+        journals = later.journals;
+        rises = (
+          (let less : length (risen_at e.step) ≤ length past = risen_few (length past) past e.actor e.step
+              (few e.actor) here in omega arith),
+          later.rises,
+        );
+      }
+
+  all_few : IsFew (length h) h h
+  all_few = goes_on [] h refl (λ a. omega arith)
+
+pub kept_journals_few : (h : List Entry) → Kept h → (a : ℕ) → HasFew (length h) (journal_of (own a h))
+kept_journals_few h kept = (all_few h kept).journals
+
+pub kept_rise_few : (h : List Entry) → Kept h → RiseWithFew (length h) h
+kept_rise_few h kept = (all_few h kept).rises

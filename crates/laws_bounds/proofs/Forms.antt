@@ -1,0 +1,174 @@
+-- What is in form, up to how great clocks are: numbers in the ranges of their fields, clocks of stamps at least 1,
+-- lines in order; in messages, in what is taken, and in records. `laws_bounds` has how great clocks are.
+use Rattle.std.proofs.Common.{◌≡◌, ℕ, ◌-◌, ◌^◌, ◌≤◌, List, length, Option, Some, None}
+use Rattle.std.specs.List.{AllByRecursion as Every}
+use Rattle.qc_decl.specs.Limits.{most_record_bytes}
+use Rattle.qc_entry.specs.Line.{IsAscending}
+use Rattle.qc_entry.specs.declared.line.Line.{Line}
+use Rattle.qc_entry.specs.declared.record.Commit.{Commit}
+use Rattle.qc_entry.specs.declared.record.Prepared.{Prepared}
+use Rattle.qc_list.specs.Order.{Ascends}
+use Rattle.qc_lock.specs.Held.{lock_cmp, own_cmp}
+use Rattle.qc_msg.specs.Lengths.{epoch_length, prepare_length}
+use Rattle.qc_msg.specs.declared.message.Answer.{Answer}
+use Rattle.qc_msg.specs.declared.message.Answer.TheVariants as answers
+use Rattle.qc_msg.specs.declared.message.Envelope.{Envelope}
+use Rattle.qc_msg.specs.declared.message.Message.{Message}
+use Rattle.qc_msg.specs.declared.message.Message.TheVariants as messages
+use Rattle.qc_msg.specs.declared.message.Outcome.{Outcome}
+use Rattle.qc_msg.specs.declared.message.Outcome.TheVariants.{Aborted, Active, Committed}
+use Rattle.qc_msg.specs.declared.message.Want.{Want}
+use Rattle.qc_msg.specs.declared.message.Want.TheVariants.{Append, Prepare, Read}
+use Rattle.qc_msg.specs.declared.record.Record.{Record}
+use Rattle.qc_msg.specs.declared.record.Record.TheVariants as records
+use Rattle.qc_msg.specs.declared.step.Command.{Command}
+use Rattle.qc_msg.specs.declared.step.Command.TheVariants as commands
+use Rattle.qc_msg.specs.declared.step.Input.{Input}
+use Rattle.qc_msg.specs.declared.step.Input.TheVariants as inputs
+use Rattle.qc_msg.specs.declared.turn.Posting.{Posting}
+use Rattle.qc_record.specs.Legal.{IsLock, IsOp, IsOwn, IsTx, IsWithin}
+use Rattle.qc_stamp.specs.declared.stamp.Stamp.{Stamp}
+use Rattle.qc_stamp.specs.declared.stamp.TxId.{TxId}
+
+-- parts
+
+-- a transaction's life and number, whatever its client
+pub record OrdinalsInForm (tx : TxId) : Type 0 where
+  pub life : IsWithin 1 (2 ^ 32 - 1) tx.life
+  pub number : IsWithin 1 (2 ^ 32 - 1) tx.number
+
+-- a stamp of a transaction
+pub record StampInForm (stamp : Stamp) (tx : TxId) : Type 0 where
+  pub client : stamp.client ≡ tx.client
+  pub clock : 1 ≤ stamp.clock
+
+pub record LineInForm (l : Line) : Type 0 where
+  pub stamp : StampInForm l.stamp l.tx
+  pub tx : IsTx l.tx
+  pub op : IsWithin 1 16 l.op
+  pub object : l.object ≤ 15
+  pub event : l.event ≤ 63
+
+pub record LinesInForm (lines : List Line) : Type 0 where
+  pub each_is : Every LineInForm lines
+  pub ascend : IsAscending lines
+
+-- an invocation of an object, and an event that answers it
+
+pub record InvocationInForm (object inv : ℕ) : Type 0 where
+  pub object_is : object ≤ 15
+  pub inv_is : inv ≤ 31
+
+pub record EventInForm (object event resp : ℕ) : Type 0 where
+  pub object_is : object ≤ 15
+  pub event_is : event ≤ 63
+  pub resp_is : resp ≤ 31
+
+-- a promise, as far as its site goes by it
+pub record PromiseInForm (p : Prepared) : Type 0 where
+  pub tx : IsTx p.tx
+  pub locks : Every IsLock p.locks
+  pub own : Every IsOwn p.own
+
+-- how an epoch begins
+pub record StartInForm (epoch : ℕ) (lines : List Line) : Type 0 where
+  pub epoch_is : IsWithin 1 8 epoch
+  pub lines_are : LinesInForm lines
+
+-- what is said
+
+abbrev pub VerdictInForm : TxId → Outcome → Type 0
+VerdictInForm tx (Committed stamp) = StampInForm stamp tx
+VerdictInForm tx Aborted = Unit {0}
+VerdictInForm tx Active = Unit {0}
+
+abbrev pub WantInForm : Want → Type 0
+WantInForm (Read object inv) = InvocationInForm object inv
+WantInForm (Append object view own) = LinesInForm view × Every IsOwn own
+WantInForm Prepare = Unit {0}
+
+abbrev pub AnswerInForm : Answer → Type 0
+AnswerInForm (answers.Granted life clock log) = LinesInForm log
+AnswerInForm (answers.Clash holder inv event) = Unit {0}
+AnswerInForm (answers.Closed epoch) = Unit {0}
+AnswerInForm (answers.Behind epoch) = Unit {0}
+AnswerInForm (answers.Restarted life) = Unit {0}
+AnswerInForm answers.Stale = Unit {0}
+AnswerInForm answers.Fault = Unit {0}
+AnswerInForm (answers.Yes clock) = Unit {0}
+AnswerInForm (answers.Shut clock log prepared) = LinesInForm log × Every PromiseInForm prepared
+AnswerInForm answers.Installed = Unit {0}
+AnswerInForm (answers.Answered verdict) = Unit {0}
+
+abbrev pub CameInForm : Option Answer → Type 0
+CameInForm None = Unit {0}
+CameInForm (Some answer) = AnswerInForm answer
+
+abbrev pub MessageInForm : Message → Type 0
+MessageInForm (messages.Request tx epoch life want) = OrdinalsInForm tx × WantInForm want
+MessageInForm (messages.Answer to answer) = AnswerInForm answer
+MessageInForm (messages.Decision tx verdict) = VerdictInForm tx verdict
+MessageInForm (messages.Inquiry tx) = Unit {0}
+MessageInForm (messages.Ask tx) = Unit {0}
+MessageInForm (messages.Close epoch) = IsWithin 1 8 epoch
+MessageInForm (messages.Install epoch clock lines) = StartInForm epoch lines
+
+abbrev pub MailInForm : List Envelope → Type 0
+MailInForm mail = Every (λ (e : Envelope). MessageInForm e.message) mail
+
+abbrev pub SendsInForm : List Posting → Type 0
+SendsInForm sends = Every (λ (p : Posting). MessageInForm p.message) sends
+
+-- what is taken: a command asks for what is in form
+
+abbrev pub CommandInForm : Command → Type 0
+CommandInForm commands.Begin = Unit {0}
+CommandInForm (commands.Do object inv) = InvocationInForm object inv
+CommandInForm commands.Commit = Unit {0}
+CommandInForm commands.Abort = Unit {0}
+CommandInForm (commands.Epoch number) = IsWithin 1 8 number
+
+abbrev pub TakenInForm : Input → Type 0
+TakenInForm (inputs.Called command) = CommandInForm command
+TakenInForm (inputs.Got e) = MessageInForm e.message
+TakenInForm (inputs.Lost number) = Unit {0}
+
+-- records
+
+pub record PreparedInForm (p : Prepared) : Type 0 where
+  pub tx : IsTx p.tx
+  pub epoch : IsWithin 1 8 p.epoch
+  pub locks : Every IsLock p.locks
+  pub own : Every IsOwn p.own
+  pub lines : LinesInForm p.lines
+  pub locks_ascend : Ascends lock_cmp p.locks
+  pub own_ascend : Ascends own_cmp p.own
+
+pub record CommitInForm (c : Commit) : Type 0 where
+  pub stamp : StampInForm c.stamp c.tx
+  pub tx : IsTx c.tx
+  pub ops : Every IsOp c.ops
+  pub few : length c.ops ≤ 16
+
+abbrev pub RecordInForm : Record → Type 0
+RecordInForm records.Life = Unit {0}
+RecordInForm (records.Prepare p) = PreparedInForm p
+RecordInForm (records.Done tx clock) = IsTx tx × (1 ≤ clock)
+RecordInForm (records.Close epoch) = IsWithin 1 8 epoch
+RecordInForm (records.Install epoch clock lines) = StartInForm epoch lines
+RecordInForm (records.Commit c) = CommitInForm c
+RecordInForm (records.Decide epoch clock lines) = StartInForm epoch lines
+
+-- records that are written are no longer than a journal's record may be
+
+abbrev pub IsBrief : Record → Type 0
+IsBrief records.Life = Unit {0}
+IsBrief (records.Prepare p) = prepare_length p ≤ most_record_bytes
+IsBrief (records.Done tx clock) = Unit {0}
+IsBrief (records.Close epoch) = Unit {0}
+IsBrief (records.Install epoch clock lines) = epoch_length lines ≤ most_record_bytes
+IsBrief (records.Commit c) = Unit {0}
+IsBrief (records.Decide epoch clock lines) = epoch_length lines ≤ most_record_bytes
+
+abbrev pub WriteInForm : Record → Type 0
+WriteInForm r = RecordInForm r × IsBrief r

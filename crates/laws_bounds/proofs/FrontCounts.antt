@@ -1,0 +1,144 @@
+-- A front end counts one transaction more as it begins one, and else none.
+use Rattle.std.proofs.Common.{◌≡◌, ℕ, ◌+◌, ◌≤◌, nat_le, Bool, true, false, cond, List, [], length, Option, Some, None}
+use Rattle.std.proofs.Common.{refl, ◌∙◌, arith}
+use Rattle.qc_decl.specs.declared.declaration.Declaration.{Declaration}
+use Rattle.qc_decl.specs.Limits.{most_transaction_operations}
+use Rattle.qc_decl.specs.Lookup.{append_need_of, read_need_of}
+use Rattle.qc_front.specs.declared.doing.Doing.{Doing}
+use Rattle.qc_front.specs.declared.doing.Doing.TheVariants.{Idle, Reading, Appending}
+use Rattle.qc_front.specs.declared.front.Front.{Front}
+use Rattle.qc_front.specs.declared.transaction.Transaction.{Transaction}
+use Rattle.qc_front.specs.Answering.{answer_of}
+use Rattle.qc_front.specs.Appending.{round_for}
+use Rattle.qc_front.specs.Conduct.{appending_takes, called, commits, reading_takes, takes, takes_in}
+use Rattle.qc_front.specs.Counting.{appended_with, learns, read_with, standing_of}
+use Rattle.qc_front.specs.Front.{FrontMove, aborts, begins, gives_up, moved}
+use Rattle.qc_front.specs.Rounds.{answered, append_by, performs, read_by, reads}
+use Rattle.qc_msg.specs.declared.call.Call.{Call}
+use Rattle.qc_msg.specs.declared.message.Answer.{Answer}
+use Rattle.qc_msg.specs.declared.message.Answer.TheVariants as answers
+use Rattle.qc_msg.specs.declared.reply.Reply.TheVariants as replies
+use Rattle.qc_msg.specs.declared.reply.AbortCause.TheVariants as causes
+use Rattle.qc_msg.specs.declared.step.Command.{Command}
+use Rattle.qc_msg.specs.declared.step.Command.TheVariants as commands
+use Rattle.qc_msg.specs.Calls.{site_called, without_call}
+use Rattle.qc_msg.specs.Turns.{quiet, telling}
+use Rattle.qc_plan.specs.Round.{RoundState, note, verdict}
+use Rattle.qc_plan.specs.declared.standing.Verdict.{Verdict}
+use Rattle.qc_plan.specs.declared.standing.Verdict.TheVariants as verdicts
+
+learns_count : (front : Front) (answer : Option Answer) → (learns front answer).count ≡ front.count
+learns_count front None = refl
+learns_count front (Some (answers.Granted life clock log)) = refl
+learns_count front (Some (answers.Clash holder inv event)) = refl
+learns_count front (Some (answers.Closed epoch)) = refl
+learns_count front (Some (answers.Behind epoch)) = refl
+learns_count front (Some (answers.Restarted life)) = refl
+learns_count front (Some answers.Stale) = refl
+learns_count front (Some answers.Fault) = refl
+learns_count front (Some (answers.Yes clock)) = refl
+learns_count front (Some (answers.Shut clock log prepared)) = refl
+learns_count front (Some answers.Installed) = refl
+learns_count front (Some (answers.Answered verdict)) = refl
+
+module _ (decl : Declaration) (front : Front) where
+  abbrev Counts : FrontMove → Type 0
+  Counts m = m.front.count ≡ front.count
+
+  append_count : (t : Transaction) (object inv event : ℕ) (calls : List Call) (r : RoundState) (v : Verdict)
+      → Counts (append_by decl front t object inv event calls r v)
+  append_count t object inv event calls r verdicts.Waiting = refl
+  append_count t object inv event calls r verdicts.Met = refl
+  append_count t object inv event calls r (verdicts.Closed epoch site) = refl
+  append_count t object inv event calls r (verdicts.Clash tx site) = refl
+  append_count t object inv event calls r (verdicts.Short got need) = refl
+
+  answered_count : (t : Transaction) (object inv : ℕ) (event : Option ℕ)
+      → Counts (answered decl front t object inv event)
+  answered_count t object inv None = refl
+  answered_count t object inv (Some event) =
+      append_count t object inv event [] (round_for decl front t (append_need_of decl t.begun.epoch object event))
+      (verdict (round_for decl front t (append_need_of decl t.begun.epoch object event)))
+
+  read_count : (t : Transaction) (object inv : ℕ) (calls : List Call) (r : RoundState) (v : Verdict)
+      → Counts (read_by decl front t object inv calls r v)
+  read_count t object inv calls r verdicts.Waiting = refl
+  read_count t object inv calls r verdicts.Met = answered_count t object inv (answer_of decl t object inv)
+  read_count t object inv calls r (verdicts.Closed epoch site) = refl
+  read_count t object inv calls r (verdicts.Clash tx site) = refl
+  read_count t object inv calls r (verdicts.Short got need) = refl
+
+  performs_count : (t : Option Transaction) (object inv : ℕ) → Counts (performs decl front t object inv)
+  performs_count None object inv = refl
+  performs_count (Some t) object inv = by t.begun.doomed (nat_le most_transaction_operations (length t.begun.ops))
+    where
+      round : RoundState
+      round = round_for decl front t (read_need_of decl t.begun.epoch object inv)
+
+      by : (doomed long : Bool)
+          → Counts
+          (cond doomed (moved front (telling replies.Doomed))
+          (cond long (moved front (telling replies.TooLong)) (reads decl front t object inv [] round)))
+      by true long = refl
+      by false true = refl
+      by false false = read_count t object inv [] round (verdict round)
+
+  commits_count : (t : Option Transaction) → Counts (commits front t)
+  commits_count None = refl
+  commits_count (Some t) = by t.begun.doomed
+    where
+      by : (doomed : Bool) → Counts (cond doomed (gives_up front t (replies.Aborted causes.Doomed)) (moved front quiet))
+      by true = refl
+      by false = refl
+
+  aborts_count : (t : Option Transaction) → Counts (aborts front t)
+  aborts_count None = refl
+  aborts_count (Some t) = refl
+
+  begins_count : (t : Option Transaction) → (begins decl front t).front.count ≤ front.count + 1
+  begins_count None = omega arith
+  begins_count (Some t) = omega arith
+
+  pub called_count : (command : Command) → (called decl front command).front.count ≤ front.count + 1
+  called_count commands.Begin = begins_count front.transaction
+  called_count (commands.Do object inv) =
+      (let same : (performs decl front front.transaction object inv).front.count
+      ≡ front.count = performs_count front.transaction object inv in omega arith)
+  called_count commands.Commit =
+      (let same : (commits front front.transaction).front.count
+      ≡ front.count = commits_count front.transaction in omega arith)
+  called_count commands.Abort =
+      (let same : (aborts front front.transaction).front.count
+      ≡ front.count = aborts_count front.transaction in omega arith)
+  called_count (commands.Epoch number) = omega arith
+
+-- what is taken for a request
+
+module _ (decl : Declaration) (front : Front) (number : ℕ) (answer : Option Answer) where
+  reading_count : (t : Transaction) (object inv : ℕ) (calls : List Call) (round : RoundState) (o : Option ℕ)
+      → (reading_takes decl front t object inv calls round number answer o).front.count ≡ front.count
+  reading_count t object inv calls round None = refl
+  reading_count t object inv calls round (Some site) =
+      read_count decl (learns front answer) (read_with t site object answer) object inv (without_call calls number)
+      (note round site (standing_of answer)) (verdict (note round site (standing_of answer)))
+      ∙ learns_count front answer
+
+  appending_count : (t : Transaction) (object inv event : ℕ) (calls : List Call) (round : RoundState) (o : Option ℕ)
+      → (appending_takes decl front t object inv event calls round number answer o).front.count ≡ front.count
+  appending_count t object inv event calls round None = refl
+  appending_count t object inv event calls round (Some site) =
+      append_count decl (learns front answer) (appended_with t site answer) object inv event (without_call calls number)
+      (note round site (standing_of answer)) (verdict (note round site (standing_of answer)))
+      ∙ learns_count front answer
+
+  takes_in_count : (doing : Doing) (t : Option Transaction)
+      → (takes_in decl front doing t number answer).front.count ≡ front.count
+  takes_in_count doing None = refl
+  takes_in_count Idle (Some t) = refl
+  takes_in_count (Reading object inv calls round) (Some t) =
+      reading_count t object inv calls round (site_called calls number)
+  takes_in_count (Appending object inv event calls round) (Some t) =
+      appending_count t object inv event calls round (site_called calls number)
+
+  pub takes_count : (takes decl front number answer).front.count ≡ front.count
+  takes_count = takes_in_count front.doing front.transaction

@@ -1,0 +1,138 @@
+-- For each command and answer a front end in form stays so, and sends such messages.
+use Rattle.std.proofs.Common.{◌≡◌, ℕ, ◌-◌, ◌^◌, ◌<◌}
+use Rattle.std.proofs.Common.{Option, Some, None, sym, subst}
+use Rattle.qc_list.proofs.Members.{every-from_In}
+use Rattle.qc_decl.specs.declared.declaration.Declaration.{Declaration}
+use Rattle.qc_front.specs.declared.doing.Doing.{Doing}
+use Rattle.qc_front.specs.declared.doing.Doing.TheVariants.{Idle, Reading, Appending}
+use Rattle.qc_front.specs.declared.front.Front.{Front}
+use Rattle.qc_front.specs.declared.transaction.Transaction.{Transaction}
+use Rattle.qc_front.specs.Answering.{resp_of}
+use Rattle.qc_front.specs.Conduct.{appending_takes, called, reading_takes, takes, takes_in}
+use Rattle.qc_front.specs.Counting.{appended_with, learns, read_with, standing_of}
+use Rattle.qc_front.specs.Front.{FrontMove}
+use Rattle.qc_front.specs.Requests.{AreSent, IsFor, IsSent}
+use Rattle.qc_front.proofs.Sending.{called_sent, takes_sent}
+use Rattle.qc_msg.specs.declared.message.Answer.{Answer}
+use Rattle.qc_msg.specs.declared.message.Answer.TheVariants as answers
+use Rattle.qc_msg.specs.declared.message.Message.{Message}
+use Rattle.qc_msg.specs.declared.message.Message.TheVariants as messages
+use Rattle.qc_msg.specs.declared.message.Outcome.{Outcome}
+use Rattle.qc_msg.specs.declared.message.Want.{Want}
+use Rattle.qc_msg.specs.declared.step.Command.{Command}
+use Rattle.qc_msg.specs.declared.turn.Posting.{Posting}
+use Rattle.qc_msg.specs.Calls.{site_called, without_call}
+use Rattle.qc_plan.specs.Round.{note, verdict}
+use Rattle.laws_bounds.proofs.Forms.{CameInForm, CommandInForm, MessageInForm, OrdinalsInForm}
+use Rattle.laws_bounds.proofs.Forms.{SendsInForm, VerdictInForm, WantInForm}
+use Rattle.laws_bounds.proofs.TransactionsInForm.{TransactionInForm, appended_form}
+use Rattle.laws_bounds.proofs.TransactionsInForm.{log_form, owns_form, read_form}
+use Rattle.laws_bounds.proofs.FrontsInForm.{AnswersInForm, DoingInForm, FrontInForm, OptionInForm, append_goes}
+use Rattle.laws_bounds.proofs.FrontsInForm.{called_goes}
+use Rattle.laws_bounds.proofs.FrontsInForm.{read_goes, room}
+
+module _ (decl : Declaration) (client : ℕ) where
+  -- what is taken for a request
+
+  learned_form : (front : Front) (answer : Option Answer) → FrontInForm decl client front
+      → FrontInForm decl client (learns front answer)
+  learned_form front None w = w
+  learned_form front (Some (answers.Granted life clock log)) w =
+      record { client_is = w.client_is; life = w.life; begun = w.begun; doing = w.doing }
+  learned_form front (Some (answers.Clash holder inv event)) w = w
+  learned_form front (Some (answers.Closed epoch)) w =
+      record { client_is = w.client_is; life = w.life; begun = w.begun; doing = w.doing }
+  learned_form front (Some (answers.Behind epoch)) w = w
+  learned_form front (Some (answers.Restarted life)) w = w
+  learned_form front (Some answers.Stale) w = w
+  learned_form front (Some answers.Fault) w = w
+  learned_form front (Some (answers.Yes clock)) w = w
+  learned_form front (Some (answers.Shut clock log prepared)) w = w
+  learned_form front (Some answers.Installed) w = w
+  learned_form front (Some (answers.Answered verdict)) w = w
+
+  takes_goes : (form : AnswersInForm decl) (front : Front) (doing : Doing) (t : Option Transaction) (number : ℕ)
+      (answer : Option Answer)
+      → FrontInForm decl client front → OptionInForm client doing t → DoingInForm decl client doing → CameInForm answer
+      → FrontInForm decl client (takes_in decl front doing t number answer).front
+  takes_goes form front doing None number answer w its does here = w
+  takes_goes form front Idle (Some t) number answer w its does here = w
+  takes_goes form front (Reading object inv calls round) (Some t) number answer w its does here =
+      by (site_called calls number)
+    where
+      by : (o : Option ℕ)
+          → FrontInForm decl client (reading_takes decl front t object inv calls round number answer o).front
+      by None = w
+      by (Some site) =
+          read_goes decl client form (learns front answer) (learned_form front answer w)
+          (read_with t site object answer) object inv (without_call calls number) (note round site (standing_of answer))
+          (verdict (note round site (standing_of answer)))
+          (read_form client 15 t site object answer its here) does
+  takes_goes form front (Appending object inv event calls round) (Some t) number answer w its does here =
+      by (site_called calls number)
+    where
+      by : (o : Option ℕ)
+          → FrontInForm decl client
+          (appending_takes decl front t object inv event calls round number answer o).front
+      by None = w
+      by (Some site) =
+          append_goes decl client form (learns front answer) (learned_form front answer w)
+          (appended_with t site answer) object inv event (without_call calls number)
+          (note round site (standing_of answer)) (verdict (note round site (standing_of answer)))
+          (appended_form client 15 t site answer its) does.0 does.1
+
+  -- what is sent
+
+  for_form : (t : Transaction) (doing : Doing) (want : Want) → TransactionInForm client (room doing) t
+      → DoingInForm decl client doing → IsFor decl t doing want → WantInForm want
+  for_form t Idle want w does never = absurd never
+  for_form t (Reading object inv calls round) want w does is = subst WantInForm (sym is) does
+  for_form t (Appending object inv event calls round) want w does is =
+      subst WantInForm (sym is)
+      (log_form client 15 t object w, owns_form client decl t object event (resp_of decl object event) w does.1)
+
+  sent_form : (before : Front) (move : FrontMove) → FrontInForm decl client move.front → AreSent decl before move
+      → SendsInForm move.turn.sends
+  sent_form before move w sent =
+      every-from_In (λ (p : Posting). MessageInForm p.message) move.turn.sends
+      (λ p among. one p.to p.message (sent p among))
+    where
+      of : (t : Transaction) → move.front.transaction ≡ Some t → TransactionInForm client (room move.front.doing) t
+      of t begun = subst (OptionInForm client move.front.doing) begun w.begun
+
+      one : (to : ℕ) (message : Message) → IsSent decl before move.front to message → MessageInForm message
+      one to (messages.Request tx epoch life want) is = (
+        subst OrdinalsInForm (sym is.tx_is) (of is.t is.begun).begun.ordinals,
+        for_form is.t move.front.doing want (of is.t is.begun) w.doing is.wants,
+      )
+      one to (messages.Answer number answer) never = absurd never
+      one to (messages.Decision tx verdict) is =
+          subst (λ (v : Outcome). VerdictInForm tx v) (sym is.aborted) tt
+      one to (messages.Inquiry tx) is = absurd is
+      one to (messages.Ask tx) is = absurd is
+      one to (messages.Close epoch) is = absurd is
+      one to (messages.Install epoch clock log) is = absurd is
+
+  pub record FrontMoveInForm (m : FrontMove) : Type 0 where
+    pub front : FrontInForm decl client m.front
+    pub sends : SendsInForm m.turn.sends
+
+  pub called_form : (form : AnswersInForm decl) (front : Front) (command : Command) → FrontInForm decl client front
+      → front.count < 2 ^ 32 - 1 → CommandInForm command → FrontMoveInForm (called decl front command)
+  called_form form front command w low here =
+      let next : FrontInForm decl client (called decl front command).front =
+      called_goes decl client form front w low command here in
+      record {
+        front = next;
+        sends = sent_form front (called decl front command) next (called_sent decl front command);
+      }
+
+  pub takes_form : (form : AnswersInForm decl) (front : Front) (number : ℕ) (answer : Option Answer)
+      → FrontInForm decl client front → CameInForm answer → FrontMoveInForm (takes decl front number answer)
+  takes_form form front number answer w here =
+      let next : FrontInForm decl client (takes decl front number answer).front =
+      takes_goes form front front.doing front.transaction number answer w w.begun w.doing here in
+      record {
+        front = next;
+        sends = sent_form front (takes decl front number answer) next (takes_sent decl front number answer);
+      }

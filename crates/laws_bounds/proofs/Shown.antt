@@ -1,0 +1,186 @@
+-- Each run with falls, whose rises fit, has trays that show it: event by event.
+use Rattle.std.proofs.Common.{◌≡◌, ◌<◌, ◌≤◌, ℕ, zero, suc, Bool, true, false, List, [], ◌∷◌, ◌++◌, length, Some, None}
+use Rattle.std.proofs.Common.{slice_get, refl, sym, ap, ◌∙◌, subst, arith}
+use Rattle.std.specs.List.{AllByRecursion as Every}
+use Rattle.laws_bounds.proofs.Calling.{turn_failed, turn_short}
+use Rattle.laws_bounds.proofs.Rising.{risen_turn_short}
+use Rattle.laws_bounds.specs.Calls.{IsFailedShort, IsRisingShort, IsTurnShort}
+use Rattle.laws_bounds.specs.Fitting.{AllFit, AllRiseFit}
+use Rattle.qc_core.specs.Conduct.{IsLawfulWithFalls}
+use Rattle.qc_decl.specs.Accepted.{IsAccepted}
+use Rattle.qc_decl.specs.Actors.{actors, administrator, controller}
+use Rattle.qc_decl.specs.declared.declaration.Declaration.{Declaration}
+use Rattle.qc_inbox.proofs.Acting.{kept_take}
+use Rattle.qc_inbox.proofs.Controlling.{kept_control, kept_damage, kept_phase}
+use Rattle.qc_inbox.proofs.FallLaws.{may_post, restarts_down}
+use Rattle.qc_inbox.proofs.FallTrays.{kept_fall_by_line, kept_post, kept_rise, up_kept}
+use Rattle.qc_inbox.proofs.Keeping.{kept_begins}
+use Rattle.qc_inbox.specs.Inboxes.{Inboxes}
+use Rattle.qc_inbox.specs.Kept.{IsKept}
+use Rattle.qc_inbox.specs.Rooms.{after_control, after_fall_by_line, after_phase, after_post_as, after_rising_as}
+use Rattle.qc_inbox.specs.Rooms.{after_take, empty_inboxes, with_control_gone}
+use Rattle.laws_turns.proofs.Places.{slice_get-within}
+use Rattle.qc_link.specs.Limits.{most_actors}
+use Rattle.qc_list.proofs.Members.{every-weaker}
+use Rattle.laws_turns.proofs.Downs.{tells}
+use Rattle.laws_turns.proofs.Lived.{run_long}
+use Rattle.qc_msg.specs.Deeds.{Deed, Rises, deeds, mail}
+use Rattle.qc_msg.proofs.Growth.{deeds-append, deeds-rose}
+use Rattle.qc_msg.specs.Steps.{Entry, HasRecord, IsByDisk, by, marked, posted_as, sends_as}
+use Rattle.qc_msg.specs.declared.record.Record.{Record}
+use Rattle.qc_msg.specs.declared.step.Control.{Control}
+use Rattle.qc_msg.specs.declared.step.Control.TheVariants as controls
+use Rattle.qc_msg.specs.declared.step.Fall.{Fall}
+use Rattle.qc_msg.specs.declared.step.Fall.TheVariants as causes
+use Rattle.qc_msg.specs.declared.step.Step.TheVariants as steps
+use Rattle.qc_msg.specs.declared.turn.Appended.{Appended}
+use Rattle.qc_msg.specs.declared.turn.Appended.TheVariants as ends
+use Rattle.qc_msg.specs.declared.turn.Posting.{Posting}
+use Rattle.qc_msg.specs.declared.turn.Turn.{Turn}
+use Rattle.qc_script.specs.Inbox.{inbox, is_by_line, is_up}
+use Rattle.qc_script.specs.Ready.{controls_left, phase_of}
+use Rattle.qc_script.specs.RunsWithFalls.{RunsWithFalls, begins, takes, posts, phase, control, falls, rises, damaged}
+use Rattle.qc_script.specs.RunsWithFalls.{unopened}
+use Rattle.qc_script.specs.Sound.{IsControlFor, IsScriptFor}
+use Rattle.qc_script.specs.declared.script.PhaseLines.{PhaseLines}
+use Rattle.qc_script.specs.declared.script.Script.{Script}
+use Rattle.laws_bounds.proofs.Lines.{lines_left}
+
+got_within : {A : Type 0} (xs : List A) (a : ℕ) (x : A) → slice_get xs a ≡ Some x → a < length xs
+got_within [] a x is = absurd (let never : ⊥ = cc in never)
+got_within (y ∷ ys) zero x is = omega arith
+got_within (y ∷ ys) (suc a) x is = let rest : a < length ys = got_within ys a x is in omega arith
+
+every_left : {A : Type 0} (P : A → Type 0) (xs ys : List A) → Every P (xs ++ ys) → Every P xs
+every_left P [] ys all = tt
+every_left P (x ∷ xs) ys all = (all.0, every_left P xs ys all.1)
+
+every_right : {A : Type 0} (P : A → Type 0) (xs ys : List A) → Every P (xs ++ ys) → Every P ys
+every_right P [] ys all = all
+every_right P (x ∷ xs) ys all = every_right P xs ys all.1
+
+by_disk_down : (up : Bool) (cause : Fall) → up ≡ false → IsByDisk cause → is_by_line up cause ≡ true
+by_disk_down true cause down disk = absurd (let never : ⊥ = cc in never)
+by_disk_down false causes.Script down disk = refl
+by_disk_down false causes.Stop down disk = refl
+by_disk_down false causes.Disk down disk = refl
+
+-- what a turn sends goes to actors, for each end of its record
+post_receivers : (end : Appended) (turn : Turn) → Every (λ (p : Posting). p.to < most_actors) turn.sends
+    → Every (λ (p : Posting). p.to < most_actors) turn.failed_sends
+    → Every (λ (p : Posting). p.to < most_actors) (sends_as end turn)
+post_receivers ends.Done turn written failed = written
+post_receivers ends.Failed turn written failed = failed
+post_receivers ends.Stopped turn written failed = tt
+
+module _ (fits : ℕ → List Record → Type 0) (decl : Declaration) (script : Script) (accepted : IsAccepted decl)
+    (sound : IsScriptFor decl script) where
+  abbrev IsRun : List Entry → List Bool → Type 0
+  IsRun h inputs = RunsWithFalls (IsLawfulWithFalls decl) fits decl script h inputs
+
+  abbrev AreShown : List Entry → Type 0
+  AreShown h = (kept : Inboxes) × IsKept script h kept
+
+  few : actors decl ≤ most_actors
+  few = let s = accepted.sites in let c = accepted.clients in omega arith
+
+  -- who has an open input or none is an actor, and so is whom a line names
+
+  slot_within : (h : List Entry) (inputs : List Bool) → IsRun h inputs → (a : ℕ) (t : Bool)
+      → slice_get inputs a ≡ Some t → a < most_actors
+  slot_within h inputs run a t slot =
+      let low : a < length inputs = got_within inputs a t slot in
+      let long : length inputs ≡ actors decl = run_long decl script fits few h inputs run in
+      let most : actors decl ≤ most_actors = few in
+      omega arith
+
+  actor_within : (a : ℕ) → a ≤ administrator decl → a < most_actors
+  actor_within a low = let s = accepted.sites in let c = accepted.clients in omega arith
+
+  line_for : (h : List Entry) (line : Control) (lines : List Control) → controls_left script h ≡ line ∷ lines
+      → IsControlFor decl line
+  line_for h line lines left = (subst (Every (IsControlFor decl)) left (lines_left decl script sound h)).0
+
+  -- who is up, by what is kept
+
+  up_shown : (h : List Entry) (kept : Inboxes) → IsKept script h kept → (a : ℕ) (t : Bool)
+      → is_up (inbox script 0 h).up a ≡ t → is_up kept.up a ≡ t
+  up_shown h kept is a t up = subst (λ (ups : List Bool). is_up ups a ≡ t) (up_kept script h kept 0 is (omega arith)) up
+
+  module _ (h : List Entry) (inputs : List Bool) (run : IsRun h inputs) (fit : AllRiseFit decl h)
+      (old : AreShown h) where
+    taken : (a : ℕ) (turn : Turn) → slice_get inputs a ≡ Some true → IsLawfulWithFalls decl a (deeds a [] h) turn
+        → AreShown (h ++ by a (posted_as turn.append (length (mail h)) turn))
+    taken a turn slot law =
+        let within : a < most_actors = slot_within h inputs run a true slot in
+        let short : IsTurnShort turn = turn_short decl script fits h inputs run accepted fit a turn slot law in
+        let failed : IsFailedShort turn = turn_failed decl script fits h inputs run accepted fit a turn slot law in (
+          after_post_as turn.append old.0 a turn,
+          kept_post script h old.0 a turn old.1 within
+              (post_receivers turn.append turn short.receivers failed.receivers)
+              (may_post (IsLawfulWithFalls decl) fits decl script h inputs old.0 few
+              (tells decl) run old.1 a turn within law),
+        )
+
+    risen : (a : ℕ) (rs : List Record) (turn : Turn) (lines : List Control)
+        → controls_left script h ≡ controls.Restart a ∷ lines → HasRecord turn.write → AllFit decl a 0 rs
+        → IsLawfulWithFalls decl a (deeds a [] (h ++ marked a (steps.Rose rs) ∷ [])) turn
+        → AreShown (h ++ by a (steps.Rose rs ∷ posted_as turn.append (length (mail h)) turn))
+    risen a rs turn lines left has records_fit law =
+        let rose : deeds a [] (h ++ marked a (steps.Rose rs) ∷ []) ≡ deeds a [] h ++ Rises rs ∷ [] =
+        deeds-append a [] h (by a (steps.Rose rs ∷ []))
+        ∙ ap (λ (v : List Deed). deeds a [] h ++ v) (deeds-rose a (mail h) rs) in
+        let short : IsRisingShort decl rs turn =
+        risen_turn_short decl a (deeds a [] h) rs turn records_fit
+        (subst (λ (ds : List Deed). IsLawfulWithFalls decl a ds turn) rose law) in
+        let receivers : Every (λ (p : Posting). p.to < most_actors) turn.sends =
+        every-weaker (λ (p : Posting). p.to < actors decl) (λ (p : Posting). p.to < most_actors)
+        (λ p low. let most : actors decl ≤ most_actors = few in omega arith) turn.sends short.receivers in
+        let none : Every (λ (p : Posting). p.to < most_actors) turn.failed_sends =
+        subst (Every (λ (p : Posting). p.to < most_actors)) (sym short.failed_sends) tt in (
+          after_rising_as turn.append old.0 a turn,
+          kept_rise script h old.0 a rs turn old.1 (actor_within a (line_for h (controls.Restart a) lines left))
+              (up_shown h old.0 old.1 a false (restarts_down
+              (IsLawfulWithFalls decl) fits decl script h inputs few run a lines left)) has
+              (post_receivers turn.append turn receivers none),
+        )
+
+  pub runs_with_falls_have_trays : (h : List Entry) (inputs : List Bool) → IsRun h inputs → AllRiseFit decl h
+      → AreShown h
+  runs_with_falls_have_trays h inputs begins fit = (empty_inboxes script, kept_begins script)
+  runs_with_falls_have_trays h inputs (takes a g slots older run free rdy) fit =
+      let old : AreShown older = runs_with_falls_have_trays older slots run (every_left _ older _ fit) in
+      (after_take old.0 a, kept_take decl script older old.0 a g old.1 (slot_within older slots run a false free) rdy)
+  runs_with_falls_have_trays h inputs (posts a turn slots older run slot law) fit =
+      taken older slots run (every_left _ older _ fit)
+      (runs_with_falls_have_trays older slots run (every_left _ older _ fit)) a turn slot law
+  runs_with_falls_have_trays h inputs (phase slots older run idle done quiet more) fit =
+      let old : AreShown older = runs_with_falls_have_trays older slots run (every_left _ older _ fit) in
+      let next : (lines : PhaseLines) × (slice_get script.phases (phase_of older) ≡ Some lines) =
+      slice_get-within script.phases (phase_of older) more in
+      (after_phase old.0 next.0, kept_phase script older old.0 (phase_of older) next.0 (controller decl) old.1 next.1)
+  runs_with_falls_have_trays h inputs (control line lines step slots older run left acts) fit =
+      let old : AreShown older = runs_with_falls_have_trays older slots run (every_left _ older _ fit) in
+      (after_control old.0 line, kept_control script older old.0 line step (controller decl) old.1 acts)
+  runs_with_falls_have_trays h inputs (falls a lines slots older run left) fit =
+      let old : AreShown older = runs_with_falls_have_trays older slots run (every_left _ older _ fit) in (
+        after_fall_by_line old.0 a,
+        kept_fall_by_line script older old.0 a causes.Script None old.1
+            (actor_within a (line_for older (controls.Crash a) lines left)) refl,
+      )
+  runs_with_falls_have_trays h inputs (rises a rs turn lines slots older run left fit_actor has law) fit =
+      risen older slots run (every_left _ older _ fit)
+      (runs_with_falls_have_trays older slots run (every_left _ older _ fit)) a rs turn lines left has
+      (every_right _ older (by a (steps.Rose rs ∷ posted_as turn.append (length (mail older)) turn)) fit).0 law
+  runs_with_falls_have_trays h inputs (damaged a offset lines slots older run left) fit =
+      let old : AreShown older = runs_with_falls_have_trays older slots run (every_left _ older _ fit) in
+      (with_control_gone old.0, kept_damage script older old.0 a offset old.1)
+  runs_with_falls_have_trays h inputs (unopened a cause lines slots older run left disk) fit =
+      let old : AreShown older = runs_with_falls_have_trays older slots run (every_left _ older _ fit) in
+      let down : is_up old.0.up a ≡ false = up_shown older old.0 old.1 a false
+      (restarts_down (IsLawfulWithFalls decl) fits decl script older slots few run a lines left) in (
+        after_fall_by_line old.0 a,
+        kept_fall_by_line script older old.0 a cause None old.1
+            (actor_within a (line_for older (controls.Restart a) lines left))
+            (by_disk_down (is_up old.0.up a) cause down disk),
+      )

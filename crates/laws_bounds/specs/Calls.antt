@@ -1,0 +1,64 @@
+-- What comes to an actor in a run with falls, and what it posts, as far as its calls rely on it.
+use Rattle.std.specs.Prelude.{◌≡◌, ◌<◌, ◌≤◌, List, [], length}
+use Rattle.std.specs.List.{AllByRecursion as Every}
+use Rattle.qc_admin.specs.Fits.{GivenFits}
+use Rattle.qc_core.specs.Actors.{IsFrom}
+use Rattle.qc_decl.specs.Actors.{actors}
+use Rattle.qc_decl.specs.Limits.{most_clients}
+use Rattle.qc_decl.specs.declared.declaration.Declaration.{Declaration}
+use Rattle.qc_epoch.specs.Deciding.{most_asks}
+use Rattle.qc_link.specs.Limits.{most_actors}
+use Rattle.qc_msg.specs.declared.record.Record.{Record}
+use Rattle.qc_msg.specs.declared.record.Record.TheVariants as records
+use Rattle.qc_msg.specs.declared.turn.Posting.{Posting}
+use Rattle.qc_msg.specs.declared.turn.Turn.{Turn}
+use Rattle.qc_msg.specs.Deeds.{Deed, Takes, Writes, Sends, Tells, Falls, Rises}
+use Rattle.qc_recover.specs.Sites.{most_inquiries}
+
+-- what a record promises is of a client below the most
+abbrev pub IsOfClient : Record → Type 0
+IsOfClient records.Life = Unit {0}
+IsOfClient (records.Prepare p) = p.tx.client < most_clients
+IsOfClient (records.Done tx clock) = Unit {0}
+IsOfClient (records.Close epoch) = Unit {0}
+IsOfClient (records.Install epoch clock lines) = Unit {0}
+IsOfClient (records.Commit c) = Unit {0}
+IsOfClient (records.Decide epoch clock lines) = Unit {0}
+
+-- a message that is taken comes from an actor, and tells promises of such clients; what rises is of such, too
+abbrev pub IsSound : Deed → Type 0
+IsSound (Takes given) = IsFrom given × GivenFits given
+IsSound (Writes written) = Unit {0}
+IsSound (Sends number to message) = Unit {0}
+IsSound (Tells reply) = Unit {0}
+IsSound (Falls cause pending) = Unit {0}
+IsSound (Rises records) = Every IsOfClient records
+
+-- what a record promises is of a declared client
+abbrev pub PromisesDeclared : Declaration → Record → Type 0
+PromisesDeclared decl records.Life = Unit {0}
+PromisesDeclared decl (records.Prepare p) = p.tx.client < decl.clients
+PromisesDeclared decl (records.Done tx clock) = Unit {0}
+PromisesDeclared decl (records.Close epoch) = Unit {0}
+PromisesDeclared decl (records.Install epoch clock lines) = Unit {0}
+PromisesDeclared decl (records.Commit c) = Unit {0}
+PromisesDeclared decl (records.Decide epoch clock lines) = Unit {0}
+
+-- a rising turn has at most as many messages as records rose, and no more than a fixed number, which go to actors;
+-- where its record isn't written it has none
+pub record IsRisingShort (decl : Declaration) (rs : List Record) (turn : Turn) : Type 0 where
+  pub few : length turn.sends ≤ length rs
+  pub bounded : length turn.sends ≤ most_inquiries
+  pub receivers : Every (λ (p : Posting). p.to < actors decl) turn.sends
+  pub failed_sends : turn.failed_sends ≡ []
+
+-- what is sent for an input: it goes to actors, and is at most one message for each site, or, of the administrator, one
+-- for each transaction that he asks about
+pub record IsTurnShort (turn : Turn) : Type 0 where
+  pub receivers : Every (λ (p : Posting). p.to < most_actors) turn.sends
+  pub few : length turn.sends ≤ most_asks
+
+-- what is sent where a turn's record isn't written, for an input: at most one message, which goes to an actor
+pub record IsFailedShort (turn : Turn) : Type 0 where
+  pub few : length turn.failed_sends ≤ 1
+  pub receivers : Every (λ (p : Posting). p.to < most_actors) turn.failed_sends

@@ -1,0 +1,148 @@
+-- A client tells of no epoch: it answers Inquiries alone.
+use Rattle.std.proofs.Common.{ℕ, List, [], ◌∷◌, map, Option, Some, None, inl, inr, refl, sym, subst}
+use Rattle.std.specs.List.{AllByRecursion as Every, fold}
+use Rattle.qc_stamp.specs.declared.stamp.TxId.{TxId}
+use Rattle.qc_list.specs.Members.{In}
+use Rattle.qc_decl.specs.declared.declaration.Declaration.{Declaration}
+use Rattle.qc_msg.specs.declared.begun.Begun.{Begun}
+use Rattle.qc_msg.specs.declared.message.Answer.{Answer}
+use Rattle.qc_msg.specs.declared.message.Message.{Message}
+use Rattle.qc_msg.specs.declared.message.Message.TheVariants as messages
+use Rattle.qc_msg.specs.declared.message.Outcome.{Outcome}
+use Rattle.qc_msg.specs.declared.message.Outcome.TheVariants.{Committed, Aborted}
+use Rattle.qc_msg.specs.declared.step.Command.{Command}
+use Rattle.qc_msg.specs.declared.step.Command.TheVariants as commands
+use Rattle.qc_msg.specs.declared.step.Input.{Input}
+use Rattle.qc_msg.specs.declared.step.Input.TheVariants as inputs
+use Rattle.qc_msg.specs.declared.turn.Posting.{Posting}
+use Rattle.qc_msg.specs.declared.turn.Turn.{Turn}
+use Rattle.qc_msg.specs.Begun.{decisions}
+use Rattle.qc_msg.specs.Deeds.{Deed, Takes, Writes, Sends, Tells, Falls, Rises}
+use Rattle.qc_commit.specs.declared.desk.Voting.{Voting}
+use Rattle.qc_commit.specs.Conduct as desks
+use Rattle.qc_commit.specs.Desk.{DeskMove}
+use Rattle.qc_commit.proofs.Moves.{IsMove, IsPrepare, prepare-moves, tx_of, vote-moves}
+use Rattle.qc_front.specs.declared.front.Front.{Front}
+use Rattle.qc_front.specs.declared.transaction.Transaction.{Transaction}
+use Rattle.qc_front.specs.Conduct as fronts
+use Rattle.qc_front.specs.Front.{FrontMove}
+use Rattle.qc_front.specs.Requests.{AreSent, IsSent}
+use Rattle.qc_front.proofs.Sending.{called_sent, takes_sent}
+use Rattle.qc_client.specs.declared.client.Client.{Client}
+use Rattle.qc_client.specs.Client.{ClientMove, by_desk, by_front}
+use Rattle.qc_client.specs.Conduct.{answered, answered_by, called, client_does, client_takes, commits, heard}
+use Rattle.laws_turns.proofs.OwnStamps.{by_two}
+use Rattle.laws_due.proofs.Epochs.{TellPlanned, TellsPlanned}
+
+sent_planned : (decl : Declaration) (front next : Front) (to : ℕ) (m : Message) → IsSent decl front next to m
+    → TellsPlanned decl m
+sent_planned decl front next to (messages.Request tx epoch life want) is = tt
+sent_planned decl front next to (messages.Answer number answer) is = absurd is
+sent_planned decl front next to (messages.Decision tx v) is = tt
+sent_planned decl front next to (messages.Inquiry tx) is = tt
+sent_planned decl front next to (messages.Ask tx) is = tt
+sent_planned decl front next to (messages.Close epoch) is = absurd is
+sent_planned decl front next to (messages.Install epoch clock log) is = absurd is
+
+every_of : (P : Posting → Type 0) (ps : List Posting) → ((p : Posting) → In p ps → P p) → Every P ps
+every_of P [] each = tt
+every_of P (p ∷ ps) each = (each p (inl refl), every_of P ps (λ q among. each q (inr among)))
+
+front_planned : (decl : Declaration) (front : Front) (m : FrontMove) → AreSent decl front m
+    → TellPlanned decl m.turn.sends
+front_planned decl front m are = every_of (λ (p : Posting). TellsPlanned decl p.message) m.turn.sends
+    (λ p among. sent_planned decl front m.front p.to p.message (are p among))
+
+prepare_planned : (decl : Declaration) (m : Message) → IsPrepare m → TellsPlanned decl m
+prepare_planned decl (messages.Request tx epoch life want) is = tt
+prepare_planned decl (messages.Answer to answer) is = absurd is
+prepare_planned decl (messages.Decision tx verdict) is = tt
+prepare_planned decl (messages.Inquiry tx) is = tt
+prepare_planned decl (messages.Ask tx) is = tt
+prepare_planned decl (messages.Close epoch) is = absurd is
+prepare_planned decl (messages.Install epoch clock log) is = absurd is
+
+all_prepare : (decl : Declaration) (ps : List Posting) → Every (λ (p : Posting). IsPrepare p.message) ps
+    → TellPlanned decl ps
+all_prepare decl [] are = tt
+all_prepare decl (p ∷ ps) are = (prepare_planned decl p.message are.0, all_prepare decl ps are.1)
+
+decisions_planned : (decl : Declaration) (b : Begun) (v : Outcome) → TellPlanned decl (decisions b v)
+decisions_planned decl b v = over b.asked
+  where
+    over : (asked : List ℕ) → TellPlanned decl
+        (map (λ (site : ℕ). record { to = site; message = messages.Decision b.tx v }) asked)
+    over [] = tt
+    over (site ∷ asked) = (tt, over asked)
+
+desk_planned : (decl : Declaration) (c : Client) (hand : Option TxId) (m : DeskMove) → IsMove c.desk hand m
+    → TellPlanned decl m.turn.sends
+desk_planned decl c hand m (inl w) = all_prepare decl m.turn.sends w.sends
+desk_planned decl c hand m (inr (inl r)) =
+    subst (λ (t : Turn). TellPlanned decl t.sends) (sym r.turn) (decisions_planned decl r.begun (Committed r.stamp))
+desk_planned decl c hand m (inr (inr a)) =
+    subst (λ (t : Turn). TellPlanned decl t.sends) (sym a.turn) (decisions_planned decl a.begun Aborted)
+
+commits_planned : (decl : Declaration) (c : Client) (o : Option Transaction)
+    → TellPlanned decl (commits decl c o).turn.sends
+commits_planned decl c None = front_planned decl c.front (fronts.called decl c.front commands.Commit)
+    (called_sent decl c.front commands.Commit)
+commits_planned decl c (Some t) =
+    by_two (λ (m : ClientMove). TellPlanned decl m.turn.sends) t.begun.doomed
+    (by_front c (fronts.called decl c.front commands.Commit))
+    (by_desk c (desks.prepare decl c.desk t.begun c.front.clock.value))
+    (front_planned decl c.front (fronts.called decl c.front commands.Commit) (called_sent decl c.front commands.Commit))
+    (desk_planned decl c (Some t.begun.tx) (desks.prepare decl c.desk t.begun c.front.clock.value)
+    (prepare-moves decl c.desk t.begun c.front.clock.value))
+
+called_planned : (decl : Declaration) (c : Client) (command : Command)
+    → TellPlanned decl (called decl c command).turn.sends
+called_planned decl c commands.Begin = front_planned decl c.front (fronts.called decl c.front commands.Begin)
+    (called_sent decl c.front commands.Begin)
+called_planned decl c (commands.Do object inv) =
+    front_planned decl c.front (fronts.called decl c.front (commands.Do object inv))
+    (called_sent decl c.front (commands.Do object inv))
+called_planned decl c commands.Commit = commits_planned decl c c.front.transaction
+called_planned decl c commands.Abort = front_planned decl c.front (fronts.called decl c.front commands.Abort)
+    (called_sent decl c.front commands.Abort)
+called_planned decl c (commands.Epoch number) =
+    front_planned decl c.front (fronts.called decl c.front (commands.Epoch number))
+    (called_sent decl c.front (commands.Epoch number))
+
+answered_planned : (decl : Declaration) (c : Client) (number : ℕ) (answer : Option Answer)
+    → TellPlanned decl (answered decl c number answer).turn.sends
+answered_planned decl c number answer = at c.desk.voting
+  where
+    at : (o : Option Voting) → TellPlanned decl (answered_by decl c o number answer).turn.sends
+    at None = front_planned decl c.front (fronts.takes decl c.front number answer)
+        (takes_sent decl c.front number answer)
+    at (Some v) = desk_planned decl c (tx_of c.desk.voting) (desks.vote c.desk number answer)
+        (vote-moves c.desk number answer)
+
+heard_planned : (decl : Declaration) (c : Client) (from number : ℕ) (m : Message)
+    → TellPlanned decl (heard decl c from number m).turn.sends
+heard_planned decl c from number (messages.Request tx epoch life want) = tt
+heard_planned decl c from number (messages.Answer to answer) = answered_planned decl c to (Some answer)
+heard_planned decl c from number (messages.Decision tx verdict) = tt
+heard_planned decl c from number (messages.Inquiry tx) = (tt, tt)
+heard_planned decl c from number (messages.Ask tx) = (tt, tt)
+heard_planned decl c from number (messages.Close epoch) = tt
+heard_planned decl c from number (messages.Install epoch clock log) = tt
+
+pub client_takes_planned : (decl : Declaration) (c : Client) (g : Input)
+    → TellPlanned decl (client_takes decl c g).turn.sends
+client_takes_planned decl c (inputs.Called command) = called_planned decl c command
+client_takes_planned decl c (inputs.Got e) = heard_planned decl c e.from e.number e.message
+client_takes_planned decl c (inputs.Lost number) = answered_planned decl c number None
+
+pub client_planned : (decl : Declaration) (ds : List Deed) (m : ClientMove) → TellPlanned decl m.turn.sends
+    → TellPlanned decl (fold (client_does decl) m ds).turn.sends
+client_planned decl [] m is = is
+client_planned decl (Takes g ∷ ds) m is =
+    client_planned decl ds (client_takes decl m.client g) (client_takes_planned decl m.client g)
+client_planned decl (Writes written ∷ ds) m is = client_planned decl ds m is
+client_planned decl (Sends number to message ∷ ds) m is =
+    client_planned decl ds (client_does decl m (Sends number to message)) is
+client_planned decl (Tells reply ∷ ds) m is = client_planned decl ds m is
+client_planned decl (Falls cause pending ∷ ds) m is = client_planned decl ds m is
+client_planned decl (Rises kept ∷ ds) m is = client_planned decl ds m is

@@ -1,0 +1,121 @@
+-- A client that waits has an open request. So where nothing is left to happen every command has ended, and a run of
+-- which no phase is left is whole.
+use Rattle.std.proofs.Common.{◌≡◌, ℕ, ◌+◌, ◌-◌, ◌<◌, ◌≤◌, ◌&&◌, not, Bool, true, false, cond, List, [], ◌∷◌, length}
+use Rattle.std.proofs.Common.{map, filter, Option, Some, None, is_some, slice_get, refl, sym, ap, ◌∙◌, arith}
+use Rattle.std.specs.Prelude.{is_none, replicate}
+use Rattle.std.specs.List.{list_all}
+use Rattle.qc_decl.proofs.Clients.{client_within}
+use Rattle.qc_client.specs.declared.client.Client.{Client}
+use Rattle.qc_client.specs.Conduct.{client_after}
+use Rattle.qc_commit.specs.declared.desk.Desk.{Desk}
+use Rattle.qc_commit.specs.declared.desk.Voting.{Voting}
+use Rattle.qc_core.specs.Acts.{Acts, is_running}
+use Rattle.qc_core.specs.Conduct.{IsLawful}
+use Rattle.qc_decl.specs.declared.declaration.Declaration.{Declaration}
+use Rattle.qc_decl.specs.Accepted.{IsAccepted}
+use Rattle.qc_decl.specs.Actors.{actors, is_client}
+use Rattle.qc_front.specs.Going as going
+use Rattle.qc_front.proofs.Goes.{waits}
+use Rattle.laws_turns.specs.Asked.{AsksDeclared}
+use Rattle.laws_turns.specs.Calls as laws
+use Rattle.laws_turns.specs.Turns.{ActsIn}
+use Rattle.laws_turns.specs.Whole.{IsClosed, IsQuiet, IsWhole, calls_of, replies_of}
+use Rattle.laws_turns.proofs.Acted.{has_entry, run_acts}
+use Rattle.laws_turns.proofs.Busy.{run_waits}
+use Rattle.laws_turns.proofs.Ends.{none_open}
+use Rattle.laws_turns.proofs.Ordered.{run_replied}
+use Rattle.laws_turns.proofs.Places.{replicate_at}
+use Rattle.laws_turns.proofs.WholeLaw.{is_whole}
+use Rattle.qc_msg.specs.declared.message.Answer.{Answer}
+use Rattle.qc_msg.specs.Deeds.{Deed, deeds}
+use Rattle.qc_msg.specs.Steps.{Entry}
+use Rattle.qc_promise.specs.Account.{Account, ClientRequest}
+use Rattle.qc_script.specs.declared.script.Script.{Script}
+use Rattle.qc_script.specs.Ready.{controls_left, phase_of}
+use Rattle.laws_due.specs.Calls.{call_of, calls_in}
+use Rattle.laws_due.specs.Goes.{Holds}
+use Rattle.laws_due.specs.Ties.{Ties, appends, reads, rests, votes}
+use Rattle.laws_due.proofs.Courses.{clients_hold, clients_tied}
+
+-- while a commit waits for votes, one of its requests is open
+
+untaken_called : (qs : List ClientRequest) → list_all (λ (q : ClientRequest). is_some q.taken) qs ≡ false
+    → calls_in qs ≡ [] → ⊥
+untaken_called [] some none = let never : ⊥ = cc in never
+untaken_called (q ∷ qs) some none = by q.taken some none (untaken_called qs)
+  where
+    by : (o : Option (Option Answer)) → (is_some o && list_all (λ (p : ClientRequest). is_some p.taken) qs) ≡ false
+        → map call_of (cond (is_none o) (q ∷ filter (λ (p : ClientRequest). is_none p.taken) qs)
+        (filter (λ (p : ClientRequest). is_none p.taken) qs)) ≡ []
+        → (list_all (λ (p : ClientRequest). is_some p.taken) qs ≡ false → calls_in qs ≡ [] → ⊥) → ⊥
+    by None some none more = let never : ⊥ = cc in never
+    by (Some a) some none more = more some none
+
+-- a client whose requests are all closed waits for nothing
+
+module _ (decl : Declaration) (d : Account) (c : Client) (h : Holds decl c) where
+  -- while no commit waits, its front end tells it
+  front_rests : c.desk.voting ≡ None → laws.open_calls c ≡ [] → laws.is_waiting c ≡ false
+  front_rests unvoted none = by (going.is_idle c.front.doing) refl
+    where
+      none_called : going.calls_in c.front.doing ≡ []
+      none_called = sym (ap (λ (v : Option Voting). laws.calls_by v c.front.doing) unvoted) ∙ none
+
+      waiting_is : laws.is_waiting c ≡ not (going.is_idle c.front.doing)
+      waiting_is = ap (λ (v : Option Voting). laws.waits v c.front.doing) unvoted
+
+      by : (idle : Bool) → going.is_idle c.front.doing ≡ idle → laws.is_waiting c ≡ false
+      by true is = waiting_is ∙ ap not is
+      by false is =
+          let many : 0 < length (going.calls_in c.front.doing) = waits decl c.front h.front h.numbered is in
+          let few : length (going.calls_in c.front.doing) ≡ 0 = ap length none_called in
+          absurd (omega arith)
+
+  tied_rests : Ties decl d c → laws.open_calls c ≡ [] → laws.is_waiting c ≡ false
+  tied_rests (rests r) none = front_rests r.desk.voting none
+  tied_rests (reads r) none = front_rests r.desk.voting none
+  tied_rests (appends r) none = front_rests r.desk.voting none
+  tied_rests (votes r) none =
+      absurd (untaken_called d.requests r.waits
+      (sym (ap (λ (desk : Desk). laws.calls_by desk.voting c.front.doing) r.desk) ∙ none))
+
+pub unasked_rests : (decl : Declaration) (a : ℕ) → is_client decl a ≡ true → (ds : List Deed) (n : ℕ)
+    → Acts decl a ds false n
+    → laws.open_calls (client_after decl (a - decl.sites) ds).client ≡ []
+    → laws.is_waiting (client_after decl (a - decl.sites) ds).client ≡ false
+unasked_rests decl a client ds n acts =
+    tied_rests decl _ (client_after decl (a - decl.sites) ds).client (clients_hold decl a client ds n acts)
+    (clients_tied decl a client ds n acts)
+
+-- where nothing is left to happen
+
+module _ (decl : Declaration) (script : Script) (accepted : IsAccepted decl) (asks : AsksDeclared decl script)
+    (h : List Entry) (closed : IsClosed decl script h) (quiet : IsQuiet decl script h)
+    (done : controls_left script h ≡ []) where
+  second_true : (x y : Bool) → (x && y) ≡ true → y ≡ true
+  second_true true y is = is
+  second_true false y is = absurd (let never : ⊥ = cc in never)
+
+  free : (a : ℕ) → is_client decl a ≡ true → slice_get (replicate (actors decl) false) a ≡ Some false
+  free a client =
+      let place : (t : Bool) × (slice_get (replicate (actors decl) false) a ≡ Some t) =
+      has_entry (IsLawful decl) decl script h (replicate (actors decl) false) closed a (client_within decl a client) in
+      place.1 ∙ ap (λ (t : Bool). Some t) (replicate_at (actors decl) a false place.0 place.1)
+
+  pub none_runs : (a : ℕ) → is_client decl a ≡ true → is_running (deeds a [] h) ≡ false
+  none_runs a client =
+      let r : ActsIn decl a h false = run_acts decl script h (replicate (actors decl) false) closed a false
+      (free a client) in
+      sym (run_waits decl script asks h (replicate (actors decl) false) closed a client (free a client))
+      ∙ unasked_rests decl a client (deeds a [] h) r.above r.acts
+      (none_open decl script accepted asks h closed quiet done a client)
+
+  pub all_replied : (a : ℕ) → is_client decl a ≡ true → length (calls_of a h) ≡ length (replies_of a h)
+  all_replied a client =
+      let count : length (calls_of a h) ≡ length (replies_of a h) + 0 =
+      run_replied decl script h (replicate (actors decl) false) closed a
+      ∙ ap (λ (t : Bool). length (replies_of a h) + cond t 1 0) (none_runs a client) in
+      omega arith
+
+  pub whole : length script.phases ≤ phase_of h → IsWhole decl script h
+  whole = is_whole decl script accepted asks h closed quiet done none_runs

@@ -1,0 +1,214 @@
+-- A site tells and writes of epochs with plans alone: it closes, installs and tells of those that it is asked for.
+use Rattle.std.proofs.Common.{ℕ, ◌==◌, nat_le, nat_lt, not, List, [], ◌∷◌, Option, Some, None, subst}
+use Rattle.std.specs.Prelude.{option_to_list}
+use Rattle.std.specs.List.{AllByRecursion as Every, fold}
+use Rattle.qc_stamp.specs.declared.stamp.Stamp.{Stamp}
+use Rattle.qc_stamp.specs.declared.stamp.TxId.{TxId}
+use Rattle.qc_decl.specs.declared.declaration.Declaration.{Declaration}
+use Rattle.qc_decl.specs.Limits.{most_record_bytes}
+use Rattle.qc_entry.specs.declared.line.Line.{Line}
+use Rattle.qc_entry.specs.declared.line.OwnLine.{OwnLine}
+use Rattle.qc_entry.specs.declared.record.Prepared.{Prepared}
+use Rattle.qc_lock.specs.declared.clash.Clash.{Clash as Conflict}
+use Rattle.qc_lock.specs.Clash.{append_clash, read_clash}
+use Rattle.qc_lock.specs.Held.{is_held}
+use Rattle.qc_msg.specs.declared.message.Answer.{Answer}
+use Rattle.qc_msg.specs.declared.message.Answer.TheVariants as answers
+use Rattle.qc_msg.specs.declared.message.Message.{Message}
+use Rattle.qc_msg.specs.declared.message.Message.TheVariants as messages
+use Rattle.qc_msg.specs.declared.message.Outcome.{Outcome}
+use Rattle.qc_msg.specs.declared.message.Outcome.TheVariants.{Committed, Aborted, Active}
+use Rattle.qc_msg.specs.declared.message.Want.{Want}
+use Rattle.qc_msg.specs.declared.message.Want.TheVariants.{Read, Append, Prepare}
+use Rattle.qc_msg.specs.declared.record.Record.{Record}
+use Rattle.qc_msg.specs.declared.record.Record.TheVariants as records
+use Rattle.qc_msg.specs.declared.step.Input.{Input}
+use Rattle.qc_msg.specs.declared.step.Input.TheVariants as inputs
+use Rattle.qc_msg.specs.declared.turn.Posting.{Posting}
+use Rattle.qc_msg.specs.declared.turn.Turn.{Turn}
+use Rattle.qc_msg.specs.Deeds.{Deed, Takes, Writes, Sends, Tells, Falls, Rises}
+use Rattle.qc_msg.specs.Readings.{closed_in}
+use Rattle.qc_msg.specs.Turns.{quiet, sending}
+use Rattle.qc_site.specs.Conduct.{passed, site_at, site_does, site_on, site_takes}
+use Rattle.qc_site.specs.Epochs.{closed, shut_answer}
+use Rattle.qc_site.specs.Promise.{finishes, is_prepared, joins, prepare_length, prepared_of, prepares, promise_of}
+use Rattle.qc_site.specs.Promise.{promises}
+use Rattle.qc_site.specs.Requests.{appends_by, closed_fault, fault_of, grants, names_declared, reads_by, relation_at}
+use Rattle.qc_site.specs.Requests.{requested}
+use Rattle.qc_site.specs.Site.{SiteMove, SiteState, moved, recording}
+use Rattle.qc_site.proofs.Cases.{close_rows, install_rows, state_cases}
+use Rattle.laws_turns.proofs.OwnStamps.{by_two}
+use Rattle.laws_due.specs.Declares.{ArePlanned, IsPlanned}
+use Rattle.laws_due.specs.Planned.{IsRecordPlanned}
+
+-- an epoch that is told has a plan, and so has one that is to be closed for or installed
+
+abbrev pub TellsPlanned : Declaration → Message → Type 0
+TellsPlanned decl (messages.Request tx epoch life want) = Unit {0}
+TellsPlanned decl (messages.Answer to answer) = ArePlanned decl (closed_in answer)
+TellsPlanned decl (messages.Decision tx verdict) = Unit {0}
+TellsPlanned decl (messages.Inquiry tx) = Unit {0}
+TellsPlanned decl (messages.Ask tx) = Unit {0}
+TellsPlanned decl (messages.Close k) = IsPlanned decl k
+TellsPlanned decl (messages.Install k clock lines) = IsPlanned decl k
+
+abbrev pub TellPlanned : Declaration → List Posting → Type 0
+TellPlanned decl ps = Every (λ (p : Posting). TellsPlanned decl p.message) ps
+
+pub record TurnPlanned (decl : Declaration) (t : Turn) : Type 0 where
+  pub sends : TellPlanned decl t.sends
+  pub failed_sends : TellPlanned decl t.failed_sends
+  pub writes : Every (IsRecordPlanned decl) (option_to_list t.write)
+
+-- a turn that writes nothing; and one that writes, which tells of no epoch where its record isn't written
+
+says : (decl : Declaration) (ps : List Posting) → TellPlanned decl ps → TurnPlanned decl (sending ps)
+says decl ps planned = record { sends = planned; failed_sends = tt; writes = tt }
+
+pub says_nothing : (decl : Declaration) → TurnPlanned decl quiet
+says_nothing decl = says decl [] tt
+
+records_so : (decl : Declaration) (from number : ℕ) (r : Record) (answer : Answer) → IsRecordPlanned decl r
+    → ArePlanned decl (closed_in answer) → TurnPlanned decl (recording from number r answer)
+records_so decl from number r answer writes told =
+    record { sends = (told, tt); failed_sends = (tt, tt); writes = (writes, tt) }
+
+abbrev pub TakesPlanned : Declaration → Input → Type 0
+TakesPlanned decl (inputs.Called command) = Unit {0}
+TakesPlanned decl (inputs.Got e) = TellsPlanned decl e.message
+TakesPlanned decl (inputs.Lost number) = Unit {0}
+
+-- a site whose epoch has a plan, and so has the one that it has closed that for
+pub record SitePlanned (decl : Declaration) (s : SiteState) : Type 0 where
+  pub epoch : IsPlanned decl s.epoch
+  pub closed : ArePlanned decl s.closed_for
+
+pub site_stays_planned : (decl : Declaration) (s : SiteState) (from number : ℕ) (m : Message) → TellsPlanned decl m
+    → SitePlanned decl s → SitePlanned decl (site_on decl s from number m).site
+site_stays_planned decl s from number m told w =
+    state_cases (SitePlanned decl) decl (passed s m) from number m (record { epoch = w.epoch; closed = w.closed })
+    (λ tx epoch life object inv is. record { epoch = w.epoch; closed = w.closed })
+    (λ tx epoch life object view own is. record { epoch = w.epoch; closed = w.closed })
+    (λ tx. record { epoch = w.epoch; closed = w.closed })
+    (λ tx verdict is final. record { epoch = w.epoch; closed = w.closed })
+    (λ tx stamp p is. record { epoch = w.epoch; closed = w.closed })
+    (λ k is. record { epoch = w.epoch; closed = subst (TellsPlanned decl) is told })
+    (λ k clock lines is later. record { epoch = subst (TellsPlanned decl) is told; closed = tt })
+
+pub takes_stay_planned : (decl : Declaration) (s : SiteState) (g : Input) → TakesPlanned decl g → SitePlanned decl s
+    → SitePlanned decl (site_takes decl s g).site
+takes_stay_planned decl s (inputs.Called command) told w = w
+takes_stay_planned decl s (inputs.Got e) told w = site_stays_planned decl s e.from e.number e.message told w
+takes_stay_planned decl s (inputs.Lost number) told w = w
+
+abbrev pub FaultPlanned : Declaration → Option Answer → Type 0
+FaultPlanned decl None = Unit {0}
+FaultPlanned decl (Some a) = ArePlanned decl (closed_in a)
+
+pub fault_planned : (decl : Declaration) (s : SiteState) (epoch life : ℕ) → SitePlanned decl s
+    → FaultPlanned decl (fault_of s epoch life)
+fault_planned decl s epoch life w =
+    by_two (FaultPlanned decl) (nat_lt s.epoch epoch) (Some (answers.Behind s.epoch)) _ tt
+    (by_two (FaultPlanned decl) (nat_lt epoch s.epoch) (Some (answers.Closed s.epoch))
+    (closed_fault s life s.closed_for) w.epoch (by s.closed_for w.closed))
+  where
+    by : (o : Option ℕ) → ArePlanned decl o → FaultPlanned decl (closed_fault s life o)
+    by None planned = by_two (FaultPlanned decl) (life == 0) None _ tt
+        (by_two (FaultPlanned decl) (life == s.life) None (Some (answers.Restarted s.life)) tt tt)
+    by (Some k) planned = planned
+
+abbrev Answers : Declaration → SiteMove → Type 0
+Answers decl m = TurnPlanned decl m.turn
+
+promises_planned : (decl : Declaration) (s : SiteState) (from number : ℕ) (p : Prepared)
+    → Answers decl (promises s from number p)
+promises_planned decl s from number p = by_two (Answers decl) (nat_le (prepare_length p) most_record_bytes) _ _
+    (records_so decl from number (records.Prepare p) (answers.Yes s.clock) tt tt) (says decl _ (tt, tt))
+
+prepares_planned : (decl : Declaration) (s : SiteState) (from number : ℕ) (tx : TxId)
+    → Answers decl (prepares s from number tx)
+prepares_planned decl s from number tx =
+    by_two (Answers decl) (not (is_held s.held tx)) _ _ (says decl _ (tt, tt))
+    (by_two (Answers decl) (is_prepared s.prepared tx) _ (promises s from number (promise_of s tx))
+    (says decl _ (tt, tt)) (promises_planned decl s from number (promise_of s tx)))
+
+reads_planned : (decl : Declaration) (s : SiteState) (from number : ℕ) (tx : TxId) (object inv : ℕ)
+    (o : Option Conflict) → Answers decl (reads_by decl s from number tx object inv o)
+reads_planned decl s from number tx object inv None = says decl _ (tt, tt)
+reads_planned decl s from number tx object inv (Some c) = says decl _ (tt, (tt, tt))
+
+appends_planned : (decl : Declaration) (s : SiteState) (from number : ℕ) (tx : TxId) (view : List Line)
+    (own : List OwnLine) (o : Option Conflict) → Answers decl (appends_by decl s from number tx view own o)
+appends_planned decl s from number tx view own None = says decl _ (tt, tt)
+appends_planned decl s from number tx view own (Some c) = says decl _ (tt, (tt, tt))
+
+grants_planned : (decl : Declaration) (s : SiteState) (from number : ℕ) (tx : TxId) (want : Want)
+    → Answers decl (grants decl s from number tx want)
+grants_planned decl s from number tx (Read object inv) =
+    reads_planned decl s from number tx object inv (read_clash (relation_at decl object) s.held tx object inv)
+grants_planned decl s from number tx (Append object view own) =
+    appends_planned decl s from number tx view own (append_clash (relation_at decl object) s.held tx own)
+grants_planned decl s from number tx Prepare = prepares_planned decl s from number tx
+
+requested_planned : (decl : Declaration) (s : SiteState) (from number : ℕ) (tx : TxId) (want : Want) (o : Option Answer)
+    → FaultPlanned decl o → Answers decl (requested decl s from number tx want o)
+requested_planned decl s from number tx want (Some refusal) planned = says decl _ (planned, tt)
+requested_planned decl s from number tx want None planned = grants_planned decl s from number tx want
+
+joins_planned : (decl : Declaration) (s : SiteState) (tx : TxId) (stamp : Stamp) (o : Option Prepared)
+    → Answers decl (joins s tx stamp o)
+joins_planned decl s tx stamp None = says_nothing decl
+joins_planned decl s tx stamp (Some p) = record { sends = tt; failed_sends = tt; writes = (tt, tt) }
+
+decision_planned : (decl : Declaration) (s : SiteState) (tx : TxId) (v : Outcome) → Answers decl (finishes s tx v)
+decision_planned decl s tx (Committed stamp) = joins_planned decl s tx stamp (prepared_of s.prepared tx)
+decision_planned decl s tx Aborted = says_nothing decl
+decision_planned decl s tx Active = says_nothing decl
+
+site_planned : (decl : Declaration) (s : SiteState) (from number : ℕ) (m : Message) → TellsPlanned decl m
+    → SitePlanned decl s → Answers decl (site_at decl s from number m)
+site_planned decl s from number (messages.Request tx epoch life want) told w =
+    by_two (Answers decl) (names_declared decl tx want) (requested decl s from number tx want (fault_of s epoch life))
+    (moved s quiet)
+    (requested_planned decl s from number tx want (fault_of s epoch life) (fault_planned decl s epoch life w))
+    (says_nothing decl)
+site_planned decl s from number (messages.Answer to answer) told w = says_nothing decl
+site_planned decl s from number (messages.Decision tx verdict) told w = decision_planned decl s tx verdict
+site_planned decl s from number (messages.Inquiry tx) told w = says_nothing decl
+site_planned decl s from number (messages.Ask tx) told w = says_nothing decl
+site_planned decl s from number (messages.Close k) told w =
+    close_rows (Answers decl) s from number k (says decl _ (tt, tt)) (says decl _ (w.epoch, tt)) (says decl _ (tt, tt))
+    (records_so decl from number (records.Close k) (shut_answer (closed s k)) told tt)
+site_planned decl s from number (messages.Install k clock lines) told w =
+    install_rows (Answers decl) s from number k clock lines (says decl _ (tt, tt)) (says decl _ (tt, tt))
+    (records_so decl from number (records.Install k clock lines) answers.Installed told tt)
+
+pub takes_planned : (decl : Declaration) (s : SiteState) (g : Input) → TakesPlanned decl g → SitePlanned decl s
+    → Answers decl (site_takes decl s g)
+takes_planned decl s (inputs.Called command) told w = says_nothing decl
+takes_planned decl s (inputs.Got e) told w =
+    site_planned decl (passed s e.message) e.from e.number e.message told
+    (record { epoch = w.epoch; closed = w.closed })
+takes_planned decl s (inputs.Lost number) told w = says_nothing decl
+
+-- over all deeds, where what is taken has plans
+
+abbrev pub DeedPlanned : Declaration → Deed → Type 0
+DeedPlanned decl (Takes g) = TakesPlanned decl g
+DeedPlanned decl (Writes written) = Unit {0}
+DeedPlanned decl (Sends number to message) = Unit {0}
+DeedPlanned decl (Tells reply) = Unit {0}
+DeedPlanned decl (Falls cause pending) = Unit {0}
+DeedPlanned decl (Rises kept) = Unit {0}
+
+pub folded_planned : (decl : Declaration) (ds : List Deed) (m : SiteMove) → Every (DeedPlanned decl) ds
+    → SitePlanned decl m.site → Answers decl m → Answers decl (fold (site_does decl) m ds)
+folded_planned decl [] m all w is = is
+folded_planned decl (Takes g ∷ ds) m all w is =
+    folded_planned decl ds (site_takes decl m.site g) all.1 (takes_stay_planned decl m.site g all.0 w)
+    (takes_planned decl m.site g all.0 w)
+folded_planned decl (Writes written ∷ ds) m all w is = folded_planned decl ds m all.1 w is
+folded_planned decl (Sends number to message ∷ ds) m all w is = folded_planned decl ds m all.1 w is
+folded_planned decl (Tells reply ∷ ds) m all w is = folded_planned decl ds m all.1 w is
+folded_planned decl (Falls cause pending ∷ ds) m all w is = folded_planned decl ds m all.1 w is
+folded_planned decl (Rises kept ∷ ds) m all w is = folded_planned decl ds m all.1 w is

@@ -1,0 +1,177 @@
+-- A site tells no reply and writes no commit record.
+use Rattle.std.proofs.Common.{◌≡◌, ℕ, ◌+◌, not, nat_le, Bool, true, false, cond, List, [], ◌∷◌, ◌++◌, Option, Some}
+use Rattle.std.proofs.Common.{None, refl, sym, subst}
+use Rattle.std.specs.Prelude.{fold}
+use Rattle.std.specs.List.{AllByRecursion as Every}
+use Rattle.qc_list.proofs.Members.{every-append}
+use Rattle.qc_stamp.specs.declared.stamp.TxId.{TxId}
+use Rattle.qc_decl.specs.declared.declaration.Declaration.{Declaration}
+use Rattle.qc_decl.specs.Actors.{is_site}
+use Rattle.qc_entry.specs.declared.record.Prepared.{Prepared}
+use Rattle.qc_lock.specs.declared.clash.Clash.{Clash as Conflict}
+use Rattle.qc_lock.specs.Clash.{append_clash, read_clash}
+use Rattle.qc_lock.specs.Held.{is_held}
+use Rattle.qc_core.specs.Acts.{Acts, starts, takes, posts}
+use Rattle.laws_turns.proofs.Served.{lawful_site}
+use Rattle.qc_msg.specs.declared.message.Answer.{Answer}
+use Rattle.qc_msg.specs.declared.message.Answer.TheVariants as answers_of
+use Rattle.qc_msg.specs.declared.message.Message.{Message}
+use Rattle.qc_msg.specs.declared.message.Message.TheVariants as messages
+use Rattle.qc_msg.specs.declared.message.Outcome.{Outcome}
+use Rattle.qc_msg.specs.declared.message.Outcome.TheVariants as outcomes
+use Rattle.qc_msg.specs.declared.message.Want.{Want}
+use Rattle.qc_msg.specs.declared.message.Want.TheVariants.{Read, Append, Prepare}
+use Rattle.qc_msg.specs.declared.record.Record.{Record}
+use Rattle.qc_msg.specs.declared.record.Record.TheVariants as records
+use Rattle.qc_msg.specs.declared.reply.Reply.{Reply}
+use Rattle.qc_msg.specs.declared.step.Input.{Input}
+use Rattle.qc_msg.specs.declared.step.Input.TheVariants as inputs
+use Rattle.qc_msg.specs.declared.turn.Posting.{Posting}
+use Rattle.qc_msg.specs.declared.turn.Turn.{Turn}
+use Rattle.qc_msg.specs.Deeds.{Deed, Takes, Writes, Sends, Tells, Falls, Rises, sends_of, tells_of, turn_deeds}
+use Rattle.qc_msg.specs.Deeds.{writes_of}
+use Rattle.qc_msg.specs.Turns.{quiet}
+use Rattle.qc_site.specs.Conduct.{passed, site_at, site_does, site_takes}
+use Rattle.qc_site.specs.Promise.{finishes, is_prepared, joins, prepare_length, prepared_of, prepares, promise_of}
+use Rattle.qc_site.specs.Promise.{promised, votes}
+use Rattle.qc_decl.specs.Limits.{most_record_bytes}
+use Rattle.qc_site.specs.Requests.{appends_by, fault_of, grants, names_declared, reads_by, relation_at, requested}
+use Rattle.qc_site.specs.Site.{SiteMove, SiteState, answers, moved, new_site}
+use Rattle.qc_site.proofs.Cases.{close_cases, install_cases}
+
+abbrev pub NoCommit : Record → Type 0
+NoCommit records.Life = Unit {0}
+NoCommit (records.Prepare prepared) = Unit {0}
+NoCommit (records.Done tx clock) = Unit {0}
+NoCommit (records.Close epoch) = Unit {0}
+NoCommit (records.Install epoch clock lines) = Unit {0}
+NoCommit (records.Commit commit) = ⊥
+NoCommit (records.Decide epoch clock lines) = Unit {0}
+
+abbrev pub NoCommitIn : Option Record → Type 0
+NoCommitIn None = Unit {0}
+NoCommitIn (Some w) = NoCommit w
+
+pub record IsMute (turn : Turn) : Type 0 where
+  pub told : turn.told ≡ None
+  pub write : NoCommitIn turn.write
+
+-- the turns of a site
+
+mute_quiet : IsMute quiet
+mute_quiet = record { told = refl; write = tt }
+
+reads_mute : (decl : Declaration) (s : SiteState) (from number : ℕ) (tx : TxId) (object inv : ℕ) (o : Option Conflict)
+    → IsMute (reads_by decl s from number tx object inv o).turn
+reads_mute decl s from number tx object inv None = record { told = refl; write = tt }
+reads_mute decl s from number tx object inv (Some c) = record { told = refl; write = tt }
+
+prepares_mute : (s : SiteState) (from number : ℕ) (tx : TxId) → IsMute (prepares s from number tx).turn
+prepares_mute s from number tx = by (not (is_held s.held tx)) (is_prepared s.prepared tx)
+    (nat_le (prepare_length (promise_of s tx)) most_record_bytes)
+  where
+    by : (x y z : Bool) → IsMute (cond x (moved s (answers from number answers_of.Stale))
+        (cond y (moved s (answers from number (answers_of.Yes s.clock)))
+        (cond z (moved (promised s (promise_of s tx)) (votes s from number (promise_of s tx)))
+        (moved s (answers from number answers_of.Stale))))).turn
+    by true y z = record { told = refl; write = tt }
+    by false true z = record { told = refl; write = tt }
+    by false false true = record { told = refl; write = tt }
+    by false false false = record { told = refl; write = tt }
+
+grants_mute : (decl : Declaration) (s : SiteState) (from number : ℕ) (tx : TxId) (want : Want)
+    → IsMute (grants decl s from number tx want).turn
+grants_mute decl s from number tx (Read object inv) =
+    reads_mute decl s from number tx object inv (read_clash (relation_at decl object) s.held tx object inv)
+grants_mute decl s from number tx (Append object view own) = by (append_clash (relation_at decl object) s.held tx own)
+  where
+    by : (o : Option Conflict) → IsMute (appends_by decl s from number tx view own o).turn
+    by None = record { told = refl; write = tt }
+    by (Some c) = record { told = refl; write = tt }
+grants_mute decl s from number tx Prepare = prepares_mute s from number tx
+
+request_mute : (decl : Declaration) (s : SiteState) (from number : ℕ) (tx : TxId) (epoch life : ℕ) (want : Want)
+    → IsMute (site_at decl s from number (messages.Request tx epoch life want)).turn
+request_mute decl s from number tx epoch life want = by (names_declared decl tx want)
+  where
+    fault : (o : Option Answer) → IsMute (requested decl s from number tx want o).turn
+    fault (Some answer) = record { told = refl; write = tt }
+    fault None = grants_mute decl s from number tx want
+
+    by : (b : Bool) → IsMute (cond b (requested decl s from number tx want (fault_of s epoch life))
+        (moved s quiet)).turn
+    by true = fault (fault_of s epoch life)
+    by false = mute_quiet
+
+finishes_mute : (s : SiteState) (tx : TxId) (o : Outcome) → IsMute (finishes s tx o).turn
+finishes_mute s tx (outcomes.Committed stamp) = by (prepared_of s.prepared tx)
+  where
+    by : (o : Option Prepared) → IsMute (joins s tx stamp o).turn
+    by None = mute_quiet
+    by (Some p) = record { told = refl; write = tt }
+finishes_mute s tx outcomes.Aborted = mute_quiet
+finishes_mute s tx outcomes.Active = mute_quiet
+
+site_mute : (decl : Declaration) (s : SiteState) (from number : ℕ) (m : Message)
+    → IsMute (site_at decl s from number m).turn
+site_mute decl s from number (messages.Request tx epoch life want) = request_mute decl s from number tx epoch life want
+site_mute decl s from number (messages.Answer to answer) = mute_quiet
+site_mute decl s from number (messages.Decision tx verdict) = finishes_mute s tx verdict
+site_mute decl s from number (messages.Inquiry tx) = mute_quiet
+site_mute decl s from number (messages.Ask tx) = mute_quiet
+site_mute decl s from number (messages.Close k) =
+    close_cases (λ (m : SiteMove). IsMute m.turn) s from number k (λ answer. record { told = refl; write = tt })
+    (λ near later. record { told = refl; write = tt })
+site_mute decl s from number (messages.Install k clock lines) =
+    install_cases (λ (m : SiteMove). IsMute m.turn) s from number k clock lines
+    (λ answer. record { told = refl; write = tt }) (λ later fits. record { told = refl; write = tt })
+
+takes_mute : (decl : Declaration) (s : SiteState) (g : Input) → IsMute (site_takes decl s g).turn
+takes_mute decl s (inputs.Called command) = mute_quiet
+takes_mute decl s (inputs.Got envelope) =
+    site_mute decl (passed s envelope.message) envelope.from envelope.number envelope.message
+takes_mute decl s (inputs.Lost number) = mute_quiet
+
+does_mute : (decl : Declaration) (ds : List Deed) (move : SiteMove) → IsMute move.turn
+    → IsMute (fold (site_does decl) move ds).turn
+does_mute decl [] move is = is
+does_mute decl (Takes g ∷ ds) move is = does_mute decl ds (site_takes decl move.site g) (takes_mute decl move.site g)
+does_mute decl (Writes w ∷ ds) move is = does_mute decl ds move is
+does_mute decl (Sends n to m ∷ ds) move is = does_mute decl ds move is
+does_mute decl (Tells r ∷ ds) move is = does_mute decl ds move is
+does_mute decl (Falls cause pending ∷ ds) move is = does_mute decl ds move is
+does_mute decl (Rises records ∷ ds) move is = does_mute decl ds move is
+
+-- so are its deeds
+
+abbrev pub IsMuteDeed : Deed → Type 0
+IsMuteDeed (Takes g) = Unit {0}
+IsMuteDeed (Writes w) = NoCommit w
+IsMuteDeed (Sends n to m) = Unit {0}
+IsMuteDeed (Tells r) = ⊥
+IsMuteDeed (Falls cause pending) = ⊥
+IsMuteDeed (Rises records) = ⊥
+
+tells_mute : (n : ℕ) (ps : List Posting) (told : Option Reply) → told ≡ None
+    → Every IsMuteDeed (sends_of n ps ++ tells_of told)
+tells_mute n [] None is = tt
+tells_mute n [] (Some r) is = absurd (let never : ⊥ = cc in never)
+tells_mute n (p ∷ ps) told is = (tt, tells_mute (n + 1) ps told is)
+
+turn_mute : (n : ℕ) (turn : Turn) → IsMute turn → Every IsMuteDeed (turn_deeds n turn)
+turn_mute n turn is = by turn.write is.write
+  where
+    by : (w : Option Record) → NoCommitIn w → Every IsMuteDeed
+        (writes_of w ++ (sends_of n turn.sends ++ tells_of turn.told))
+    by None ok = tells_mute n turn.sends turn.told is.told
+    by (Some w) ok = (ok, tells_mute n turn.sends turn.told is.told)
+
+pub sites_mute : (decl : Declaration) (a : ℕ) → is_site decl a ≡ true → (ds : List Deed) (b : Bool) (n : ℕ)
+    → Acts decl a ds b n → Every IsMuteDeed ds
+sites_mute decl a site ds b n starts = tt
+sites_mute decl a site ds b n (takes older g m acts may) =
+    every-append IsMuteDeed older (Takes g ∷ []) (sites_mute decl a site older false m acts) (tt, tt)
+sites_mute decl a site ds b n (posts older turn m first acts low law) =
+    every-append IsMuteDeed older (turn_deeds first turn) (sites_mute decl a site older true m acts)
+    (turn_mute first turn (subst IsMute (sym (lawful_site decl a site older turn law))
+    (does_mute decl older (moved (new_site a) quiet) mute_quiet)))

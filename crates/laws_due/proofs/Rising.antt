@@ -1,0 +1,75 @@
+-- A client that has risen is tied to its account, whatever the records that it rose with.
+use Rattle.std.proofs.Common.{◌≡◌, ℕ, ◌+◌, List, [], ◌∷◌, None, refl, sym, ap, ◌∙◌, subst, arith}
+use Rattle.std.specs.Prelude.{fold}
+use Rattle.std.proofs.lemmas.List.Sums.{fold-append}
+use Rattle.qc_decl.specs.declared.declaration.Declaration.{Declaration}
+use Rattle.qc_front.specs.declared.doing.Doing.TheVariants.{Idle}
+use Rattle.qc_msg.specs.declared.record.Record.{Record}
+use Rattle.qc_msg.specs.declared.record.Record.TheVariants as records
+use Rattle.qc_promise.specs.Account.{Account, account_with, clock_with, life_with}
+use Rattle.qc_promise.specs.Accounting.{account_written}
+use Rattle.qc_recover.specs.Clients.{Kept, client_by, client_rises, front_by, keeps, kept_by, nothing_kept}
+use Rattle.laws_due.specs.Goes.{Holds}
+use Rattle.laws_due.specs.Ties.{Ties, rests}
+use Rattle.laws_due.specs.Told.{front_of}
+
+-- the life and the clock of its records are the account's
+
+one_life : (k : Kept) (r : Record) → (keeps k r).life ≡ life_with k.life r
+one_life k records.Life = refl
+one_life k (records.Prepare p) = refl
+one_life k (records.Done tx clock) = refl
+one_life k (records.Close epoch) = refl
+one_life k (records.Install epoch clock lines) = refl
+one_life k (records.Commit commit) = refl
+one_life k (records.Decide epoch clock lines) = refl
+
+one_clock : (k : Kept) (r : Record) → (keeps k r).clock ≡ clock_with k.clock r
+one_clock k records.Life = refl
+one_clock k (records.Prepare p) = refl
+one_clock k (records.Done tx clock) = refl
+one_clock k (records.Close epoch) = refl
+one_clock k (records.Install epoch clock lines) = refl
+one_clock k (records.Commit commit) = refl
+one_clock k (records.Decide epoch clock lines) = refl
+
+all_lives : (rs : List Record) (k : Kept) → (fold keeps k rs).life ≡ fold life_with k.life rs
+all_lives [] k = refl
+all_lives (r ∷ rs) k = all_lives rs (keeps k r) ∙ ap (λ (n : ℕ). fold life_with n rs) (one_life k r)
+
+all_clocks : (rs : List Record) (k : Kept) → (fold keeps k rs).clock ≡ fold clock_with k.clock rs
+all_clocks [] k = refl
+all_clocks (r ∷ rs) k = all_clocks rs (keeps k r) ∙ ap (λ (n : ℕ). fold clock_with n rs) (one_clock k r)
+
+module _ (decl : Declaration) (client : ℕ) (kept : List Record) where
+  -- the account once the record of the rise is written
+  abbrev pub risen_account : Account
+  risen_account = account_written (account_with client kept) records.Life
+
+  front_is : front_by client (keeps (kept_by kept) records.Life) ≡ front_of risen_account None Idle
+  front_is = λ i. record (front_of risen_account None Idle) {
+    life = all_lives kept nothing_kept i + 1;
+    clock = record { value = all_clocks kept nothing_kept i };
+  }
+
+  by_records : Ties decl risen_account (client_by client (keeps (kept_by kept) records.Life))
+  by_records = rests (record {
+    command = tt;
+    requests = refl;
+    written = refl;
+    begun = tt;
+    front = front_is;
+    desk = record {
+      client = refl;
+      clock = (let same : (kept_by kept).clock ≡ risen_account.clock = all_clocks kept nothing_kept in omega arith);
+      epoch = omega arith;
+      voting = refl;
+    };
+  })
+
+  pub risen_ties : Ties decl risen_account (client_rises client kept).client
+  risen_ties = subst (λ (k : Kept). Ties decl risen_account (client_by client k))
+      (sym (fold-append keeps nothing_kept kept (records.Life ∷ []))) by_records
+
+  pub risen_holds : Holds decl (client_rises client kept).client
+  risen_holds = record { front = refl; numbered = tt }

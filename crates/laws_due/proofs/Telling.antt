@@ -1,0 +1,131 @@
+-- What a move of a client leaves: whether it waits, how a post ends, and what a turn tells.
+use Rattle.std.proofs.Common.{◌≡◌, ◌⊎◌, ℕ, ◌+◌, ◌&&◌, not, Bool, true, false, List, [], ◌∷◌, ◌++◌, inl, inr, Option}
+use Rattle.std.proofs.Common.{Some, None, is_some, refl, sym, ap, ◌∙◌, append_assoc}
+use Rattle.std.specs.Prelude.{fold}
+use Rattle.std.specs.List.{AllByRecursion as Every}
+use Rattle.qc_core.specs.declared.actor.Actor.TheVariants as actors
+use Rattle.qc_core.specs.Actors.{ActorMove, actor_after}
+use Rattle.qc_core.specs.Acts.{MayTake, is_running, runs_given}
+use Rattle.qc_client.specs.declared.client.Client.{Client}
+use Rattle.qc_client.specs.Client.{ClientMove}
+use Rattle.qc_client.specs.Conduct.{client_does, client_takes}
+use Rattle.qc_decl.specs.declared.declaration.Declaration.{Declaration}
+use Rattle.qc_decl.specs.Actors.{is_client}
+use Rattle.laws_turns.specs.Calls.{is_waiting}
+use Rattle.laws_turns.proofs.Proper.{IsAskableGiven}
+use Rattle.laws_turns.specs.Asked.{IsAskable}
+use Rattle.laws_turns.proofs.Waiting.{Ends, IsClients, IsNoCall, called_ends, sent_waits, takes_ends, takes_rests}
+use Rattle.qc_msg.specs.declared.record.Record.{Record}
+use Rattle.qc_msg.specs.declared.reply.Reply.{Reply}
+use Rattle.qc_msg.specs.declared.step.Command.{Command}
+use Rattle.qc_msg.specs.declared.step.Command.TheVariants as commands
+use Rattle.qc_msg.specs.declared.step.Fall.{Fall}
+use Rattle.qc_msg.specs.declared.step.Fall.TheVariants as causes
+use Rattle.qc_msg.specs.declared.step.Input.{Input}
+use Rattle.qc_msg.specs.declared.step.Input.TheVariants as inputs
+use Rattle.qc_msg.specs.declared.turn.Appended.{Appended}
+use Rattle.qc_msg.specs.declared.turn.Appended.TheVariants.{Done, Failed, Stopped}
+use Rattle.qc_msg.specs.declared.turn.Posting.{Posting}
+use Rattle.qc_msg.specs.declared.turn.Turn.{Turn}
+use Rattle.qc_msg.specs.Deeds.{Deed, Sends, Falls, deeds_as, sends_of, tells_of, turn_deeds, writes_of}
+use Rattle.qc_msg.specs.Steps.{HasRecord}
+use Rattle.laws_due.proofs.Standing.{actor_more}
+
+-- a move leaves a client waiting just where the command runs on
+
+abbrev pub IsBusyAs : Bool → ClientMove → Type 0
+IsBusyAs r m = (r && not (is_some m.turn.told)) ≡ is_waiting m.client
+
+turned : (told waits : Bool) → told ≡ not waits → not told ≡ waits
+turned true true is = absurd (let never : ⊥ = cc in never)
+turned true false is = refl
+turned false true is = refl
+turned false false is = absurd (let never : ⊥ = cc in never)
+
+ends_busy : (m : ClientMove) → Ends m → IsBusyAs true m
+ends_busy m ends = turned (is_some m.turn.told) (is_waiting m.client) ends
+
+no_call_busy : (decl : Declaration) (c : Client) (g : Input) (r : Bool) → IsNoCall g → is_waiting c ≡ r
+    → IsBusyAs r (client_takes decl c g)
+no_call_busy decl c g true none busy = ends_busy (client_takes decl c g) (takes_ends decl c g none busy)
+no_call_busy decl c g false none still = sym (takes_rests decl c g none still).still
+
+clients_command : (decl : Declaration) (a : ℕ) (command : Command) → is_client decl a ≡ true → IsAskable decl a command
+    → IsClients command
+clients_command decl a commands.Begin client is = tt
+clients_command decl a (commands.Do object inv) client is = tt
+clients_command decl a commands.Commit client is = tt
+clients_command decl a commands.Abort client is = tt
+clients_command decl a (commands.Epoch number) client is = let never : ⊥ = cc in never
+
+pub given_busy : (decl : Declaration) (a : ℕ) → is_client decl a ≡ true → (c : Client) (r : Bool) (g : Input)
+    → IsAskableGiven decl a g → is_waiting c ≡ r → (IsNoCall g ⊎ (r ≡ false))
+    → IsBusyAs (runs_given r g) (client_takes decl c g)
+given_busy decl a client c r (inputs.Called command) is same (inl never) = absurd never
+given_busy decl a client c r (inputs.Called command) is same (inr free) =
+    ends_busy (client_takes decl c (inputs.Called command))
+    (called_ends decl c command (clients_command decl a command client is) (same ∙ free))
+given_busy decl a client c r (inputs.Got envelope) is same may = no_call_busy decl c (inputs.Got envelope) r tt same
+given_busy decl a client c r (inputs.Lost number) is same may = no_call_busy decl c (inputs.Lost number) r tt same
+
+pub may_come : (ds : List Deed) (g : Input) → MayTake ds g → IsNoCall g ⊎ (is_running ds ≡ false)
+may_come ds (inputs.Called command) may = inr may
+may_come ds (inputs.Got envelope) may = inl tt
+may_come ds (inputs.Lost number) may = inl tt
+
+sends_wait : (decl : Declaration) (m : ClientMove) (n : ℕ) (ps : List Posting) (told : Option Reply)
+    → is_waiting (fold (client_does decl) m (sends_of n ps ++ tells_of told)).client ≡ is_waiting m.client
+sends_wait decl m n [] None = refl
+sends_wait decl m n [] (Some reply) = refl
+sends_wait decl m n (p ∷ ps) told = sends_wait decl (client_does decl m (Sends n p.to p.message)) (n + 1) ps told
+    ∙ sent_waits m.client n p.to p.message
+
+pub turn_waits : (decl : Declaration) (m : ClientMove) (n : ℕ) (turn : Turn)
+    → is_waiting (fold (client_does decl) m (turn_deeds n turn)).client ≡ is_waiting m.client
+turn_waits decl m n turn = by turn.write
+  where
+    by : (w : Option Record) → is_waiting (fold (client_does decl) m
+        (writes_of w ++ (sends_of n turn.sends ++ tells_of turn.told))).client ≡ is_waiting m.client
+    by None = sends_wait decl m n turn.sends turn.told
+    by (Some written) = sends_wait decl m n turn.sends turn.told
+
+pub first_all : (P : Deed → Type 0) (xs ys : List Deed) → Every P (xs ++ ys) → Every P xs
+first_all P [] ys all = tt
+first_all P (x ∷ xs) ys all = (all.0, first_all P xs ys all.1)
+
+pub rest_all : (P : Deed → Type 0) (xs ys : List Deed) → Every P (xs ++ ys) → Every P ys
+rest_all P [] ys all = all
+rest_all P (x ∷ xs) ys all = rest_all P xs ys all.1
+
+-- what ends with a fall
+pub record EndsFallen (ds : List Deed) : Type 0 where
+  pub before : List Deed
+  pub cause : Fall
+  pub pending : Option Record
+  pub is : ds ≡ before ++ Falls cause pending ∷ []
+
+pub ends_fallen : (end : Appended) (first : ℕ) (turn : Turn) → (end ≡ Done → ⊥) → EndsFallen (deeds_as end first turn)
+ends_fallen Done first turn unwritten = absurd (unwritten refl)
+ends_fallen Failed first turn unwritten = record {
+  before = sends_of first turn.failed_sends ++ tells_of turn.failed_told;
+  cause = causes.Disk;
+  pending = turn.write;
+  is = sym (append_assoc (sends_of first turn.failed_sends) (tells_of turn.failed_told)
+      (Falls causes.Disk turn.write ∷ []));
+}
+ends_fallen Stopped first turn unwritten =
+    record { before = tells_of turn.failed_told; cause = causes.Stop; pending = turn.write; is = refl }
+
+-- whoever posts so is down then
+pub broken_down : (decl : Declaration) (a : ℕ) (ds : List Deed) (end : Appended) (first : ℕ) (turn : Turn)
+    → (end ≡ Done → ⊥) → (actor_after decl a (ds ++ deeds_as end first turn)).actor ≡ actors.Down
+broken_down decl a ds end first turn unwritten =
+    let e : EndsFallen (deeds_as end first turn) = ends_fallen end first turn unwritten in
+    ap (λ (v : List Deed). (actor_after decl a v).actor)
+    (ap (λ (v : List Deed). ds ++ v) e.is ∙ sym (append_assoc ds e.before (Falls e.cause e.pending ∷ [])))
+    ∙ ap (λ (m : ActorMove). m.actor) (actor_more decl a (ds ++ e.before) (Falls e.cause e.pending ∷ []))
+
+-- a turn tells only where a command runs; where it has a record one does, and that it isn't written is told
+pub record Replies (r : Bool) (turn : Turn) : Type 0 where
+  pub told : is_some turn.told ≡ true → r ≡ true
+  pub failed : HasRecord turn.write → (r ≡ true) × (is_some turn.failed_told ≡ true)

@@ -1,0 +1,90 @@
+-- A site's answer fits the request that it took.
+use Rattle.std.proofs.Common.{◌≡◌, ℕ, List, None, refl}
+use Rattle.std.specs.List.{AllByRecursion as Every}
+use Rattle.qc_stamp.specs.declared.stamp.TxId.{TxId}
+use Rattle.qc_decl.specs.declared.declaration.Declaration.{Declaration}
+use Rattle.qc_msg.specs.declared.message.Answer.{Answer}
+use Rattle.qc_msg.specs.declared.message.Envelope.{Envelope}
+use Rattle.qc_msg.specs.declared.message.Message.{Message}
+use Rattle.qc_msg.specs.declared.message.Message.TheVariants as messages
+use Rattle.qc_msg.specs.declared.message.Outcome.TheVariants.{Aborted, Active, Committed}
+use Rattle.qc_msg.specs.declared.message.Want.{Want}
+use Rattle.qc_msg.specs.declared.message.Want.TheVariants.{Append, Prepare, Read}
+use Rattle.qc_msg.specs.declared.step.Input.TheVariants as inputs
+use Rattle.qc_msg.specs.declared.turn.Posting.{Posting}
+use Rattle.qc_site.specs.Conduct.{passed, site_at, site_takes}
+use Rattle.qc_site.specs.Requests.{fault_of, grants, relation_at}
+use Rattle.qc_site.specs.Site.{SiteMove, SiteState}
+use Rattle.laws_atomic.proofs.FirstSites.{IsAtFirst}
+use Rattle.qc_site.proofs.Cases.{append_cases, join_cases, prepare_cases, read_cases, request_cases}
+use Rattle.laws_guarantees.specs.Answers.{Fits}
+use Rattle.laws_guarantees.specs.First.{IsFirst}
+use Rattle.laws_guarantees.proofs.FirstSites.{first_free}
+use Rattle.laws_guarantees.proofs.Held.{AreOpen, IsInTheWay, append_way, read_way}
+
+-- an answer, of a site that took these messages, to the message of this number
+
+abbrev pub FitsMessage : List Envelope → Message → Answer → Type 0
+FitsMessage ms (messages.Request tx epoch life want) answer = Fits ms tx want answer
+FitsMessage ms (messages.Answer to other) answer = ⊥
+FitsMessage ms (messages.Decision tx verdict) answer = ⊥
+FitsMessage ms (messages.Inquiry tx) answer = ⊥
+FitsMessage ms (messages.Ask tx) answer = ⊥
+FitsMessage ms (messages.Close epoch) answer = ⊥
+FitsMessage ms (messages.Install epoch clock log) answer = ⊥
+
+abbrev pub IfAnswers : List Envelope → ℕ → Message → Message → Type 0
+IfAnswers ms number m (messages.Request tx epoch life want) = Unit {0}
+IfAnswers ms number m (messages.Answer to answer) = (to ≡ number) × FitsMessage ms m answer
+IfAnswers ms number m (messages.Decision tx verdict) = Unit {0}
+IfAnswers ms number m (messages.Inquiry tx) = Unit {0}
+IfAnswers ms number m (messages.Ask tx) = Unit {0}
+IfAnswers ms number m (messages.Close epoch) = Unit {0}
+IfAnswers ms number m (messages.Install epoch clock log) = Unit {0}
+
+abbrev pub AnswersTo : List Envelope → ℕ → Message → SiteMove → Type 0
+AnswersTo ms number m move = Every (λ (p : Posting). IfAnswers ms number m p.message) move.turn.sends
+
+module _ (decl : Declaration) (ms : List Envelope) (n : ℕ) (s : SiteState) (first : IsAtFirst n s)
+    (open_ones : AreOpen ms s.held) (from number : ℕ) where
+  granted : (tx : TxId) (epoch life : ℕ) (want : Want)
+      → AnswersTo ms number (messages.Request tx epoch life want) (grants decl s from number tx want)
+  granted tx epoch life (Read object inv) =
+      read_cases (AnswersTo ms number (messages.Request tx epoch life (Read object inv))) decl s from number tx object
+      inv (λ free. ((refl, tt), tt))
+      (λ c clash. let w : IsInTheWay ms tx c =
+      read_way (relation_at decl object) ms s.held tx object inv c open_ones clash in
+      ((refl, (w.is_open, w.another)), (tt, tt)))
+  granted tx epoch life (Append object view own) =
+      append_cases (AnswersTo ms number (messages.Request tx epoch life (Append object view own))) decl s from number tx
+      object view own (λ free. ((refl, tt), tt))
+      (λ c clash. let w : IsInTheWay ms tx c =
+      append_way (relation_at decl object) ms s.held tx own c open_ones clash in
+      ((refl, (w.is_open, w.another)), (tt, tt)))
+  granted tx epoch life Prepare =
+      prepare_cases (AnswersTo ms number (messages.Request tx epoch life Prepare)) s from number tx ((refl, tt), tt)
+      (λ held stands. ((refl, tt), tt)) (λ held made. ((refl, tt), tt))
+
+  at : (m : Message) → IsFirst m → AnswersTo ms number m (site_at decl s from number m)
+  at (messages.Request tx epoch life want) is =
+      request_cases (AnswersTo ms number (messages.Request tx epoch life want)) decl s from number tx epoch life want tt
+      (λ fault refused. absurd (let free : fault_of s epoch life ≡ None = first_free n s epoch life first is.0 is.1 in
+      let never : ⊥ = cc in never))
+      (λ free. granted tx epoch life want)
+  at (messages.Answer to answer) is = tt
+  at (messages.Decision tx (Committed stamp)) is =
+      join_cases (AnswersTo ms number (messages.Decision tx (Committed stamp))) s tx stamp (λ none. tt) (λ p some. tt)
+  at (messages.Decision tx Aborted) is = tt
+  at (messages.Decision tx Active) is = tt
+  at (messages.Inquiry tx) is = tt
+  at (messages.Ask tx) is = tt
+  at (messages.Close epoch) never = absurd never
+  at (messages.Install epoch clock log) never = absurd never
+
+-- the site once its clock has passed
+pub fits_on : (decl : Declaration) (ms : List Envelope) (n : ℕ) (s : SiteState) (e : Envelope) → IsAtFirst n s
+    → AreOpen ms s.held → IsFirst e.message → AnswersTo ms e.number e.message (site_takes decl s (inputs.Got e))
+fits_on decl ms n s e first open_ones is =
+    at decl ms n (passed s e.message) (record
+    { number_is = first.number_is; life_is = first.life_is; epoch_is = first.epoch_is; is_open = first.is_open })
+    open_ones e.from e.number e.message is

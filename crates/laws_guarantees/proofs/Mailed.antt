@@ -1,0 +1,202 @@
+-- What an actor sent is in the mail, what is in the mail was sent, and what an actor took was.
+use Rattle.std.proofs.Common.{◌≡◌, ℕ, ◌==◌, Bool, true, false, cond, inl, inr, List, [], ◌∷◌, ◌++◌, Option, Some, None}
+use Rattle.std.proofs.Common.{option_to_list, slice_get, refl, sym, ap, ◌∙◌, subst, append_assoc, eq-eqb, eqb-true}
+use Rattle.std.specs.List.{cons_option}
+use Rattle.std.proofs.lemmas.List.{append-nil}
+use Rattle.qc_list.specs.Members.{In}
+use Rattle.qc_list.proofs.Members.{In-first, In-second, every-at, every-from_In}
+use Rattle.theory_onecopy.proofs.Lists.{in_split}
+use Rattle.qc_msg.specs.declared.message.Envelope.{Envelope}
+use Rattle.qc_msg.specs.declared.message.Message.{Message}
+use Rattle.qc_msg.specs.declared.step.Input.TheVariants as inputs
+use Rattle.qc_msg.specs.declared.step.Step.{Step}
+use Rattle.qc_msg.specs.declared.step.Step.TheVariants as steps
+use Rattle.qc_msg.specs.Deeds.{Deed, Takes, Writes, Sends, Tells, Falls, Rises, deed_at, deeds, envelope_at}
+use Rattle.qc_msg.specs.Deeds.{envelope_of, heard, mail}
+use Rattle.qc_msg.specs.Steps.{Entry}
+
+abbrev pub sent_as : ℕ → ℕ → ℕ → Message → Envelope
+sent_as a n to m = record { number = n; from = a; to = to; message = m }
+
+-- the message that a deed sends
+abbrev message_of : ℕ → Deed → Option Envelope
+message_of a (Takes g) = None
+message_of a (Writes written) = None
+message_of a (Sends n to m) = Some (sent_as a n to m)
+message_of a (Tells reply) = None
+message_of a (Falls cause pending) = None
+message_of a (Rises records) = None
+
+heard_sends : (o : Option Envelope) (n to : ℕ) (m : Message) → In (Sends n to m) (heard o) → ⊥
+heard_sends None n to m among = among
+heard_sends (Some e) n to m (inl same) = let never : ⊥ = cc in never
+heard_sends (Some e) n to m (inr never) = never
+
+one_sent : (a n to : ℕ) (m : Message) (d : Deed) → Sends n to m ≡ d → message_of a d ≡ Some (sent_as a n to m)
+one_sent a n to m d same = ap (message_of a) (sym same)
+
+step_sent : (a : ℕ) (ms : List Envelope) (step : Step) (n to : ℕ) (m : Message) → In (Sends n to m) (deed_at ms step)
+    → envelope_at a step ≡ Some (sent_as a n to m)
+step_sent a ms (steps.Phase k) n to m among = absurd among
+step_sent a ms (steps.Cut x y) n to m among = absurd among
+step_sent a ms (steps.Heal x y) n to m among = absurd among
+step_sent a ms (steps.Armed actor kind at) n to m among = absurd among
+step_sent a ms (steps.Called command) n to m (inl same) = absurd (let never : ⊥ = cc in never)
+step_sent a ms (steps.Called command) n to m (inr never) = absurd never
+step_sent a ms (steps.Got k) n to m among = absurd (heard_sends (slice_get ms k) n to m among)
+step_sent a ms (steps.Lost k) n to m (inl same) = absurd (let never : ⊥ = cc in never)
+step_sent a ms (steps.Lost k) n to m (inr never) = absurd never
+step_sent a ms (steps.Wrote written) n to m (inl same) = absurd (let never : ⊥ = cc in never)
+step_sent a ms (steps.Wrote written) n to m (inr never) = absurd never
+step_sent a ms (steps.Sent k receiver message) n to m (inl same) = one_sent a n to m (Sends k receiver message) same
+step_sent a ms (steps.Sent k receiver message) n to m (inr never) = absurd never
+step_sent a ms (steps.Told reply) n to m (inl same) = absurd (let never : ⊥ = cc in never)
+step_sent a ms (steps.Told reply) n to m (inr never) = absurd never
+step_sent a ms (steps.Fell cause pending) n to m (inl same) = absurd (let never : ⊥ = cc in never)
+step_sent a ms (steps.Fell cause pending) n to m (inr never) = absurd never
+step_sent a ms (steps.Rose records) n to m (inl same) = absurd (let never : ⊥ = cc in never)
+step_sent a ms (steps.Rose records) n to m (inr never) = absurd never
+step_sent a ms (steps.Damaged offset) n to m among = absurd among
+
+cons_first : (o : Option Envelope) (e : Envelope) (xs : List Envelope) → o ≡ Some e → In e (cons_option o xs)
+cons_first None e xs is = absurd (let never : ⊥ = cc in never)
+cons_first (Some x) e xs is = inl (let same : e ≡ x = cc in same)
+
+cons_rest : (o : Option Envelope) (e : Envelope) (xs : List Envelope) → In e xs → In e (cons_option o xs)
+cons_rest None e xs among = among
+cons_rest (Some x) e xs among = inr among
+
+pub sent_mail : (a : ℕ) (ms : List Envelope) (h : List Entry) (n to : ℕ) (m : Message)
+    → In (Sends n to m) (deeds a ms h) → In (sent_as a n to m) (mail h)
+sent_mail a ms [] n to m among = absurd among
+sent_mail a ms (e ∷ h) n to m among = by (e.actor == a) refl among
+    (λ there. cons_rest (envelope_of e) (sent_as a n to m) (mail h)
+    (sent_mail a (ms ++ option_to_list (envelope_of e)) h n to m there))
+  where
+    by : (t : Bool) → (e.actor == a) ≡ t → In (Sends n to m)
+        (cond t (deed_at ms e.step) [] ++ deeds a (ms ++ option_to_list (envelope_of e)) h)
+        → (In (Sends n to m) (deeds a (ms ++ option_to_list (envelope_of e)) h)
+        → In (sent_as a n to m) (cons_option (envelope_of e) (mail h)))
+        → In (sent_as a n to m) (cons_option (envelope_of e) (mail h))
+    by true same there later = elim (in_split (Sends n to m) (deed_at ms e.step)
+        (deeds a (ms ++ option_to_list (envelope_of e)) h) there) [
+          | inl here ↦ cons_first (envelope_of e) (sent_as a n to m) (mail h)
+              (subst (λ (k : ℕ). envelope_at k e.step ≡ Some (sent_as a n to m)) (sym (eqb-true e.actor a same))
+              (step_sent a ms e.step n to m here))
+          | inr more ↦ later more
+        ]
+    by false other there later = later there
+
+-- and back
+
+step_mailed : (ms : List Envelope) (a : ℕ) (step : Step) (x : Envelope) → Some x ≡ envelope_at a step
+    → (x.from ≡ a) × In (Sends x.number x.to x.message) (deed_at ms step)
+step_mailed ms a (steps.Phase k) x is = absurd (let never : ⊥ = cc in never)
+step_mailed ms a (steps.Cut y z) x is = absurd (let never : ⊥ = cc in never)
+step_mailed ms a (steps.Heal y z) x is = absurd (let never : ⊥ = cc in never)
+step_mailed ms a (steps.Armed actor kind at) x is = absurd (let never : ⊥ = cc in never)
+step_mailed ms a (steps.Called command) x is = absurd (let never : ⊥ = cc in never)
+step_mailed ms a (steps.Got k) x is = absurd (let never : ⊥ = cc in never)
+step_mailed ms a (steps.Lost k) x is = absurd (let never : ⊥ = cc in never)
+step_mailed ms a (steps.Wrote written) x is = absurd (let never : ⊥ = cc in never)
+step_mailed ms a (steps.Sent k receiver message) x is =
+    let same : x ≡ sent_as a k receiver message = cc in
+    (ap (λ (y : Envelope). y.from) same, inl (ap (λ (y : Envelope). Sends y.number y.to y.message) same))
+step_mailed ms a (steps.Told reply) x is = absurd (let never : ⊥ = cc in never)
+step_mailed ms a (steps.Fell cause pending) x is = absurd (let never : ⊥ = cc in never)
+step_mailed ms a (steps.Rose records) x is = absurd (let never : ⊥ = cc in never)
+step_mailed ms a (steps.Damaged offset) x is = absurd (let never : ⊥ = cc in never)
+
+pub mail_sent : (ms : List Envelope) (h : List Entry) (x : Envelope) → In x (mail h)
+    → In (Sends x.number x.to x.message) (deeds x.from ms h)
+mail_sent ms [] x among = absurd among
+mail_sent ms (e ∷ h) x among =
+    by (envelope_of e) refl among (λ there. In-second (Sends x.number x.to x.message)
+    (cond (e.actor == x.from) (deed_at ms e.step) []) (deeds x.from (ms ++ option_to_list (envelope_of e)) h)
+    (mail_sent (ms ++ option_to_list (envelope_of e)) h x there))
+  where
+    first : (t : Bool) → (e.actor == x.from) ≡ t → Some x ≡ envelope_at e.actor e.step
+        → In (Sends x.number x.to x.message) (cond t (deed_at ms e.step) [] ++ deeds x.from
+        (ms ++ option_to_list (envelope_of e)) h)
+    first true same is = In-first (Sends x.number x.to x.message) (deed_at ms e.step)
+        (deeds x.from (ms ++ option_to_list (envelope_of e)) h) (step_mailed ms e.actor e.step x is).1
+    first false other is = absurd (let t : (e.actor == x.from) ≡ true =
+        eq-eqb e.actor x.from (sym (step_mailed ms e.actor e.step x is).0) in let never : ⊥ = cc in never)
+
+    by : (o : Option Envelope) → envelope_of e ≡ o → In x (cons_option o (mail h))
+        → (In x (mail h) → In (Sends x.number x.to x.message)
+        (cond (e.actor == x.from) (deed_at ms e.step) [] ++ deeds x.from (ms ++ option_to_list (envelope_of e)) h))
+        → In (Sends x.number x.to x.message) (cond (e.actor == x.from) (deed_at ms e.step) [] ++ deeds x.from
+        (ms ++ option_to_list (envelope_of e)) h)
+    by None is there later = later there
+    by (Some y) is (inl same) later = first (e.actor == x.from) refl (ap (λ (z : Envelope). Some z) same ∙ sym is)
+    by (Some y) is (inr there) later = later there
+
+-- what was taken
+
+abbrev taken_of : Deed → Option Envelope
+taken_of (Takes (inputs.Called command)) = None
+taken_of (Takes (inputs.Got e)) = Some e
+taken_of (Takes (inputs.Lost n)) = None
+taken_of (Writes written) = None
+taken_of (Sends n to m) = None
+taken_of (Tells reply) = None
+taken_of (Falls cause pending) = None
+taken_of (Rises records) = None
+
+in_at : (ms : List Envelope) (n : ℕ) (e : Envelope) → slice_get ms n ≡ Some e → In e ms
+in_at ms n e is = every-at (λ (x : Envelope). In x ms) ms n e
+    (every-from_In (λ (x : Envelope). In x ms) ms (λ x among. among)) is
+
+heard_takes : (ms : List Envelope) (n : ℕ) (e : Envelope) (o : Option Envelope) → slice_get ms n ≡ o
+    → In (Takes (inputs.Got e)) (heard o) → In e ms
+heard_takes ms n e None is among = absurd among
+heard_takes ms n e (Some x) is (inl same) = in_at ms n e (is ∙ sym (ap taken_of same))
+heard_takes ms n e (Some x) is (inr never) = absurd never
+
+step_taken : (ms : List Envelope) (step : Step) (e : Envelope) → In (Takes (inputs.Got e)) (deed_at ms step) → In e ms
+step_taken ms (steps.Phase k) e among = absurd among
+step_taken ms (steps.Cut x y) e among = absurd among
+step_taken ms (steps.Heal x y) e among = absurd among
+step_taken ms (steps.Armed actor kind at) e among = absurd among
+step_taken ms (steps.Called command) e (inl same) =
+    absurd (let is : Some e ≡ None = ap taken_of same in let never : ⊥ = cc in never)
+step_taken ms (steps.Called command) e (inr never) = absurd never
+step_taken ms (steps.Got k) e among = heard_takes ms k e (slice_get ms k) refl among
+step_taken ms (steps.Lost k) e (inl same) =
+    absurd (let is : Some e ≡ None = ap taken_of same in let never : ⊥ = cc in never)
+step_taken ms (steps.Lost k) e (inr never) = absurd never
+step_taken ms (steps.Wrote written) e (inl same) = absurd (let never : ⊥ = cc in never)
+step_taken ms (steps.Wrote written) e (inr never) = absurd never
+step_taken ms (steps.Sent k receiver message) e (inl same) = absurd (let never : ⊥ = cc in never)
+step_taken ms (steps.Sent k receiver message) e (inr never) = absurd never
+step_taken ms (steps.Told reply) e (inl same) = absurd (let never : ⊥ = cc in never)
+step_taken ms (steps.Told reply) e (inr never) = absurd never
+step_taken ms (steps.Fell cause pending) e (inl same) = absurd (let never : ⊥ = cc in never)
+step_taken ms (steps.Fell cause pending) e (inr never) = absurd never
+step_taken ms (steps.Rose records) e (inl same) = absurd (let never : ⊥ = cc in never)
+step_taken ms (steps.Rose records) e (inr never) = absurd never
+step_taken ms (steps.Damaged offset) e among = absurd among
+
+more_mail : (ms : List Envelope) (o : Option Envelope) (xs : List Envelope)
+    → (ms ++ option_to_list o) ++ xs ≡ ms ++ cons_option o xs
+more_mail ms None xs = ap (λ (v : List Envelope). v ++ xs) (append-nil ms)
+more_mail ms (Some x) xs = append_assoc ms (x ∷ []) xs
+
+pub taken_mail : (a : ℕ) (ms : List Envelope) (h : List Entry) (e : Envelope) → In (Takes (inputs.Got e)) (deeds a ms h)
+    → In e (ms ++ mail h)
+taken_mail a ms [] e among = absurd among
+taken_mail a ms (x ∷ h) e among =
+    by (x.actor == a) among (λ there. subst (λ (v : List Envelope). In e v) (more_mail ms (envelope_of x) (mail h))
+    (taken_mail a (ms ++ option_to_list (envelope_of x)) h e there))
+  where
+    by : (t : Bool) → In (Takes (inputs.Got e))
+        (cond t (deed_at ms x.step) [] ++ deeds a (ms ++ option_to_list (envelope_of x)) h)
+        → (In (Takes (inputs.Got e)) (deeds a (ms ++ option_to_list (envelope_of x)) h)
+        → In e (ms ++ cons_option (envelope_of x) (mail h))) → In e (ms ++ cons_option (envelope_of x) (mail h))
+    by true there later = elim (in_split (Takes (inputs.Got e)) (deed_at ms x.step)
+        (deeds a (ms ++ option_to_list (envelope_of x)) h) there) [
+          | inl here ↦ In-first e ms (cons_option (envelope_of x) (mail h)) (step_taken ms x.step e here)
+          | inr more ↦ later more
+        ]
+    by false there later = later there

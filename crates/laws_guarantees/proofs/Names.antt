@@ -1,0 +1,194 @@
+-- The name of the transaction that a client has begun changes only as a reply is told, and it is the client's.
+use Rattle.std.proofs.Common.{◌≡◌, ℕ, ◌+◌, Bool, true, false, if◌then◌else◌, List, [], ◌∷◌, ◌++◌, fold, Option, Some}
+use Rattle.std.proofs.Common.{None, option_map, refl, sym, ap, ◌∙◌, subst}
+use Rattle.std.specs.Prelude.{max}
+use Rattle.std.specs.List.{find}
+use Rattle.std.proofs.lemmas.List.Sums.{fold-append}
+use Rattle.qc_stamp.specs.declared.stamp.TxId.{TxId}
+use Rattle.qc_entry.specs.declared.line.Line.{Line}
+use Rattle.qc_decl.specs.declared.declaration.Declaration.{Declaration}
+use Rattle.qc_msg.specs.declared.message.Answer.{Answer}
+use Rattle.qc_msg.specs.declared.message.Answer.TheVariants as answers
+use Rattle.qc_msg.specs.declared.message.Message.{Message}
+use Rattle.qc_msg.specs.declared.message.Message.TheVariants as messages
+use Rattle.qc_msg.specs.declared.message.Want.{Want}
+use Rattle.qc_msg.specs.declared.message.Want.TheVariants as wants
+use Rattle.qc_msg.specs.declared.record.Record.{Record}
+use Rattle.qc_msg.specs.declared.record.Record.TheVariants as records
+use Rattle.qc_msg.specs.declared.reply.Reply.{Reply}
+use Rattle.qc_msg.specs.declared.step.Input.{Input}
+use Rattle.qc_msg.specs.declared.step.Input.TheVariants as inputs
+use Rattle.qc_msg.specs.declared.turn.Posting.{Posting}
+use Rattle.qc_msg.specs.declared.turn.Turn.{Turn}
+use Rattle.qc_msg.specs.Deeds.{sends_of, tells_of, turn_deeds, writes_of}
+use Rattle.qc_client.specs.declared.client.Client.{Client}
+use Rattle.qc_front.specs.declared.front.Front.{Front}
+use Rattle.qc_front.specs.declared.transaction.Transaction.{Transaction}
+use Rattle.qc_promise.specs.Account.{Account, ClientRequest, Current}
+use Rattle.qc_promise.specs.Accounting.{account_at, account_heard, account_sent, account_taken, account_written}
+use Rattle.qc_promise.specs.Accounting.{counted, counted_for, granted, is_open, lived, promised, taken_for, told_by}
+use Rattle.qc_promise.specs.Accounting.{with_current, with_read}
+use Rattle.qc_promise.specs.Asked.{is_asked_for}
+use Rattle.laws_due.specs.Ties.{Ties, rests, reads, appends, votes}
+use Rattle.laws_due.specs.Told.{AreBegun, IsBegun}
+use Rattle.laws_guarantees.specs.Elsewhere.{name_of}
+
+-- a change of the begun transaction that keeps its name
+named_with : (d : Account) (change : Current → Current) → ((t : Current) → (change t).tx ≡ t.tx)
+    → name_of (with_current d change) ≡ name_of d
+named_with d change same = by d.current
+  where
+    by : (o : Option Current) → option_map (λ (t : Current). t.tx) (option_map change o) ≡ option_map
+        (λ (t : Current). t.tx) o
+    by None = refl
+    by (Some t) = ap (λ (x : TxId). Some x) (same t)
+
+granted_named : (d : Account) (site life clock : ℕ) (log : List Line) (want : Want)
+    → name_of (granted d site life clock log want) ≡ name_of d
+granted_named d site life clock log (wants.Read object inv) =
+    named_with (record d { clock = max d.clock clock }) (λ (t : Current). with_read (lived t site life) object log)
+    (λ t. refl)
+granted_named d site life clock log (wants.Append object view own) =
+    named_with (record d { clock = max d.clock clock }) (λ (t : Current). lived t site life) (λ t. refl)
+granted_named d site life clock log wants.Prepare = refl
+
+promised_named : (d : Account) (clock : ℕ) (want : Want) → name_of (promised d clock want) ≡ name_of d
+promised_named d clock (wants.Read object inv) = refl
+promised_named d clock (wants.Append object view own) = refl
+promised_named d clock wants.Prepare = refl
+
+told_named : (d : Account) (q : ClientRequest) (answer : Option Answer) → name_of (told_by d q answer) ≡ name_of d
+told_named d q None = refl
+told_named d q (Some (answers.Granted life clock log)) = granted_named d q.site life clock log q.want
+told_named d q (Some (answers.Clash holder inv event)) = refl
+told_named d q (Some (answers.Closed epoch)) = refl
+told_named d q (Some (answers.Behind epoch)) = refl
+told_named d q (Some (answers.Restarted life)) = refl
+told_named d q (Some answers.Stale) = refl
+told_named d q (Some answers.Fault) = refl
+told_named d q (Some (answers.Yes clock)) = promised_named d clock q.want
+told_named d q (Some (answers.Shut clock log prepared)) = refl
+told_named d q (Some answers.Installed) = refl
+told_named d q (Some (answers.Answered verdict)) = refl
+
+counted_named : (d : Account) (number : ℕ) (answer : Option Answer) → name_of (counted d number answer) ≡ name_of d
+counted_named d number answer = by (find (is_open number) d.requests)
+  where
+    by : (o : Option ClientRequest) → name_of (counted_for d number answer o) ≡ name_of d
+    by None = refl
+    by (Some q) = told_named (record d { requests = taken_for number answer d.requests }) q answer
+
+heard_named : (d : Account) (m : Message) → name_of (account_heard d m) ≡ name_of d
+heard_named d (messages.Request tx epoch life want) = refl
+heard_named d (messages.Answer to answer) = counted_named d to (Some answer)
+heard_named d (messages.Decision tx verdict) = refl
+heard_named d (messages.Inquiry tx) = refl
+heard_named d (messages.Ask tx) = refl
+heard_named d (messages.Close epoch) = refl
+heard_named d (messages.Install epoch clock log) = refl
+
+pub taken_named : (d : Account) (g : Input) → name_of (account_taken d g) ≡ name_of d
+taken_named d (inputs.Called command) = refl
+taken_named d (inputs.Got e) = heard_named d e.message
+taken_named d (inputs.Lost number) = counted_named d number None
+
+-- what is written and sent leaves the begun transaction and the running command as they are
+
+pub record Stays (d e : Account) : Type 0 where
+  pub current : e.current ≡ d.current
+  pub command : e.command ≡ d.command
+
+stayed : (d : Account) → Stays d d
+stayed d = record { current = refl; command = refl }
+
+pub stays_on : (d e f : Account) → Stays d e → Stays e f → Stays d f
+stays_on d e f first second = record {
+  current = second.current ∙ first.current;
+  command = second.command
+      ∙ first.command;
+}
+
+written_stays : (d : Account) (w : Record) → Stays d (account_written d w)
+written_stays d records.Life = record { current = refl; command = refl }
+written_stays d (records.Prepare prepared) = stayed d
+written_stays d (records.Done tx clock) = stayed d
+written_stays d (records.Close epoch) = stayed d
+written_stays d (records.Install epoch clock lines) = stayed d
+written_stays d (records.Commit commit) = record { current = refl; command = refl }
+written_stays d (records.Decide epoch clock lines) = stayed d
+
+sent_stays : (decl : Declaration) (d : Account) (number to : ℕ) (m : Message)
+    → Stays d (account_sent decl d number to m)
+sent_stays decl d number to (messages.Request tx epoch life want) = by (is_asked_for decl d to tx epoch life want)
+  where
+    by : (t : Bool) → Stays d (if t then record d
+        { requests = d.requests ++ record { number = number; site = to; life = life; want = want; taken = None } ∷ [] }
+        else d)
+    by true = record { current = refl; command = refl }
+    by false = stayed d
+sent_stays decl d number to (messages.Answer request answer) = stayed d
+sent_stays decl d number to (messages.Decision tx verdict) = stayed d
+sent_stays decl d number to (messages.Inquiry tx) = stayed d
+sent_stays decl d number to (messages.Ask tx) = stayed d
+sent_stays decl d number to (messages.Close epoch) = stayed d
+sent_stays decl d number to (messages.Install epoch clock log) = stayed d
+
+pub writes_stay : (decl : Declaration) (d : Account) (write : Option Record)
+    → Stays d (fold (account_at decl) d (writes_of write))
+writes_stay decl d None = stayed d
+writes_stay decl d (Some w) = written_stays d w
+
+pub sends_stay : (decl : Declaration) (d : Account) (n : ℕ) (ps : List Posting)
+    → Stays d (fold (account_at decl) d (sends_of n ps))
+sends_stay decl d n [] = stayed d
+sends_stay decl d n (p ∷ ps) =
+    stays_on d (account_sent decl d n p.to p.message)
+    (fold (account_at decl) (account_sent decl d n p.to p.message) (sends_of (n + 1) ps))
+    (sent_stays decl d n p.to p.message)
+    (sends_stay decl (account_sent decl d n p.to p.message) (n + 1) ps)
+
+-- a turn that tells nothing
+pub untold_stays : (decl : Declaration) (d : Account) (n : ℕ) (turn : Turn) → turn.told ≡ None
+    → Stays d (fold (account_at decl) d (turn_deeds n turn))
+untold_stays decl d n turn none =
+    subst (λ (o : Option Reply). Stays d (fold (account_at decl) d
+    (writes_of turn.write ++ (sends_of n turn.sends ++ tells_of o)))) (sym none)
+    (subst (Stays d) (sym (fold-append (account_at decl) d (writes_of turn.write) (sends_of n turn.sends ++ [])
+    ∙ fold-append (account_at decl) (fold (account_at decl) d (writes_of turn.write)) (sends_of n turn.sends) []))
+    (stays_on d (fold (account_at decl) d (writes_of turn.write))
+    (fold (account_at decl) (fold (account_at decl) d (writes_of turn.write)) (sends_of n turn.sends))
+    (writes_stay decl d turn.write)
+    (sends_stay decl (fold (account_at decl) d (writes_of turn.write)) n turn.sends)))
+
+pub stays_named : (d e : Account) → Stays d e → name_of e ≡ name_of d
+stays_named d e s = ap (λ (o : Option Current). option_map (λ (t : Current). t.tx) o) s.current
+
+-- the name is that of the client's transaction
+
+abbrev pub front_name : Option Transaction → Option TxId
+front_name o = option_map (λ (x : Transaction). x.begun.tx) o
+
+begun_named : (t : Current) (x : Transaction) → IsBegun t x → t.tx ≡ x.begun.tx
+begun_named t x b = ap (λ (y : Transaction). y.begun.tx) (sym b.is)
+
+are_named : (o : Option Current) (p : Option Transaction) → AreBegun o p
+    → option_map (λ (t : Current). t.tx) o ≡ front_name p
+are_named None None b = refl
+are_named None (Some x) b = absurd b
+are_named (Some t) None b = absurd b
+are_named (Some t) (Some x) b = ap (λ (y : TxId). Some y) (begun_named t x b)
+
+some_named : (d : Account) (c : Client) (t : Current) (x : Transaction) → d.current ≡ Some t
+    → c.front.transaction ≡ Some x → IsBegun t x → name_of d ≡ front_name c.front.transaction
+some_named d c t x current front b =
+    ap (λ (o : Option Current). option_map (λ (t : Current). t.tx) o) current
+    ∙ ap (λ (y : TxId). Some y) (begun_named t x b) ∙ ap front_name (sym front)
+
+pub tied_named : (decl : Declaration) (d : Account) (c : Client) → Ties decl d c
+    → name_of d ≡ front_name c.front.transaction
+tied_named decl d c (rests r) = are_named d.current c.front.transaction r.begun
+tied_named decl d c (reads r) = some_named d c r.t r.x r.runs.current
+    (ap (λ (f : Front). f.transaction) r.front) r.begun
+tied_named decl d c (appends r) = some_named d c r.t r.x r.runs.current
+    (ap (λ (f : Front). f.transaction) r.front) r.begun
+tied_named decl d c (votes r) = some_named d c r.t r.x r.current (ap (λ (f : Front). f.transaction) r.front) r.begun

@@ -1,0 +1,116 @@
+-- Each request that is due names what a command named, and each Append that is due has own lines.
+use Rattle.std.proofs.Common.{◌≡◌, ◌<◌, ◌==◌, ◌&&◌, ℕ, true, false, List, [], ◌∷◌, ◌++◌, inl, inr, length, Option, Some}
+use Rattle.std.proofs.Common.{None, refl, sym, ap, subst, arith, eqb-true}
+use Rattle.std.specs.Prelude.{fold, filter}
+use Rattle.std.specs.Cmp.Lexicographic.{pointwise}
+use Rattle.std.specs.Option.{option_map_or}
+use Rattle.qc_stamp.specs.declared.stamp.TxId.{TxId}
+use Rattle.qc_list.specs.Members.{In}
+use Rattle.qc_list.proofs.Members.{In-first}
+use Rattle.qc_entry.specs.declared.line.Line.{Line}
+use Rattle.qc_entry.specs.declared.line.OwnLine.{OwnLine}
+use Rattle.qc_decl.specs.declared.declaration.Declaration.{Declaration}
+use Rattle.qc_msg.specs.declared.message.Message.TheVariants as messages
+use Rattle.qc_msg.specs.declared.message.Want.{Want}
+use Rattle.qc_msg.specs.declared.message.Want.TheVariants.{Read, Append, Prepare}
+use Rattle.qc_msg.specs.declared.step.Command.{Command}
+use Rattle.qc_msg.specs.declared.step.Command.TheVariants as commands
+use Rattle.qc_msg.specs.declared.step.Input.TheVariants as inputs
+use Rattle.qc_msg.specs.Deeds.{Deed, Takes, Sends}
+use Rattle.qc_promise.specs.Account.{Account, Current, new_account}
+use Rattle.qc_promise.specs.Accounting.{account_at}
+use Rattle.qc_promise.specs.Asked.{carries, command_asks, is_asked_for, is_of, own_appended, same_line, same_own}
+use Rattle.qc_promise.specs.Asked.{weighs}
+use Rattle.qc_promise.specs.Rounds.{answer_of, next_own}
+use Rattle.laws_due.specs.ByRows.{AreByRows, IsByRow}
+use Rattle.laws_refinement.specs.Net.{IsNamed}
+use Rattle.laws_guarantees.proofs.Accounts.{HasGrounds, and_first, and_second}
+use Rattle.laws_guarantees.proofs.Grounds.{has_grounds}
+use Rattle.laws_guarantees.proofs.Room.{IsNamedWant}
+use Rattle.laws_guarantees.proofs.SiteMoves.{IsFull}
+
+-- a deed among others stands behind some of them
+pub record IsBehind {A : Type 0} (x : A) (xs : List A) : Type 0 where
+  pub before : List A
+  pub after : List A
+  pub is : xs ≡ before ++ x ∷ after
+
+pub behind : {A : Type 0} (x : A) (xs : List A) → In x xs → IsBehind x xs
+behind x [] among = absurd among
+behind x (y ∷ ys) (inl same) = record { before = []; after = ys; is = ap (λ (z : _). z ∷ ys) (sym same) }
+behind x (y ∷ ys) (inr there) = let b : IsBehind x ys = behind x ys there in
+    record { before = y ∷ b.before; after = b.after; is = ap (λ (zs : List _). y ∷ zs) b.is }
+
+module _ (decl : Declaration) where
+  pub due_at : (before : List Deed) (x : Deed) (after : List Deed) (d : Account)
+      → AreByRows decl d (before ++ x ∷ after) → IsByRow decl (fold (account_at decl) d before) x
+  due_at [] x after d due = due.0
+  due_at (y ∷ ys) x after d due = due_at ys x after (account_at decl d y) due.1
+
+  -- an Append that carries what it has to has the new own line
+  carried_full : (d : Account) (t : Current) (object : ℕ) (view : List Line) (own : List OwnLine) (o : Option ℕ)
+      → carries decl t object view own o ≡ true → 0 < length own
+  carried_full d t object view own None is = absurd (let never : ⊥ = cc in never)
+  carried_full d t object view [] (Some event) is =
+      absurd (none (filter (weighs decl t.epoch object) t.own)
+      (and_second (pointwise same_line view _) (pointwise same_own [] (own_appended decl t object event)) is))
+    where
+      none : (xs : List OwnLine) → pointwise same_own [] (xs ++ next_own t object event ∷ []) ≡ true → ⊥
+      none [] is = let never : ⊥ = cc in never
+      none (x ∷ xs) is = let never : ⊥ = cc in never
+  carried_full d t object view (o ∷ os) (Some event) is = omega arith
+
+  -- what the command asks for is named, and has own lines
+  asks_right : (d : Account) (t : Current) (site : ℕ) (want : Want) (o : Option Command)
+      → ((c : Command) → o ≡ Some c → IsNamed decl c) → command_asks decl d t site want o ≡ true
+      → IsNamedWant decl want × IsFull want
+  asks_right d t site want None named is = absurd (let never : ⊥ = cc in never)
+  asks_right d t site want (Some commands.Begin) named is = absurd (let never : ⊥ = cc in never)
+  asks_right d t site (Read o i) (Some (commands.Do object inv)) named is =
+      let both : ((o == object) && (i == inv)) ≡ true = and_first ((o == object) && (i == inv)) _ is in
+      let same : o ≡ object = eqb-true o object (and_first (o == object) (i == inv) both) in
+      let kin : i ≡ inv = eqb-true i inv (and_second (o == object) (i == inv) both) in (
+        subst (λ (x : ℕ). IsNamedWant decl (Read x i)) (sym same)
+            (subst (λ (x : ℕ). IsNamedWant decl (Read object x)) (sym kin) (named (commands.Do object inv) refl)),
+        tt,
+      )
+  asks_right d t site (Append o view own) (Some (commands.Do object inv)) named is = (
+    tt,
+    carried_full d t object view own (answer_of decl t object inv)
+        (and_second (o == object) (carries decl t object view own (answer_of decl t object inv))
+        (and_first ((o == object) && carries decl t object view own (answer_of decl t object inv)) _ is)),
+  )
+  asks_right d t site Prepare (Some (commands.Do object inv)) named is = absurd (let never : ⊥ = cc in never)
+  asks_right d t site (Read o i) (Some commands.Commit) named is = absurd (let never : ⊥ = cc in never)
+  asks_right d t site (Append o view own) (Some commands.Commit) named is = absurd (let never : ⊥ = cc in never)
+  asks_right d t site Prepare (Some commands.Commit) named is = (tt, tt)
+  asks_right d t site want (Some commands.Abort) named is = absurd (let never : ⊥ = cc in never)
+  asks_right d t site want (Some (commands.Epoch number)) named is = absurd (let never : ⊥ = cc in never)
+
+  asked_right : (d : Account) (site : ℕ) (tx : TxId) (epoch life : ℕ) (want : Want)
+      → ((c : Command) → d.command ≡ Some c → IsNamed decl c) → is_asked_for decl d site tx epoch life want ≡ true
+      → IsNamedWant decl want × IsFull want
+  asked_right d site tx epoch life want named is = by d.current is
+    where
+      by : (o : Option Current) → option_map_or
+          (λ (t : Current). is_of t site tx epoch life && command_asks decl d t site want d.command) o false ≡ true
+          → IsNamedWant decl want × IsFull want
+      by None is = absurd (let never : ⊥ = cc in never)
+      by (Some t) is = asks_right d t site want d.command named
+          (and_second (is_of t site tx epoch life) (command_asks decl d t site want d.command) is)
+
+  pub request_right : (client : ℕ) (ds : List Deed) (n to : ℕ) (tx : TxId) (epoch life : ℕ) (want : Want)
+      → AreByRows decl (new_account client) ds → ((c : Command) → In (Takes (inputs.Called c)) ds → IsNamed decl c)
+      → In (Sends n to (messages.Request tx epoch life want)) ds → IsNamedWant decl want × IsFull want
+  request_right client ds n to tx epoch life want due called among =
+      let b : IsBehind (Sends n to (messages.Request tx epoch life want)) ds =
+      behind (Sends n to (messages.Request tx epoch life want)) ds among in
+      let here : is_asked_for decl (fold (account_at decl) (new_account client) b.before) to tx epoch life want ≡ true =
+      due_at b.before (Sends n to (messages.Request tx epoch life want)) b.after (new_account client)
+      (subst (AreByRows decl (new_account client)) b.is due) in
+      let g : HasGrounds b.before (fold (account_at decl) (new_account client) b.before) =
+      has_grounds decl client b.before in
+      asked_right (fold (account_at decl) (new_account client) b.before) to tx epoch life want
+      (λ c is. called c (subst (λ (v : List Deed). In (Takes (inputs.Called c)) v) (sym b.is)
+      (In-first (Takes (inputs.Called c)) b.before (Sends n to (messages.Request tx epoch life want) ∷ b.after)
+      (g.called c is)))) here

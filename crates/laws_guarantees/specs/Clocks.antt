@@ -1,0 +1,52 @@
+-- Which clocks a client has counted: those of the grants and promises that were the first thing it took for a request.
+use Rattle.std.specs.Prelude.{◌≡◌, ℕ, List, ◌∷◌, ◌++◌, fold, Some}
+use Rattle.std.specs.List.{find}
+use Rattle.qc_decl.specs.declared.declaration.Declaration.{Declaration}
+use Rattle.qc_msg.specs.declared.message.Answer.{Answer as AnswerKind}
+use Rattle.qc_msg.specs.declared.message.Answer.TheVariants as answers
+use Rattle.qc_msg.specs.declared.message.Envelope.{Envelope}
+use Rattle.qc_msg.specs.declared.message.Message.TheVariants.{Answer}
+use Rattle.qc_msg.specs.declared.message.Want.{Want}
+use Rattle.qc_msg.specs.declared.message.Want.TheVariants.{Read, Append, Prepare}
+use Rattle.qc_msg.specs.declared.step.Input.TheVariants.{Got}
+use Rattle.qc_msg.specs.Deeds.{Deed, Takes}
+use Rattle.qc_promise.specs.Account.{ClientRequest, new_account}
+use Rattle.qc_promise.specs.Accounting.{account_at, is_open}
+
+-- a grant of a Read or an Append, or a promise, tells this clock
+
+abbrev pub GrantTells : ℕ → ℕ → Want → Type 0
+GrantTells clock told (Read object inv) = told ≡ clock
+GrantTells clock told (Append object view own) = told ≡ clock
+GrantTells clock told Prepare = ⊥
+
+abbrev pub PromiseTells : ℕ → ℕ → Want → Type 0
+PromiseTells clock told (Read object inv) = ⊥
+PromiseTells clock told (Append object view own) = ⊥
+PromiseTells clock told Prepare = told ≡ clock
+
+abbrev pub Tells : ℕ → Want → AnswerKind → Type 0
+Tells clock want (answers.Granted life told log) = GrantTells clock told want
+Tells clock want (answers.Clash holder inv event) = ⊥
+Tells clock want (answers.Closed epoch) = ⊥
+Tells clock want (answers.Behind epoch) = ⊥
+Tells clock want (answers.Restarted life) = ⊥
+Tells clock want answers.Stale = ⊥
+Tells clock want answers.Fault = ⊥
+Tells clock want (answers.Yes told) = PromiseTells clock told want
+Tells clock want (answers.Shut told log prepared) = ⊥
+Tells clock want answers.Installed = ⊥
+Tells clock want (answers.Answered verdict) = ⊥
+
+-- among the deeds of this client it took an answer with this clock, for a request that was open then
+pub record IsCounted (decl : Declaration) (client : ℕ) (ds : List Deed) (clock : ℕ) : Type 0 where
+  pub before : List Deed
+  pub after : List Deed
+  pub envelope : Envelope
+  pub taken : ds ≡ before ++ Takes (Got envelope) ∷ after
+  pub number : ℕ
+  pub answer : AnswerKind
+  pub answers_it : envelope.message ≡ Answer number answer
+  pub request : ClientRequest
+  pub counts : find (is_open number) (fold (account_at decl) (new_account client) before).requests ≡ Some request
+  pub tells : Tells clock request.want answer

@@ -1,0 +1,38 @@
+-- What messages to a site leave open there: a transaction that asked it to hold something, and whose end it wasn't told
+-- since.
+use Rattle.std.specs.Prelude.{ℕ, ◌&&◌, Bool, true, false, if◌then◌else◌, List, fold}
+use Rattle.qc_msg.specs.declared.message.Envelope.{Envelope}
+use Rattle.qc_msg.specs.declared.message.Message.{Message}
+use Rattle.qc_msg.specs.declared.message.Message.TheVariants as messages
+use Rattle.qc_msg.specs.declared.message.Want.{Want}
+use Rattle.qc_msg.specs.declared.message.Want.TheVariants.{Append, Prepare, Read}
+use Rattle.qc_promise.specs.SiteEnds.{is_final}
+use Rattle.qc_stamp.specs.Order.{same_tx}
+use Rattle.qc_stamp.specs.declared.stamp.TxId.{TxId}
+use Rattle.laws_guarantees.specs.Arrives.{sent_to}
+
+-- what is granted to a Read or an Append is held; a Prepare asks for nothing more
+abbrev pub asks_to_hold : Want → Bool
+asks_to_hold (Read object inv) = true
+asks_to_hold (Append object view own) = true
+asks_to_hold Prepare = false
+
+-- whether the transaction is open after one message more
+abbrev pub open_said : TxId → Bool → Message → Bool
+open_said tx before (messages.Request other epoch life want) =
+    if same_tx other tx && asks_to_hold want then true else before
+open_said tx before (messages.Answer to answer) = before
+open_said tx before (messages.Decision other verdict) =
+    if same_tx other tx && is_final verdict then false else before
+open_said tx before (messages.Inquiry other) = before
+open_said tx before (messages.Ask other) = before
+open_said tx before (messages.Close epoch) = before
+open_said tx before (messages.Install epoch clock log) = before
+
+-- whether it is open after these messages, in order
+abbrev pub is_open : TxId → List Envelope → Bool
+is_open tx ms = fold (λ (before : Bool) (e : Envelope). open_said tx before e.message) false ms
+
+-- whether it is open at a site, after all that was sent to it
+abbrev pub is_open_at : ℕ → TxId → List Envelope → Bool
+is_open_at site tx ms = is_open tx (sent_to site ms)

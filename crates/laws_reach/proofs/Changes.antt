@@ -1,0 +1,243 @@
+-- What an input changes of a client, as far as its transactions' statuses go.
+use Rattle.std.proofs.Common.{◌≡◌, ℕ, ◌⊎◌, inl, inr, Bool, true, false, cond, List, [], ◌∷◌, ◌++◌, Option, Some, None}
+use Rattle.std.proofs.Common.{is_some, refl, sym, ap, ◌∙◌, subst}
+use Rattle.qc_stamp.specs.declared.stamp.TxId.{TxId}
+use Rattle.qc_decl.specs.declared.declaration.Declaration.{Declaration}
+use Rattle.qc_entry.specs.declared.record.Commit.{Commit}
+use Rattle.qc_msg.specs.declared.begun.Begun.{Begun as BegunTransaction}
+use Rattle.qc_msg.specs.declared.message.Answer.{Answer}
+use Rattle.qc_msg.specs.declared.message.Message.{Message}
+use Rattle.qc_msg.specs.declared.message.Message.TheVariants as messages
+use Rattle.qc_msg.specs.declared.message.Want.TheVariants.{Append, Prepare, Read}
+use Rattle.qc_msg.specs.declared.record.Record.TheVariants as records
+use Rattle.qc_msg.specs.declared.reply.Reply.{Reply}
+use Rattle.qc_msg.specs.declared.reply.Reply.TheVariants as replies
+use Rattle.qc_msg.specs.declared.step.Command.{Command}
+use Rattle.qc_msg.specs.declared.step.Command.TheVariants as commands
+use Rattle.qc_msg.specs.declared.step.Input.{Input}
+use Rattle.qc_msg.specs.declared.step.Input.TheVariants as inputs
+use Rattle.qc_msg.specs.declared.turn.Turn.{Turn}
+use Rattle.qc_msg.specs.Deeds.{Deed, Takes, Writes, Sends, Tells, Falls, Rises}
+use Rattle.std.specs.List.{AllByRecursion as Every}
+use Rattle.laws_turns.proofs.ClientsWithin.{IsPost}
+use Rattle.qc_commit.specs.declared.desk.Voting.{Voting}
+use Rattle.qc_commit.specs.Conduct as desks
+use Rattle.qc_commit.specs.Conduct.{commit_of}
+use Rattle.qc_commit.specs.Desk.{DeskMove}
+use Rattle.qc_front.specs.declared.transaction.Transaction.{Transaction}
+use Rattle.qc_front.specs.Conduct as fronts
+use Rattle.qc_front.specs.Front.{FrontMove, ended, next_tx}
+use Rattle.qc_client.specs.declared.client.Client.{Client}
+use Rattle.qc_client.specs.Client.{ClientMove, by_desk, by_front, moved}
+use Rattle.qc_client.specs.Conduct.{answered, answered_by, called, client_does, client_takes, commits, heard, sent_one}
+use Rattle.laws_turns.proofs.Dealing.{IsAbort}
+use Rattle.laws_turns.proofs.HandMoves.{IsHandMove, prepare-it, vote-it}
+use Rattle.laws_turns.proofs.FrontKinds.{FrontKind, IsRequestFor, ToldNeutral, called-kind, takes-kind}
+use Rattle.laws_turns.proofs.RightTurns.{IsNoInquiry, NoInquiries}
+use Rattle.qc_list.proofs.Members.{every-weaker}
+use Rattle.qc_msg.specs.declared.message.Outcome.{Outcome}
+use Rattle.qc_msg.specs.declared.message.Outcome.TheVariants as outcomes
+use Rattle.qc_msg.specs.declared.turn.Posting.{Posting}
+use Rattle.qc_msg.specs.Begun.{decisions}
+use Rattle.std.specs.Prelude.{fold, map}
+use Rattle.laws_turns.proofs.StatusActs.{page_of}
+use Rattle.laws_turns.proofs.Statuses.{Page}
+
+pub record WritesOne (p q : Page) (turn : Turn) : Type 0 where
+  pub commit : Commit
+  pub write : turn.write ≡ Some (records.Commit commit)
+  pub commits : q.commits ≡ p.commits ++ commit ∷ []
+
+pub record WritesNone (p q : Page) (turn : Turn) : Type 0 where
+  pub write : turn.write ≡ None
+  pub commits : q.commits ≡ p.commits
+
+pub record Changes (p q : Page) (turn : Turn) : Type 0 where
+  pub client : q.client ≡ p.client
+  pub life : q.life ≡ p.life
+  pub written : WritesNone p q turn ⊎ WritesOne p q turn
+  pub begins : (x : TxId) → turn.told ≡ Some (replies.Began x) → x.life ≡ p.life
+  pub asks : NoInquiries turn.sends
+
+-- a client's requests and verdicts ask nobody how a transaction stands
+
+request_asks : (name : Option TxId) (m : Message) → IsRequestFor name m → IsNoInquiry m
+request_asks name (messages.Request other epoch life want) is = tt
+request_asks name (messages.Answer to answer) never = absurd never
+request_asks name (messages.Decision other verdict) never = absurd never
+request_asks name (messages.Inquiry other) never = absurd never
+request_asks name (messages.Ask other) never = absurd never
+request_asks name (messages.Close epoch) never = absurd never
+request_asks name (messages.Install epoch clock log) never = absurd never
+
+requests_ask : (name : Option TxId) (ps : List Posting) → Every (λ (p : Posting). IsRequestFor name p.message) ps
+    → NoInquiries ps
+requests_ask name ps all = every-weaker (λ (p : Posting). IsRequestFor name p.message)
+    (λ (p : Posting). IsNoInquiry p.message) (λ p. request_asks name p.message) ps all
+
+verdicts_ask : (b : BegunTransaction) (v : Outcome) → NoInquiries (decisions b v)
+verdicts_ask b v = over b.asked where
+  over : (sites : List ℕ) → NoInquiries (map
+      (λ (site : ℕ). record { to = site; message = messages.Decision b.tx v }) sites)
+  over [] = tt
+  over (site ∷ sites) = (tt, over sites)
+
+-- none begins by a reply that ends one or none
+
+neutral_begins : (name : Option TxId) (o : Option Reply) (x : TxId) → ToldNeutral name o → o ≡ Some (replies.Began x)
+    → ⊥
+neutral_begins name o x told is = subst (ToldNeutral name) is told
+
+abort_begins : (r : Reply) (x : TxId) → IsAbort r → Some r ≡ Some (replies.Began x) → ⊥
+abort_begins r x abort is = let same : r ≡ replies.Began x = cc in subst IsAbort same abort
+
+module _ (decl : Declaration) (c : Client) where
+  abbrev To : ClientMove → Type 0
+  To m = Changes (page_of c) (page_of m.client) m.turn
+
+  still : (turn : Turn) → turn.write ≡ None → turn.told ≡ None → NoInquiries turn.sends → To (moved c turn)
+  still turn unwritten untold asks = record {
+    asks = asks;
+    client = refl;
+    life = refl;
+    written = inl (record { write = unwritten; commits = refl });
+    begins = λ x is. absurd (let no : None ≡ Some (replies.Began x) = sym untold ∙ is in let never : ⊥ = cc in never);
+  }
+
+  front_to : (m : FrontMove) → FrontKind c.front m → To (by_front c m)
+  front_to m (inl g) = record {
+    client = g.counts.client;
+    life = g.counts.life;
+    written = inl (record { write = g.write; commits = refl });
+    begins = λ x is. absurd (neutral_begins _ m.turn.told x g.told is);
+    asks = requests_ask _ m.turn.sends g.sends;
+  }
+  front_to m (inr (inl b)) = record {
+    client = b.client;
+    life = b.life;
+    written = inl (record { write = ap (λ (t : Turn). t.write) b.turn; commits = refl });
+    begins = λ x is. (let same : Some (replies.Began (next_tx c.front)) ≡ Some (replies.Began x) =
+        sym (ap (λ (t : Turn). t.told) b.turn) ∙ is in
+        let one : next_tx c.front ≡ x = cc in sym (ap (λ (t : TxId). t.life) one));
+    asks = subst NoInquiries (sym (ap (λ (t : Turn). t.sends) b.turn)) tt;
+  }
+  front_to m (inr (inr g)) = record {
+    client = g.counts.client;
+    life = g.counts.life;
+    written = inl (record { write = g.write; commits = refl });
+    begins = λ x is. absurd (abort_begins g.reply x g.aborts (sym g.told ∙ is));
+    asks = subst NoInquiries (sym g.sends) (verdicts_ask g.begun outcomes.Aborted);
+  }
+
+  desk_to : (b : BegunTransaction) (m : DeskMove) → IsHandMove c.desk b m → To (by_desk c m)
+  desk_to b m (inl v) = subst (λ (o : Option Reply). Changes (page_of c)
+      (page_of (record {
+        front = cond (is_some o) (ended c.front m.desk.clock.value m.desk.epoch) c.front;
+        desk = m.desk;
+      })) m.turn) (sym v.told) (record {
+        client = refl;
+        life = refl;
+        written = inl (record { write = v.write; commits = v.commits });
+        begins = λ x is. absurd (let no : None ≡ Some (replies.Began x) = sym v.told ∙ is in let never : ⊥ = cc in never);
+        asks = requests_ask (Some b.tx) m.turn.sends v.sends;
+      })
+  desk_to b m (inr (inl r)) = subst (λ (o : Option Reply). Changes (page_of c)
+      (page_of (record {
+        front = cond (is_some o) (ended c.front m.desk.clock.value m.desk.epoch) c.front;
+        desk = m.desk;
+      })) m.turn) (sym (ap (λ (t : Turn). t.told) r.turn)) (record {
+        client = refl;
+        life = refl;
+        written = inr (record {
+          commit = commit_of r.stamp b;
+          write = ap (λ (t : Turn). t.write) r.turn;
+          commits = r.commits;
+        });
+        asks = subst NoInquiries (sym (ap (λ (t : Turn). t.sends) r.turn)) (verdicts_ask b (outcomes.Committed r.stamp));
+        begins = λ x is. absurd (let no : Some (replies.Committed r.stamp) ≡ Some (replies.Began x) =
+            sym (ap (λ (t : Turn). t.told) r.turn) ∙ is in let never : ⊥ = cc in never);
+      })
+  desk_to b m (inr (inr a)) = subst (λ (o : Option Reply). Changes (page_of c)
+      (page_of (record {
+        front = cond (is_some o) (ended c.front m.desk.clock.value m.desk.epoch) c.front;
+        desk = m.desk;
+      })) m.turn) (sym (ap (λ (t : Turn). t.told) a.turn)) (record {
+        client = refl;
+        life = refl;
+        written = inl (record { write = ap (λ (t : Turn). t.write) a.turn; commits = a.commits });
+        asks = subst NoInquiries (sym (ap (λ (t : Turn). t.sends) a.turn)) (verdicts_ask b outcomes.Aborted);
+        begins = λ x is. absurd (let no : Some (replies.Aborted a.why) ≡ Some (replies.Began x) =
+            sym (ap (λ (t : Turn). t.told) a.turn) ∙ is in let never : ⊥ = cc in never);
+      })
+
+  fronted : (command : Command) → To (by_front c (fronts.called decl c.front command))
+  fronted command = front_to (fronts.called decl c.front command) (called-kind decl c.front command)
+
+  committing : (o : Option Transaction) → To (commits decl c o)
+  committing None = fronted commands.Commit
+  committing (Some t) = by t.begun.doomed where
+    by : (dead : Bool) → To (cond dead (by_front c (fronts.called decl c.front commands.Commit))
+        (by_desk c (desks.prepare decl c.desk t.begun c.front.clock.value)))
+    by true = fronted commands.Commit
+    by false = desk_to t.begun (desks.prepare decl c.desk t.begun c.front.clock.value)
+        (prepare-it decl c.desk t.begun c.front.clock.value)
+
+  calls : (command : Command) → To (called decl c command)
+  calls commands.Begin = fronted commands.Begin
+  calls (commands.Do object inv) = fronted (commands.Do object inv)
+  calls commands.Commit = committing c.front.transaction
+  calls commands.Abort = fronted commands.Abort
+  calls (commands.Epoch number) = fronted (commands.Epoch number)
+
+  comes : (number : ℕ) (answer : Option Answer) → To (answered decl c number answer)
+  comes number answer = by c.desk.voting refl where
+    by : (o : Option Voting) → c.desk.voting ≡ o → To (answered_by decl c o number answer)
+    by None is = front_to (fronts.takes decl c.front number answer) (takes-kind decl c.front number answer)
+    by (Some v) is = desk_to v.begun (desks.vote c.desk number answer) (vote-it c.desk v number answer is)
+
+  hears : (from number : ℕ) (message : Message) → To (heard decl c from number message)
+  hears from number (messages.Request other epoch life want) =
+      still (heard decl c from number (messages.Request other epoch life want)).turn refl refl tt
+  hears from number (messages.Answer to answer) = comes to (Some answer)
+  hears from number (messages.Decision other verdict) =
+      still (heard decl c from number (messages.Decision other verdict)).turn refl refl tt
+  hears from number (messages.Inquiry other) =
+      still (heard decl c from number (messages.Inquiry other)).turn refl refl (tt, tt)
+  hears from number (messages.Ask other) = still (heard decl c from number (messages.Ask other)).turn refl refl (tt, tt)
+  hears from number (messages.Close epoch) = still (heard decl c from number (messages.Close epoch)).turn refl refl tt
+  hears from number (messages.Install epoch clock log) =
+      still (heard decl c from number (messages.Install epoch clock log)).turn refl refl tt
+
+  pub input_changes : (g : Input) → Changes (page_of c) (page_of (client_takes decl c g).client)
+      (client_takes decl c g).turn
+  input_changes (inputs.Called command) = calls command
+  input_changes (inputs.Got e) = hears e.from e.number e.message
+  input_changes (inputs.Lost number) = comes number None
+
+-- the numbers of its messages change nothing of it
+
+page_one : (c : Client) (number to : ℕ) (message : Message) → page_of (sent_one c number to message) ≡ page_of c
+page_one c number to (messages.Request other epoch life (Read object inv)) = refl
+page_one c number to (messages.Request other epoch life (Append object view own)) = refl
+page_one c number to (messages.Request other epoch life Prepare) = by c.desk.voting where
+  by : (o : Option Voting) → page_of (record c { desk = desks.prepared_in c.desk o number to }) ≡ page_of c
+  by None = refl
+  by (Some v) = refl
+page_one c number to (messages.Answer other answer) = refl
+page_one c number to (messages.Decision other verdict) = refl
+page_one c number to (messages.Inquiry other) = refl
+page_one c number to (messages.Ask other) = refl
+page_one c number to (messages.Close epoch) = refl
+page_one c number to (messages.Install epoch clock log) = refl
+
+pub page_posts : (decl : Declaration) (m : ClientMove) (ds : List Deed) → Every IsPost ds
+    → page_of (fold (client_does decl) m ds).client ≡ page_of m.client
+page_posts decl m [] all = refl
+page_posts decl m (Takes g ∷ ds) all = absurd all.0
+page_posts decl m (Writes written ∷ ds) all = page_posts decl m ds all.1
+page_posts decl m (Sends number to message ∷ ds) all =
+    page_posts decl (record m { client = sent_one m.client number to message }) ds all.1
+    ∙ page_one m.client number to message
+page_posts decl m (Tells reply ∷ ds) all = page_posts decl m ds all.1
+page_posts decl m (Falls cause pending ∷ ds) all = page_posts decl m ds all.1
+page_posts decl m (Rises records ∷ ds) all = page_posts decl m ds all.1

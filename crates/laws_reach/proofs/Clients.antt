@@ -1,0 +1,101 @@
+-- What each client of a run with falls has done: by turns, due, given back, and told.
+use Rattle.std.proofs.Common.{◌≡◌, ◌<◌, ◌≤◌, ℕ, ◌+◌, ◌-◌, nat_le, nat_lt, Bool, true, false, List, [], Some, slice_get}
+use Rattle.std.proofs.Common.{refl, sym, subst, le-leb, lt-ltb, arith}
+use Rattle.laws_due.specs.Declares.{Declares}
+use Rattle.laws_due.proofs.Commands.{no_site}
+use Rattle.laws_due.proofs.AccountDeclared.{asks_declared}
+use Rattle.qc_core.specs.Conduct.{IsLawfulWithFalls}
+use Rattle.laws_reach.specs.Ends.{AreCommitsTold}
+use Rattle.qc_decl.specs.Accepted.{IsAccepted}
+use Rattle.qc_decl.proofs.Clients.{client_below, client_past}
+use Rattle.qc_decl.specs.Actors.{actors, administrator, client_actor, is_client}
+use Rattle.qc_decl.specs.declared.declaration.Declaration.{Declaration}
+use Rattle.laws_due.proofs.Declared.{run_declares}
+use Rattle.laws_due.proofs.KeptPlanned.{kept_due, kept_planned}
+use Rattle.laws_turns.specs.Asked.{AsksDeclared}
+use Rattle.laws_turns.proofs.Places.{slice_get-within}
+use Rattle.qc_link.specs.Limits.{most_actors}
+use Rattle.laws_turns.specs.LivesIn.{LivesIn}
+use Rattle.laws_turns.proofs.Lived.{run_lives, run_long}
+use Rattle.qc_msg.specs.declared.record.Record.{Record}
+use Rattle.qc_msg.specs.Deeds.{Deed, deeds}
+use Rattle.qc_msg.specs.Steps.{Entry}
+use Rattle.qc_promise.specs.Due.{Due}
+use Rattle.qc_promise.specs.Kept.{Kept, no_journal}
+use Rattle.qc_promise.specs.Replies.{AreRepliesDue}
+use Rattle.qc_promise.specs.Turns.{AreByTurns}
+use Rattle.qc_script.specs.RunsWithFalls.{RunsWithFalls}
+use Rattle.qc_script.specs.Sound.{IsScriptFor}
+use Rattle.qc_script.specs.declared.script.Script.{Script}
+use Rattle.qc_core.specs.GivenBack.{AreGivenBack}
+use Rattle.qc_core.proofs.KeptBack.{kept_given_back}
+use Rattle.laws_reach.proofs.Posts.{lives_told}
+
+-- the number of a client, and its actor
+
+pub client_is : (decl : Declaration) (n : ℕ) → n < decl.clients → is_client decl (client_actor decl n) ≡ true
+client_is decl n low =
+    let x : nat_le decl.sites (decl.sites + n) ≡ true = le-leb decl.sites (decl.sites + n) (omega arith) in
+    let y : nat_lt (decl.sites + n) (decl.sites + decl.clients) ≡ true =
+    lt-ltb (decl.sites + n) (decl.sites + decl.clients) (omega arith) in
+    rw (x, y) refl
+
+pub record IsNumbered (decl : Declaration) (a : ℕ) : Type 0 where
+  pub low : a - decl.sites < decl.clients
+  pub is : a ≡ client_actor decl (a - decl.sites)
+
+pub numbered : (decl : Declaration) (a : ℕ) → is_client decl a ≡ true → IsNumbered decl a
+numbered decl a client =
+    let above : decl.sites ≤ a = client_past decl a client in
+    let below : a < administrator decl = client_below decl a client in
+    record { low = omega arith; is = omega arith }
+
+-- the deeds of a client, as its laws want them
+pub record AreDone (decl : Declaration) (client : ℕ) (ds : List Deed) : Type 0 where
+  pub turns : AreByTurns false ds
+  pub replies : AreRepliesDue decl client ds
+  pub back : AreGivenBack no_journal ds
+  pub told : AreCommitsTold ds
+
+module _ (fits : ℕ → List Record → Type 0) (decl : Declaration) (script : Script) (h : List Entry)
+    (open_inputs : List Bool) (accepted : IsAccepted decl) (sound : IsScriptFor decl script)
+    (run : RunsWithFalls (IsLawfulWithFalls decl) fits decl script h open_inputs) (kept : Kept h) where
+  few : actors decl ≤ most_actors
+  few = let s = accepted.sites in let c = accepted.clients in omega arith
+
+  asks : AsksDeclared decl script
+  asks = asks_declared decl script accepted sound
+
+  due : Due decl h
+  due = kept_due decl script fits accepted asks few h open_inputs run kept
+
+  module _ (n : ℕ) (low : n < decl.clients) where
+    abbrev its : List Deed
+    its = deeds (client_actor decl n) [] h
+
+    within : client_actor decl n < actors decl
+    within = omega arith
+
+    commits_told : AreCommitsTold its
+    commits_told = on (slice_get-within open_inputs (client_actor decl n)
+        (subst (λ (k : ℕ). client_actor decl n < k) (sym (run_long decl script fits few h open_inputs run)) within))
+      where
+        declared : Declares decl its
+        declared = run_declares decl script fits accepted asks h open_inputs run
+            (kept_planned decl script fits accepted asks h open_inputs run kept) (client_actor decl n)
+
+        on : (t : Bool) × (slice_get open_inputs (client_actor decl n) ≡ Some t) → AreCommitsTold its
+        on place =
+            let lived : LivesIn decl (client_actor decl n) h place.0 =
+            run_lives decl script fits few h open_inputs run (client_actor decl n) place.0 place.1 in
+            lives_told decl (client_actor decl n) (client_is decl n low) declared.first its place.0 lived.above
+            lived.lives declared.deeds
+
+    pub all_done : AreDone decl n its
+    all_done = record {
+      turns = subst (λ (b : Bool). AreByTurns b its) (no_site decl (client_actor decl n) (client_is decl n low))
+          (due.turns (client_actor decl n) within);
+      replies = due.replies n low;
+      back = kept_given_back h kept (client_actor decl n);
+      told = commits_told;
+    }

@@ -1,0 +1,291 @@
+-- The places of a client, deed by deed: where it is down or has just risen, and where a record of its may be pending.
+use Rattle.std.proofs.Common.{◌≡◌, Bool, true, false, cond, List, ◌∷◌, Option, Some, None, is_some, refl, sym, subst}
+use Rattle.qc_entry.specs.declared.record.Commit.{Commit as CommitRecord}
+use Rattle.qc_msg.specs.declared.record.Record.{Record}
+use Rattle.qc_msg.specs.declared.record.Record.TheVariants.{Life, Prepare, Done, Close, Install, Commit, Decide}
+use Rattle.qc_msg.specs.declared.step.Fall.{Fall}
+use Rattle.qc_msg.specs.declared.step.Fall.TheVariants as causes
+use Rattle.qc_msg.specs.declared.step.Input.{Input}
+use Rattle.qc_msg.specs.Deeds.{Deed, Falls}
+use Rattle.qc_msg.specs.InputReadings.{command_in}
+use Rattle.qc_msg.specs.Readings.{is_life}
+use Rattle.qc_promise.specs.Posts.{pending_next}
+use Rattle.qc_promise.specs.Turns.{Place, Idle, Open, Rising, Sending, Written, Failing, Faulted, Fallen, Called}
+use Rattle.qc_promise.specs.Turns.{Saying, SaysDown, SaysUnwritten, SaysFault, SaysNeither, comes_at, falls_at}
+use Rattle.qc_promise.specs.Turns.{rises_at, sends_at, tells_at, writes_at}
+
+abbrev pub is_off : Place → Bool
+is_off Idle = false
+is_off Open = false
+is_off Rising = true
+is_off Sending = false
+is_off Written = false
+is_off Failing = false
+is_off Faulted = false
+is_off Fallen = true
+is_off Called = true
+
+abbrev pub is_failing : Place → Bool
+is_failing Idle = false
+is_failing Open = false
+is_failing Rising = false
+is_failing Sending = false
+is_failing Written = false
+is_failing Failing = true
+is_failing Faulted = true
+is_failing Fallen = false
+is_failing Called = false
+
+-- an input, or a message sent
+
+abbrev pub CameTo : Bool → Option Place → Type 0
+CameTo off None = Unit {0}
+CameTo off (Some q) = (is_off q ≡ off) × (is_failing q ≡ false)
+
+pub comes : (p : Place) (g : Input) → CameTo (is_off p) (comes_at p g)
+comes Idle g = (refl, refl)
+comes Open g = (refl, refl)
+comes Rising g = tt
+comes Sending g = (refl, refl)
+comes Written g = (refl, refl)
+comes Failing g = tt
+comes Faulted g = (refl, refl)
+comes Fallen g = by (is_some (command_in g))
+  where
+    by : (b : Bool) → CameTo true (cond b (Some Called) None)
+    by true = (refl, refl)
+    by false = tt
+comes Called g = tt
+
+pub sends : (p : Place) → CameTo (is_off p) (sends_at p)
+sends Idle = tt
+sends Open = (refl, refl)
+sends Rising = tt
+sends Sending = (refl, refl)
+sends Written = (refl, refl)
+sends Failing = tt
+sends Faulted = tt
+sends Fallen = tt
+sends Called = tt
+
+-- a record: that of the rise, and no other, where it rises
+
+abbrev pub WroteTo : Bool → Bool → Option Place → Type 0
+WroteTo life off None = Unit {0}
+WroteTo life off (Some q) = (is_off q ≡ false) × ((is_failing q ≡ false) × (off ≡ life))
+
+pub writes : (p : Place) (r : Record) → WroteTo (is_life r) (is_off p) (writes_at p r)
+writes Idle r = tt
+writes Open r = by (is_life r)
+  where
+    by : (b : Bool) → WroteTo b false (cond b None (Some Written))
+    by true = tt
+    by false = (refl, (refl, refl))
+writes Rising r = by (is_life r)
+  where
+    by : (b : Bool) → WroteTo b true (cond b (Some Written) None)
+    by true = (refl, (refl, refl))
+    by false = tt
+writes Sending r = tt
+writes Written r = tt
+writes Failing r = tt
+writes Faulted r = tt
+writes Fallen r = tt
+writes Called r = tt
+
+-- a reply: one that is down tells so, and nothing else
+
+abbrev pub IsSaid : Bool → Saying → Type 0
+IsSaid false SaysDown = ⊥
+IsSaid false SaysUnwritten = Unit {0}
+IsSaid false SaysFault = Unit {0}
+IsSaid false SaysNeither = Unit {0}
+IsSaid true SaysDown = Unit {0}
+IsSaid true SaysUnwritten = ⊥
+IsSaid true SaysFault = ⊥
+IsSaid true SaysNeither = ⊥
+
+abbrev pub ToldTo : Bool → Saying → Option Place → Type 0
+ToldTo off saying None = Unit {0}
+ToldTo off saying (Some q) = (is_off q ≡ off) × IsSaid off saying
+
+pub tells : (p : Place) (s : Saying) → ToldTo (is_off p) s (tells_at p s)
+tells Idle s = tt
+tells Open SaysDown = tt
+tells Open SaysUnwritten = (refl, tt)
+tells Open SaysFault = (refl, tt)
+tells Open SaysNeither = (refl, tt)
+tells Rising s = tt
+tells Sending SaysDown = tt
+tells Sending SaysUnwritten = tt
+tells Sending SaysFault = tt
+tells Sending SaysNeither = (refl, tt)
+tells Written SaysDown = tt
+tells Written SaysUnwritten = tt
+tells Written SaysFault = tt
+tells Written SaysNeither = (refl, tt)
+tells Failing s = tt
+tells Faulted s = tt
+tells Fallen s = tt
+tells Called SaysDown = (refl, tt)
+tells Called SaysUnwritten = tt
+tells Called SaysFault = tt
+tells Called SaysNeither = tt
+
+-- a fall: with a commit record pending where the client has to fall, alone
+
+abbrev pub FellTo : Place → Fall → Option Record → Option Place → Type 0
+FellTo p cause pending None = Unit {0}
+FellTo p cause pending (Some q) = (is_off q ≡ true) × ((is_failing q ≡ false)
+    × ((c : CommitRecord) (after : List Deed) → pending ≡ Some (Commit c)
+    → (is_failing p ≡ true) × (pending_next (Falls cause pending ∷ after) ≡ Some (Commit c))))
+
+abbrev IsCommitOption : Option Record → Type 0
+IsCommitOption None = ⊥
+IsCommitOption (Some Life) = ⊥
+IsCommitOption (Some (Prepare prepared)) = Unit {0}
+IsCommitOption (Some (Done tx clock)) = Unit {0}
+IsCommitOption (Some (Close epoch)) = Unit {0}
+IsCommitOption (Some (Install epoch clock lines)) = Unit {0}
+IsCommitOption (Some (Commit commit)) = Unit {0}
+IsCommitOption (Some (Decide epoch clock lines)) = Unit {0}
+
+abbrev NoneTo : Place → Fall → Option Record → Type 0
+NoneTo p cause pending = (c : CommitRecord) (after : List Deed) → pending ≡ Some (Commit c)
+    → (is_failing p ≡ true) × (pending_next (Falls cause pending ∷ after) ≡ Some (Commit c))
+
+none_to : (p : Place) (cause : Fall) → NoneTo p cause None
+none_to p cause c after is = absurd (subst IsCommitOption (sym is) tt)
+
+life_to : (p : Place) (cause : Fall) → NoneTo p cause (Some Life)
+life_to p cause c after is = absurd (subst IsCommitOption (sym is) tt)
+
+crashes : (p : Place) (pending : Option Record)
+    → FellTo p causes.Script pending (falls_at false p causes.Script pending)
+crashes p (Some r) = tt
+crashes Idle None = (refl, (refl, none_to Idle causes.Script))
+crashes Open None = (refl, (refl, none_to Open causes.Script))
+crashes Rising None = tt
+crashes Sending None = (refl, (refl, none_to Sending causes.Script))
+crashes Written None = (refl, (refl, none_to Written causes.Script))
+crashes Failing None = tt
+crashes Faulted None = (refl, (refl, none_to Faulted causes.Script))
+crashes Fallen None = tt
+crashes Called None = tt
+
+unopened_stops : (p : Place) → FellTo p causes.Stop None (falls_at false p causes.Stop None)
+unopened_stops Idle = tt
+unopened_stops Open = tt
+unopened_stops Rising = tt
+unopened_stops Sending = tt
+unopened_stops Written = tt
+unopened_stops Failing = tt
+unopened_stops Faulted = tt
+unopened_stops Fallen = (refl, (refl, none_to Fallen causes.Stop))
+unopened_stops Called = tt
+
+unopened_fails : (p : Place) → FellTo p causes.Disk None (falls_at false p causes.Disk None)
+unopened_fails Idle = tt
+unopened_fails Open = tt
+unopened_fails Rising = tt
+unopened_fails Sending = tt
+unopened_fails Written = tt
+unopened_fails Failing = tt
+unopened_fails Faulted = tt
+unopened_fails Fallen = (refl, (refl, none_to Fallen causes.Disk))
+unopened_fails Called = tt
+
+risen_stops : (r : Record) → FellTo Rising causes.Stop (Some r) (falls_at false Rising causes.Stop (Some r))
+risen_stops Life = (refl, (refl, life_to Rising causes.Stop))
+risen_stops (Prepare prepared) = tt
+risen_stops (Done tx clock) = tt
+risen_stops (Close epoch) = tt
+risen_stops (Install epoch clock lines) = tt
+risen_stops (Commit commit) = tt
+risen_stops (Decide epoch clock lines) = tt
+
+risen_fails : (r : Record) → FellTo Rising causes.Disk (Some r) (falls_at false Rising causes.Disk (Some r))
+risen_fails Life = (refl, (refl, life_to Rising causes.Disk))
+risen_fails (Prepare prepared) = tt
+risen_fails (Done tx clock) = tt
+risen_fails (Close epoch) = tt
+risen_fails (Install epoch clock lines) = tt
+risen_fails (Commit commit) = tt
+risen_fails (Decide epoch clock lines) = tt
+
+failing_stops : (r : Record) → FellTo Failing causes.Stop (Some r) (falls_at false Failing causes.Stop (Some r))
+failing_stops Life = tt
+failing_stops (Prepare prepared) = (refl, (refl, λ c after is. (refl, is)))
+failing_stops (Done tx clock) = (refl, (refl, λ c after is. (refl, is)))
+failing_stops (Close epoch) = (refl, (refl, λ c after is. (refl, is)))
+failing_stops (Install epoch clock lines) = (refl, (refl, λ c after is. (refl, is)))
+failing_stops (Commit commit) = (refl, (refl, λ c after is. (refl, is)))
+failing_stops (Decide epoch clock lines) = (refl, (refl, λ c after is. (refl, is)))
+
+failing_fails : (r : Record) → FellTo Failing causes.Disk (Some r) (falls_at false Failing causes.Disk (Some r))
+failing_fails Life = tt
+failing_fails (Prepare prepared) = (refl, (refl, λ c after is. (refl, is)))
+failing_fails (Done tx clock) = (refl, (refl, λ c after is. (refl, is)))
+failing_fails (Close epoch) = (refl, (refl, λ c after is. (refl, is)))
+failing_fails (Install epoch clock lines) = (refl, (refl, λ c after is. (refl, is)))
+failing_fails (Commit commit) = (refl, (refl, λ c after is. (refl, is)))
+failing_fails (Decide epoch clock lines) = (refl, (refl, λ c after is. (refl, is)))
+
+faulted_stops : (r : Record) → FellTo Faulted causes.Stop (Some r) (falls_at false Faulted causes.Stop (Some r))
+faulted_stops Life = tt
+faulted_stops (Prepare prepared) = (refl, (refl, λ c after is. (refl, is)))
+faulted_stops (Done tx clock) = (refl, (refl, λ c after is. (refl, is)))
+faulted_stops (Close epoch) = (refl, (refl, λ c after is. (refl, is)))
+faulted_stops (Install epoch clock lines) = (refl, (refl, λ c after is. (refl, is)))
+faulted_stops (Commit commit) = (refl, (refl, λ c after is. (refl, is)))
+faulted_stops (Decide epoch clock lines) = (refl, (refl, λ c after is. (refl, is)))
+
+faulted_fails : (r : Record) → FellTo Faulted causes.Disk (Some r) (falls_at false Faulted causes.Disk (Some r))
+faulted_fails Life = tt
+faulted_fails (Prepare prepared) = (refl, (refl, λ c after is. (refl, is)))
+faulted_fails (Done tx clock) = (refl, (refl, λ c after is. (refl, is)))
+faulted_fails (Close epoch) = (refl, (refl, λ c after is. (refl, is)))
+faulted_fails (Install epoch clock lines) = (refl, (refl, λ c after is. (refl, is)))
+faulted_fails (Commit commit) = (refl, (refl, λ c after is. (refl, is)))
+faulted_fails (Decide epoch clock lines) = (refl, (refl, λ c after is. (refl, is)))
+
+pub falls : (p : Place) (cause : Fall) (pending : Option Record)
+    → FellTo p cause pending (falls_at false p cause pending)
+falls p causes.Script pending = crashes p pending
+falls p causes.Stop None = unopened_stops p
+falls Idle causes.Stop (Some r) = tt
+falls Open causes.Stop (Some r) = tt
+falls Rising causes.Stop (Some r) = risen_stops r
+falls Sending causes.Stop (Some r) = tt
+falls Written causes.Stop (Some r) = tt
+falls Failing causes.Stop (Some r) = failing_stops r
+falls Faulted causes.Stop (Some r) = faulted_stops r
+falls Fallen causes.Stop (Some r) = tt
+falls Called causes.Stop (Some r) = tt
+falls p causes.Disk None = unopened_fails p
+falls Idle causes.Disk (Some r) = tt
+falls Open causes.Disk (Some r) = tt
+falls Rising causes.Disk (Some r) = risen_fails r
+falls Sending causes.Disk (Some r) = tt
+falls Written causes.Disk (Some r) = tt
+falls Failing causes.Disk (Some r) = failing_fails r
+falls Faulted causes.Disk (Some r) = faulted_fails r
+falls Fallen causes.Disk (Some r) = tt
+falls Called causes.Disk (Some r) = tt
+
+-- a rise
+
+abbrev pub RoseTo : Bool → Option Place → Type 0
+RoseTo off None = Unit {0}
+RoseTo off (Some q) = (off ≡ true) × ((is_off q ≡ true) × (is_failing q ≡ false))
+
+pub rises : (p : Place) → RoseTo (is_off p) (rises_at p)
+rises Idle = tt
+rises Open = tt
+rises Rising = tt
+rises Sending = tt
+rises Written = tt
+rises Failing = tt
+rises Faulted = tt
+rises Fallen = (refl, (refl, refl))
+rises Called = tt

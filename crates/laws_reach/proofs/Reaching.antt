@@ -1,0 +1,33 @@
+-- So each such run has its net.
+use Rattle.std.proofs.Common.{ℕ, Bool, List, ap, ◌∙◌}
+use Rattle.qc_core.specs.Conduct.{IsLawfulWithFalls}
+use Rattle.qc_core.proofs.LivesLaws.{journal}
+use Rattle.qc_decl.specs.Accepted.{IsAccepted}
+use Rattle.qc_decl.specs.declared.declaration.Declaration.{Declaration}
+use Rattle.qc_msg.specs.declared.record.Record.{Record}
+use Rattle.qc_msg.specs.Steps.{Entry}
+use Rattle.qc_promise.specs.Kept.{Journal, Kept}
+use Rattle.qc_script.specs.RunsWithFalls.{RunsWithFalls}
+use Rattle.qc_script.specs.Sound.{IsScriptFor}
+use Rattle.qc_script.specs.declared.script.Script.{Script}
+use Rattle.laws_reach.specs.Reached.{IsReachedWithFalls}
+use Rattle.laws_reach.proofs.RunsStand.{runs_stand}
+use Rattle.laws_reach.proofs.Stood.{Stood}
+
+module _ (fits : ℕ → List Record → Type 0) (decl : Declaration) (script : Script) (h : List Entry)
+    (open_inputs : List Bool) (accepted : IsAccepted decl) (sound : IsScriptFor decl script)
+    (run : RunsWithFalls (IsLawfulWithFalls decl) fits decl script h open_inputs) (kept : Kept h) where
+  stood : Stood decl h open_inputs
+  stood = runs_stand decl script fits accepted sound h open_inputs run kept
+
+  pub net_of : IsReachedWithFalls decl h open_inputs
+  net_of = record {
+    net = stood.net;
+    reached = stood.reached;
+    mail_is = stood.mail_is;
+    up_is = λ a is. (stood.actors a is).up;
+    records_are = λ a is. (stood.actors a is).records ∙ ap (λ (j : Journal). j.records) (journal a h);
+    pending_is = λ a is. (stood.actors a is).pending ∙ ap (λ (j : Journal). j.pending) (journal a h);
+    actors_are = λ a is up closed. (stood.actors a is).closed up closed;
+    actors_were = λ a is up open_input. (stood.actors a is).opened up open_input;
+  }

@@ -1,0 +1,91 @@
+-- Commit records whose stamps rise, up to a clock.
+use Rattle.std.proofs.Common.{◌≡◌, ◌≤◌, ◌<◌, ℕ, zero, suc, List, [], ◌∷◌, ◌++◌, fold, arith}
+use Rattle.std.specs.List.{All, AllByRecursion as Every, AllPairs, filter_map}
+use Rattle.std.proofs.lemmas.List.Elements.{filter_map-append}
+use Rattle.std.proofs.lemmas.List.Kept.{AllPairs-cons}
+use Rattle.qc_entry.specs.declared.record.Commit.{Commit}
+use Rattle.qc_list.proofs.Members.{every-append}
+use Rattle.qc_msg.specs.declared.record.Record.{Record}
+use Rattle.qc_msg.specs.declared.record.Record.TheVariants as records
+use Rattle.qc_msg.specs.Counts.{commit_of}
+use Rattle.qc_recover.specs.Clients.{Kept, keeps}
+
+abbrev pub commits_of : List Record → List Commit
+commits_of rs = filter_map commit_of rs
+
+pub commits_more : (xs ys : List Record) → commits_of (xs ++ ys) ≡ commits_of xs ++ commits_of ys
+commits_more xs ys = filter_map-append commit_of xs ys
+
+abbrev pub IsBefore : Commit → Commit → Type 0
+IsBefore c d = c.stamp.clock < d.stamp.clock
+
+abbrev pub IsUpTo : ℕ → Commit → Type 0
+IsUpTo n c = c.stamp.clock ≤ n
+
+abbrev pub Rise : List Commit → Type 0
+Rise [] = Unit {0}
+Rise (c ∷ cs) = Every (IsBefore c) cs × Rise cs
+
+-- the first ones, and one more above all
+
+every_first : (P : Commit → Type 0) (xs ys : List Commit) → Every P (xs ++ ys) → Every P xs
+every_first P [] ys all = tt
+every_first P (x ∷ xs) ys all = (all.0, every_first P xs ys all.1)
+
+pub rise_first : (xs ys : List Commit) → Rise (xs ++ ys) → Rise xs
+rise_first [] ys up = tt
+rise_first (x ∷ xs) ys up = (every_first (IsBefore x) xs ys up.0, rise_first xs ys up.1)
+
+pub rise_more : (n : ℕ) (cs : List Commit) (d : Commit) → Rise cs → Every (IsUpTo n) cs → n < d.stamp.clock
+    → Rise (cs ++ d ∷ [])
+rise_more n [] d up low above = (tt, tt)
+rise_more n (c ∷ cs) d up low above = (
+  every-append (IsBefore c) cs (d ∷ []) up.0
+      (let l : c.stamp.clock ≤ n = low.0 in omega arith, tt),
+  rise_more n cs d up.1 low.1 above,
+)
+
+pub low_later : (n m : ℕ) → n ≤ m → (cs : List Commit) → Every (IsUpTo n) cs → Every (IsUpTo m) cs
+low_later n m on [] low = tt
+low_later n m on (c ∷ cs) low = (let l : c.stamp.clock ≤ n = low.0 in omega arith, low_later n m on cs low.1)
+
+-- the clock of a client that rises has passed all its records
+
+clock_up : (k : Kept) (rs : List Record) → k.clock ≤ (fold keeps k rs).clock
+clock_up k [] = omega arith
+clock_up k (r ∷ rs) = by r (clock_up (keeps k r) rs) where
+  by : (r : Record) → (keeps k r).clock ≤ (fold keeps (keeps k r) rs).clock
+      → k.clock ≤ (fold keeps (keeps k r) rs).clock
+  by records.Life up = up
+  by (records.Prepare p) up = up
+  by (records.Done other clock) up = up
+  by (records.Close epoch) up = up
+  by (records.Install epoch clock lines) up = up
+  by (records.Commit c) up = omega arith
+  by (records.Decide epoch clock lines) up = up
+
+pub all_passed : (k : Kept) (rs : List Record) → Every (IsUpTo (fold keeps k rs).clock) (commits_of rs)
+all_passed k [] = tt
+all_passed k (r ∷ rs) = by r (clock_up (keeps k r) rs) (all_passed (keeps k r) rs) where
+  by : (r : Record) → (keeps k r).clock ≤ (fold keeps (keeps k r) rs).clock
+      → Every (IsUpTo (fold keeps (keeps k r) rs).clock) (commits_of rs)
+      → Every (IsUpTo (fold keeps (keeps k r) rs).clock) (commits_of (r ∷ rs))
+  by records.Life up rest = rest
+  by (records.Prepare p) up rest = rest
+  by (records.Done other clock) up rest = rest
+  by (records.Close epoch) up rest = rest
+  by (records.Install epoch clock lines) up rest = rest
+  by (records.Commit c) up rest = (omega arith, rest)
+  by (records.Decide epoch clock lines) up rest = rest
+
+-- so each is below each later one
+
+each_place : (P : Commit → Type 0) (cs : List Commit) → Every P cs → All P cs
+each_place P [] all k d within = absurd (omega arith)
+each_place P (c ∷ cs) all zero d within = all.0
+each_place P (c ∷ cs) all (suc k) d within = each_place P cs all.1 k d (omega arith)
+
+pub rise_pairs : (cs : List Commit) → Rise cs → AllPairs (λ (c d : Commit). c.stamp.clock < d.stamp.clock) cs
+rise_pairs [] up = λ i j d l m. absurd (omega arith)
+rise_pairs (c ∷ cs) up = AllPairs-cons (λ (x y : Commit). x.stamp.clock < y.stamp.clock) c cs
+    (each_place (IsBefore c) cs up.0) (rise_pairs cs up.1)

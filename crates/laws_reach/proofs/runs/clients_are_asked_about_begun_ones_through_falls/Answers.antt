@@ -1,0 +1,7 @@
+use Rattle.laws_reach.proofs.VerdictLaw.{clients_are_asked_about_begun_ones_through_falls}
+use Rattle.laws_reach.proofs.runs.clients_are_asked_about_begun_ones_through_falls.Goals as goal
+
+pub returns : goal.returns
+returns g c decl script h open_inputs accepted sound run kept a client before later e tx is asks =
+    clients_are_asked_about_begun_ones_through_falls decl script g.C.ConductWithFalls.fits accepted sound h open_inputs
+    run kept a client before later e tx is asks

@@ -1,0 +1,190 @@
+-- The laws of the machine, of every net that may come about.
+use Rattle.std.proofs.Common.{◌≡◌, ◌↔◌, ℕ, true, inl, inr, List, [], ◌∷◌, Option, Some, None, refl, sym, subst}
+use Rattle.qc_stamp.specs.declared.stamp.Stamp.{Stamp}
+use Rattle.qc_stamp.specs.declared.stamp.TxId.{TxId}
+use Rattle.qc_list.specs.Members.{In}
+use Rattle.qc_site.specs.Site.{known}
+use Rattle.qc_entry.specs.declared.line.Line.{Line}
+use Rattle.qc_entry.specs.declared.record.Prepared.{Prepared}
+use Rattle.qc_entry.specs.declared.record.Commit.{Commit as CommitRecord}
+use Rattle.qc_decl.specs.declared.declaration.Declaration.{Declaration}
+use Rattle.qc_decl.specs.Accepted.{IsAccepted}
+use Rattle.qc_decl.specs.Actors.{is_site}
+use Rattle.qc_msg.specs.declared.message.Answer.{Answer}
+use Rattle.qc_msg.specs.declared.message.Answer.TheVariants as answers
+use Rattle.qc_msg.specs.declared.message.Envelope.{Envelope}
+use Rattle.qc_msg.specs.declared.message.Message.{Message}
+use Rattle.qc_msg.specs.declared.message.Message.TheVariants as messages
+use Rattle.qc_msg.specs.declared.message.Outcome.{Outcome}
+use Rattle.qc_msg.specs.declared.message.Outcome.TheVariants as outcomes
+use Rattle.qc_msg.specs.declared.message.Want.{Want}
+use Rattle.qc_msg.specs.declared.message.Want.TheVariants.{Read, Append, Prepare}
+use Rattle.theory_onecopy.specs.Committed.{AreApart, IsStampedBefore, sorted}
+use Rattle.theory_onecopy.specs.Lists.{IsOrdered}
+use Rattle.theory_onecopy.specs.Logged.{IsLogged}
+use Rattle.theory_onecopy.specs.OneCopy.{OneCopy}
+use Rattle.theory_onecopy.proofs.Committed.{records_are_sorted}
+use Rattle.theory_onecopy.proofs.Lists.{in_split}
+use Rattle.theory_machine.specs.Acts.{Decide, state}
+use Rattle.theory_machine.specs.Claims.{IsVerdictOf, OfAppend, OfDecision, OfGrant, OfSite, OfSnapshot}
+use Rattle.theory_machine.specs.Guards.{MayDecide}
+use Rattle.theory_machine.specs.Site.{site_after}
+use Rattle.theory_machine.specs.State.{Decision}
+use Rattle.theory_machine.proofs.ClaimLaws as claims
+use Rattle.theory_machine.proofs.OneCopyLaw.{records_in_order_are_one_copy}
+use Rattle.laws_refinement.specs.Items.{own_items}
+use Rattle.laws_refinement.specs.Lines.{IsTrueVerdict, lines_in, lines_promised}
+use Rattle.laws_refinement.specs.Sites.{IsDecided}
+use Rattle.laws_refinement.specs.Messages.{Backed, IsSnapshot}
+use Rattle.laws_refinement.specs.Mirrors.{Refines}
+use Rattle.laws_refinement.specs.Net.{Net, Reaches}
+use Rattle.laws_refinement.proofs.Refining.{nets_refine}
+
+of_promise : (l : Line) (ps : List Prepared) → In l (lines_promised ps) → (p : Prepared) × In p ps × In l p.lines
+of_promise l [] among = absurd among
+of_promise l (p ∷ ps) among = elim (in_split l p.lines (lines_promised ps) among) [
+  | inl here ↦ (p, inl refl, here)
+  | inr rest ↦ (let k : (q : Prepared) × In q ps × In l q.lines = of_promise l ps rest in (k.0, inr k.1, k.2))
+]
+
+module _ (decl : Declaration) (accepted : IsAccepted decl) (net : Net) (reached : Reaches decl net) where
+  mirrored : Refines decl net
+  mirrored = nets_refine decl accepted net reached
+
+  -- the machine's records are those that were written
+  same_records : (c : CommitRecord) → In c net.written ↔ In c (state mirrored.acts).records
+  same_records c = ((λ among. mirrored.agrees.records c among), (λ among. mirrored.agrees.written c among))
+
+  all_apart : AreApart (state mirrored.acts).records
+  all_apart = claims.records_are_apart decl accepted mirrored.acts mirrored.run
+
+  in_order : IsOrdered IsStampedBefore (sorted net.written)
+      × ((d : CommitRecord) → In d (sorted net.written) ↔ In d net.written)
+  in_order = records_are_sorted net.written
+      (λ c d hc hd same. all_apart.stamps c d ((same_records c).0 hc) ((same_records d).0 hd) same)
+
+  listed : (c : CommitRecord) → In c (sorted net.written) ↔ In c (state mirrored.acts).records
+  listed c = (
+    (λ among. (same_records c).0 ((in_order.1 c).0 among)),
+    (λ among. (in_order.1 c).1 ((same_records c).1 among)),
+  )
+
+  pub one_copy : OneCopy decl (sorted net.written)
+  one_copy = records_in_order_are_one_copy decl accepted mirrored.acts mirrored.run
+      (sorted net.written) in_order.0 listed
+
+  pub apart : AreApart net.written
+  apart = record {
+    stamps = λ c d hc hd same. all_apart.stamps c d ((same_records c).0 hc) ((same_records d).0 hd) same;
+    transactions = λ c d hc hd same. all_apart.transactions c d ((same_records c).0 hc) ((same_records d).0 hd) same;
+  }
+
+  logged : (l : Line) → IsLogged decl (state mirrored.acts).records l → IsLogged decl net.written l
+  logged l k = record {
+    commit = k.commit;
+    listed = (same_records k.commit).1 k.listed;
+    stamped = k.stamped;
+    named = k.named;
+    operation = k.operation;
+  }
+
+  pub site_lines : (a : ℕ) (l : Line) → is_site decl a ≡ true → net.up a ≡ true → In l (known (net.sites a))
+      → IsLogged decl net.written l
+  site_lines a l site up among =
+      logged l (claims.logs_hold_operations decl accepted mirrored.acts mirrored.run
+      (site_after ((state mirrored.acts).deeds a)).volatile (OfSite a refl) l
+      ((mirrored.agrees.sites a site up).logged l among))
+
+  snapshot_lines : (site epoch clock : ℕ) (log : List Line) (prepared : List Prepared) (l : Line)
+      → IsSnapshot decl (state mirrored.acts) site epoch clock log prepared → In l log → IsLogged decl net.written l
+  snapshot_lines site epoch clock log prepared l s among =
+      logged l (claims.logs_hold_operations decl accepted mirrored.acts mirrored.run
+      (site_after s.snapshot.before).volatile (OfSnapshot s.snapshot s.taken refl) l (s.only l among))
+
+  decision_lines : (epoch clock : ℕ) (log : List Line) (l : Line) → IsDecided decl (state mirrored.acts) epoch clock log
+      → In l log → IsLogged decl net.written l
+  decision_lines epoch clock log l d among =
+      logged l (claims.logs_hold_operations decl accepted mirrored.acts mirrored.run d.decision.log
+      (OfDecision d.decision d.decided refl) l (subst (λ (ls : List Line). In l ls) (sym d.log_is) among))
+
+  -- and so are those of a decision that may be made
+  pub deciding_lines : (r : Refines decl net) (d : Decision) → MayDecide decl (state r.acts) d → (l : Line) → In l d.log
+      → IsLogged decl net.written l
+  deciding_lines r d may l among =
+      let k : IsLogged decl (state r.acts).records l =
+      claims.logs_hold_operations decl accepted (Decide d ∷ r.acts) (may, r.run) d.log
+      (OfDecision d (inl refl) refl) l among in
+      record {
+        commit = k.commit;
+        listed = r.agrees.written k.commit k.listed;
+        stamped = k.stamped;
+        named = k.named;
+        operation = k.operation;
+      }
+
+  answer_lines : (from number : ℕ) (answer : Answer) (l : Line)
+      → Backed decl (state mirrored.acts) net.mail from from (messages.Answer number answer)
+      → In l (lines_in (messages.Answer number answer)) → IsLogged decl net.written l
+  answer_lines from number (answers.Granted life clock log) l b among =
+      logged l (claims.logs_hold_operations decl accepted mirrored.acts mirrored.run
+      (site_after b.grant.grant.before).volatile (OfGrant b.grant.grant b.grant.given refl) l
+      (b.grant.lines l among))
+  answer_lines from number (answers.Clash holder inv event) l b among = absurd among
+  answer_lines from number (answers.Closed epoch) l b among = absurd among
+  answer_lines from number (answers.Behind epoch) l b among = absurd among
+  answer_lines from number (answers.Restarted life) l b among = absurd among
+  answer_lines from number answers.Stale l b among = absurd among
+  answer_lines from number answers.Fault l b among = absurd among
+  answer_lines from number (answers.Yes clock) l b among = absurd among
+  answer_lines from number (answers.Shut clock log prepared) l b among =
+      elim (in_split l log (lines_promised prepared) among) [
+        | inl told ↦ snapshot_lines from b.epoch clock log prepared l b.told told
+        | inr brought ↦ (let p : (p : Prepared) × In p prepared × In l p.lines = of_promise l prepared brought in
+            snapshot_lines from b.epoch clock log prepared l b.told (b.told.lined p.0 p.1 l p.2))
+      ]
+  answer_lines from number answers.Installed l b among = absurd among
+  answer_lines from number (answers.Answered verdict) l b among = absurd among
+
+  request_lines : (from to : ℕ) (tx : TxId) (epoch life : ℕ) (want : Want) (l : Line)
+      → Backed decl (state mirrored.acts) net.mail from to (messages.Request tx epoch life want)
+      → In l (lines_in (messages.Request tx epoch life want)) → IsLogged decl net.written l
+  request_lines from to tx epoch life (Read object inv) l b among = absurd among
+  request_lines from to tx epoch life (Append object view own) l b among =
+      logged l (claims.logs_hold_operations decl accepted mirrored.acts mirrored.run view
+      (OfAppend (record { tx = tx; items = own_items own; view = view }) b.3.0 refl) l among)
+  request_lines from to tx epoch life Prepare l b among = absurd among
+
+  lines_of : (from to : ℕ) (message : Message) (l : Line) → Backed decl (state mirrored.acts) net.mail from to message
+      → In l (lines_in message) → IsLogged decl net.written l
+  lines_of from to (messages.Request tx epoch life want) l b among = request_lines from to tx epoch life want l b among
+  lines_of from to (messages.Answer number answer) l b among = answer_lines from number answer l b among
+  lines_of from to (messages.Decision tx verdict) l b among = absurd among
+  lines_of from to (messages.Inquiry tx) l b among = absurd among
+  lines_of from to (messages.Ask tx) l b among = absurd among
+  lines_of from to (messages.Close epoch) l b among = absurd among
+  lines_of from to (messages.Install epoch clock log) l b among = decision_lines epoch clock log l b among
+
+  pub message_lines : (e : Envelope) (l : Line) → In e net.mail → In l (lines_in e.message)
+      → IsLogged decl net.written l
+  message_lines e l sent among = lines_of e.from e.to e.message l (mirrored.agrees.mail e sent) among
+
+  verdict_of : (tx : TxId) (stamp : Option Stamp) → IsVerdictOf (state mirrored.acts).records tx stamp
+      → IsVerdictOf net.written tx stamp
+  verdict_of tx (Some stamp) k = (k.0, (same_records k.0).1 k.1, k.2, k.3)
+  verdict_of tx None k = λ c among its. k c ((same_records c).0 among) its
+
+  told_of : (e : Envelope) (tx : TxId) (verdict : Outcome)
+      → Backed decl (state mirrored.acts) net.mail e.from e.to (messages.Decision tx verdict)
+      → IsTrueVerdict net.written tx verdict
+  told_of e tx (outcomes.Committed stamp) b =
+      verdict_of tx (Some stamp) (claims.verdicts_agree decl accepted mirrored.acts mirrored.run
+      (record { tx = tx; stamp = Some stamp }) b)
+  told_of e tx outcomes.Aborted b = verdict_of tx None
+      (claims.verdicts_agree decl accepted mirrored.acts mirrored.run (record { tx = tx; stamp = None }) b)
+  told_of e tx outcomes.Active b = tt
+
+  pub decisions_agree_with_records : (e : Envelope) (tx : TxId) (verdict : Outcome) → In e net.mail
+      → e.message ≡ messages.Decision tx verdict → IsTrueVerdict net.written tx verdict
+  decisions_agree_with_records e tx verdict sent is =
+      told_of e tx verdict (subst (λ (x : Message). Backed decl (state mirrored.acts) net.mail e.from e.to x) is
+      (mirrored.agrees.mail e sent))

@@ -1,0 +1,283 @@
+-- What a site's turn votes: each Yes stands on a promise that the site has or writes; and a turn that isn't written
+-- votes nothing.
+use Rattle.std.proofs.Common.{◌≡◌, ◌⊎◌, ℕ, ◌==◌, ◌+◌, nat_le, nat_lt, inl, inr, not, Bool, true, false, cond, fold, map}
+use Rattle.std.proofs.Common.{List, [], ◌∷◌, Option, Some, None, is_some, refl, sym, ap, ◌∙◌, subst}
+use Rattle.qc_stamp.specs.declared.stamp.TxId.{TxId}
+use Rattle.qc_stamp.specs.Order.{same_tx}
+use Rattle.qc_list.specs.Members.{In}
+use Rattle.qc_list.proofs.Members.{In-unfiltered}
+use Rattle.qc_entry.specs.declared.line.Line.{Line}
+use Rattle.qc_entry.specs.declared.record.Prepared.{Prepared}
+use Rattle.theory_onecopy.proofs.Lists.{in_split}
+use Rattle.qc_decl.specs.declared.declaration.Declaration.{Declaration}
+use Rattle.qc_lock.specs.declared.clash.Clash.{Clash as Conflict}
+use Rattle.qc_msg.specs.declared.message.Answer.{Answer}
+use Rattle.qc_msg.specs.declared.message.Answer.TheVariants as answers
+use Rattle.qc_msg.specs.declared.message.Message.{Message}
+use Rattle.qc_msg.specs.declared.message.Message.TheVariants as messages
+use Rattle.qc_msg.specs.declared.message.Outcome.TheVariants as outcomes
+use Rattle.qc_msg.specs.declared.message.Want.{Want}
+use Rattle.qc_msg.specs.declared.message.Want.TheVariants.{Read, Append, Prepare}
+use Rattle.qc_msg.specs.declared.record.Record.{Record}
+use Rattle.qc_msg.specs.declared.record.Record.TheVariants as records
+use Rattle.qc_msg.specs.declared.step.Input.{Input}
+use Rattle.qc_msg.specs.declared.step.Input.TheVariants.{Called, Got, Lost}
+use Rattle.qc_msg.specs.declared.turn.Posting.{Posting}
+use Rattle.qc_site.specs.Conduct.{latest, passed, site_on, site_takes}
+use Rattle.qc_decl.specs.Limits.{most_record_bytes}
+use Rattle.qc_msg.specs.Lengths.{epoch_length}
+use Rattle.qc_site.specs.Epochs.{closed, closes, installed, installs, is_closed_for, shut_answer}
+use Rattle.qc_site.specs.Promise.{prepared_of, promise_of, without_prepared}
+use Rattle.qc_site.specs.Requests.{closed_fault, fault_of, grants}
+use Rattle.qc_site.specs.Site.{SiteMove, SiteState, answering, answers as answers_with, moved, recording}
+use Rattle.qc_site.proofs.Cases.{append_cases, close_cases, install_cases, join_cases, prepare_cases, read_cases}
+use Rattle.qc_site.proofs.Cases.{request_cases}
+use Rattle.qc_recover.specs.Sites.{Kept, inquiry, keeps, kept_by, nothing_kept}
+use Rattle.laws_refinement.proofs.Apart.{found_in}
+
+-- each promise of records is one of them
+
+pub one_more : (k : Kept) (r : Record) (p : Prepared) → In p (keeps k r).promises
+    → In p k.promises ⊎ (records.Prepare p ≡ r)
+one_more k records.Life p among = inl among
+one_more k (records.Prepare q) p among = elim (in_split p (without_prepared k.promises q.tx) (q ∷ []) among) [
+  | inl old ↦ inl (In-unfiltered (λ (x : Prepared). not (same_tx x.tx q.tx)) p k.promises old)
+  | inr (inl same) ↦ inr (ap (λ (x : Prepared). records.Prepare x) same)
+  | inr (inr never) ↦ absurd never
+]
+one_more k (records.Done tx clock) p among =
+    inl (In-unfiltered (λ (x : Prepared). not (same_tx x.tx tx)) p k.promises among)
+one_more k (records.Close epoch) p among = inl among
+one_more k (records.Install epoch clock lines) p among = absurd among
+one_more k (records.Commit commit) p among = inl among
+one_more k (records.Decide epoch clock lines) p among = inl among
+
+pub promises_from : (rs : List Record) (k : Kept) (p : Prepared) → In p (fold keeps k rs).promises
+    → In p k.promises ⊎ In (records.Prepare p) rs
+promises_from [] k p among = inl among
+promises_from (r ∷ rs) k p among = elim (promises_from rs (keeps k r) p among) [
+  | inl old ↦ elim (one_more k r p old) [ inl before ↦ inl before | inr same ↦ inr (inl same) ]
+  | inr new ↦ inr (inr new)
+]
+
+pub promises_recorded : (rs : List Record) (p : Prepared) → In p (kept_by rs).promises → In (records.Prepare p) rs
+promises_recorded rs p among = elim (promises_from rs nothing_kept p among) [ inl never ↦ absurd never | inr new ↦ new ]
+
+-- the vote of a turn
+
+pub record Voted (s : SiteState) (number : ℕ) (message : Message) (write : Option Record) (to : ℕ) : Type 0 where
+  pub promise : Prepared
+  pub epoch : ℕ
+  pub life : ℕ
+  pub numbered : number ≡ to
+  pub named : message ≡ messages.Request promise.tx epoch life Prepare
+  pub stands : (prepared_of s.prepared promise.tx ≡ Some promise) ⊎ (write ≡ Some (records.Prepare promise))
+
+abbrev pub Votes : SiteState → ℕ → Message → SiteMove → Type 0
+Votes s number message move = (p : Posting) → In p move.turn.sends → (to clock : ℕ)
+    → p.message ≡ messages.Answer to (answers.Yes clock) → Voted s number message move.turn.write to
+
+pub one_answer : (from number : ℕ) (answer : Answer) (p : Posting) → In p (answering from number answer ∷ [])
+    → (to clock : ℕ) → p.message ≡ messages.Answer to (answers.Yes clock) → (number ≡ to) × (answer ≡ answers.Yes clock)
+one_answer from number answer p (inl same) to clock is =
+    let m : messages.Answer number answer ≡ messages.Answer to (answers.Yes clock) =
+    sym (ap (λ (x : Posting). x.message) same) ∙ is in (cc, cc)
+one_answer from number answer p (inr never) to clock is = absurd never
+
+pub no_fault : (s : SiteState) (epoch life clock : ℕ) → fault_of s epoch life ≡ Some (answers.Yes clock) → ⊥
+no_fault s epoch life clock = by (nat_lt s.epoch epoch) (nat_lt epoch s.epoch)
+  where
+    lives : (c d : Bool) → cond c None (cond d None (Some (answers.Restarted s.life))) ≡ Some (answers.Yes clock) → ⊥
+    lives true d is = let never : ⊥ = cc in never
+    lives false true is = let never : ⊥ = cc in never
+    lives false false is = let never : ⊥ = cc in never
+
+    closed : (k : Option ℕ) → closed_fault s life k ≡ Some (answers.Yes clock) → ⊥
+    closed None is = lives (life == 0) (life == s.life) is
+    closed (Some k) is = let never : ⊥ = cc in never
+
+    by : (c d : Bool) → cond c (Some (answers.Behind s.epoch))
+        (cond d (Some (answers.Closed s.epoch)) (closed_fault s life s.closed_for)) ≡ Some (answers.Yes clock) → ⊥
+    by true d is = let never : ⊥ = cc in never
+    by false true is = let never : ⊥ = cc in never
+    by false false is = closed s.closed_for is
+
+module _ (decl : Declaration) (s : SiteState) where
+  wanted : (from number epoch life : ℕ) (tx : TxId) (w : Want)
+      → Votes s number (messages.Request tx epoch life w)
+      (grants decl (passed s (messages.Request tx epoch life w)) from number tx w)
+  wanted from number epoch life tx (Read object inv) =
+      read_cases (Votes s number (messages.Request tx epoch life (Read object inv))) decl
+      (passed s (messages.Request tx epoch life (Read object inv))) from number tx object inv
+      (λ free p among to clock is. (let r = one_answer from number _ p among to clock is in let e = r.1 in
+      absurd (let never : ⊥ = cc in never)))
+      (λ c clash p among to clock is. clashes p among to clock is)
+    where
+      clashes : {c : Conflict} {b : ℕ} (p : Posting)
+          → In p (answering from number (answers.Clash c.holder c.inv c.event)
+          ∷ record { to = b; message = messages.Inquiry c.holder } ∷ []) → (to clock : ℕ)
+          → p.message ≡ messages.Answer to (answers.Yes clock)
+          → Voted s number (messages.Request tx epoch life (Read object inv)) None to
+      clashes p (inl same) to clock is = absurd (let never : ⊥ = cc in never)
+      clashes p (inr (inl same)) to clock is = absurd (let never : ⊥ = cc in never)
+      clashes p (inr (inr never)) to clock is = absurd never
+  wanted from number epoch life tx (Append object view own) =
+      append_cases (Votes s number (messages.Request tx epoch life (Append object view own))) decl
+      (passed s (messages.Request tx epoch life (Append object view own))) from number tx object view own
+      (λ free p among to clock is. (let r = one_answer from number _ p among to clock is in let e = r.1 in
+      absurd (let never : ⊥ = cc in never)))
+      (λ c clash p among to clock is. clashes p among to clock is)
+    where
+      clashes : {c : Conflict} {b : ℕ} (p : Posting)
+          → In p (answering from number (answers.Clash c.holder c.inv c.event)
+          ∷ record { to = b; message = messages.Inquiry c.holder } ∷ []) → (to clock : ℕ)
+          → p.message ≡ messages.Answer to (answers.Yes clock)
+          → Voted s number (messages.Request tx epoch life (Append object view own)) None to
+      clashes p (inl same) to clock is = absurd (let never : ⊥ = cc in never)
+      clashes p (inr (inl same)) to clock is = absurd (let never : ⊥ = cc in never)
+      clashes p (inr (inr never)) to clock is = absurd never
+  wanted from number epoch life tx Prepare =
+      prepare_cases (Votes s number (messages.Request tx epoch life Prepare)) s from number tx
+      (λ p among to clock is. (let r = one_answer from number answers.Stale p among to clock is in let e = r.1 in
+      absurd (let never : ⊥ = cc in never)))
+      (λ held stands p among to clock is. stood (prepared_of s.prepared tx) refl stands to
+      ((one_answer from number (answers.Yes s.clock) p among to clock is).0))
+      (λ held fresh p among to clock is. record {
+        promise = promise_of s tx;
+        epoch = epoch;
+        life = life;
+        numbered = (one_answer from number (answers.Yes s.clock) p among to clock is).0;
+        named = refl;
+        stands = inr refl;
+      })
+    where
+      stood : (o : Option Prepared) → prepared_of s.prepared tx ≡ o → is_some o ≡ true → (to : ℕ) → number ≡ to
+          → Voted s number (messages.Request tx epoch life Prepare) None to
+      stood None found some to same = absurd (let never : ⊥ = cc in never)
+      stood (Some q) found some to same =
+          let r = found_in tx s.prepared q found in
+          record {
+            promise = q;
+            epoch = epoch;
+            life = life;
+            numbered = same;
+            named = ap (λ (x : TxId). messages.Request x epoch life Prepare) (sym r.1);
+            stands = inl (subst (λ (x : TxId). prepared_of s.prepared x ≡ Some q) (sym r.1) found);
+          }
+
+  close_votes : (from number k : ℕ) → Votes s number (messages.Close k) (closes s from number k)
+  close_votes from number k = by (nat_lt (s.epoch + 1) k) (nat_le k s.epoch) (is_closed_for k s.closed_for)
+    where
+      by : (b c d : Bool) → Votes s number (messages.Close k)
+          (cond b (moved s (answers_with from number (answers.Behind s.epoch)))
+          (cond c (moved s (answers_with from number (answers.Closed s.epoch)))
+          (cond d (moved s (answers_with from number (shut_answer s)))
+          (moved (closed s k) (recording from number (records.Close k) (shut_answer (closed s k)))))))
+      by true c d p among to clock is = (let r = one_answer from number (answers.Behind s.epoch) p among to clock is in
+          let e = r.1 in absurd (let never : ⊥ = cc in never))
+      by false true d p among to clock is = (let r =
+          one_answer from number (answers.Closed s.epoch) p among to clock is in let e = r.1 in
+          absurd (let never : ⊥ = cc in never))
+      by false false true p among to clock is =
+          (let r = one_answer from number (shut_answer s) p among to clock is in let e = r.1 in
+          absurd (let never : ⊥ = cc in never))
+      by false false false p among to clock is =
+          (let r = one_answer from number (shut_answer (closed s k)) p among to clock is in let e = r.1 in
+          absurd (let never : ⊥ = cc in never))
+
+  install_votes : (from number k at : ℕ) (log : List Line)
+      → Votes s number (messages.Install k at log)
+      (installs (record s { clock = latest s.clock log }) from number k at log)
+  install_votes from number k at log = by (nat_le k s.epoch) (nat_le (epoch_length log) most_record_bytes)
+    where
+      by : (b c : Bool) → Votes s number (messages.Install k at log)
+          (cond b (moved (record s { clock = latest s.clock log }) (answers_with from number answers.Installed))
+          (cond c (moved (installed (record s { clock = latest s.clock log }) k at log)
+          (recording from number (records.Install k at log) answers.Installed))
+          (moved (record s { clock = latest s.clock log }) (answers_with from number (answers.Behind s.epoch)))))
+      by true c p among to clock is = (let r = one_answer from number answers.Installed p among to clock is in
+          let e = r.1 in absurd (let never : ⊥ = cc in never))
+      by false true p among to clock is = (let r = one_answer from number answers.Installed p among to clock is in
+          let e = r.1 in absurd (let never : ⊥ = cc in never))
+      by false false p among to clock is = (let r =
+          one_answer from number (answers.Behind s.epoch) p among to clock is in let e = r.1 in
+          absurd (let never : ⊥ = cc in never))
+
+  pub message_votes : (from number : ℕ) (message : Message)
+      → Votes s number message (site_on decl s from number message)
+  message_votes from number (messages.Request tx epoch life want) =
+      request_cases (Votes s number (messages.Request tx epoch life want)) decl
+      (passed s (messages.Request tx epoch life want)) from number tx epoch life want
+      (λ p among to clock is. absurd among)
+      (λ fault is p among to clock told. absurd
+      (no_fault (passed s (messages.Request tx epoch life want)) epoch life clock
+      (is ∙ ap Some (one_answer from number fault p among to clock told).1)))
+      (λ is. wanted from number epoch life tx want)
+  message_votes from number (messages.Decision tx (outcomes.Committed stamp)) =
+      join_cases (Votes s number (messages.Decision tx (outcomes.Committed stamp)))
+      (passed s (messages.Decision tx (outcomes.Committed stamp))) tx stamp
+      (λ none p among to clock is. absurd among) (λ q some p among to clock is. absurd among)
+  message_votes from number (messages.Decision tx outcomes.Aborted) = λ p among to clock is. absurd among
+  message_votes from number (messages.Decision tx outcomes.Active) = λ p among to clock is. absurd among
+  message_votes from number (messages.Answer n answer) = λ p among to clock is. absurd among
+  message_votes from number (messages.Inquiry tx) = λ p among to clock is. absurd among
+  message_votes from number (messages.Ask tx) = λ p among to clock is. absurd among
+  message_votes from number (messages.Close epoch) = close_votes from number epoch
+  message_votes from number (messages.Install epoch clock log) = install_votes from number epoch clock log
+
+-- what is sent where the record isn't written is no vote
+
+abbrev pub Silent : SiteMove → Type 0
+Silent move = (p : Posting) → In p move.turn.failed_sends → (to clock : ℕ)
+    → p.message ≡ messages.Answer to (answers.Yes clock) → ⊥
+
+module _ (decl : Declaration) (s : SiteState) where
+  faulted : (from number : ℕ) (p : Posting) → In p (answering from number answers.Fault ∷ []) → (to clock : ℕ)
+      → p.message ≡ messages.Answer to (answers.Yes clock) → ⊥
+  faulted from number p among to clock is = let r = one_answer from number answers.Fault p among to clock is in
+      let e = r.1 in let never : ⊥ = cc in never
+
+  want_silent : (from number epoch life : ℕ) (tx : TxId) (w : Want)
+      → Silent (grants decl (passed s (messages.Request tx epoch life w)) from number tx w)
+  want_silent from number epoch life tx (Read object inv) =
+      read_cases Silent decl (passed s (messages.Request tx epoch life (Read object inv))) from number tx object inv
+      (λ free p among to clock is. among) (λ c clash p among to clock is. among)
+  want_silent from number epoch life tx (Append object view own) =
+      append_cases Silent decl (passed s (messages.Request tx epoch life (Append object view own))) from number tx
+      object view own (λ free p among to clock is. among) (λ c clash p among to clock is. among)
+  want_silent from number epoch life tx Prepare =
+      prepare_cases Silent s from number tx (λ p among to clock is. among) (λ held stands p among to clock is. among)
+      (λ held fresh. faulted from number)
+
+  message_silent : (from number : ℕ) (message : Message) → Silent (site_on decl s from number message)
+  message_silent from number (messages.Request tx epoch life want) =
+      request_cases Silent decl (passed s (messages.Request tx epoch life want)) from number tx epoch life want
+      (λ p among to clock is. among) (λ fault is p among to clock told. among)
+      (λ is. want_silent from number epoch life tx want)
+  message_silent from number (messages.Decision tx (outcomes.Committed stamp)) =
+      join_cases Silent (passed s (messages.Decision tx (outcomes.Committed stamp))) tx stamp
+      (λ none p among to clock is. among) (λ q some p among to clock is. among)
+  message_silent from number (messages.Decision tx outcomes.Aborted) = λ p among to clock is. among
+  message_silent from number (messages.Decision tx outcomes.Active) = λ p among to clock is. among
+  message_silent from number (messages.Answer n answer) = λ p among to clock is. among
+  message_silent from number (messages.Inquiry tx) = λ p among to clock is. among
+  message_silent from number (messages.Ask tx) = λ p among to clock is. among
+  message_silent from number (messages.Close epoch) =
+      close_cases Silent (passed s (messages.Close epoch)) from number epoch (λ answer p among to clock is. among)
+      (λ near later. faulted from number)
+  message_silent from number (messages.Install epoch clock log) =
+      install_cases Silent (passed s (messages.Install epoch clock log)) from number epoch clock log
+      (λ answer p among to at is. among) (λ later fits. faulted from number)
+
+  pub take_silent : (given : Input) → Silent (site_takes decl s given)
+  take_silent (Got e) = message_silent e.from e.number e.message
+  take_silent (Called command) = λ p among to clock is. among
+  take_silent (Lost number) = λ p among to clock is. among
+
+-- an Inquiry is no vote
+pub no_inquiry : (decl : Declaration) (txs : List TxId) (p : Posting) → In p (map (inquiry decl) txs) → (to clock : ℕ)
+    → p.message ≡ messages.Answer to (answers.Yes clock) → ⊥
+no_inquiry decl [] p among to clock is = among
+no_inquiry decl (tx ∷ txs) p (inl same) to clock is = let m : p.message ≡ messages.Inquiry tx =
+    ap (λ (x : Posting). x.message) same in let never : ⊥ = cc in never
+no_inquiry decl (tx ∷ txs) p (inr rest) to clock is = no_inquiry decl txs p rest to clock is

@@ -1,0 +1,102 @@
+-- By the conduct of the system an actor that is down only tells replies.
+use Rattle.std.proofs.Common.{◌≡◌, ℕ, not, Bool, true, false, cond, List, [], ◌∷◌, fold, Some, None, refl, sym, ap, ◌∙◌}
+use Rattle.std.proofs.Common.{subst}
+use Rattle.qc_core.specs.declared.actor.Actor.{Actor}
+use Rattle.qc_core.specs.declared.actor.Actor.TheVariants.{Down}
+use Rattle.qc_core.specs.Actors.{ActorMove, actor_after, actor_does, actor_rises, actor_sends, actor_takes, moved}
+use Rattle.qc_core.specs.Conduct.{IsLawfulWithFalls, with_record}
+use Rattle.qc_core.specs.Lives.{is_up, up_at}
+use Rattle.qc_decl.specs.Actors.{is_administrator, is_client, is_site}
+use Rattle.qc_decl.specs.declared.declaration.Declaration.{Declaration}
+use Rattle.qc_inbox.specs.Downs.{TellsWhereDown, down_at, is_down}
+use Rattle.qc_msg.specs.declared.step.Input.{Input}
+use Rattle.qc_msg.specs.declared.step.Input.TheVariants as inputs
+use Rattle.qc_msg.specs.declared.turn.Turn.{Turn}
+use Rattle.qc_msg.specs.Deeds.{Deed, Takes, Writes, Sends, Tells, Falls, Rises}
+use Rattle.qc_msg.specs.Turns.{quiet}
+
+-- an actor is up by its deeds where it isn't down by them
+
+up_from : (u : Bool) (ds : List Deed) → fold up_at u ds ≡ not (fold down_at (not u) ds)
+up_from true [] = refl
+up_from false [] = refl
+up_from u (Takes g ∷ ds) = up_from u ds
+up_from u (Writes written ∷ ds) = up_from u ds
+up_from u (Sends number to message ∷ ds) = up_from u ds
+up_from u (Tells reply ∷ ds) = up_from u ds
+up_from u (Falls cause pending ∷ ds) = up_from false ds
+up_from u (Rises records ∷ ds) = up_from true ds
+
+pub up_is : (ds : List Deed) → is_up ds ≡ not (is_down ds)
+up_is ds = up_from true ds
+
+-- what is known of one that is down
+
+record IsSilent (m : ActorMove) : Type 0 where
+  actor : m.actor ≡ Down
+  write : m.turn.write ≡ None
+  sends : m.turn.sends ≡ []
+
+abbrev SilentWhere : Bool → ActorMove → Type 0
+SilentWhere down m = down ≡ true → IsSilent m
+
+taken_down : (decl : Declaration) (g : Input) → IsSilent (actor_takes decl Down g)
+taken_down decl (inputs.Called command) = record { actor = refl; write = refl; sends = refl }
+taken_down decl (inputs.Got e) = record { actor = refl; write = refl; sends = refl }
+taken_down decl (inputs.Lost number) = record { actor = refl; write = refl; sends = refl }
+
+takes_silent : (decl : Declaration) (m : ActorMove) (g : Input) → IsSilent m → IsSilent (actor_takes decl m.actor g)
+takes_silent decl m g silent = subst (λ (v : Actor). IsSilent (actor_takes decl v g)) (sym silent.actor)
+    (taken_down decl g)
+
+sends_silent : (m : ActorMove) (number to : ℕ) (message : _) → IsSilent m
+    → IsSilent (record m { actor = actor_sends m.actor number to message })
+sends_silent m number to message silent = record {
+  actor = ap (λ (v : Actor). actor_sends v number to message) silent.actor;
+  write = silent.write;
+  sends = silent.sends;
+}
+
+silent_from : (decl : Declaration) (a : ℕ) (down : Bool) (m : ActorMove) (ds : List Deed) → SilentWhere down m
+    → SilentWhere (fold down_at down ds) (fold (actor_does decl a) m ds)
+silent_from decl a down m [] silent = silent
+silent_from decl a down m (Takes g ∷ ds) silent =
+    silent_from decl a down (actor_takes decl m.actor g) ds (λ is. takes_silent decl m g (silent is))
+silent_from decl a down m (Writes written ∷ ds) silent = silent_from decl a down m ds silent
+silent_from decl a down m (Sends number to message ∷ ds) silent =
+    silent_from decl a down (record m { actor = actor_sends m.actor number to message }) ds
+    (λ is. sends_silent m number to message (silent is))
+silent_from decl a down m (Tells reply ∷ ds) silent = silent_from decl a down m ds silent
+silent_from decl a down m (Falls cause pending ∷ ds) silent =
+    silent_from decl a true (moved Down quiet) ds (λ is. record { actor = refl; write = refl; sends = refl })
+silent_from decl a down m (Rises records ∷ ds) silent =
+    silent_from decl a false (actor_rises decl a records) ds (λ is. absurd (let no : ⊥ = cc in no))
+
+silent_down : (decl : Declaration) (a : ℕ) (ds : List Deed) → is_down ds ≡ true → IsSilent (actor_after decl a ds)
+silent_down decl a ds down = silent_from decl a false _ ds (λ is. absurd (let no : ⊥ = cc in no)) down
+
+-- a lawful turn is that of the actor, but for what became of its record
+
+pub due : (decl : Declaration) (a : ℕ) (ds : List Deed) (turn : Turn) → IsLawfulWithFalls decl a ds turn
+    → (actor_after decl a ds).turn ≡ with_record turn
+due decl a ds turn lawful = by (is_site decl a) (is_client decl a) (is_administrator decl a) lawful.called_for
+  where
+    here : Some (actor_after decl a ds).turn ≡ Some (with_record turn) → (actor_after decl a ds).turn ≡ with_record turn
+    here is = cc
+
+    by : (x y z : Bool) → cond x (Some (actor_after decl a ds).turn)
+        (cond y (Some (actor_after decl a ds).turn) (cond z (Some (actor_after decl a ds).turn) None)) ≡ Some
+        (with_record turn) → (actor_after decl a ds).turn ≡ with_record turn
+    by true y z is = here is
+    by false true z is = here is
+    by false false true is = here is
+    by false false false is = absurd (let no : ⊥ = cc in no)
+
+pub tells : (decl : Declaration) → TellsWhereDown (IsLawfulWithFalls decl)
+tells decl = record {
+  ends = λ a ds turn lawful. lawful.may_end;
+  writes_none = λ a ds turn lawful down. sym (ap (λ (t : Turn). t.write) (due decl a ds turn lawful))
+      ∙ (silent_down decl a ds down).write;
+  sends_none = λ a ds turn lawful down. sym (ap (λ (t : Turn). t.sends) (due decl a ds turn lawful))
+      ∙ (silent_down decl a ds down).sends;
+}

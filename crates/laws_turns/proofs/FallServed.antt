@@ -1,0 +1,236 @@
+-- In each run with falls all mail is stamped, where clients rise with their own stamps; so a site serves, is what its
+-- steps show, and all that it posts is due.
+use Rattle.std.proofs.Common.{◌≡◌, ℕ, ◌+◌, ◌<◌, ◌≤◌, Bool, true, false, if◌then◌else◌, List, [], ◌∷◌, ◌++◌, length}
+use Rattle.std.proofs.Common.{Option, Some, None, slice_get, refl, sym, ap, ◌∙◌, subst, arith, append_assoc}
+use Rattle.std.specs.List.{AllByRecursion as Every}
+use Rattle.std.proofs.lemmas.Bool.{lt-ltb}
+use Rattle.qc_core.specs.declared.actor.Actor.TheVariants.{Site}
+use Rattle.qc_core.specs.Actors.{actor_after}
+use Rattle.qc_core.specs.Conduct.{IsLawfulWithFalls, with_record}
+use Rattle.qc_core.specs.Lives.{AreUncommanded, IsUncommanded, Lives, is_up}
+use Rattle.qc_core.specs.Lives as lives
+use Rattle.qc_core.specs.Sites.{IsInput, IsShown, IsSiteDeed, IsSiteInput, IsStamped, Serves}
+use Rattle.qc_core.proofs.OpenedInputs.{Opened, opened}
+use Rattle.qc_core.proofs.SiteLaws.{are_due, shows}
+use Rattle.qc_core.proofs.SiteLives.{serves_as_lives}
+use Rattle.qc_core.proofs.Written.{after_written}
+use Rattle.qc_decl.specs.declared.declaration.Declaration.{Declaration}
+use Rattle.qc_decl.specs.Actors.{is_administrator, actors, controller, is_client, is_site}
+use Rattle.qc_link.specs.Limits.{most_actors}
+use Rattle.qc_msg.specs.declared.message.Envelope.{Envelope}
+use Rattle.qc_msg.specs.declared.record.Record.{Record}
+use Rattle.qc_msg.specs.declared.reply.Reply.{Reply}
+use Rattle.qc_msg.specs.declared.step.Fall.TheVariants as causes
+use Rattle.qc_msg.specs.declared.step.Input.{Input}
+use Rattle.qc_msg.specs.declared.step.Input.TheVariants as given
+use Rattle.qc_msg.specs.declared.step.Step.TheVariants as steps
+use Rattle.qc_msg.specs.declared.turn.Posting.{Posting}
+use Rattle.qc_msg.specs.declared.turn.Turn.{Turn}
+use Rattle.qc_msg.specs.Deeds.{Deed, Takes, Writes, Sends, Tells, Falls, Rises, deeds, deeds_as, envelopes, mail}
+use Rattle.qc_msg.specs.Deeds.{sends_of, tells_of, turn_deeds, writes_of}
+use Rattle.qc_msg.specs.Steps.{Entry, MayEnd, by, marked, posted_as, sends_as, step_of}
+use Rattle.qc_msg.proofs.GrownMail.{mail-append, mail-taken}
+use Rattle.qc_msg.proofs.Growth.{deeds-append, mail-posted_as}
+use Rattle.qc_promise.specs.SiteDue.{AreDue}
+use Rattle.qc_script.specs.Ready.{phase_of}
+use Rattle.qc_script.specs.RunsWithFalls.{RunsWithFalls, begins, takes, posts, phase, control, falls, rises, damaged}
+use Rattle.qc_script.specs.RunsWithFalls.{unopened}
+use Rattle.qc_script.specs.declared.script.Script.{Script}
+use Rattle.laws_turns.proofs.Commanded.{uncommanded}
+use Rattle.laws_turns.proofs.Mailed.{AreInputs, IsMailStamped, both_all, deeds_inputs}
+use Rattle.laws_turns.proofs.Numbered.{mail-silent, phase_silent}
+use Rattle.laws_turns.proofs.OwnStamps.{AreStamped}
+use Rattle.laws_turns.proofs.Places.{slice_get-within}
+use Rattle.laws_turns.proofs.Served.{due_cut, first_part}
+use Rattle.qc_inbox.proofs.Keeping.{same_mail}
+use Rattle.laws_turns.specs.LivesIn.{LivesIn}
+use Rattle.laws_turns.specs.OwnRises.{GivesOwn, RiseWithOwn}
+use Rattle.laws_turns.proofs.ByMailWithFalls.{run_delivered}
+use Rattle.laws_turns.proofs.FallStamps.{lawful_stamped}
+use Rattle.laws_turns.proofs.Lived.{line_silent, run_lives, run_long}
+
+-- of a longer history, and of a shorter one
+
+pub given_first : (decl : Declaration) (h k : List Entry) → RiseWithOwn decl (h ++ k) → RiseWithOwn decl h
+given_first decl h k given a client = first_part GivesOwn (deeds a [] h) (deeds a (mail h) k)
+    (subst (Every GivesOwn) (deeds-append a [] h k) (given a client))
+
+envelopes_stamped : (a n : ℕ) (ps : List Posting) → AreStamped ps → IsMailStamped (envelopes a n ps)
+envelopes_stamped a n [] are = tt
+envelopes_stamped a n (p ∷ ps) are = (are.0, envelopes_stamped a (n + 1) ps are.1)
+
+more_stamped : (h k : List Entry) (ms : List Envelope) → mail k ≡ ms → IsMailStamped (mail h) → IsMailStamped ms
+    → IsMailStamped (mail (h ++ k))
+more_stamped h k ms same old new =
+    subst IsMailStamped (sym (mail-append h k ∙ ap (λ (v : List Envelope). mail h ++ v) same))
+    (both_all (λ (e : Envelope). IsStamped e.message) (mail h) ms old new)
+
+post_stamped : (a : ℕ) (h : List Entry) (turn : Turn) → AreStamped (sends_as turn.append turn) → IsMailStamped (mail h)
+    → IsMailStamped (mail (h ++ by a (posted_as turn.append (length (mail h)) turn)))
+post_stamped a h turn are old =
+    more_stamped h (by a (posted_as turn.append (length (mail h)) turn))
+    (envelopes a (length (mail h)) (sends_as turn.append turn))
+    (mail-posted_as turn.append a (length (mail h)) turn) old
+    (envelopes_stamped a (length (mail h)) (sends_as turn.append turn) are)
+
+rise_stamped : (a : ℕ) (h : List Entry) (records : List Record) (turn : Turn) → AreStamped (sends_as turn.append turn)
+    → IsMailStamped (mail h) → IsMailStamped
+    (mail (h ++ by a (steps.Rose records ∷ posted_as turn.append (length (mail h)) turn)))
+rise_stamped a h records turn are old =
+    more_stamped h (by a (steps.Rose records ∷ posted_as turn.append (length (mail h)) turn))
+    (envelopes a (length (mail h)) (sends_as turn.append turn))
+    (mail-posted_as turn.append a (length (mail h)) turn) old
+    (envelopes_stamped a (length (mail h)) (sends_as turn.append turn) are)
+
+-- what a site takes is a site's input
+
+site_deeds : (ds : List Deed) → AreInputs ds → AreUncommanded ds → Every IsSiteDeed ds
+site_deeds [] inputs free = tt
+site_deeds (Takes g ∷ ds) inputs free = (input g inputs.0 free.0, site_deeds ds inputs.1 free.1)
+  where
+    input : (g : Input) → IsInput g → IsUncommanded (Takes g) → IsSiteInput g
+    input (given.Called command) is none = absurd (let never : ⊥ = cc in never)
+    input (given.Got e) is none = is
+    input (given.Lost number) is none = tt
+site_deeds (Writes written ∷ ds) inputs free = (tt, site_deeds ds inputs.1 free.1)
+site_deeds (Sends number to message ∷ ds) inputs free = (tt, site_deeds ds inputs.1 free.1)
+site_deeds (Tells reply ∷ ds) inputs free = (tt, site_deeds ds inputs.1 free.1)
+site_deeds (Falls cause pending ∷ ds) inputs free = (tt, site_deeds ds inputs.1 free.1)
+site_deeds (Rises records ∷ ds) inputs free = (tt, site_deeds ds inputs.1 free.1)
+
+-- a post takes nothing
+
+sends_take_nothing : (n : ℕ) (ps : List Posting) → Every IsSiteDeed (sends_of n ps)
+sends_take_nothing n [] = tt
+sends_take_nothing n (p ∷ ps) = (tt, sends_take_nothing (n + 1) ps)
+
+tells_take_nothing : (told : Option Reply) → Every IsSiteDeed (tells_of told)
+tells_take_nothing None = tt
+tells_take_nothing (Some reply) = (tt, tt)
+
+writes_take_nothing : (w : Option Record) → Every IsSiteDeed (writes_of w)
+writes_take_nothing None = tt
+writes_take_nothing (Some written) = (tt, tt)
+
+post_takes_nothing : (n : ℕ) (turn : Turn) → Every IsSiteDeed (turn_deeds n turn)
+post_takes_nothing n turn =
+    both_all IsSiteDeed (writes_of turn.write) (sends_of n turn.sends ++ tells_of turn.told)
+    (writes_take_nothing turn.write)
+    (both_all IsSiteDeed (sends_of n turn.sends) (tells_of turn.told) (sends_take_nothing n turn.sends)
+    (tells_take_nothing turn.told))
+
+-- what a site that lives posted is due; whatever it posts for its open input, what it posted before is
+
+module _ (decl : Declaration) (a : ℕ) (within : a < decl.sites) where
+  lawful_next : (ds : List Deed) → IsLawfulWithFalls decl a ds (actor_after decl a ds).turn
+  lawful_next ds = record {
+    called_for = called;
+    may_end = subst (MayEnd (actor_after decl a ds).turn.write) (sym (after_written decl a ds)) tt;
+  }
+    where
+      called : (if is_site decl a then Some (actor_after decl a ds).turn else
+          (if is_client decl a then Some (actor_after decl a ds).turn else
+          (if is_administrator decl a then Some (actor_after decl a ds).turn else None))) ≡ Some
+          (with_record (actor_after decl a ds).turn)
+      called =
+          ap (λ (t : Bool). if t then Some (actor_after decl a ds).turn else
+          (if is_client decl a then Some (actor_after decl a ds).turn else
+          (if is_administrator decl a then Some (actor_after decl a ds).turn else None)))
+          (lt-ltb a decl.sites within)
+          ∙ ap (λ (end : _). Some (record (actor_after decl a ds).turn { append = end })) (after_written decl a ds)
+
+  served_due : (ds : List Deed) (n : ℕ) → Lives decl a ds false n → Every IsSiteDeed ds → AreDue decl [] ds
+  served_due ds n life inputs = are_due decl a ds (is_up ds) within (serves_as_lives decl a ds n life inputs)
+
+  lives_due : (ds : List Deed) (t : Bool) (n : ℕ) → Lives decl a ds t n → Every IsSiteDeed ds → AreDue decl [] ds
+  lives_due ds false n life inputs = served_due ds n life inputs
+  lives_due ds true n life inputs =
+      subst (AreDue decl []) (sym o.is)
+      (due_cut decl [] o.before (turn_deeds n turn) o.given
+      (subst (AreDue decl []) (ap (λ (v : List Deed). v ++ turn_deeds n turn) o.is
+      ∙ append_assoc o.before (Takes o.given ∷ []) (turn_deeds n turn)) whole))
+    where
+      turn : Turn
+      turn = (actor_after decl a ds).turn
+
+      o : Opened ds
+      o = opened decl a ds true n life refl
+
+      posted : Lives decl a (ds ++ turn_deeds n turn) false (n + length turn.sends)
+      posted = subst (λ (end : _). Lives decl a (ds ++ deeds_as end n turn) false (n + length (sends_as end turn)))
+          (after_written decl a ds) (lives.posts ds turn n n life (omega arith) (lawful_next ds))
+
+      whole : AreDue decl [] (ds ++ turn_deeds n turn)
+      whole = served_due (ds ++ turn_deeds n turn) (n + length turn.sends) posted
+          (both_all IsSiteDeed ds (turn_deeds n turn) inputs (post_takes_nothing n turn))
+
+module _ (decl : Declaration) (script : Script) (fits : ℕ → List Record → Type 0)
+    (few : actors decl ≤ most_actors) where
+  abbrev IsRun : List Entry → List Bool → Type 0
+  IsRun h open_inputs = RunsWithFalls (IsLawfulWithFalls decl) fits decl script h open_inputs
+
+  pub run_stamped : (h : List Entry) (open_inputs : List Bool) → IsRun h open_inputs → RiseWithOwn decl h
+      → IsMailStamped (mail h)
+  run_stamped h open_inputs begins given = tt
+  run_stamped h open_inputs (takes a g before older run free rdy) given =
+      subst IsMailStamped (sym (mail-taken older a g))
+      (run_stamped older before run (given_first decl older (marked a (step_of g) ∷ []) given))
+  run_stamped h open_inputs (posts a turn before older run taken law) given =
+      let past : RiseWithOwn decl older = given_first decl older
+      (by a (posted_as turn.append (length (mail older)) turn)) given in
+      post_stamped a older turn (lawful_stamped decl a (deeds a [] older) turn law (past a))
+      (run_stamped older before run past)
+  run_stamped h open_inputs (phase before older run none done quiet more) given =
+      subst IsMailStamped (sym (mail-silent older (controller decl) (steps.Phase (phase_of older + 1))
+      (phase_silent (phase_of older + 1))))
+      (run_stamped older before run (given_first decl older
+      (marked (controller decl) (steps.Phase (phase_of older + 1)) ∷ []) given))
+  run_stamped h open_inputs (control line lines step before older run left is) given =
+      subst IsMailStamped (sym (mail-silent older (controller decl) step (line_silent line step is)))
+      (run_stamped older before run (given_first decl older (marked (controller decl) step ∷ []) given))
+  run_stamped h open_inputs (falls a lines before older run left) given =
+      subst IsMailStamped (sym (same_mail older (marked a (steps.Fell causes.Script None)) refl))
+      (run_stamped older before run (given_first decl older (marked a (steps.Fell causes.Script None) ∷ []) given))
+  run_stamped h open_inputs (rises a records turn lines before older run left fit has law) given =
+      rise_stamped a older records turn
+      (lawful_stamped decl a (deeds a [] (older ++ marked a (steps.Rose records) ∷ [])) turn law
+      (given_first decl (older ++ marked a (steps.Rose records) ∷ [])
+      (by a (posted_as turn.append (length (mail older)) turn))
+      (subst (RiseWithOwn decl) (sym (append_assoc older (marked a (steps.Rose records) ∷ [])
+      (by a (posted_as turn.append (length (mail older)) turn)))) given) a))
+      (run_stamped older before run (given_first decl older
+      (by a (steps.Rose records ∷ posted_as turn.append (length (mail older)) turn)) given))
+  run_stamped h open_inputs (damaged a offset lines before older run left) given =
+      subst IsMailStamped (sym (same_mail older (marked a (steps.Damaged offset)) refl))
+      (run_stamped older before run (given_first decl older (marked a (steps.Damaged offset) ∷ []) given))
+  run_stamped h open_inputs (unopened a cause lines before older run left disk) given =
+      subst IsMailStamped (sym (same_mail older (marked a (steps.Fell cause None)) refl))
+      (run_stamped older before run (given_first decl older (marked a (steps.Fell cause None) ∷ []) given))
+
+  module _ (h : List Entry) (open_inputs : List Bool) (run : IsRun h open_inputs) (given : RiseWithOwn decl h)
+      (site : ℕ) (within : site < decl.sites) where
+    pub run_site_deeds : Every IsSiteDeed (deeds site [] h)
+    run_site_deeds =
+        site_deeds (deeds site [] h) (deeds_inputs site [] h tt (run_stamped h open_inputs run given))
+        (uncommanded decl site [] h (lt-ltb site decl.sites within)
+        (run_delivered decl script fits few h open_inputs run).called)
+
+    pub run_serves : slice_get open_inputs site ≡ Some false
+        → Serves decl site (deeds site [] h) (is_up (deeds site [] h))
+    run_serves free =
+        let lived : LivesIn decl site h false = run_lives decl script fits few h open_inputs run site false free in
+        serves_as_lives decl site (deeds site [] h) lived.above lived.lives run_site_deeds
+
+    pub run_shown : slice_get open_inputs site ≡ Some false → is_up (deeds site [] h) ≡ true
+        → (s : _) × ((actor_after decl site (deeds site [] h)).actor ≡ Site s) × IsShown (deeds site [] h) s
+    run_shown free up = shows decl site (deeds site [] h) within
+        (subst (Serves decl site (deeds site [] h)) up (run_serves free))
+
+    pub run_due : AreDue decl [] (deeds site [] h)
+    run_due =
+        let long : length open_inputs ≡ actors decl = run_long decl script fits few h open_inputs run in
+        let place : (t : Bool) × (slice_get open_inputs site ≡ Some t) =
+        slice_get-within open_inputs site (omega arith) in
+        let lived : LivesIn decl site h place.0 =
+        run_lives decl script fits few h open_inputs run site place.0 place.1 in
+        lives_due decl site within (deeds site [] h) place.0 lived.above lived.lives run_site_deeds

@@ -1,0 +1,115 @@
+-- In each run all mail is stamped, and so is all that an actor takes.
+use Rattle.std.proofs.Common.{◌≡◌, ℕ, zero, suc, ◌+◌, ◌==◌, Bool, true, false, cond, List, [], ◌∷◌, ◌++◌, length}
+use Rattle.std.proofs.Common.{Option, Some, None, slice_get, refl, sym, ap, ◌∙◌, subst}
+use Rattle.std.specs.Prelude.{option_to_list}
+use Rattle.std.specs.List.{AllByRecursion as Every, cons_option}
+use Rattle.qc_core.specs.Conduct.{IsLawful}
+use Rattle.qc_core.specs.Sites.{IsInput, IsStamped}
+use Rattle.qc_decl.specs.declared.declaration.Declaration.{Declaration}
+use Rattle.qc_decl.specs.Actors.{controller}
+use Rattle.qc_msg.specs.declared.message.Envelope.{Envelope}
+use Rattle.qc_msg.specs.declared.step.Step.{Step}
+use Rattle.qc_msg.specs.declared.step.Step.TheVariants as steps
+use Rattle.qc_msg.specs.declared.turn.Posting.{Posting}
+use Rattle.qc_msg.specs.Deeds.{Deed, Takes, Writes, Sends, Tells, Falls, Rises, deed_at, deeds, envelope_of, envelopes}
+use Rattle.qc_msg.specs.Deeds.{heard, mail}
+use Rattle.qc_msg.specs.Steps.{Entry, by, posted}
+use Rattle.qc_msg.proofs.GrownMail.{mail-append, mail-posted, mail-taken}
+use Rattle.qc_script.specs.Ready.{phase_of}
+use Rattle.qc_script.specs.Runs.{Runs, begins, takes, posts, phase, control}
+use Rattle.qc_script.specs.declared.script.Script.{Script}
+use Rattle.laws_turns.proofs.Numbered.{control_silent, mail-silent, phase_silent}
+use Rattle.laws_turns.proofs.OwnStamps.{AreStamped}
+use Rattle.laws_turns.proofs.Stamped.{lawful_stamped}
+
+abbrev pub IsMailStamped : List Envelope → Type 0
+IsMailStamped ms = Every (λ (e : Envelope). IsStamped e.message) ms
+
+pub both_all : {A : Type 0} (P : A → Type 0) (xs ys : List A) → Every P xs → Every P ys → Every P (xs ++ ys)
+both_all P [] ys first second = second
+both_all P (x ∷ xs) ys first second = (first.0, both_all P xs ys first.1 second)
+
+pub all_at : {A : Type 0} (P : A → Type 0) (xs : List A) (n : ℕ) (x : A) → Every P xs → slice_get xs n ≡ Some x → P x
+all_at P [] n x all is = absurd (let never : ⊥ = cc in never)
+all_at P (y ∷ ys) zero x all is = subst P (let same : y ≡ x = cc in same) all.0
+all_at P (y ∷ ys) (suc n) x all is = all_at P ys n x all.1 is
+
+envelopes_stamped : (a n : ℕ) (ps : List Posting) → AreStamped ps → IsMailStamped (envelopes a n ps)
+envelopes_stamped a n [] are = tt
+envelopes_stamped a n (p ∷ ps) are = (are.0, envelopes_stamped a (n + 1) ps are.1)
+
+pub run_stamped : (decl : Declaration) (script : Script) (h : List Entry) (open_inputs : List Bool)
+    → Runs (IsLawful decl) decl script h open_inputs → IsMailStamped (mail h)
+run_stamped decl script h open_inputs begins = tt
+run_stamped decl script h open_inputs (takes a taken before older run free ready) =
+    subst IsMailStamped (sym (mail-taken older a taken)) (run_stamped decl script older before run)
+run_stamped decl script h open_inputs (posts a turn before older run taken law) =
+    subst IsMailStamped (sym (mail-append older (by a (posted (length (mail older)) turn))
+    ∙ ap (λ (v : List Envelope). mail older ++ v) (mail-posted a (length (mail older)) turn)))
+    (both_all (λ (e : Envelope). IsStamped e.message) (mail older) (envelopes a (length (mail older)) turn.sends)
+    (run_stamped decl script older before run)
+    (envelopes_stamped a (length (mail older)) turn.sends (lawful_stamped decl a (deeds a [] older) turn law)))
+run_stamped decl script h open_inputs (phase before older run none done quiet more) =
+    subst IsMailStamped (sym (mail-silent older (controller decl) (steps.Phase (phase_of older + 1))
+    (phase_silent (phase_of older + 1)))) (run_stamped decl script older before run)
+run_stamped decl script h open_inputs (control line lines step before older run left is) =
+    subst IsMailStamped (sym (mail-silent older (controller decl) step (control_silent line step is)))
+    (run_stamped decl script older before run)
+
+-- what is taken is of the mail
+
+abbrev pub IsInputDeed : Deed → Type 0
+IsInputDeed (Takes g) = IsInput g
+IsInputDeed (Writes written) = Unit {0}
+IsInputDeed (Sends number to message) = Unit {0}
+IsInputDeed (Tells reply) = Unit {0}
+IsInputDeed (Falls cause pending) = Unit {0}
+IsInputDeed (Rises records) = Unit {0}
+
+abbrev pub AreInputs : List Deed → Type 0
+AreInputs ds = Every IsInputDeed ds
+
+heard_input : (ms : List Envelope) (n : ℕ) (o : Option Envelope) → IsMailStamped ms → slice_get ms n ≡ o
+    → AreInputs (heard o)
+heard_input ms n None stamped is = tt
+heard_input ms n (Some e) stamped is = (all_at (λ (x : Envelope). IsStamped x.message) ms n e stamped is, tt)
+
+step_inputs : (ms : List Envelope) (step : Step) → IsMailStamped ms → AreInputs (deed_at ms step)
+step_inputs ms (steps.Phase k) stamped = tt
+step_inputs ms (steps.Cut x y) stamped = tt
+step_inputs ms (steps.Heal x y) stamped = tt
+step_inputs ms (steps.Armed actor kind at) stamped = tt
+step_inputs ms (steps.Called command) stamped = (tt, tt)
+step_inputs ms (steps.Got n) stamped = heard_input ms n (slice_get ms n) stamped refl
+step_inputs ms (steps.Lost n) stamped = (tt, tt)
+step_inputs ms (steps.Wrote written) stamped = (tt, tt)
+step_inputs ms (steps.Sent n to message) stamped = (tt, tt)
+step_inputs ms (steps.Told reply) stamped = (tt, tt)
+step_inputs ms (steps.Fell cause pending) stamped = (tt, tt)
+step_inputs ms (steps.Rose records) stamped = (tt, tt)
+step_inputs ms (steps.Damaged offset) stamped = tt
+
+mine_inputs : (mine : Bool) (ms : List Envelope) (step : Step) → IsMailStamped ms
+    → AreInputs (cond mine (deed_at ms step) [])
+mine_inputs true ms step stamped = step_inputs ms step stamped
+mine_inputs false ms step stamped = tt
+
+first_all : {A : Type 0} (P : A → Type 0) (o : Option A) (xs : List A) → Every P (cons_option o xs)
+    → Every P (option_to_list o)
+first_all P None xs all = tt
+first_all P (Some x) xs all = (all.0, tt)
+
+rest_all : {A : Type 0} (P : A → Type 0) (o : Option A) (xs : List A) → Every P (cons_option o xs) → Every P xs
+rest_all P None xs all = all
+rest_all P (Some x) xs all = all.1
+
+pub deeds_inputs : (a : ℕ) (ms : List Envelope) (h : List Entry) → IsMailStamped ms → IsMailStamped (mail h)
+    → AreInputs (deeds a ms h)
+deeds_inputs a ms [] stamped all = tt
+deeds_inputs a ms (e ∷ h) stamped all =
+    both_all IsInputDeed (cond (e.actor == a) (deed_at ms e.step) []) (deeds a (ms ++ option_to_list (envelope_of e)) h)
+    (mine_inputs (e.actor == a) ms e.step stamped)
+    (deeds_inputs a (ms ++ option_to_list (envelope_of e)) h
+    (both_all (λ (x : Envelope). IsStamped x.message) ms (option_to_list (envelope_of e)) stamped
+    (first_all (λ (x : Envelope). IsStamped x.message) (envelope_of e) (mail h) all))
+    (rest_all (λ (x : Envelope). IsStamped x.message) (envelope_of e) (mail h) all))

@@ -1,0 +1,249 @@
+-- A front end begins transactions of its own client alone, and what it sends names no stamp.
+use Rattle.std.proofs.Common.{◌≡◌, ℕ, nat_le, Bool, true, false, if◌then◌else◌, List, [], ◌∷◌, ◌++◌, length, Option}
+use Rattle.std.proofs.Common.{Some, None, option_map, inl, inr, refl, sym, ap, ◌∙◌, slice_get, subst}
+use Rattle.std.specs.List.{AllByRecursion as Every}
+use Rattle.qc_core.specs.Sites.{IsOwnStamp, IsStamped}
+use Rattle.qc_list.specs.Members.{In}
+use Rattle.qc_decl.specs.declared.declaration.Declaration.{Declaration}
+use Rattle.qc_decl.specs.Limits.{most_transaction_operations}
+use Rattle.qc_decl.specs.Lookup.{append_need_of, read_need_of}
+use Rattle.qc_plan.specs.Round.{RoundState, note, verdict}
+use Rattle.qc_plan.specs.declared.standing.Verdict.{Verdict}
+use Rattle.qc_plan.specs.declared.standing.Verdict.TheVariants as verdicts
+use Rattle.qc_stamp.specs.declared.stamp.TxId.{TxId}
+use Rattle.qc_view.specs.declared.view.View.{View}
+use Rattle.qc_view.specs.View.{with_log, with_own}
+use Rattle.qc_msg.specs.declared.begun.Begun.{Begun}
+use Rattle.qc_msg.specs.declared.call.Call.{Call}
+use Rattle.qc_msg.specs.declared.message.Answer.{Answer}
+use Rattle.qc_msg.specs.declared.message.Answer.TheVariants as answers
+use Rattle.qc_msg.specs.declared.message.Message.{Message}
+use Rattle.qc_msg.specs.declared.message.Message.TheVariants as messages
+use Rattle.qc_msg.specs.declared.message.Outcome.{Outcome}
+use Rattle.qc_msg.specs.declared.reply.Reply.TheVariants as replies
+use Rattle.qc_msg.specs.declared.reply.AbortCause.TheVariants as causes
+use Rattle.qc_msg.specs.declared.step.Command.{Command}
+use Rattle.qc_msg.specs.declared.step.Command.TheVariants as commands
+use Rattle.qc_msg.specs.declared.turn.Posting.{Posting}
+use Rattle.qc_msg.specs.Calls.{site_called, without_call}
+use Rattle.qc_msg.specs.Turns.{quiet, telling}
+use Rattle.qc_front.specs.declared.doing.Doing.{Doing}
+use Rattle.qc_front.specs.declared.doing.Doing.TheVariants.{Idle, Reading, Appending}
+use Rattle.qc_front.specs.declared.front.Front.{Front}
+use Rattle.qc_front.specs.declared.transaction.Transaction.{Transaction}
+use Rattle.qc_front.specs.Answering.{answer_of, next_own, resp_of, with_event}
+use Rattle.qc_front.specs.Appending.{round_for}
+use Rattle.qc_front.specs.Conduct.{appending_takes, called, commits, reading_takes, takes, takes_in}
+use Rattle.qc_front.specs.Counting.{appended_with, learns, lived, read_with, standing_of}
+use Rattle.qc_front.specs.Front.{FrontMove, aborts, begins, gives_up, moved}
+use Rattle.qc_front.specs.Requests.{AreSent, IsSent}
+use Rattle.qc_front.specs.Rounds.{answered, append_by, performs, read_by, reads}
+use Rattle.qc_front.proofs.Keeping.{view_keeps}
+use Rattle.qc_front.proofs.Sending.{called_sent, takes_sent}
+
+abbrev pub IsOwnTransaction : ℕ → Option Transaction → Type 0
+IsOwnTransaction k None = Unit {0}
+IsOwnTransaction k (Some t) = t.begun.tx.client ≡ k
+
+pub record OwnFront (k : ℕ) (front : Front) : Type 0 where
+  pub client : front.client ≡ k
+  pub begun : IsOwnTransaction k front.transaction
+
+of_two : {A : Type 0} (P : A → Type 0) (t : Bool) (x y : A) → P x → P y → P (if t then x else y)
+of_two P true x y here there = here
+of_two P false x y here there = there
+
+-- the name stays
+
+pub read_name : (t : Transaction) (site object : ℕ) (answer : Option Answer)
+    → (read_with t site object answer).begun.tx ≡ t.begun.tx
+read_name t site object None = refl
+read_name t site object (Some (answers.Granted life clock log)) =
+    ap (λ (b : Begun). b.tx) (view_keeps (lived t site life) object
+    (option_map (λ (v : View). with_log v log) (slice_get t.views object)))
+read_name t site object (Some (answers.Clash holder inv event)) = refl
+read_name t site object (Some (answers.Closed epoch)) = refl
+read_name t site object (Some (answers.Behind epoch)) = refl
+read_name t site object (Some (answers.Restarted life)) = refl
+read_name t site object (Some answers.Stale) = refl
+read_name t site object (Some answers.Fault) = refl
+read_name t site object (Some (answers.Yes clock)) = refl
+read_name t site object (Some (answers.Shut clock log prepared)) = refl
+read_name t site object (Some answers.Installed) = refl
+read_name t site object (Some (answers.Answered verdict)) = refl
+
+pub appended_name : (t : Transaction) (site : ℕ) (answer : Option Answer)
+    → (appended_with t site answer).begun.tx ≡ t.begun.tx
+appended_name t site None = refl
+appended_name t site (Some (answers.Granted life clock log)) = refl
+appended_name t site (Some (answers.Clash holder inv event)) = refl
+appended_name t site (Some (answers.Closed epoch)) = refl
+appended_name t site (Some (answers.Behind epoch)) = refl
+appended_name t site (Some (answers.Restarted life)) = refl
+appended_name t site (Some answers.Stale) = refl
+appended_name t site (Some answers.Fault) = refl
+appended_name t site (Some (answers.Yes clock)) = refl
+appended_name t site (Some (answers.Shut clock log prepared)) = refl
+appended_name t site (Some answers.Installed) = refl
+appended_name t site (Some (answers.Answered verdict)) = refl
+
+event_name : (t : Transaction) (object inv event resp : ℕ) → (with_event t object inv event resp).begun.tx ≡ t.begun.tx
+event_name t object inv event resp =
+    ap (λ (b : Begun). b.tx) (view_keeps (record t { own = t.own ++ next_own t object event ∷ [] }) object
+    (option_map (λ (v : View). with_own v event) (slice_get t.views object)))
+
+learns_client : (front : Front) (answer : Option Answer) → (learns front answer).client ≡ front.client
+learns_client front None = refl
+learns_client front (Some (answers.Granted life clock log)) = refl
+learns_client front (Some (answers.Clash holder inv event)) = refl
+learns_client front (Some (answers.Closed epoch)) = refl
+learns_client front (Some (answers.Behind epoch)) = refl
+learns_client front (Some (answers.Restarted life)) = refl
+learns_client front (Some answers.Stale) = refl
+learns_client front (Some answers.Fault) = refl
+learns_client front (Some (answers.Yes clock)) = refl
+learns_client front (Some (answers.Shut clock log prepared)) = refl
+learns_client front (Some answers.Installed) = refl
+learns_client front (Some (answers.Answered verdict)) = refl
+
+-- rounds
+
+module _ (decl : Declaration) (k : ℕ) where
+  append_own : (next : Front) (t : Transaction) (object inv event : ℕ) (calls : List Call) (round : RoundState)
+      (v : Verdict) → next.client ≡ k → t.begun.tx.client ≡ k
+      → OwnFront k (append_by decl next t object inv event calls round v).front
+  append_own next t object inv event calls round verdicts.Waiting client own = record { client = client; begun = own }
+  append_own next t object inv event calls round verdicts.Met client own =
+      record {
+        client = client;
+        begun = ap (λ (tx : TxId). tx.client)
+            (event_name t object inv event (resp_of decl object event)) ∙ own;
+      }
+  append_own next t object inv event calls round (verdicts.Closed epoch site) client own =
+      record { client = client; begun = own }
+  append_own next t object inv event calls round (verdicts.Clash tx site) client own =
+      record { client = client; begun = own }
+  append_own next t object inv event calls round (verdicts.Short got need) client own =
+      record { client = client; begun = own }
+
+  answered_own : (next : Front) (t : Transaction) (object inv : ℕ) (o : Option ℕ) → next.client ≡ k
+      → t.begun.tx.client ≡ k → OwnFront k (answered decl next t object inv o).front
+  answered_own next t object inv None client own = record { client = client; begun = own }
+  answered_own next t object inv (Some event) client own =
+      append_own next t object inv event [] (round_for decl next t (append_need_of decl t.begun.epoch object event))
+      (verdict (round_for decl next t (append_need_of decl t.begun.epoch object event))) client own
+
+  read_own : (next : Front) (t : Transaction) (object inv : ℕ) (calls : List Call) (round : RoundState) (v : Verdict)
+      → next.client ≡ k → t.begun.tx.client ≡ k → OwnFront k (read_by decl next t object inv calls round v).front
+  read_own next t object inv calls round verdicts.Waiting client own = record { client = client; begun = own }
+  read_own next t object inv calls round verdicts.Met client own =
+      answered_own next t object inv (answer_of decl t object inv) client own
+  read_own next t object inv calls round (verdicts.Closed epoch site) client own =
+      record { client = client; begun = own }
+  read_own next t object inv calls round (verdicts.Clash tx site) client own = record { client = client; begun = own }
+  read_own next t object inv calls round (verdicts.Short got need) client own = record { client = client; begun = own }
+
+  -- commands
+
+  performs_own : (front : Front) (o : Option Transaction) (object inv : ℕ) → front.client ≡ k
+      → IsOwnTransaction k front.transaction → IsOwnTransaction k o
+      → OwnFront k (performs decl front o object inv).front
+  performs_own front None object inv client begun own = record { client = client; begun = begun }
+  performs_own front (Some t) object inv client begun own =
+      of_two (λ (m : FrontMove). OwnFront k m.front) t.begun.doomed (moved front (telling replies.Doomed)) _
+      (record { client = client; begun = begun })
+      (of_two (λ (m : FrontMove). OwnFront k m.front) (nat_le most_transaction_operations (length t.begun.ops))
+      (moved front (telling replies.TooLong)) (reads decl front t object inv []
+      (round_for decl front t (read_need_of decl t.begun.epoch object inv)))
+      (record { client = client; begun = begun })
+      (read_own front t object inv [] (round_for decl front t (read_need_of decl t.begun.epoch object inv))
+      (verdict (round_for decl front t (read_need_of decl t.begun.epoch object inv))) client own))
+
+  begins_own : (front : Front) (o : Option Transaction) → OwnFront k front → OwnFront k (begins decl front o).front
+  begins_own front None own = record { client = own.client; begun = own.client }
+  begins_own front (Some t) own = own
+
+  commits_own : (front : Front) (o : Option Transaction) → OwnFront k front → OwnFront k (commits front o).front
+  commits_own front None own = own
+  commits_own front (Some t) own = of_two (λ (m : FrontMove). OwnFront k m.front) t.begun.doomed
+      (gives_up front t (replies.Aborted causes.Doomed)) (moved front quiet)
+      (record { client = own.client; begun = tt }) own
+
+  aborts_own : (front : Front) (o : Option Transaction) → OwnFront k front → OwnFront k (aborts front o).front
+  aborts_own front None own = own
+  aborts_own front (Some t) own = record { client = own.client; begun = tt }
+
+  pub called_own : (front : Front) (command : Command) → OwnFront k front → OwnFront k (called decl front command).front
+  called_own front commands.Begin own = begins_own front front.transaction own
+  called_own front (commands.Do object inv) own =
+      performs_own front front.transaction object inv own.client own.begun own.begun
+  called_own front commands.Commit own = commits_own front front.transaction own
+  called_own front commands.Abort own = aborts_own front front.transaction own
+  called_own front (commands.Epoch number) own = own
+
+  -- answers, and requests that are lost
+
+  reading_own : (front : Front) (t : Transaction) (object inv : ℕ) (calls : List Call) (round : RoundState) (number : ℕ)
+      (answer : Option Answer) (o : Option ℕ) → OwnFront k front → t.begun.tx.client ≡ k
+      → OwnFront k (reading_takes decl front t object inv calls round number answer o).front
+  reading_own front t object inv calls round number answer None own name = own
+  reading_own front t object inv calls round number answer (Some site) own name =
+      read_own (learns front answer) (read_with t site object answer) object inv (without_call calls number)
+      (note round site (standing_of answer)) (verdict (note round site (standing_of answer)))
+      (learns_client front answer ∙ own.client)
+      (ap (λ (tx : TxId). tx.client) (read_name t site object answer) ∙ name)
+
+  appending_own : (front : Front) (t : Transaction) (object inv event : ℕ) (calls : List Call) (round : RoundState)
+      (number : ℕ) (answer : Option Answer) (o : Option ℕ) → OwnFront k front → t.begun.tx.client ≡ k
+      → OwnFront k (appending_takes decl front t object inv event calls round number answer o).front
+  appending_own front t object inv event calls round number answer None own name = own
+  appending_own front t object inv event calls round number answer (Some site) own name =
+      append_own (learns front answer) (appended_with t site answer) object inv event (without_call calls number)
+      (note round site (standing_of answer)) (verdict (note round site (standing_of answer)))
+      (learns_client front answer ∙ own.client)
+      (ap (λ (tx : TxId). tx.client) (appended_name t site answer) ∙ name)
+
+  in_own : (front : Front) (doing : Doing) (o : Option Transaction) (number : ℕ) (answer : Option Answer)
+      → OwnFront k front → IsOwnTransaction k o → OwnFront k (takes_in decl front doing o number answer).front
+  in_own front doing None number answer own name = own
+  in_own front Idle (Some t) number answer own name = own
+  in_own front (Reading object inv calls round) (Some t) number answer own name =
+      reading_own front t object inv calls round number answer (site_called calls number) own name
+  in_own front (Appending object inv event calls round) (Some t) number answer own name =
+      appending_own front t object inv event calls round number answer (site_called calls number) own name
+
+  pub takes_own : (front : Front) (number : ℕ) (answer : Option Answer) → OwnFront k front
+      → OwnFront k (takes decl front number answer).front
+  takes_own front number answer own = in_own front front.doing front.transaction number answer own own.begun
+
+-- what is sent
+
+pub every_of : {A : Type 0} (P : A → Type 0) (xs : List A) → ((x : A) → In x xs → P x) → Every P xs
+every_of P [] all = tt
+every_of P (x ∷ xs) all = (all x (inl refl), every_of P xs (λ y member. all y (inr member)))
+
+sent_stamped : (decl : Declaration) (front next : Front) (to : ℕ) (m : Message) → IsSent decl front next to m
+    → IsStamped m
+sent_stamped decl front next to (messages.Request tx epoch life want) is = tt
+sent_stamped decl front next to (messages.Answer number answer) is = tt
+sent_stamped decl front next to (messages.Decision tx v) is =
+    subst (λ (o : Outcome). IsOwnStamp tx o) (sym is.aborted) tt
+sent_stamped decl front next to (messages.Inquiry tx) is = tt
+sent_stamped decl front next to (messages.Ask tx) is = tt
+sent_stamped decl front next to (messages.Close epoch) is = tt
+sent_stamped decl front next to (messages.Install epoch clock log) is = tt
+
+sends_stamped : (decl : Declaration) (front : Front) (m : FrontMove) → AreSent decl front m
+    → Every (λ (p : Posting). IsStamped p.message) m.turn.sends
+sends_stamped decl front m sent = every_of (λ (p : Posting). IsStamped p.message) m.turn.sends
+    (λ p member. sent_stamped decl front m.front p.to p.message (sent p member))
+
+pub called_stamped : (decl : Declaration) (front : Front) (command : Command)
+    → Every (λ (p : Posting). IsStamped p.message) (called decl front command).turn.sends
+called_stamped decl front command = sends_stamped decl front (called decl front command)
+    (called_sent decl front command)
+
+pub takes_stamped : (decl : Declaration) (front : Front) (number : ℕ) (answer : Option Answer)
+    → Every (λ (p : Posting). IsStamped p.message) (takes decl front number answer).turn.sends
+takes_stamped decl front number answer =
+    sends_stamped decl front (takes decl front number answer) (takes_sent decl front number answer)

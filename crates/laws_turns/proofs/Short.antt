@@ -1,0 +1,209 @@
+-- Turns are short: a site answers with at most two messages, a client asks or tells each site once.
+use Rattle.std.proofs.Common.{ℕ, ◌-◌, ◌≤◌, Bool, true, false, cond, List, [], ◌∷◌, fold, length, Option, Some, None}
+use Rattle.std.proofs.Common.{is_some, sym, subst, arith}
+use Rattle.std.specs.List.{AllByRecursion as Every}
+use Rattle.std.proofs.lemmas.List.Sums.{fold-append}
+use Rattle.qc_decl.specs.Accepted.{IsAccepted}
+use Rattle.qc_decl.specs.declared.declaration.Declaration.{Declaration}
+use Rattle.qc_msg.specs.declared.message.Answer.{Answer}
+use Rattle.qc_msg.specs.declared.message.Message.{Message}
+use Rattle.qc_msg.specs.declared.message.Message.TheVariants as messages
+use Rattle.qc_msg.specs.declared.message.Outcome.TheVariants.{Committed, Aborted, Active}
+use Rattle.qc_msg.specs.declared.message.Want.TheVariants.{Append, Prepare, Read}
+use Rattle.qc_msg.specs.declared.step.Command.{Command}
+use Rattle.qc_msg.specs.declared.step.Command.TheVariants as commands
+use Rattle.qc_msg.specs.declared.step.Input.{Input}
+use Rattle.qc_msg.specs.declared.step.Input.TheVariants as inputs
+use Rattle.qc_msg.specs.Deeds.{Deed, Takes, Writes, Sends, Tells, Falls, Rises, turn_deeds}
+use Rattle.qc_msg.specs.Turns.{quiet}
+use Rattle.qc_commit.specs.declared.desk.Voting.{Voting}
+use Rattle.qc_commit.specs.Conduct as desks
+use Rattle.qc_commit.specs.Desk.{DeskMove}
+use Rattle.qc_commit.specs.Fits.{AsksFew}
+use Rattle.qc_front.specs.declared.transaction.Transaction.{Transaction}
+use Rattle.qc_front.specs.Conduct as fronts
+use Rattle.qc_front.specs.Front.{FrontMove, ended}
+use Rattle.qc_front.specs.Holds.{FrontHolds}
+use Rattle.qc_client.specs.declared.client.Client.{Client}
+use Rattle.qc_client.specs.Client.{ClientMove, by_desk, by_front, moved, new_client}
+use Rattle.qc_client.specs.Conduct.{answered, answered_by, called, client_after, client_does, client_takes, commits}
+use Rattle.qc_client.specs.Conduct.{heard, sent_one}
+use Rattle.qc_core.specs.Acts.{Acts, posts, starts, takes}
+use Rattle.qc_site.specs.Conduct.{passed, site_after, site_at, site_does, site_takes}
+use Rattle.qc_site.specs.Site.{SiteMove, SiteState, moved as site_moved, new_site}
+use Rattle.qc_site.proofs.Cases.{append_cases, close_cases, install_cases, join_cases, prepare_cases, read_cases}
+use Rattle.qc_site.proofs.Cases.{request_cases}
+use Rattle.laws_turns.specs.RecordsAsked.{AskedSites, AsksSites, VotedSites}
+use Rattle.laws_turns.proofs.AskedMoves.{IsShort, called-short, takes_short}
+use Rattle.laws_turns.proofs.Bounding.{turn-posts}
+use Rattle.laws_turns.proofs.ClientsWithin.{IsPost}
+use Rattle.laws_turns.proofs.DesksShort.{IsDeskShort, prepare_short, vote_short}
+
+-- a site
+
+abbrev FewSent : SiteMove → Type 0
+FewSent m = length m.turn.sends ≤ 2
+
+site_short : (decl : Declaration) (s : SiteState) (from number : ℕ) (message : Message)
+    → FewSent (site_at decl s from number message)
+site_short decl s from number (messages.Request tx epoch life (Read object inv)) =
+    request_cases FewSent decl s from number tx epoch life (Read object inv) (omega arith) (λ fault is. omega arith)
+    (λ is. read_cases FewSent decl s from number tx object inv (λ free. omega arith) (λ c clash. omega arith))
+site_short decl s from number (messages.Request tx epoch life (Append object view own)) =
+    request_cases FewSent decl s from number tx epoch life (Append object view own) (omega arith)
+    (λ fault is. omega arith)
+    (λ is. append_cases FewSent decl s from number tx object view own (λ free. omega arith) (λ c clash. omega arith))
+site_short decl s from number (messages.Request tx epoch life Prepare) =
+    request_cases FewSent decl s from number tx epoch life Prepare (omega arith) (λ fault is. omega arith)
+    (λ is. prepare_cases FewSent s from number tx (omega arith) (λ held stands. omega arith) (λ held made. omega arith))
+site_short decl s from number (messages.Answer to answer) = omega arith
+site_short decl s from number (messages.Decision tx (Committed stamp)) =
+    join_cases FewSent s tx stamp (λ none. omega arith) (λ p some. omega arith)
+site_short decl s from number (messages.Decision tx Aborted) = omega arith
+site_short decl s from number (messages.Decision tx Active) = omega arith
+site_short decl s from number (messages.Inquiry tx) = omega arith
+site_short decl s from number (messages.Ask tx) = omega arith
+site_short decl s from number (messages.Close k) =
+    close_cases FewSent s from number k (λ answer. omega arith) (λ near later. omega arith)
+site_short decl s from number (messages.Install k clock lines) =
+    install_cases FewSent s from number k clock lines (λ answer. omega arith) (λ later fits. omega arith)
+
+site_takes_short : (decl : Declaration) (s : SiteState) (g : Input) → FewSent (site_takes decl s g)
+site_takes_short decl s (inputs.Called command) = omega arith
+site_takes_short decl s (inputs.Got e) = site_short decl (passed s e.message) e.from e.number e.message
+site_takes_short decl s (inputs.Lost number) = omega arith
+
+sites_fold : (decl : Declaration) (m : SiteMove) (ds : List Deed) → FewSent m → FewSent (fold (site_does decl) m ds)
+sites_fold decl m [] few = few
+sites_fold decl m (Takes g ∷ ds) few = sites_fold decl (site_takes decl m.site g) ds (site_takes_short decl m.site g)
+sites_fold decl m (Writes written ∷ ds) few = sites_fold decl m ds few
+sites_fold decl m (Sends number to message ∷ ds) few = sites_fold decl m ds few
+sites_fold decl m (Tells reply ∷ ds) few = sites_fold decl m ds few
+sites_fold decl m (Falls cause pending ∷ ds) few = sites_fold decl m ds few
+sites_fold decl m (Rises records ∷ ds) few = sites_fold decl m ds few
+
+-- whatever it took
+pub sites_short : (decl : Declaration) (number : ℕ) (ds : List Deed) → length (site_after decl number ds).turn.sends ≤ 2
+sites_short decl number ds = sites_fold decl (site_moved (new_site number) quiet) ds (omega arith)
+
+-- a client
+
+pub record IsClientShort (decl : Declaration) (m : ClientMove) : Type 0 where
+  pub asks : AsksSites decl m.client
+  pub few : length m.turn.sends ≤ 16
+
+-- what a client's calls rely on between two inputs
+pub record IsReadyFor (decl : Declaration) (c : Client) : Type 0 where
+  pub front : FrontHolds decl c.front
+  pub few : AsksFew c.desk.voting
+
+module _ (decl : Declaration) (accepted : IsAccepted decl) (c : Client) (asks : AsksSites decl c)
+    (ready : IsReadyFor decl c) where
+  silent : IsClientShort decl (moved c quiet)
+  silent = record { asks = asks; few = omega arith }
+
+  front_short : (m : FrontMove) → IsShort decl m → IsClientShort decl (by_front c m)
+  front_short m short = record { asks = record { front = short.asked; desk = asks.desk }; few = short.few }
+
+  desk_short : (m : DeskMove) → IsDeskShort decl m → IsClientShort decl (by_desk c m)
+  desk_short m short = record {
+    asks = record { front = by (is_some m.turn.told); desk = short.asked };
+    few = short.few;
+  } where
+    by : (t : Bool) → AskedSites decl (cond t (ended c.front m.desk.clock.value m.desk.epoch) c.front).transaction
+    by true = tt
+    by false = asks.front
+
+  fronted : (command : Command) → IsClientShort decl (by_front c (fronts.called decl c.front command))
+  fronted command = front_short (fronts.called decl c.front command)
+      (called-short decl c.front command accepted asks.front ready.front)
+
+  committed : (o : Option Transaction) → AskedSites decl o → IsClientShort decl (commits decl c o)
+  committed None are = fronted commands.Commit
+  committed (Some t) are = by t.begun.doomed where
+    by : (dead : Bool) → IsClientShort decl (cond dead (by_front c (fronts.called decl c.front commands.Commit))
+        (by_desk c (desks.prepare decl c.desk t.begun c.front.clock.value)))
+    by true = fronted commands.Commit
+    by false = desk_short (desks.prepare decl c.desk t.begun c.front.clock.value)
+        (prepare_short decl accepted c.desk t.begun c.front.clock.value ready.few are)
+
+  calls : (command : Command) → IsClientShort decl (called decl c command)
+  calls commands.Begin = fronted commands.Begin
+  calls (commands.Do object inv) = fronted (commands.Do object inv)
+  calls commands.Commit = committed c.front.transaction asks.front
+  calls commands.Abort = fronted commands.Abort
+  calls (commands.Epoch number) = fronted (commands.Epoch number)
+
+  comes : (number : ℕ) (answer : Option Answer) → IsClientShort decl (answered decl c number answer)
+  comes number answer = by c.desk.voting where
+    by : (o : Option Voting) → IsClientShort decl (answered_by decl c o number answer)
+    by None = front_short (fronts.takes decl c.front number answer)
+        (takes_short decl c.front number answer accepted asks.front ready.front)
+    by (Some v) = desk_short (desks.vote c.desk number answer) (vote_short decl accepted c.desk number answer asks.desk)
+
+  hears : (from number : ℕ) (message : Message) → IsClientShort decl (heard decl c from number message)
+  hears from number (messages.Request tx epoch life want) = silent
+  hears from number (messages.Answer to answer) = comes to (Some answer)
+  hears from number (messages.Decision tx verdict) = silent
+  hears from number (messages.Inquiry tx) = record { asks = asks; few = omega arith }
+  hears from number (messages.Ask tx) = record { asks = asks; few = omega arith }
+  hears from number (messages.Close epoch) = silent
+  hears from number (messages.Install epoch clock log) = silent
+
+  -- one input
+  pub client_short : (g : Input) → IsClientShort decl (client_takes decl c g)
+  client_short (inputs.Called command) = calls command
+  client_short (inputs.Got e) = hears e.from e.number e.message
+  client_short (inputs.Lost number) = comes number None
+
+-- the numbers of its messages change nothing of it
+
+sent_asks : (decl : Declaration) (c : Client) (number to : ℕ) (message : Message) → AsksSites decl c
+    → AsksSites decl (sent_one c number to message)
+sent_asks decl c number to (messages.Request tx epoch life (Read object inv)) asks =
+    record { front = asks.front; desk = asks.desk }
+sent_asks decl c number to (messages.Request tx epoch life (Append object view own)) asks =
+    record { front = asks.front; desk = asks.desk }
+sent_asks decl c number to (messages.Request tx epoch life Prepare) asks =
+    record { front = asks.front; desk = by c.desk.voting asks.desk } where
+      by : (o : Option Voting) → VotedSites decl o → VotedSites decl (desks.prepared_in c.desk o number to).voting
+      by None are = asks.desk
+      by (Some v) are = are
+sent_asks decl c number to (messages.Answer asked answer) asks = asks
+sent_asks decl c number to (messages.Decision tx verdict) asks = asks
+sent_asks decl c number to (messages.Inquiry tx) asks = asks
+sent_asks decl c number to (messages.Ask tx) asks = asks
+sent_asks decl c number to (messages.Close epoch) asks = asks
+sent_asks decl c number to (messages.Install epoch clock log) asks = asks
+
+posts_asks : (decl : Declaration) (m : ClientMove) (ds : List Deed) → Every IsPost ds → IsClientShort decl m
+    → IsClientShort decl (fold (client_does decl) m ds)
+posts_asks decl m [] all short = short
+posts_asks decl m (Takes g ∷ ds) all short = absurd all.0
+posts_asks decl m (Writes written ∷ ds) all short = posts_asks decl m ds all.1 short
+posts_asks decl m (Sends number to message ∷ ds) all short =
+    posts_asks decl (record m { client = sent_one m.client number to message }) ds all.1
+    (record { asks = sent_asks decl m.client number to message short.asks; few = short.few })
+posts_asks decl m (Tells reply ∷ ds) all short = posts_asks decl m ds all.1 short
+posts_asks decl m (Falls cause pending ∷ ds) all short = posts_asks decl m ds all.1 short
+posts_asks decl m (Rises records ∷ ds) all short = posts_asks decl m ds all.1 short
+
+-- over all that a client does by turns, where between two inputs it has what its calls rely on
+pub clients_short : (decl : Declaration) (a : ℕ) → IsAccepted decl
+    → ((before : List Deed) (n : ℕ) → Acts decl a before false n
+    → IsReadyFor decl (client_after decl (a - decl.sites) before).client)
+    → (ds : List Deed) (open_input : Bool) (n : ℕ) → Acts decl a ds open_input n
+    → IsClientShort decl (client_after decl (a - decl.sites) ds)
+clients_short decl a accepted ready ds open_input n starts =
+    record { asks = record { front = tt; desk = tt }; few = omega arith }
+clients_short decl a accepted ready ds open_input n (takes before g m acts may) =
+    let short : IsClientShort decl (client_after decl (a - decl.sites) before) =
+    clients_short decl a accepted ready before false m acts in
+    subst (IsClientShort decl) (sym (fold-append (client_does decl) (moved (new_client (a - decl.sites)) quiet) before
+    (Takes g ∷ [])))
+    (client_short decl accepted (client_after decl (a - decl.sites) before).client short.asks (ready before m acts) g)
+clients_short decl a accepted ready ds open_input n (posts before turn m first acts above lawful) =
+    subst (IsClientShort decl) (sym (fold-append (client_does decl) (moved (new_client (a - decl.sites)) quiet) before
+    (turn_deeds first turn)))
+    (posts_asks decl (client_after decl (a - decl.sites) before) (turn_deeds first turn) (turn-posts first turn)
+    (clients_short decl a accepted ready before true m acts))

@@ -1,0 +1,242 @@
+-- The commit records of a client's deeds, as they go on; and those of a history.
+use Rattle.std.proofs.Common.{◌≡◌, ℕ, ◌+◌, ◌==◌, Bool, true, false, cond, List, [], ◌∷◌, ◌++◌, ◌⊎◌, inl, inr, fold}
+use Rattle.std.proofs.Common.{Option, Some, None, option_to_list, slice_get, refl, sym, ap, ◌∙◌, subst, eqb-true}
+use Rattle.std.proofs.Common.{eq-eqb}
+use Rattle.std.specs.List.{AllByRecursion as Every, cons_option}
+use Rattle.std.proofs.lemmas.List.{append-nil}
+use Rattle.std.proofs.lemmas.List.Elements.{filter_map-append}
+use Rattle.qc_list.specs.Members.{In}
+use Rattle.qc_list.proofs.Members.{In-first, In-second}
+use Rattle.qc_decl.specs.Actors.{is_client}
+use Rattle.qc_decl.specs.declared.declaration.Declaration.{Declaration}
+use Rattle.qc_entry.specs.declared.record.Commit.{Commit}
+use Rattle.qc_msg.specs.declared.message.Envelope.{Envelope}
+use Rattle.qc_msg.specs.declared.message.Message.{Message}
+use Rattle.qc_msg.specs.declared.message.Message.TheVariants as messages
+use Rattle.qc_msg.specs.declared.message.Want.TheVariants.{Append, Prepare, Read}
+use Rattle.qc_msg.specs.declared.record.Record.{Record}
+use Rattle.qc_msg.specs.declared.reply.Reply.{Reply}
+use Rattle.qc_msg.specs.declared.step.Input.{Input}
+use Rattle.qc_msg.specs.declared.step.Step.{Step}
+use Rattle.qc_msg.specs.declared.step.Step.TheVariants as steps
+use Rattle.qc_msg.specs.declared.turn.Posting.{Posting}
+use Rattle.qc_msg.specs.declared.turn.Turn.{Turn}
+use Rattle.qc_msg.specs.Counts.{commit_in, commit_of}
+use Rattle.qc_msg.specs.Deeds.{Deed, Takes, Writes, Sends, Tells, Falls, Rises, deed_at, deeds, envelope_of, heard}
+use Rattle.qc_msg.specs.Deeds.{sends_of, tells_of, turn_deeds, writes_of}
+use Rattle.qc_msg.specs.Steps.{Entry}
+use Rattle.qc_commit.specs.declared.desk.Voting.{Voting}
+use Rattle.qc_commit.specs.Conduct as desks
+use Rattle.qc_client.specs.declared.client.Client.{Client}
+use Rattle.qc_client.specs.Client.{ClientMove}
+use Rattle.qc_client.specs.Conduct.{client_does, sent_one}
+use Rattle.qc_promise.specs.Committed.{commits_by, commits_in, records}
+use Rattle.laws_turns.proofs.Up.{first_up, rest_up}
+use Rattle.qc_core.specs.Lives.{AreSteady}
+use Rattle.laws_turns.specs.Written.{written_by, written_in}
+use Rattle.laws_turns.proofs.ClientsWithin.{IsPost}
+use Rattle.laws_turns.proofs.DealtClients.{commits_of}
+
+pub written-append : (xs ys : List Deed) → written_in (xs ++ ys) ≡ written_in xs ++ written_in ys
+written-append xs ys = filter_map-append written_by xs ys
+
+pub written-more : (ds : List Deed) (g : Input) → written_in (ds ++ Takes g ∷ []) ≡ written_in ds
+written-more ds g = written-append ds (Takes g ∷ []) ∙ append-nil (written_in ds)
+
+pub cons_is : (o : Option Commit) (cs : List Commit) → cons_option o cs ≡ option_to_list o ++ cs
+cons_is None cs = refl
+cons_is (Some c) cs = refl
+
+pub written-turn : (ds : List Deed) (n : ℕ) (turn : Turn)
+    → written_in (ds ++ turn_deeds n turn) ≡ written_in ds ++ commits_of turn.write
+written-turn ds n turn = written-append ds (turn_deeds n turn)
+    ∙ ap (λ (cs : List Commit). written_in ds ++ cs) (by turn.write) where
+      talk : (n : ℕ) (ps : List Posting) (told : Option Reply) → written_in (sends_of n ps ++ tells_of told) ≡ []
+      talk n [] None = refl
+      talk n [] (Some reply) = refl
+      talk n (p ∷ ps) told = talk (n + 1) ps told
+
+      by : (w : Option Record) → written_in (writes_of w ++ (sends_of n turn.sends ++ tells_of turn.told)) ≡ commits_of w
+      by None = talk n turn.sends turn.told
+      by (Some written) = cons_is (commit_of written) (written_in (sends_of n turn.sends ++ tells_of turn.told))
+          ∙ ap (λ (cs : List Commit). option_to_list (commit_of written) ++ cs) (talk n turn.sends turn.told)
+          ∙ append-nil (option_to_list (commit_of written))
+
+-- a client's records stay as its turn is posted
+
+desk_one : (c : Client) (number to : ℕ) (message : Message)
+    → (sent_one c number to message).desk.commits ≡ c.desk.commits
+desk_one c number to (messages.Request other epoch life (Read object inv)) = refl
+desk_one c number to (messages.Request other epoch life (Append object view own)) = refl
+desk_one c number to (messages.Request other epoch life Prepare) = by c.desk.voting where
+  by : (o : Option Voting) → (desks.prepared_in c.desk o number to).commits ≡ c.desk.commits
+  by None = refl
+  by (Some v) = refl
+desk_one c number to (messages.Answer other answer) = refl
+desk_one c number to (messages.Decision other verdict) = refl
+desk_one c number to (messages.Inquiry other) = refl
+desk_one c number to (messages.Ask other) = refl
+desk_one c number to (messages.Close epoch) = refl
+desk_one c number to (messages.Install epoch clock log) = refl
+
+pub desk_posts : (decl : Declaration) (m : ClientMove) (ds : List Deed) → Every IsPost ds
+    → (fold (client_does decl) m ds).client.desk.commits ≡ m.client.desk.commits
+desk_posts decl m [] all = refl
+desk_posts decl m (Takes g ∷ ds) all = absurd all.0
+desk_posts decl m (Writes written ∷ ds) all = desk_posts decl m ds all.1
+desk_posts decl m (Sends number to message ∷ ds) all =
+    desk_posts decl (record m { client = sent_one m.client number to message }) ds all.1
+    ∙ desk_one m.client number to message
+desk_posts decl m (Tells reply ∷ ds) all = desk_posts decl m ds all.1
+desk_posts decl m (Falls cause pending ∷ ds) all = desk_posts decl m ds all.1
+desk_posts decl m (Rises records ∷ ds) all = desk_posts decl m ds all.1
+
+-- the records of a history are those of its clients' deeds
+
+heard_none : (o : Option Envelope) → written_in (heard o) ≡ []
+heard_none None = refl
+heard_none (Some e) = refl
+
+step_written : (ms : List Envelope) (step : Step) → written_in (deed_at ms step) ≡ option_to_list (commit_in step)
+step_written ms (steps.Phase k) = refl
+step_written ms (steps.Cut x y) = refl
+step_written ms (steps.Heal x y) = refl
+step_written ms (steps.Armed actor kind at) = refl
+step_written ms (steps.Called command) = refl
+step_written ms (steps.Got n) = heard_none (slice_get ms n)
+step_written ms (steps.Lost n) = refl
+step_written ms (steps.Wrote written) = cons_is (commit_of written) [] ∙ append-nil (option_to_list (commit_of written))
+step_written ms (steps.Sent n to message) = refl
+step_written ms (steps.Told reply) = refl
+step_written ms (steps.Fell cause pending) = refl
+step_written ms (steps.Rose records) = refl
+step_written ms (steps.Damaged offset) = refl
+
+in_either : (c : Commit) (xs ys : List Commit) → In c (xs ++ ys) → In c xs ⊎ In c ys
+in_either c [] ys among = inr among
+in_either c (x ∷ xs) ys (inl same) = inl (inl same)
+in_either c (x ∷ xs) ys (inr later) = by (in_either c xs ys later) where
+  by : In c xs ⊎ In c ys → In c (x ∷ xs) ⊎ In c ys
+  by (inl first) = inl (inr first)
+  by (inr second) = inr second
+
+-- a record that a client wrote
+pub record IsWritten (decl : Declaration) (ms : List Envelope) (h : List Entry) (c : Commit) : Type 0 where
+  pub actor : ℕ
+  pub named : is_client decl actor ≡ true
+  pub wrote : In c (written_in (deeds actor ms h))
+
+own_step : (a : ℕ) (ms : List Envelope) (e : Entry) (h : List Entry)
+    → written_in (deeds a ms (e ∷ h)) ≡ cond (e.actor == a) (option_to_list (commit_in e.step)) [] ++ written_in
+    (deeds a (ms ++ option_to_list (envelope_of e)) h)
+own_step a ms e h =
+    written-append (cond (e.actor == a) (deed_at ms e.step) []) (deeds a (ms ++ option_to_list (envelope_of e)) h)
+    ∙ ap (λ (cs : List Commit). cs ++ written_in (deeds a (ms ++ option_to_list (envelope_of e)) h)) (by (e.actor == a))
+  where
+    by : (t : Bool) → written_in (cond t (deed_at ms e.step) []) ≡ cond t (option_to_list (commit_in e.step)) []
+    by true = step_written ms e.step
+    by false = refl
+
+-- where nobody rises, a step has the commit record that it writes
+
+abbrev pub AllUp : List Envelope → List Entry → Type 0
+AllUp ms h = (a : ℕ) → AreSteady (deeds a ms h)
+
+pub rest_all_up : (ms : List Envelope) (e : Entry) (h : List Entry) → AllUp ms (e ∷ h)
+    → AllUp (ms ++ option_to_list (envelope_of e)) h
+rest_all_up ms e h up a = rest_up (cond (e.actor == a) (deed_at ms e.step) [])
+    (deeds a (ms ++ option_to_list (envelope_of e)) h) (up a)
+
+step_commits : (ms : List Envelope) (step : Step) → AreSteady (deed_at ms step)
+    → commits_in step ≡ option_to_list (commit_in step)
+step_commits ms (steps.Phase k) up = refl
+step_commits ms (steps.Cut x y) up = refl
+step_commits ms (steps.Heal x y) up = refl
+step_commits ms (steps.Armed actor kind at) up = refl
+step_commits ms (steps.Called command) up = refl
+step_commits ms (steps.Got n) up = refl
+step_commits ms (steps.Lost n) up = refl
+step_commits ms (steps.Wrote written) up = refl
+step_commits ms (steps.Sent n to message) up = refl
+step_commits ms (steps.Told reply) up = refl
+step_commits ms (steps.Fell cause pending) up = refl
+step_commits ms (steps.Rose kept) up = absurd up.0
+step_commits ms (steps.Damaged offset) up = refl
+
+pub entry_commits : (ms : List Envelope) (e : Entry) (h : List Entry) → AllUp ms (e ∷ h)
+    → commits_in e.step ≡ option_to_list (commit_in e.step)
+entry_commits ms e h up =
+    step_commits ms e.step (subst (λ (t : Bool). AreSteady (cond t (deed_at ms e.step) []))
+    (eq-eqb e.actor e.actor refl)
+    (first_up (cond (e.actor == e.actor) (deed_at ms e.step) [])
+    (deeds e.actor (ms ++ option_to_list (envelope_of e)) h) (up e.actor)))
+
+-- in any case it is among its commit records
+among_commits : (c : Commit) (step : Step) → In c (option_to_list (commit_in step)) → In c (commits_in step)
+among_commits c (steps.Phase k) among = among
+among_commits c (steps.Cut x y) among = among
+among_commits c (steps.Heal x y) among = among
+among_commits c (steps.Armed actor kind at) among = among
+among_commits c (steps.Called command) among = among
+among_commits c (steps.Got n) among = among
+among_commits c (steps.Lost n) among = among
+among_commits c (steps.Wrote written) among = among
+among_commits c (steps.Sent n to message) among = among
+among_commits c (steps.Told reply) among = among
+among_commits c (steps.Fell cause pending) among = among
+among_commits c (steps.Rose kept) among = absurd among
+among_commits c (steps.Damaged offset) among = among
+
+pub listed_written : (decl : Declaration) (ms : List Envelope) (h : List Entry) (c : Commit) → AllUp ms h
+    → In c (records decl h) → IsWritten decl ms h c
+listed_written decl ms [] c up among = absurd among
+listed_written decl ms (e ∷ h) c up among =
+    by (in_either c (commits_by decl e) (records decl h) among)
+    (listed_written decl (ms ++ option_to_list (envelope_of e)) h c (rest_all_up ms e h up)) where
+      here : (t : Bool) → is_client decl e.actor ≡ t → In c (cond t (commits_in e.step) []) → IsWritten decl ms (e ∷ h) c
+      here true is own = record {
+        actor = e.actor;
+        named = is;
+        wrote = subst (In c) (sym (own_step e.actor ms e h))
+            (In-first c (cond (e.actor == e.actor) (option_to_list (commit_in e.step)) [])
+            (written_in (deeds e.actor (ms ++ option_to_list (envelope_of e)) h))
+            (subst (λ (t : Bool). In c (cond t (option_to_list (commit_in e.step)) [])) (sym (eq-eqb e.actor e.actor refl))
+            (subst (In c) (entry_commits ms e h up) own)));
+      }
+      here false is never = absurd never
+
+      by : In c (commits_by decl e) ⊎ In c (records decl h)
+          → (In c (records decl h) → IsWritten decl (ms ++ option_to_list (envelope_of e)) h c)
+          → IsWritten decl ms (e ∷ h) c
+      by (inl first) rest = here (is_client decl e.actor) refl first
+      by (inr later) rest =
+          let r : IsWritten decl (ms ++ option_to_list (envelope_of e)) h c = rest later in
+          record {
+            actor = r.actor;
+            named = r.named;
+            wrote = subst (In c) (sym (own_step r.actor ms e h))
+                (In-second c (cond (e.actor == r.actor) (option_to_list (commit_in e.step)) [])
+                (written_in (deeds r.actor (ms ++ option_to_list (envelope_of e)) h)) r.wrote);
+          }
+
+pub written_listed : (decl : Declaration) (ms : List Envelope) (h : List Entry) (c : Commit) (a : ℕ)
+    → is_client decl a ≡ true → In c (written_in (deeds a ms h)) → In c (records decl h)
+written_listed decl ms [] c a named among = absurd among
+written_listed decl ms (e ∷ h) c a named among =
+    by (in_either c (cond (e.actor == a) (option_to_list (commit_in e.step)) [])
+    (written_in (deeds a (ms ++ option_to_list (envelope_of e)) h)) (subst (In c) (own_step a ms e h) among))
+    (written_listed decl (ms ++ option_to_list (envelope_of e)) h c a named)
+  where
+    here : (t : Bool) → (e.actor == a) ≡ t → In c (cond t (option_to_list (commit_in e.step)) [])
+        → In c (commits_by decl e)
+    here true same own =
+        let is : is_client decl e.actor ≡ true = ap (is_client decl) (eqb-true e.actor a same) ∙ named in
+        subst (λ (t : Bool). In c (cond t (commits_in e.step) [])) (sym is) (among_commits c e.step own)
+    here false other never = absurd never
+
+    by : In c (cond (e.actor == a) (option_to_list (commit_in e.step)) [])
+        ⊎ In c (written_in (deeds a (ms ++ option_to_list (envelope_of e)) h))
+        → (In c (written_in (deeds a (ms ++ option_to_list (envelope_of e)) h)) → In c (records decl h))
+        → In c (records decl (e ∷ h))
+    by (inl first) rest = In-first c (commits_by decl e) (records decl h) (here (e.actor == a) refl first)
+    by (inr later) rest = In-second c (commits_by decl e) (records decl h) (rest later)

@@ -1,0 +1,168 @@
+-- Requests of an earlier epoch, and those that name another life, are refused for that.
+use Rattle.std.proofs.Common.{◌≡◌, ◌≢◌, ◌⊎◌, ◌<◌, ◌≤◌, ◌-◌, ◌==◌, nat_le, nat_lt, if◌then◌else◌, ℕ, Bool, true, false}
+use Rattle.std.proofs.Common.{List, [], ◌∷◌, ◌++◌, inl, inr, Option, Some, None, slice_get, refl, sym, ap, ◌∙◌, subst}
+use Rattle.std.proofs.Common.{arith, ltb-true, eqb-true}
+use Rattle.std.specs.List.{AllByRecursion as Every}
+use Rattle.qc_core.proofs.SiteLaws.{shows}
+use Rattle.qc_core.proofs.SiteLives.{serves_as_lives}
+use Rattle.qc_core.specs.Actors.{ActorMove, actor_after, actor_takes}
+use Rattle.qc_core.specs.Conduct.{IsLawfulWithFalls}
+use Rattle.std.proofs.lemmas.Bool.{cases_eq, lt-ltb}
+use Rattle.std.proofs.lemmas.List.Sums.{fold-append}
+use Rattle.laws_due.proofs.Standing.{actor_more}
+use Rattle.qc_core.specs.Lives.{Lives, is_up, up_at}
+use Rattle.qc_core.specs.Lives as lives
+use Rattle.qc_core.specs.declared.actor.Actor.{Actor}
+use Rattle.qc_entry.specs.Log.{without}
+use Rattle.qc_entry.specs.declared.record.Prepared.{Prepared}
+use Rattle.qc_core.specs.Sites.{IsShown, IsSiteDeed, Serves}
+use Rattle.qc_core.specs.declared.actor.Actor.TheVariants as actor
+use Rattle.qc_decl.specs.Accepted.{IsAccepted}
+use Rattle.qc_decl.specs.Actors.{actors, is_client, is_site}
+use Rattle.qc_decl.specs.Limits.{most_record_bytes}
+use Rattle.qc_decl.specs.declared.declaration.Declaration.{Declaration}
+use Rattle.laws_guarantees.proofs.Accounts.{HasGrounds, WasSent}
+use Rattle.laws_guarantees.proofs.Grounds.{has_grounds}
+use Rattle.laws_guarantees.proofs.Mailed.{sent_as, sent_mail}
+use Rattle.laws_guarantees.proofs.ForgettingAnswers.{Forgets}
+use Rattle.laws_guarantees.proofs.SiteMoves.{IsAnswering, IsAnsweringTo, answers_inputs, answers_request}
+use Rattle.laws_guarantees.proofs.SiteMoves.{prepares_remembered}
+use Rattle.laws_guarantees.specs.Votes.{IsOpenVote}
+use Rattle.laws_votes.proofs.Nets.{at_number, backed, net, now, reached, refined}
+use Rattle.laws_votes.proofs.SiteClocks.{same_site}
+use Rattle.qc_link.specs.Limits.{most_actors}
+use Rattle.qc_list.specs.Members.{In}
+use Rattle.laws_turns.proofs.Downs.{due}
+use Rattle.laws_turns.proofs.FallKept.{kept_rises}
+use Rattle.laws_turns.proofs.FallServed.{run_site_deeds}
+use Rattle.laws_turns.proofs.Lived.{run_lives}
+use Rattle.laws_turns.specs.LivesIn.{LivesIn}
+use Rattle.qc_lock.specs.Held.{held_of, is_held}
+use Rattle.qc_msg.specs.Begun.{has_granted, life_of}
+use Rattle.qc_msg.specs.Deeds.{Deed, Takes, WasSentTo, deeds, mail}
+use Rattle.qc_msg.specs.Lengths.{prepare_length}
+use Rattle.qc_msg.specs.Steps.{Entry}
+use Rattle.qc_msg.specs.Turns.{quiet}
+use Rattle.qc_msg.specs.declared.message.Answer.{Answer}
+use Rattle.qc_msg.specs.declared.message.Answer.TheVariants as answers
+use Rattle.qc_msg.specs.declared.message.Envelope.{Envelope}
+use Rattle.qc_msg.specs.declared.message.Message.{Message}
+use Rattle.qc_msg.specs.declared.message.Message.TheVariants as messages
+use Rattle.qc_msg.specs.declared.message.Want.{Want}
+use Rattle.qc_msg.specs.declared.message.Want.TheVariants.{Prepare}
+use Rattle.qc_msg.specs.declared.record.Record.{Record}
+use Rattle.qc_msg.specs.declared.step.Input.{Input}
+use Rattle.qc_msg.specs.declared.turn.Posting.{Posting}
+use Rattle.qc_msg.specs.declared.turn.Turn.{Turn}
+use Rattle.laws_refinement.specs.Messages.{Backed}
+use Rattle.laws_refinement.specs.Sites.{SiteMirrors}
+use Rattle.laws_votes.proofs.Live.{live}
+use Rattle.laws_votes.proofs.Splits.{snoc_same}
+use Rattle.qc_promise.specs.Account.{ClientRequest, Current}
+use Rattle.qc_promise.specs.Accounting.{account}
+use Rattle.qc_promise.specs.Kept.{Kept}
+use Rattle.qc_promise.specs.SiteDue.{fits_record, promise_due}
+use Rattle.theory_machine.specs.Site.{epoch_from, items_of, site_after}
+use Rattle.theory_machine.specs.State.{Active, State, Voting}
+use Rattle.laws_reach.proofs.Stood.{in_site}
+use Rattle.laws_reach.specs.Reached.{HasTaken}
+use Rattle.qc_script.specs.RunsWithFalls.{RunsWithFalls}
+use Rattle.qc_script.specs.Sound.{IsScriptFor}
+use Rattle.qc_script.specs.declared.script.Script.{Script}
+use Rattle.qc_site.specs.Conduct.{passed, site_at, site_takes}
+use Rattle.qc_site.specs.Promise.{promise_of}
+use Rattle.qc_site.specs.Requests.{closed_fault, fault_of, life_fault, names_declared, requested}
+use Rattle.qc_site.specs.Site.{SiteState, moved}
+use Rattle.qc_stamp.specs.declared.stamp.TxId.{TxId}
+use Rattle.laws_votes.proofs.Holding.{IsGrantedIn, granted, granted_below, is_held_with, still_held}
+use Rattle.laws_votes.proofs.LifeGrounds.{has_life_grounds}
+use Rattle.laws_votes.proofs.LivesTold.{HasParticipant}
+
+-- a request of an earlier epoch, or one that names another life, is refused for that
+
+life_refused : (s : SiteState) (life : ℕ) → (life ≢ 0) → (life ≢ s.life)
+    → life_fault s life ≡ Some (answers.Restarted s.life)
+life_refused s life none other = by (life == 0) (life == s.life) refl refl
+  where
+    by : (x y : Bool) → (life == 0) ≡ x → (life == s.life) ≡ y
+        → (if x then None else (if y then None else Some (answers.Restarted s.life))) ≡ Some (answers.Restarted s.life)
+    by true y at is = absurd (none (eqb-true life 0 at))
+    by false true at is = absurd (other (eqb-true life s.life is))
+    by false false at is = refl
+
+-- it isn't refused as behind, nor as forgotten
+record IsRefused (s : SiteState) (epoch life : ℕ) : Type 0 where
+  pub fault : Answer
+  pub is : fault_of s epoch life ≡ Some fault
+  pub remembers : Forgets fault → ⊥
+
+refused : (s : SiteState) (epoch life : ℕ) → epoch ≤ s.epoch → (epoch < s.epoch) ⊎ (life ≢ s.life) → (life ≢ 0)
+    → IsRefused s epoch life
+refused s epoch life low apart none = by (nat_lt s.epoch epoch) (nat_lt epoch s.epoch) refl refl
+  where
+    closed : (life ≢ s.life) → (o : Option ℕ)
+        → (fault : Answer) × (closed_fault s life o ≡ Some fault) × (Forgets fault → ⊥)
+    closed other None = (answers.Restarted s.life, life_refused s life none other, λ never. never)
+    closed other (Some k) = (answers.Closed k, refl, λ never. never)
+
+    by : (x y : Bool) → nat_lt s.epoch epoch ≡ x → nat_lt epoch s.epoch ≡ y → IsRefused s epoch life
+    by true y at is = absurd (let more : s.epoch < epoch = ltb-true s.epoch epoch at in let never : ⊥ = omega arith in
+        never)
+    by false true at is = record {
+      fault = answers.Closed s.epoch;
+      is = (λ i. if at i then Some (answers.Behind s.epoch) else
+          (if is i then Some (answers.Closed s.epoch) else closed_fault s life s.closed_for));
+      remembers = λ never. never;
+    }
+    by false false at is =
+        let other : life ≢ s.life = elim apart [
+          | inl less ↦ absurd
+              (let more : nat_lt epoch s.epoch ≡ true = lt-ltb epoch s.epoch less in let never : ⊥ = cc in never)
+          | inr
+              other ↦ other
+        ] in
+        let c = closed other s.closed_for in
+        record {
+          fault = c.0;
+          is = (λ i. if at i then Some (answers.Behind s.epoch) else
+              (if is i then Some (answers.Closed s.epoch) else closed_fault s life s.closed_for)) ∙ c.1;
+          remembers = c.2;
+        }
+
+pub other_life : (decl : Declaration) (s : SiteState) (from number : ℕ) (tx : TxId) (epoch life : ℕ) → epoch ≤ s.epoch
+    → (epoch < s.epoch) ⊎ (life ≢ s.life) → (life ≢ 0)
+    → (p : Posting) (k : ℕ) (x : Answer) → In p
+    (site_at decl s from number (messages.Request tx epoch life Prepare)).turn.sends
+    → p.message ≡ messages.Answer k x → Forgets x → ⊥
+other_life decl s from number tx epoch life low apart none p k x among is forgets =
+    by (names_declared decl tx Prepare) among
+  where
+    r : IsRefused s epoch life
+    r = refused s epoch life low apart none
+
+    one : In p (requested decl s from number tx Prepare (Some r.fault)).turn.sends → ⊥
+    one (inl here) = r.remembers (subst Forgets
+        (let both : messages.Answer k x ≡ messages.Answer number r.fault = sym is
+        ∙ ap (λ (y : Posting). y.message) here in cc) forgets)
+    one (inr never) = never
+
+    by : (b : Bool) → In p (if b then requested decl s from number tx Prepare
+        (fault_of s epoch life) else moved s quiet).turn.sends → ⊥
+    by true there = one (subst (λ (o : Option Answer). In p (requested decl s from number tx Prepare o).turn.sends) r.is
+        there)
+    by false there = there
+
+-- a life with an open input: the life before it
+pub life_before : (decl : Declaration) (a : ℕ) (ds : List Deed) (b : Bool) (n : ℕ) → Lives decl a ds b n → b ≡ true
+    → (before : List Deed) × (g : Input) × (m : ℕ) × ((ds ≡ before ++ Takes g ∷ []) × Lives decl a before false m)
+life_before decl a ds b n lives.starts is = absurd (let never : ⊥ = cc in never)
+life_before decl a ds b n (lives.takes before g m life may comes) is = (before, g, m, (refl, life))
+life_before decl a ds b n (lives.posts before turn m first life above lawful) is = absurd (let never : ⊥ = cc in never)
+life_before decl a ds b n (lives.crashes before m life up) is = absurd (let never : ⊥ = cc in never)
+life_before decl a ds b n (lives.rises before records turn m first life up above lawful) is =
+    absurd (let never : ⊥ = cc in never)
+life_before decl a ds b n (lives.unopened before cause m life up by_disk) is = absurd (let never : ⊥ = cc in never)
+
+pub every_front : {A : Type 0} (P : A → Type 0) (xs ys : List A) → Every P (xs ++ ys) → Every P xs
+every_front P [] ys all = tt
+every_front P (x ∷ xs) ys all = (all.0, every_front P xs ys all.1)

@@ -1,6 +1,0 @@
-use Rattle.qc_atomic.proofs.Runs.{decisions_agree}
-use Rattle.qc_atomic.proofs.atomic.decisions_tell_the_records.Goals as goal
-
-pub returns : goal.returns
-returns c decl script h open_inputs e tx verdict accepted sound run sent is =
-    decisions_agree decl script h open_inputs accepted sound run e tx verdict sent is

@@ -1,5 +1,0 @@
-use Rattle.qc_bases.proofs.BaseLogs.{short_above}
-use Rattle.qc_bases.proofs.short.short_logs_are_above_their_bases.Goals as goal
-
-pub returns : goal.returns
-returns r decl accepted acts run disciplined site short ok apart = short_above decl acts run accepted disciplined site short ok apart

@@ -1,8 +1,0 @@
-use Rattle.qc_bases.proofs.Refused.{less, more}
-use Rattle.qc_bases.proofs.wrong.other_unions_are_refused.Goals as goal
-
-pub returns-clause-less : goal.returns-clause-less
-returns-clause-less r u = less u
-
-pub returns-clause-more : goal.returns-clause-more
-returns-clause-more r u = more u

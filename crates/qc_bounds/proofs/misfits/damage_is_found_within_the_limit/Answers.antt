@@ -1,5 +1,0 @@
-use Rattle.qc_bounds.proofs.Limits.{damage_within}
-use Rattle.qc_bounds.proofs.misfits.damage_is_found_within_the_limit.Goals as goal
-
-pub returns : goal.returns
-returns c = damage_within

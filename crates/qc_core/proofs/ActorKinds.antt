@@ -1,0 +1,106 @@
+-- Whether an actor is a site, where it is up.
+use Rattle.std.proofs.Common.{◌≡◌, ℕ, ◌+◌, ◌-◌, ◌<◌, Bool, true, false, cond, not, List, [], ◌∷◌, ◌++◌, fold, ◌&&◌}
+use Rattle.std.proofs.Common.{Option, Some, None, is_some, refl, sym, ap, ◌∙◌, subst, ◌⊎◌, inl, inr}
+use Rattle.std.proofs.lemmas.List.Sums.{fold-append}
+use Rattle.qc_decl.specs.declared.declaration.Declaration.{Declaration}
+use Rattle.qc_decl.specs.Actors.{administrator, is_administrator, is_client, is_site}
+use Rattle.qc_client.specs.Client.{new_client}
+use Rattle.qc_client.specs.Conduct.{client_takes}
+use Rattle.qc_msg.specs.declared.record.Record.{Record}
+use Rattle.qc_msg.specs.declared.record.Record.TheVariants as records
+use Rattle.qc_msg.specs.declared.reply.Reply.{Reply}
+use Rattle.qc_msg.specs.declared.reply.Reply.TheVariants as replies
+use Rattle.qc_msg.specs.declared.step.Fall.{Fall}
+use Rattle.qc_msg.specs.declared.step.Fall.TheVariants as causes
+use Rattle.qc_msg.specs.declared.step.Input.{Input}
+use Rattle.qc_msg.specs.declared.step.Input.TheVariants as inputs
+use Rattle.qc_msg.specs.declared.turn.Appended.{Appended}
+use Rattle.qc_msg.specs.declared.turn.Appended.TheVariants.{Done, Failed, Stopped}
+use Rattle.qc_msg.specs.declared.turn.Posting.{Posting}
+use Rattle.qc_msg.specs.declared.turn.Turn.{Turn}
+use Rattle.qc_msg.specs.Deeds.{Deed, Takes, Writes, Sends, Tells, Falls, Rises, deeds_as, sends_of, tells_of, writes_of}
+use Rattle.qc_msg.specs.InputReadings.{command_in}
+use Rattle.qc_msg.specs.Readings.{is_life}
+use Rattle.qc_msg.specs.Steps.{HasRecord, MayEnd, IsByDisk}
+use Rattle.qc_msg.specs.Turns.{quiet, telling}
+use Rattle.qc_msg.specs.declared.step.Command.{Command}
+use Rattle.std.specs.List.{AllByRecursion as Every}
+use Rattle.qc_promise.specs.Turns.{AreByTurns, told_first, told_last, Place, Idle, Open, Rising, Sending, Written}
+use Rattle.qc_promise.specs.Turns.{Failing, Faulted, Fallen, Called, Saying, SaysDown, SaysUnwritten, SaysFault}
+use Rattle.qc_promise.specs.Turns.{SaysNeither, fallen_with, goes_on, other, place_after, saying_of}
+use Rattle.qc_epoch.specs.Admin.{new_admin}
+use Rattle.qc_recover.specs.Admins.{admin_rises}
+use Rattle.qc_recover.specs.Clients.{client_rises}
+use Rattle.qc_recover.specs.Sites.{rising, site_rises}
+use Rattle.qc_site.specs.Conduct.{site_takes}
+use Rattle.qc_site.specs.Site.{new_site}
+use Rattle.qc_core.specs.declared.actor.Actor.{Actor}
+use Rattle.qc_core.specs.declared.actor.Actor.TheVariants as actor
+use Rattle.qc_core.specs.Actors.{ActorMove, actor_after, actor_does, actor_rises, actor_sends, actor_takes, by_admin}
+use Rattle.qc_core.specs.Actors.{by_client, by_site, down_takes, moved}
+use Rattle.qc_core.specs.Conduct.{IsLawfulWithFalls, with_record}
+use Rattle.qc_core.specs.Lives.{AreUncommanded, IsUncommanded, Lives, MayReach, is_up, up_at}
+use Rattle.qc_core.specs.Lives as lives
+use Rattle.qc_core.proofs.AdminWrites.{FaultsAlone, IsAdminTurn, TellsNone, admin_written, no_life}
+use Rattle.qc_core.proofs.LivesLaws.{down, rises, turn_by, up}
+use Rattle.qc_core.proofs.FrontWrites.{FailsAlone, IsClientTurn, says_neither, says_unwritten, tells_neither}
+use Rattle.qc_core.proofs.FrontWrites.{tells_unwritten}
+use Rattle.qc_core.proofs.SiteWrites.{IsSiteTurn, site_written, writes_no_life}
+use Rattle.qc_core.proofs.Written.{client_written}
+
+-- whether it is a site, where it is up
+
+abbrev pub IsKind : Bool → Actor → Type 0
+IsKind site (actor.Site s) = site ≡ true
+IsKind site (actor.Client c) = site ≡ false
+IsKind site (actor.Admin m) = site ≡ false
+IsKind site actor.Down = Unit {0}
+
+kind_takes : (decl : Declaration) (site : Bool) (v : Actor) (g : Input) → IsKind site v
+    → IsKind site (actor_takes decl v g).actor
+kind_takes decl site (actor.Site s) g is = is
+kind_takes decl site (actor.Client c) g is = is
+kind_takes decl site (actor.Admin m) g is = is
+kind_takes decl site actor.Down g is = tt
+
+kind_sends : (site : Bool) (v : Actor) (number to : ℕ) (message : _) → IsKind site v
+    → IsKind site (actor_sends v number to message)
+kind_sends site (actor.Site s) number to message is = is
+kind_sends site (actor.Client c) number to message is = is
+kind_sends site (actor.Admin m) number to message is = is
+kind_sends site actor.Down number to message is = tt
+
+kind_rises : (decl : Declaration) (a : ℕ) (rs : List Record) → IsKind (is_site decl a) (actor_rises decl a rs).actor
+kind_rises decl a rs = by (is_site decl a) (is_client decl a)
+  where
+    by : (x y : Bool) → IsKind x (cond x (by_site (site_rises decl a rs))
+        (cond y (by_client (client_rises (a - decl.sites) rs)) (by_admin (admin_rises rs)))).actor
+    by true y = refl
+    by false true = refl
+    by false false = refl
+
+kind_new : (decl : Declaration) (a : ℕ) → IsKind (is_site decl a) (actor_after decl a []).actor
+kind_new decl a = by (is_site decl a) (is_client decl a)
+  where
+    by : (x y : Bool) → IsKind x (cond x (actor.Site (new_site a))
+        (cond y (actor.Client (new_client (a - decl.sites))) (actor.Admin new_admin)))
+    by true y = refl
+    by false true = refl
+    by false false = refl
+
+kind_from : (decl : Declaration) (a : ℕ) (m : ActorMove) (ds : List Deed) → IsKind (is_site decl a) m.actor
+    → IsKind (is_site decl a) (fold (actor_does decl a) m ds).actor
+kind_from decl a m [] is = is
+kind_from decl a m (Takes g ∷ ds) is = kind_from decl a (actor_takes decl m.actor g) ds
+    (kind_takes decl (is_site decl a) m.actor g is)
+kind_from decl a m (Writes written ∷ ds) is = kind_from decl a m ds is
+kind_from decl a m (Sends number to message ∷ ds) is =
+    kind_from decl a (record m { actor = actor_sends m.actor number to message }) ds
+    (kind_sends (is_site decl a) m.actor number to message is)
+kind_from decl a m (Tells reply ∷ ds) is = kind_from decl a m ds is
+kind_from decl a m (Falls cause pending ∷ ds) is = kind_from decl a (moved actor.Down quiet) ds tt
+kind_from decl a m (Rises records ∷ ds) is =
+    kind_from decl a (actor_rises decl a records) ds (kind_rises decl a records)
+
+pub kind_after : (decl : Declaration) (a : ℕ) (ds : List Deed) → IsKind (is_site decl a) (actor_after decl a ds).actor
+kind_after decl a ds = kind_from decl a _ ds (kind_new decl a)

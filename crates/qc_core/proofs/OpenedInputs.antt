@@ -1,0 +1,103 @@
+-- The input that is open at an actor that lives, and who is up behind a turn.
+use Rattle.std.proofs.Common.{◌≡◌, ℕ, ◌+◌, ◌-◌, ◌<◌, Bool, true, false, cond, not, List, [], ◌∷◌, ◌++◌, fold, ◌&&◌}
+use Rattle.std.proofs.Common.{Option, Some, None, is_some, refl, sym, ap, ◌∙◌, subst, ◌⊎◌, inl, inr}
+use Rattle.std.proofs.lemmas.List.Sums.{fold-append}
+use Rattle.qc_decl.specs.declared.declaration.Declaration.{Declaration}
+use Rattle.qc_decl.specs.Actors.{administrator, is_administrator, is_client, is_site}
+use Rattle.qc_client.specs.Client.{new_client}
+use Rattle.qc_client.specs.Conduct.{client_takes}
+use Rattle.qc_msg.specs.declared.record.Record.{Record}
+use Rattle.qc_msg.specs.declared.record.Record.TheVariants as records
+use Rattle.qc_msg.specs.declared.reply.Reply.{Reply}
+use Rattle.qc_msg.specs.declared.reply.Reply.TheVariants as replies
+use Rattle.qc_msg.specs.declared.step.Fall.{Fall}
+use Rattle.qc_msg.specs.declared.step.Fall.TheVariants as causes
+use Rattle.qc_msg.specs.declared.step.Input.{Input}
+use Rattle.qc_msg.specs.declared.step.Input.TheVariants as inputs
+use Rattle.qc_msg.specs.declared.turn.Appended.{Appended}
+use Rattle.qc_msg.specs.declared.turn.Appended.TheVariants.{Done, Failed, Stopped}
+use Rattle.qc_msg.specs.declared.turn.Posting.{Posting}
+use Rattle.qc_msg.specs.declared.turn.Turn.{Turn}
+use Rattle.qc_msg.specs.Deeds.{Deed, Takes, Writes, Sends, Tells, Falls, Rises, deeds_as, sends_of, tells_of, writes_of}
+use Rattle.qc_msg.specs.InputReadings.{command_in}
+use Rattle.qc_msg.specs.Readings.{is_life}
+use Rattle.qc_msg.specs.Steps.{HasRecord, MayEnd, IsByDisk}
+use Rattle.qc_msg.specs.Turns.{quiet, telling}
+use Rattle.qc_msg.specs.declared.step.Command.{Command}
+use Rattle.std.specs.List.{AllByRecursion as Every}
+use Rattle.qc_promise.specs.Turns.{AreByTurns, told_first, told_last, Place, Idle, Open, Rising, Sending, Written}
+use Rattle.qc_promise.specs.Turns.{Failing, Faulted, Fallen, Called, Saying, SaysDown, SaysUnwritten, SaysFault}
+use Rattle.qc_promise.specs.Turns.{SaysNeither, fallen_with, goes_on, other, place_after, saying_of}
+use Rattle.qc_epoch.specs.Admin.{new_admin}
+use Rattle.qc_recover.specs.Admins.{admin_rises}
+use Rattle.qc_recover.specs.Clients.{client_rises}
+use Rattle.qc_recover.specs.Sites.{rising, site_rises}
+use Rattle.qc_site.specs.Conduct.{site_takes}
+use Rattle.qc_site.specs.Site.{new_site}
+use Rattle.qc_core.specs.declared.actor.Actor.{Actor}
+use Rattle.qc_core.specs.declared.actor.Actor.TheVariants as actor
+use Rattle.qc_core.specs.Actors.{ActorMove, actor_after, actor_does, actor_rises, actor_sends, actor_takes, by_admin}
+use Rattle.qc_core.specs.Actors.{by_client, by_site, down_takes, moved}
+use Rattle.qc_core.specs.Conduct.{IsLawfulWithFalls, with_record}
+use Rattle.qc_core.specs.Lives.{AreUncommanded, IsUncommanded, Lives, MayReach, is_up, up_at}
+use Rattle.qc_core.specs.Lives as lives
+use Rattle.qc_core.proofs.AdminWrites.{FaultsAlone, IsAdminTurn, TellsNone, admin_written, no_life}
+use Rattle.qc_core.proofs.LivesLaws.{down, rises, turn_by, up}
+use Rattle.qc_core.proofs.FrontWrites.{FailsAlone, IsClientTurn, says_neither, says_unwritten, tells_neither}
+use Rattle.qc_core.proofs.FrontWrites.{tells_unwritten}
+use Rattle.qc_core.proofs.SiteWrites.{IsSiteTurn, site_written, writes_no_life}
+use Rattle.qc_core.proofs.Written.{client_written}
+use Rattle.qc_core.proofs.RestingPlaces.{still_up}
+
+-- the input that is open
+
+pub record Opened (ds : List Deed) : Type 0 where
+  pub before : List Deed
+  pub given : Input
+  pub is : ds ≡ before ++ Takes given ∷ []
+  pub reach : MayReach (is_up before) given
+
+pub opened : (decl : Declaration) (a : ℕ) (ds : List Deed) (b : Bool) (n : ℕ) → Lives decl a ds b n → b ≡ true
+    → Opened ds
+opened decl a ds b n lives.starts is = absurd (let never : ⊥ = cc in never)
+opened decl a ds b n (lives.takes before g m life may comes) is =
+    record { before = before; given = g; is = refl; reach = comes }
+opened decl a ds b n (lives.posts before turn m first life above lawful) is = absurd (let never : ⊥ = cc in never)
+opened decl a ds b n (lives.crashes before m life up_now) is = absurd (let never : ⊥ = cc in never)
+opened decl a ds b n (lives.rises before records turn m first life down_now above lawful) is =
+    absurd (let never : ⊥ = cc in never)
+opened decl a ds b n (lives.unopened before cause m life down_now by_disk) is = absurd (let never : ⊥ = cc in never)
+
+pub up_more : (ds more : List Deed) → is_up (ds ++ more) ≡ fold up_at (is_up ds) more
+up_more ds more = fold-append up_at true ds more
+
+sends_up : (u : Bool) (n : ℕ) (ps : List Posting) (told : Option Reply)
+    → fold up_at u (sends_of n ps ++ tells_of told) ≡ u
+sends_up u n [] None = refl
+sends_up u n [] (Some reply) = refl
+sends_up u n (p ∷ ps) told = sends_up u (n + 1) ps told
+
+pub post_up : (u : Bool) (end : Appended) (n : ℕ) (t : Turn) → fold up_at u (deeds_as end n t) ≡ (u && still_up end)
+post_up u Done n t = by t.write ∙ whole u
+  where
+    by : (w : Option Record) → fold up_at u (writes_of w ++ (sends_of n t.sends ++ tells_of t.told)) ≡ u
+    by None = sends_up u n t.sends t.told
+    by (Some written) = sends_up u n t.sends t.told
+
+    whole : (x : Bool) → x ≡ (x && true)
+    whole true = refl
+    whole false = refl
+post_up u Failed n t = fold-append up_at u (sends_of n t.failed_sends)
+    (tells_of t.failed_told ++ Falls causes.Disk t.write ∷ [])
+    ∙ fold-append up_at (fold up_at u (sends_of n t.failed_sends)) (tells_of t.failed_told)
+    (Falls causes.Disk t.write ∷ [])
+    ∙ none u
+  where
+    none : (x : Bool) → false ≡ (x && false)
+    none true = refl
+    none false = refl
+post_up u Stopped n t = fold-append up_at u (tells_of t.failed_told) (Falls causes.Stop t.write ∷ []) ∙ none u
+  where
+    none : (x : Bool) → false ≡ (x && false)
+    none true = refl
+    none false = refl

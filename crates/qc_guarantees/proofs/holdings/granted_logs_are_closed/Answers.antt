@@ -1,6 +1,0 @@
-use Rattle.qc_guarantees.proofs.ClosedLogs.{granted_closed}
-use Rattle.qc_guarantees.proofs.holdings.granted_logs_are_closed.Goals as goal
-
-pub returns : goal.returns
-returns c decl script h open_inputs request answer tx number epoch named object inv life clock log accepted sound run found asked sent is =
-    granted_closed decl script accepted sound h open_inputs run request answer tx number epoch named object inv life clock log found asked sent is

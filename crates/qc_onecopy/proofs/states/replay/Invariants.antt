@@ -1,7 +1,0 @@
-use Rattle.std.proofs.Common.{◌≡◌, Some, drop}
-use Rattle.std.specs.Prelude.{fold}
-use Rattle.qc_onecopy.specs.Replay.{replay_commit, replay}
-use Rattle.qc_onecopy.proofs.states.replay.Given as goal
-
-abbrev pub invariant-commits : goal.invariant-commits
-invariant-commits l = fold (replay_commit l.decl) (Some l.states.items) (drop l.commit-index l.commits) ≡ replay l.decl l.commits

@@ -1,6 +1,0 @@
-use Rattle.std.proofs.Common.{◌≡◌, map, take}
-use Rattle.qc_onecopy.specs.Replay.{start_of}
-use Rattle.qc_onecopy.proofs.states.starts.Given as goal
-
-abbrev pub invariant-objects : goal.invariant-objects
-invariant-objects l = l.states.items ≡ map (start_of l.decl) (take l.kind-index l.kind-items)

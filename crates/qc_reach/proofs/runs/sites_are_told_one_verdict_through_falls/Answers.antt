@@ -1,5 +1,0 @@
-use Rattle.qc_reach.proofs.Agreeing.{agree}
-use Rattle.qc_reach.proofs.runs.sites_are_told_one_verdict_through_falls.Goals as goal
-
-pub returns : goal.returns
-returns g c decl script h open_inputs accepted sound run kept = agree g.C.ConductWithFalls.fits decl script h open_inputs accepted sound run kept

@@ -1,5 +1,0 @@
-use Rattle.qc_votes.proofs.Holding.{asked_holds}
-use Rattle.qc_votes.proofs.asked_votes.asked_sites_hold_through_falls.Goals as goal
-
-pub returns : goal.returns
-returns g c decl script h open_inputs accepted sound run kept a client t begun q k free up life epoch = asked_holds g.C.ConductWithFalls.fits decl script h open_inputs accepted sound run kept a client t begun q k free up life epoch

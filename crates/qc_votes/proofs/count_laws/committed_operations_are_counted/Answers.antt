@@ -1,5 +1,0 @@
-use Rattle.qc_votes.proofs.CountedOnce.{committed_counted}
-use Rattle.qc_votes.proofs.count_laws.committed_operations_are_counted.Goals as goal
-
-pub returns : goal.returns
-returns g c decl script h open_inputs accepted sound run kept = committed_counted g.C.ConductWithFalls.fits decl script h open_inputs accepted sound run kept

@@ -1,5 +1,0 @@
-use Rattle.qc_votes.proofs.ClosedLogs.{granted_closed}
-use Rattle.qc_votes.proofs.holdings.granted_logs_are_closed_through_falls.Goals as goal
-
-pub returns : goal.returns
-returns g c decl script h open_inputs accepted sound run kept request answer tx number epoch named object inv life clock log found asked sent is = granted_closed g.C.ConductWithFalls.fits decl script h open_inputs accepted sound run kept request answer tx number epoch named object inv life clock log found asked sent is

@@ -1,5 +1,0 @@
-use Rattle.qc_votes.proofs.PromisedStill.{promised_held}
-use Rattle.qc_votes.proofs.holdings.promised_items_are_held_through_falls.Goals as goal
-
-pub returns : goal.returns
-returns g c decl script h open_inputs accepted sound run kept site p is free up still = promised_held g.C.ConductWithFalls.fits decl script h open_inputs accepted sound run kept site is free up p still

@@ -1,5 +1,0 @@
-use Rattle.qc_votes.proofs.Law.{ordered}
-use Rattle.qc_votes.proofs.order.dependent_operations_are_ordered_through_falls.Goals as goal
-
-pub returns : goal.returns
-returns g c decl script h open_inputs accepted sound run kept commit op t k line d = ordered g.C.ConductWithFalls.fits decl script h open_inputs accepted sound run kept commit op t k line d

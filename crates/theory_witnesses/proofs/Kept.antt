@@ -1,0 +1,29 @@
+-- Every run of the protocol keeps each guarantee.
+use Rattle.std.proofs.Common.{List, ◌∷◌, subst}
+use Rattle.qc_entry.specs.declared.record.Commit.{Commit as CommitRecord}
+use Rattle.qc_decl.specs.Accepted.{IsAccepted}
+use Rattle.qc_decl.specs.declared.declaration.Declaration.{Declaration}
+use Rattle.theory_machine.proofs.ClaimLaws.{records_are_apart, follows, logs_hold_operations, runs_are_one_copy}
+use Rattle.theory_machine.proofs.ClaimLaws.{verdicts_agree}
+use Rattle.theory_machine.proofs.OrderingLaw.{dependent_operations_are_ordered}
+use Rattle.theory_machine.specs.Acts.{Act, Commit, state}
+use Rattle.theory_machine.specs.Claims.{FollowsSeen}
+use Rattle.theory_machine.specs.Guards.{IsRun}
+use Rattle.theory_witnesses.specs.Guarantees.{Guarantee, Holds, LastRecordFollowsSeen, LogsHoldOperations}
+use Rattle.theory_witnesses.specs.Guarantees.{OperationsAreOrdered, RecordsAreApart, RecordsAreOneCopy, VerdictsAgree}
+
+follows_seen : (decl : Declaration) → IsAccepted decl → (commit : CommitRecord) (older : List Act)
+    → IsRun decl (Commit commit ∷ older) → FollowsSeen (state older) commit
+follows_seen decl accepted commit older run = follows decl accepted older run.1 commit run.0
+
+pub keeps : (guarantee : Guarantee) (decl : Declaration) (acts : List Act) → IsAccepted decl → IsRun decl acts
+    → Holds guarantee decl acts
+keeps RecordsAreOneCopy decl acts accepted run = runs_are_one_copy decl accepted acts run
+keeps RecordsAreApart decl acts accepted run = records_are_apart decl accepted acts run
+keeps LogsHoldOperations decl acts accepted run =
+    λ log is line h. logs_hold_operations decl accepted acts run log is line h
+keeps VerdictsAgree decl acts accepted run = λ verdict h. verdicts_agree decl accepted acts run verdict h
+keeps LastRecordFollowsSeen decl acts accepted run =
+    λ commit older e. follows_seen decl accepted commit older (subst (IsRun decl) e run)
+keeps OperationsAreOrdered decl acts accepted run =
+    λ c d earlier later. dependent_operations_are_ordered decl accepted acts run c d earlier later

@@ -1,0 +1,119 @@
+-- When a guard is needed: where it isn't asked, and every other guard is, some run breaks a guarantee.
+use Rattle.std.specs.Prelude.{ℕ, ◌==◌, Bool, not, List, [], ◌∷◌}
+use Rattle.qc_decl.specs.declared.declaration.Declaration.{Declaration}
+use Rattle.qc_decl.specs.Accepted.{IsAccepted}
+use Rattle.theory_machine.specs.Acts.{Act}
+use Rattle.theory_machine.specs.Asked.{Guard, BeginsOnce, BeginsInPlannedEpoch, OperatesWhileActive, ChoosesOneAtATime}
+use Rattle.theory_machine.specs.Asked.{AnswersFromView, InvocationIsDeclared, OperationsAreNumbered, OwnLinesAreKept}
+use Rattle.theory_machine.specs.Asked.{ViewWasShown, ViewIsWhole, ReadQuorumIsMet, ChosenHasResponse}
+use Rattle.theory_machine.specs.Asked.{AbsentHasNoResponse}
+use Rattle.theory_machine.specs.Asked.{AppendsWhatIsChosen, AppendCarriesView, AppendCarriesOnlyOwnLines}
+use Rattle.theory_machine.specs.Asked.{AppendCarriesEarlierLines, AppendQuorumIsMet, GrantTellsDeeds, GrantTellsLife}
+use Rattle.theory_machine.specs.Asked.{GrantTellsEpoch, GrantsUnlessClosed, GrantPassesInstalls, GrantsWithoutConflict}
+use Rattle.theory_machine.specs.Asked.{GrantPassesDone, GrantPassesLines, GrantsWhatWasRequested, CountsWhatWasGranted}
+use Rattle.theory_machine.specs.Asked.{CountsWhileActive, CountsInItsEpoch, PreparesOnce, PreparesWhenExecuted}
+use Rattle.theory_machine.specs.Asked.{VotesWhenAsked, VotesInGrantedLife, RecordsPrepareWhenAsked, CommitsWhenVoting}
+use Rattle.theory_machine.specs.Asked.{AllHaveVoted, StampIsItsClients, StampPassesClock, RecordHasOperations}
+use Rattle.theory_machine.specs.Asked.{AbortsBeforeRecord, RisesWithNoneRunning, RisesPastRecords}
+use Rattle.theory_machine.specs.Asked.{LearnsWhatWasAnnounced}
+use Rattle.theory_machine.specs.Asked.{SnapshotTellsDeeds, SnapshotIsOfClosed, SnapshotPassesDone}
+use Rattle.theory_machine.specs.Asked.{SnapshotPassesInstalls}
+use Rattle.theory_machine.specs.Asked.{DecidesByPlan, DecidesFromSnapshots, DecidesNextEpoch, ClosesEnough}
+use Rattle.theory_machine.specs.Asked.{ClosedSitesAnswered, ResolvesPrepared, MergesEveryEntry, DecidePassesCommitted}
+use Rattle.theory_machine.specs.Asked.{MergesLogs, MergesOnlyCommitted, DecidePassesSnapshots, InstallsWhatWasDecided}
+use Rattle.theory_machine.specs.Asked.{InstallsLaterEpoch}
+use Rattle.theory_machine.specs.Guards.{IsRunBy}
+use Rattle.theory_witnesses.specs.Guarantees.{Guarantee, Holds}
+
+-- all guards, in the order of the acts that ask them
+abbrev pub guards : List Guard
+guards =
+    BeginsOnce ∷ BeginsInPlannedEpoch ∷ OperatesWhileActive ∷ ChoosesOneAtATime ∷ AnswersFromView ∷
+    InvocationIsDeclared ∷ OperationsAreNumbered ∷ OwnLinesAreKept ∷ ViewWasShown ∷ ViewIsWhole ∷
+    ReadQuorumIsMet ∷ ChosenHasResponse ∷ AbsentHasNoResponse ∷ AppendsWhatIsChosen ∷ AppendCarriesView ∷
+    AppendCarriesOnlyOwnLines ∷ AppendCarriesEarlierLines ∷ AppendQuorumIsMet ∷ GrantTellsDeeds ∷
+    GrantTellsLife ∷ GrantTellsEpoch ∷ GrantsUnlessClosed ∷ GrantPassesInstalls ∷ GrantsWithoutConflict ∷
+    GrantPassesDone ∷ GrantPassesLines ∷ GrantsWhatWasRequested ∷ CountsWhatWasGranted ∷ CountsWhileActive ∷
+    CountsInItsEpoch ∷ PreparesOnce ∷ PreparesWhenExecuted ∷ VotesWhenAsked ∷ VotesInGrantedLife ∷
+    RecordsPrepareWhenAsked ∷ CommitsWhenVoting ∷ AllHaveVoted ∷ StampIsItsClients ∷ StampPassesClock ∷
+    RecordHasOperations ∷ AbortsBeforeRecord ∷ RisesWithNoneRunning ∷ RisesPastRecords ∷
+    LearnsWhatWasAnnounced ∷ SnapshotTellsDeeds ∷ SnapshotIsOfClosed ∷ SnapshotPassesDone ∷
+    SnapshotPassesInstalls ∷ DecidesByPlan ∷ DecidesFromSnapshots ∷ DecidesNextEpoch ∷ ClosesEnough ∷
+    ClosedSitesAnswered ∷ ResolvesPrepared ∷ MergesEveryEntry ∷ DecidePassesCommitted ∷ MergesLogs ∷
+    MergesOnlyCommitted ∷ DecidePassesSnapshots ∷ InstallsWhatWasDecided ∷ InstallsLaterEpoch ∷ []
+
+-- the place of a guard among all
+abbrev pub place_of : Guard → ℕ
+place_of BeginsOnce = 0
+place_of BeginsInPlannedEpoch = 1
+place_of OperatesWhileActive = 2
+place_of ChoosesOneAtATime = 3
+place_of AnswersFromView = 4
+place_of InvocationIsDeclared = 5
+place_of OperationsAreNumbered = 6
+place_of OwnLinesAreKept = 7
+place_of ViewWasShown = 8
+place_of ViewIsWhole = 9
+place_of ReadQuorumIsMet = 10
+place_of ChosenHasResponse = 11
+place_of AbsentHasNoResponse = 12
+place_of AppendsWhatIsChosen = 13
+place_of AppendCarriesView = 14
+place_of AppendCarriesOnlyOwnLines = 15
+place_of AppendCarriesEarlierLines = 16
+place_of AppendQuorumIsMet = 17
+place_of GrantTellsDeeds = 18
+place_of GrantTellsLife = 19
+place_of GrantTellsEpoch = 20
+place_of GrantsUnlessClosed = 21
+place_of GrantPassesInstalls = 22
+place_of GrantsWithoutConflict = 23
+place_of GrantPassesDone = 24
+place_of GrantPassesLines = 25
+place_of GrantsWhatWasRequested = 26
+place_of CountsWhatWasGranted = 27
+place_of CountsWhileActive = 28
+place_of CountsInItsEpoch = 29
+place_of PreparesOnce = 30
+place_of PreparesWhenExecuted = 31
+place_of VotesWhenAsked = 32
+place_of VotesInGrantedLife = 33
+place_of RecordsPrepareWhenAsked = 34
+place_of CommitsWhenVoting = 35
+place_of AllHaveVoted = 36
+place_of StampIsItsClients = 37
+place_of StampPassesClock = 38
+place_of RecordHasOperations = 39
+place_of AbortsBeforeRecord = 40
+place_of RisesWithNoneRunning = 41
+place_of RisesPastRecords = 42
+place_of LearnsWhatWasAnnounced = 43
+place_of SnapshotTellsDeeds = 44
+place_of SnapshotIsOfClosed = 45
+place_of SnapshotPassesDone = 46
+place_of SnapshotPassesInstalls = 47
+place_of DecidesByPlan = 48
+place_of DecidesFromSnapshots = 49
+place_of DecidesNextEpoch = 50
+place_of ClosesEnough = 51
+place_of ClosedSitesAnswered = 52
+place_of ResolvesPrepared = 53
+place_of MergesEveryEntry = 54
+place_of DecidePassesCommitted = 55
+place_of MergesLogs = 56
+place_of MergesOnlyCommitted = 57
+place_of DecidePassesSnapshots = 58
+place_of InstallsWhatWasDecided = 59
+place_of InstallsLaterEpoch = 60
+
+-- each guard but one is asked
+abbrev pub every_guard_but : Guard → Guard → Bool
+every_guard_but one guard = not (place_of guard == place_of one)
+
+-- without the guard a run, over an accepted declaration, breaks the guarantee
+pub record IsNeeded (guard : Guard) (guarantee : Guarantee) : Type 0 where
+  pub decl : Declaration
+  pub accepted : IsAccepted decl
+  pub acts : List Act
+  pub run : IsRunBy (every_guard_but guard) decl acts
+  pub broken : Holds guarantee decl acts → ⊥
