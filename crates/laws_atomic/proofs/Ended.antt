@@ -2,12 +2,10 @@
 use Rattle.std.proofs.Common.{◌≡◌, ℕ, ◌==◌, ◌&&◌, nat_le, Bool, true, false, cond, List, [], ◌∷◌, inl, inr, filter, length, map, Option, Some, None, option_map, refl, sym, ap, ◌∙◌, subst}
 use Rattle.std.specs.Prelude.{drop, is_none, is_some, option_and_then}
 use Rattle.std.specs.List.{AllByRecursion as Every, find, list_all}
-use Rattle.qc_list.specs.Members.{In}
+use Rattle.qc_list.specs.Names.{In}
 use Rattle.qc_list.proofs.Members.{In-filter, every-In}
-use Rattle.qc_decl.specs.Actors.{first_site}
+use Rattle.qc_decl.specs.Names.{append_need_of, first_site, most_transaction_operations, read_need_of}
 use Rattle.qc_decl.specs.declared.declaration.Declaration.{Declaration}
-use Rattle.qc_decl.specs.Limits.{most_transaction_operations}
-use Rattle.qc_decl.specs.Lookup.{append_need_of, read_need_of}
 use Rattle.qc_msg.specs.declared.message.Answer.{Answer}
 use Rattle.qc_msg.specs.declared.message.Want.{Want}
 use Rattle.qc_msg.specs.declared.message.Want.TheVariants.{Read, Append, Prepare}
@@ -18,15 +16,14 @@ use Rattle.qc_msg.specs.declared.step.Command.{Command}
 use Rattle.qc_msg.specs.declared.step.Command.TheVariants as commands
 use Rattle.qc_plan.specs.declared.standing.Asked.{Asked}
 use Rattle.qc_plan.specs.declared.standing.Verdict.TheVariants as verdicts
-use Rattle.qc_plan.specs.Round.{RoundState, all_noted, start, verdict}
-use Rattle.qc_promise.specs.Account.{Account, ClientRequest, Current, is_append, is_prepare, is_read, requests_for}
-use Rattle.qc_promise.specs.Accounting.{counted, counted_for, is_open, taken_for, told_by}
-use Rattle.qc_promise.specs.Rounds.{answer_of, are_votes_in, asked_by, first_against, participants, round_of, standing_of, weights_of}
-use Rattle.qc_promise.specs.Rows.{answer_row, append_row, running_row, read_row, row_of, vote_row}
+use Rattle.qc_plan.specs.Names.{RoundState, all_noted, start, verdict}
+use Rattle.qc_promise.specs.Names.{Account, ClientRequest, Current, answer_of, answer_row, append_row, are_votes_in}
+use Rattle.qc_promise.specs.Names.{asked_by, counted, counted_for, first_against, is_append, is_open, is_prepare}
+use Rattle.qc_promise.specs.Names.{is_read, participants, read_row, requests_for, round_of, row_of, running_row}
+use Rattle.qc_promise.specs.Names.{standing_of, taken_for, told_by, vote_row, weights_of}
 use Rattle.qc_entry.specs.declared.line.Op.{Op}
 use Rattle.qc_client.specs.declared.client.Client.{Client}
-use Rattle.laws_due.specs.Ties.{IsDo, IsPrepare, Ties, appends, reads, rests, votes}
-use Rattle.laws_due.specs.Told.{IsOpenIn}
+use Rattle.laws_due.specs.Names.{IsDo, IsOpenIn, IsPrepare, Ties, appends, reads, rests, votes}
 use Rattle.laws_due.proofs.Halves.{waiting_verdict}
 use Rattle.laws_due.proofs.Nothing.{do_row_is}
 use Rattle.laws_due.proofs.Requests.{IsFound, every_taken, found}

@@ -16,16 +16,12 @@ use Rattle.qc_msg.specs.declared.step.Step.{Step}
 use Rattle.qc_msg.specs.declared.step.Step.TheVariants as steps
 use Rattle.qc_msg.specs.declared.turn.Posting.{Posting}
 use Rattle.qc_msg.specs.declared.turn.Turn.{Turn}
-use Rattle.qc_msg.specs.Counts.{commit_in, commit_of, written}
-use Rattle.qc_msg.specs.Deeds.{Deed, Takes, Sends, sends_of, tells_of, turn_deeds, writes_of}
-use Rattle.qc_msg.specs.Steps.{Entry, by, marked, posted, sents, step_of, told, wrote}
-use Rattle.qc_msg.specs.Turns.{quiet}
-use Rattle.qc_script.specs.Ready.{step_of_control}
-use Rattle.qc_client.specs.Client.{ClientMove, moved as client_moved, new_client}
-use Rattle.qc_client.specs.Conduct.{client_after, client_does}
-use Rattle.qc_site.specs.Site.{SiteMove, moved as site_moved, new_site}
-use Rattle.qc_site.specs.Conduct.{site_after, site_does, site_takes}
-use Rattle.laws_refinement.specs.Net.{commits_in, sent_all}
+use Rattle.qc_msg.specs.Names.{Deed, Entry, Sends, Takes, by, commit_in, commit_of, marked, posted, quiet, sends_of}
+use Rattle.qc_msg.specs.Names.{sents, step_of, tells_of, told, turn_deeds, writes_of, written, wrote}
+use Rattle.qc_script.specs.Names.{step_of_control}
+use Rattle.qc_client.specs.Names.{ClientMove, client_after, client_does, moved as client_moved, new_client}
+use Rattle.qc_site.specs.Names.{SiteMove, moved as site_moved, new_site, site_after, site_does, site_takes}
+use Rattle.laws_refinement.specs.Names.{commits_in, sent_all}
 
 -- a site
 

@@ -4,11 +4,9 @@ use Rattle.std.specs.Prelude.{fold, replicate, slice_set}
 use Rattle.std.proofs.lemmas.List.{append-nil}
 use Rattle.std.proofs.lemmas.List.Sums.{fold-append}
 use Rattle.qc_entry.specs.declared.record.Commit.{Commit as CommitRecord}
-use Rattle.qc_core.specs.Acts.{MayTake}
-use Rattle.qc_core.specs.Conduct.{IsLawful}
-use Rattle.qc_decl.specs.Accepted.{IsAccepted}
+use Rattle.qc_core.specs.Names.{IsLawful, MayTake}
+use Rattle.qc_decl.specs.Names.{IsAccepted, actors, controller, is_client, is_site}
 use Rattle.qc_decl.specs.declared.declaration.Declaration.{Declaration}
-use Rattle.qc_decl.specs.Actors.{actors, controller, is_client, is_site}
 use Rattle.qc_msg.specs.declared.message.Envelope.{Envelope}
 use Rattle.qc_msg.specs.declared.step.Command.{Command}
 use Rattle.qc_msg.specs.declared.step.Input.{Input}
@@ -17,23 +15,19 @@ use Rattle.qc_msg.specs.declared.step.Step.{Step}
 use Rattle.qc_msg.specs.declared.step.Step.TheVariants as steps
 use Rattle.qc_msg.specs.declared.turn.Posting.{Posting}
 use Rattle.qc_msg.specs.declared.turn.Turn.{Turn}
-use Rattle.qc_msg.specs.Counts.{commit_in, written}
-use Rattle.qc_msg.specs.Deeds.{Deed, Takes, WasSentTo, deeds, envelopes, mail}
-use Rattle.qc_msg.specs.Steps.{Entry, by, marked, posted, step_of}
+use Rattle.qc_msg.specs.Names.{Deed, Entry, Takes, WasSentTo, by, commit_in, deeds, envelopes, mail, marked, posted}
+use Rattle.qc_msg.specs.Names.{step_of, written}
 use Rattle.qc_msg.proofs.GrownMail.{mail-append, mail-posted, mail-taken}
 use Rattle.qc_msg.proofs.Growth.{deeds-other, deeds-posted, deeds-taken}
-use Rattle.qc_script.specs.Ready.{phase_of, ready}
-use Rattle.qc_script.specs.Sound.{IsScriptFor}
-use Rattle.qc_script.specs.Runs.{Runs, begins, takes, posts, phase, control}
+use Rattle.qc_script.specs.Names.{IsScriptFor, Runs, phase_of, ready}
+use Rattle.qc_script.specs.Runs.{begins, takes, posts, phase, control}
 use Rattle.qc_script.specs.declared.script.Script.{Script}
-use Rattle.qc_client.specs.Client.{ClientMove}
-use Rattle.qc_client.specs.Conduct.{client_after, client_takes}
+use Rattle.qc_client.specs.Names.{ClientMove, client_after, client_takes}
 use Rattle.qc_client.specs.declared.client.Client.{Client}
-use Rattle.qc_front.specs.Going.{is_idle}
+use Rattle.qc_front.specs.Names.{is_idle}
 use Rattle.qc_front.specs.declared.doing.Doing.{Doing}
 use Rattle.qc_front.specs.declared.doing.Doing.TheVariants.{Idle, Reading, Appending}
-use Rattle.qc_site.specs.Conduct.{site_after, site_takes}
-use Rattle.qc_site.specs.Site.{SiteMove, SiteState}
+use Rattle.qc_site.specs.Names.{SiteMove, SiteState, site_after, site_takes}
 use Rattle.laws_turns.proofs.Acted.{deeds-silent, run_acts}
 use Rattle.laws_turns.proofs.Arrivals.{what_is_ready_was_sent}
 use Rattle.laws_turns.proofs.Numbered.{IsSilent, control_silent, mail-silent, phase_silent}
@@ -41,14 +35,13 @@ use Rattle.laws_turns.proofs.Places.{replicate_at}
 use Rattle.laws_turns.proofs.Proper.{run_proper}
 use Rattle.laws_turns.proofs.Replying.{after_taken, client_replies}
 use Rattle.laws_turns.proofs.Running.{what_is_ready_may_be_taken}
-use Rattle.laws_turns.specs.Calls.{is_waiting}
+use Rattle.laws_turns.specs.Names.{is_waiting}
 use Rattle.laws_turns.proofs.Waiting.{round_none, votes_none}
-use Rattle.qc_promise.specs.Account.{new_account}
-use Rattle.qc_promise.specs.Accounting.{account, account_at}
-use Rattle.laws_due.specs.Ties.{Ties}
+use Rattle.qc_promise.specs.Names.{account, account_at, new_account}
+use Rattle.laws_due.specs.Names.{Ties}
 use Rattle.laws_due.proofs.Courses.{clients_tied}
 use Rattle.laws_due.proofs.AccountDeclared.{asks_declared}
-use Rattle.laws_refinement.specs.Net.{MayCommand, after_client, after_site, commits_in, first_net, sent_all}
+use Rattle.laws_refinement.specs.Names.{MayCommand, after_client, after_site, commits_in, first_net, sent_all}
 use Rattle.laws_refinement.proofs.Machine.{put_one}
 use Rattle.laws_atomic.proofs.Asked.{ready_named}
 use Rattle.laws_atomic.proofs.Calm as calm

@@ -3,17 +3,13 @@ use Rattle.std.proofs.Common.{◌≡◌, ◌≢◌, ◌≤◌, ◌<◌, ℕ, tru
 use Rattle.std.specs.List.{cons_option}
 use Rattle.qc_stamp.specs.declared.stamp.Stamp.{Stamp}
 use Rattle.qc_stamp.specs.declared.stamp.TxId.{TxId}
-use Rattle.qc_list.specs.Members.{In}
+use Rattle.qc_list.specs.Names.{In}
 use Rattle.qc_entry.specs.declared.record.Commit.{Commit}
-use Rattle.qc_msg.specs.Deeds.{Deed}
+use Rattle.qc_msg.specs.Names.{Deed}
 use Rattle.theory_onecopy.proofs.Orders.{clock_less}
-use Rattle.qc_promise.specs.Account.{Account}
-use Rattle.qc_promise.specs.Atomic.{HasBefore}
-use Rattle.qc_promise.specs.Deals.{is_begun}
-use Rattle.qc_promise.specs.Seen.{Sight}
-use Rattle.qc_promise.specs.Status.{Status, given_up, status_sent, status_written}
+use Rattle.qc_promise.specs.Names.{Account, HasBefore, Sight, Status, given_up, is_begun, status_sent, status_written}
 use Rattle.qc_promise.specs.Status as statuses
-use Rattle.laws_turns.specs.Written.{written_by}
+use Rattle.laws_turns.specs.Names.{written_by}
 use Rattle.laws_atomic.proofs.Counted.{IsOpen, name_of}
 
 -- a record of the transaction whose stamp's clock is at most this

@@ -3,9 +3,9 @@ use Rattle.std.proofs.Common.{◌≡◌, ◌≢◌, ◌<◌, ℕ, ◌+◌, ◌==
 use Rattle.std.specs.List.{cons_option, list_any}
 use Rattle.qc_stamp.specs.declared.stamp.Stamp.{Stamp}
 use Rattle.qc_stamp.specs.declared.stamp.TxId.{TxId}
-use Rattle.qc_stamp.specs.Order.{same_tx}
+use Rattle.qc_stamp.specs.Names.{same_tx}
 use Rattle.qc_stamp.proofs.Orders.{same_tx_itself}
-use Rattle.qc_list.specs.Members.{In}
+use Rattle.qc_list.specs.Names.{In}
 use Rattle.qc_list.proofs.Members.{In-first, In-last, In-more, In-passes, In-unfiltered}
 use Rattle.qc_decl.specs.declared.declaration.Declaration.{Declaration}
 use Rattle.qc_entry.specs.declared.line.Line.{Line}
@@ -18,17 +18,13 @@ use Rattle.qc_msg.specs.declared.message.Outcome.TheVariants as outcomes
 use Rattle.qc_msg.specs.declared.record.Record.{Record}
 use Rattle.qc_msg.specs.declared.record.Record.TheVariants as records
 use Rattle.qc_msg.specs.declared.step.Command.{Command}
-use Rattle.qc_msg.specs.Counts.{commit_of as commit_in}
-use Rattle.qc_promise.specs.Account.{Account, ClientRequest, Current}
-use Rattle.qc_promise.specs.Accounting.{account_sent, account_written, counted}
-use Rattle.qc_promise.specs.Atomic.{HasBefore}
-use Rattle.qc_promise.specs.Deals.{is_begun}
-use Rattle.qc_promise.specs.Replies.{IsRecordDue}
-use Rattle.qc_promise.specs.Rows.{running_row}
-use Rattle.qc_promise.specs.Seen.{Sight, answered, granted, sees, sight_sent, waits}
-use Rattle.qc_promise.specs.Status.{Status, given_up, status_sent, status_written}
+use Rattle.qc_msg.specs.Names.{commit_of as commit_in}
+use Rattle.qc_promise.specs.Names.{Account, ClientRequest, Current, HasBefore, IsRecordDue, Sight, Status, account_sent}
+use Rattle.qc_promise.specs.Names.{account_written, answered, counted, given_up, is_begun, running_row, sees}
+use Rattle.qc_promise.specs.Names.{sight_sent, status_sent, status_written, waits}
+use Rattle.qc_promise.specs.Seen.{granted}
 use Rattle.qc_promise.specs.Status as statuses
-use Rattle.laws_due.specs.ByRows.{IsSendDue}
+use Rattle.laws_due.specs.Names.{IsSendDue}
 use Rattle.laws_atomic.proofs.Counted.{AsksForGrants, IsCounted, IsOpen, counts, name_of, passes}
 use Rattle.laws_atomic.proofs.Seeing.{HasCommitted, IsUpTo, Sees, higher, in_split, is_before, stays_committed}
 use Rattle.laws_atomic.proofs.Stamps.{due_stamp}

@@ -3,8 +3,8 @@ use Rattle.std.proofs.Common.{◌≡◌, ◌≢◌, ◌≤◌, ℕ, ◌+◌, ◌
 use Rattle.std.proofs.Common.{length, Option, Some, None, option_map, option_to_list, refl, sym, ap, ◌∙◌, subst, arith}
 use Rattle.qc_stamp.specs.declared.stamp.Stamp.{Stamp}
 use Rattle.qc_stamp.specs.declared.stamp.TxId.{TxId}
-use Rattle.qc_stamp.specs.Order.{same_tx}
-use Rattle.qc_list.specs.Members.{In}
+use Rattle.qc_stamp.specs.Names.{same_tx}
+use Rattle.qc_list.specs.Names.{In}
 use Rattle.qc_decl.specs.declared.declaration.Declaration.{Declaration}
 use Rattle.qc_entry.specs.declared.record.Commit.{Commit}
 use Rattle.qc_msg.specs.declared.reply.Half.{Half}
@@ -13,16 +13,10 @@ use Rattle.qc_msg.specs.declared.reply.Reply.{Reply}
 use Rattle.qc_msg.specs.declared.reply.Reply.TheVariants as replies
 use Rattle.qc_msg.specs.declared.step.Command.{Command}
 use Rattle.qc_msg.specs.declared.step.Command.TheVariants as commands
-use Rattle.qc_promise.specs.Account.{Account, Current, is_append, requests_for}
-use Rattle.qc_promise.specs.Accounting.{account_told, doomed_if, found_absent, refused, responded, short_of}
-use Rattle.qc_promise.specs.Accounting.{with_absent, with_response}
-use Rattle.qc_promise.specs.Atomic.{HasBefore}
-use Rattle.qc_promise.specs.Deals.{is_begun}
-use Rattle.qc_promise.specs.Replies.{IsReplyDue}
-use Rattle.qc_promise.specs.Rounds.{answer_of}
-use Rattle.qc_promise.specs.Rows.{commit_of, running_row}
-use Rattle.qc_promise.specs.Seen.{Sight, sight_told}
-use Rattle.qc_promise.specs.Status.{IsRightReply, Status, given_up, status_told}
+use Rattle.qc_promise.specs.Names.{Account, Current, HasBefore, IsReplyDue, IsRightReply, Sight, Status, account_told}
+use Rattle.qc_promise.specs.Names.{answer_of, commit_of, doomed_if, found_absent, given_up, is_append, is_begun}
+use Rattle.qc_promise.specs.Names.{refused, requests_for, responded, running_row, short_of, sight_told, status_told}
+use Rattle.qc_promise.specs.Names.{with_absent, with_response}
 use Rattle.qc_promise.specs.Status as statuses
 use Rattle.laws_atomic.proofs.Counted.{name_of}
 use Rattle.laws_atomic.proofs.Seeing.{HasCommitted, IsUpTo, Sees, higher, in_split, stays_committed}

@@ -5,33 +5,29 @@ use Rattle.std.proofs.Common.{Some, None, slice_get, inl, inr, refl, sym, ap, â—
 use Rattle.std.proofs.Common.{length, arith}
 use Rattle.std.specs.List.{AllByRecursion as Every}
 use Rattle.std.proofs.lemmas.List.Sums.{fold-append}
-use Rattle.qc_list.specs.Members.{In}
+use Rattle.qc_list.specs.Names.{In}
 use Rattle.qc_list.proofs.Members.{every-In, every-at, every-weaker}
 use Rattle.qc_client.specs.declared.client.Client.{Client}
-use Rattle.qc_client.specs.Client.{is_begun}
+use Rattle.qc_client.specs.Names.{is_begun}
 use Rattle.qc_client.specs.Conduct as clients
-use Rattle.qc_commit.specs.Desk.{known}
+use Rattle.qc_commit.specs.Names.{known}
 use Rattle.qc_core.specs.declared.actor.Actor.{Actor}
 use Rattle.qc_core.specs.declared.actor.Actor.TheVariants as actors_of
-use Rattle.qc_core.specs.Actors.{ActorMove, actor_does, actor_takes, down_takes, moved}
+use Rattle.qc_core.specs.Names.{ActorMove, actor_does, actor_takes, down_takes, moved}
 use Rattle.qc_core.proofs.AdminWrites.{IsSentByAdmin, admin_written, no_answers}
 use Rattle.qc_core.proofs.SiteWrites.{IsAnsweredTo, IsAnswerTo}
 use Rattle.qc_core.proofs.Written.{NoAnswer, client_answers, client_written}
 use Rattle.qc_decl.specs.declared.declaration.Declaration.{Declaration}
 use Rattle.qc_entry.specs.declared.record.Prepared.{Prepared}
-use Rattle.qc_epoch.specs.Admin.{Admin, Doing, Question, Resting, Closing, Asking, Installing}
-use Rattle.qc_epoch.specs.Answers.{is_number, outcome_in}
+use Rattle.qc_epoch.specs.Names.{Admin, Asking, Closing, Doing, Installing, Question, Resting, is_number, outcome_in}
 use Rattle.qc_epoch.specs.Conduct as admins
-use Rattle.qc_msg.specs.Deeds.{Deed, Takes, Writes, Sends, Tells, Falls, Rises, WasSentTo, deeds_as, envelopes}
-use Rattle.qc_msg.specs.Deeds.{sends_of, tells_of, turn_deeds}
-use Rattle.qc_msg.specs.Steps.{sends_as}
+use Rattle.qc_msg.specs.Names.{Deed, Falls, Rises, Sends, Takes, Tells, WasSentTo, Writes, answer_in, deeds_as}
+use Rattle.qc_msg.specs.Names.{envelopes, quiet, sends_as, sends_of, tells_of, turn_deeds}
 use Rattle.qc_msg.specs.declared.record.Record.{Record}
 use Rattle.qc_msg.specs.declared.step.Fall.{Fall}
 use Rattle.qc_msg.specs.declared.step.Fall.TheVariants as causes
 use Rattle.qc_msg.specs.declared.turn.Appended.{Appended}
 use Rattle.qc_msg.specs.declared.turn.Appended.TheVariants.{Done, Failed, Stopped}
-use Rattle.qc_msg.specs.Readings.{answer_in}
-use Rattle.qc_msg.specs.Turns.{quiet}
 use Rattle.qc_msg.specs.declared.message.Answer.{Answer}
 use Rattle.qc_msg.specs.declared.message.Answer.TheVariants as answers
 use Rattle.qc_msg.specs.declared.message.Envelope.{Envelope}
@@ -42,11 +38,10 @@ use Rattle.qc_msg.specs.declared.step.Input.{Input}
 use Rattle.qc_msg.specs.declared.step.Input.TheVariants as inputs
 use Rattle.qc_msg.specs.declared.turn.Posting.{Posting}
 use Rattle.qc_msg.specs.declared.turn.Turn.{Turn}
-use Rattle.qc_promise.specs.Mail.{asks_answer}
-use Rattle.qc_site.specs.Conduct.{site_takes}
-use Rattle.qc_site.specs.Holders.{AreByClients}
+use Rattle.qc_promise.specs.Names.{asks_answer}
+use Rattle.qc_site.specs.Names.{AreByClients, site_takes}
 use Rattle.qc_stamp.specs.declared.stamp.TxId.{TxId}
-use Rattle.laws_bounds.specs.AdminParts.{NumberKeeps}
+use Rattle.laws_bounds.specs.Names.{NumberKeeps}
 use Rattle.laws_bounds.proofs.ActorsInForm.{IsToldFor, StateInForm}
 use Rattle.laws_bounds.proofs.ActorsWithin.{IsOfPost}
 use Rattle.laws_bounds.proofs.AdminKeeps.{AreLined, questions_in}

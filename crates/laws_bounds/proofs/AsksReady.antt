@@ -4,24 +4,22 @@ use Rattle.std.proofs.Common.{subst}
 use Rattle.std.specs.List.{AllByRecursion as Every}
 use Rattle.qc_core.specs.declared.actor.Actor.{Actor}
 use Rattle.qc_core.specs.declared.actor.Actor.TheVariants as actors_of
-use Rattle.qc_core.specs.Actors.{ActorMove, actor_after, actor_rises, actor_takes, moved, new_actor}
-use Rattle.qc_core.specs.Conduct.{IsLawfulWithFalls, with_record}
-use Rattle.qc_core.specs.Lives.{Lives}
+use Rattle.qc_core.specs.Names.{ActorMove, IsLawfulWithFalls, Lives, actor_after, actor_rises, actor_takes, moved}
+use Rattle.qc_core.specs.Names.{new_actor, with_record}
 use Rattle.qc_core.specs.Lives as lives
 use Rattle.qc_core.proofs.AdminWrites.{IsSentByAdmin, admin_written}
 use Rattle.qc_core.proofs.ByTurns.{after_takes, called_turn}
-use Rattle.qc_decl.specs.Actors.{is_client, is_site}
+use Rattle.qc_decl.specs.Names.{is_client, is_site}
 use Rattle.qc_decl.specs.declared.declaration.Declaration.{Declaration}
 use Rattle.qc_entry.specs.declared.record.Prepared.{Prepared}
-use Rattle.qc_msg.specs.Deeds.{Deed, Takes}
-use Rattle.qc_msg.specs.Turns.{quiet}
+use Rattle.qc_msg.specs.Names.{Deed, Takes, quiet}
 use Rattle.qc_msg.specs.declared.message.Envelope.{Envelope}
 use Rattle.qc_msg.specs.declared.record.Record.{Record}
 use Rattle.qc_msg.specs.declared.step.Input.{Input}
 use Rattle.qc_msg.specs.declared.turn.Turn.{Turn}
 use Rattle.qc_recover.specs.Admins as rulings
-use Rattle.qc_recover.specs.Sites.{inquiry, kept_by, most_inquiries}
-use Rattle.qc_site.specs.Epochs.{in_order}
+use Rattle.qc_recover.specs.Names.{inquiry, kept_by, most_inquiries}
+use Rattle.qc_site.specs.Names.{in_order}
 use Rattle.qc_stamp.specs.declared.stamp.TxId.{TxId}
 use Rattle.laws_bounds.proofs.AdminKeeps.{AreLined, questions_in}
 use Rattle.laws_bounds.proofs.AdminsAsked.{any_decided_asked, takes_lined}

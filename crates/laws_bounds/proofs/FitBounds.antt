@@ -2,23 +2,17 @@
 use Rattle.std.proofs.Common.{◌≡◌, ℕ, ◌+◌, ◌<◌, ◌≤◌, true, List, [], ◌∷◌, length, arith}
 use Rattle.std.specs.List.{AllByRecursion as Every}
 use Rattle.qc_list.proofs.Members.{every-weaker}
-use Rattle.qc_decl.specs.Accepted.{IsAccepted}
-use Rattle.qc_decl.specs.Limits.{most_clients}
+use Rattle.qc_decl.specs.Names.{IsAccepted, most_clients}
 use Rattle.qc_decl.specs.declared.declaration.Declaration.{Declaration}
 use Rattle.qc_entry.specs.declared.line.Line.{Line}
-use Rattle.qc_fit.specs.Fits.{fits}
-use Rattle.qc_fit.specs.Numbers.{greatest_clock, most_records}
-use Rattle.qc_fit.specs.Said.{IsFit, IsLineDeclared}
+use Rattle.qc_fit.specs.Names.{IsFit, IsLineDeclared, fits, greatest_clock, most_records}
 use Rattle.qc_fit.proofs.Words.{as_said}
 use Rattle.qc_msg.specs.declared.record.Record.{Record}
 use Rattle.qc_msg.specs.declared.record.Record.TheVariants as records
-use Rattle.qc_msg.specs.Steps.{Entry}
-use Rattle.laws_turns.specs.Within.{LinesWithin}
-use Rattle.laws_bounds.specs.Bounds.{RiseWithFew}
-use Rattle.laws_bounds.specs.Calls.{IsOfClient}
-use Rattle.laws_bounds.specs.Fitting.{AllFit, AllRiseFit}
-use Rattle.laws_bounds.specs.Records.{risen_at}
-use Rattle.laws_bounds.specs.Within.{AreWithin, RecordWithin, RiseWithin}
+use Rattle.qc_msg.specs.Names.{Entry}
+use Rattle.laws_turns.specs.Names.{LinesWithin}
+use Rattle.laws_bounds.specs.Names.{AllFit, AllRiseFit, AreWithin, IsOfClient, RecordWithin, RiseWithFew, RiseWithin}
+use Rattle.laws_bounds.specs.Names.{risen_at}
 
 module _ (decl : Declaration) (a : ℕ) where
   fit_of : (before : ℕ) (r : Record) → fits decl a before r ≡ true → IsFit decl a before r

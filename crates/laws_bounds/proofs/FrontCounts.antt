@@ -2,18 +2,14 @@
 use Rattle.std.proofs.Common.{◌≡◌, ℕ, ◌+◌, ◌≤◌, nat_le, Bool, true, false, cond, List, [], length, Option, Some, None}
 use Rattle.std.proofs.Common.{refl, ◌∙◌, arith}
 use Rattle.qc_decl.specs.declared.declaration.Declaration.{Declaration}
-use Rattle.qc_decl.specs.Limits.{most_transaction_operations}
-use Rattle.qc_decl.specs.Lookup.{append_need_of, read_need_of}
+use Rattle.qc_decl.specs.Names.{append_need_of, most_transaction_operations, read_need_of}
 use Rattle.qc_front.specs.declared.doing.Doing.{Doing}
 use Rattle.qc_front.specs.declared.doing.Doing.TheVariants.{Idle, Reading, Appending}
 use Rattle.qc_front.specs.declared.front.Front.{Front}
 use Rattle.qc_front.specs.declared.transaction.Transaction.{Transaction}
-use Rattle.qc_front.specs.Answering.{answer_of}
-use Rattle.qc_front.specs.Appending.{round_for}
-use Rattle.qc_front.specs.Conduct.{appending_takes, called, commits, reading_takes, takes, takes_in}
-use Rattle.qc_front.specs.Counting.{appended_with, learns, read_with, standing_of}
-use Rattle.qc_front.specs.Front.{FrontMove, aborts, begins, gives_up, moved}
-use Rattle.qc_front.specs.Rounds.{answered, append_by, performs, read_by, reads}
+use Rattle.qc_front.specs.Names.{FrontMove, aborts, answer_of, answered, append_by, appended_with, appending_takes}
+use Rattle.qc_front.specs.Names.{begins, called, commits, gives_up, learns, moved, performs, read_by, read_with}
+use Rattle.qc_front.specs.Names.{reading_takes, reads, round_for, standing_of, takes, takes_in}
 use Rattle.qc_msg.specs.declared.call.Call.{Call}
 use Rattle.qc_msg.specs.declared.message.Answer.{Answer}
 use Rattle.qc_msg.specs.declared.message.Answer.TheVariants as answers
@@ -21,9 +17,8 @@ use Rattle.qc_msg.specs.declared.reply.Reply.TheVariants as replies
 use Rattle.qc_msg.specs.declared.reply.AbortCause.TheVariants as causes
 use Rattle.qc_msg.specs.declared.step.Command.{Command}
 use Rattle.qc_msg.specs.declared.step.Command.TheVariants as commands
-use Rattle.qc_msg.specs.Calls.{site_called, without_call}
-use Rattle.qc_msg.specs.Turns.{quiet, telling}
-use Rattle.qc_plan.specs.Round.{RoundState, note, verdict}
+use Rattle.qc_msg.specs.Names.{quiet, site_called, telling, without_call}
+use Rattle.qc_plan.specs.Names.{RoundState, note, verdict}
 use Rattle.qc_plan.specs.declared.standing.Verdict.{Verdict}
 use Rattle.qc_plan.specs.declared.standing.Verdict.TheVariants as verdicts
 

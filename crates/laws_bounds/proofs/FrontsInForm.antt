@@ -2,28 +2,24 @@
 use Rattle.std.proofs.Common.{◌≡◌, ℕ, ◌-◌, ◌^◌, ◌<◌, ◌≤◌, nat_le, Bool, true, false, cond, List, [], length}
 use Rattle.std.proofs.Common.{Option, Some, None, refl, arith}
 use Rattle.std.proofs.lemmas.Bool.{leb-false}
-use Rattle.qc_decl.specs.Limits.{most_transaction_operations}
-use Rattle.qc_decl.specs.Lookup.{append_need_of, read_need_of}
+use Rattle.qc_decl.specs.Names.{append_need_of, most_transaction_operations, read_need_of}
 use Rattle.qc_decl.specs.declared.declaration.Declaration.{Declaration}
 use Rattle.qc_front.specs.declared.doing.Doing.{Doing}
 use Rattle.qc_front.specs.declared.doing.Doing.TheVariants.{Idle, Reading, Appending}
 use Rattle.qc_front.specs.declared.front.Front.{Front}
 use Rattle.qc_front.specs.declared.transaction.Transaction.{Transaction}
-use Rattle.qc_front.specs.Answering.{answer_of, resp_of}
-use Rattle.qc_front.specs.Appending.{round_for}
-use Rattle.qc_front.specs.Conduct.{called, commits}
-use Rattle.qc_front.specs.Front.{FrontMove, aborts, begins, gives_up, moved}
-use Rattle.qc_front.specs.Rounds.{answered, append_by, performs, read_by, reads}
+use Rattle.qc_front.specs.Names.{FrontMove, aborts, answer_of, answered, append_by, begins, called, commits, gives_up}
+use Rattle.qc_front.specs.Names.{moved, performs, read_by, reads, resp_of, round_for}
 use Rattle.qc_msg.specs.declared.call.Call.{Call}
 use Rattle.qc_msg.specs.declared.reply.Reply.TheVariants as replies
 use Rattle.qc_msg.specs.declared.reply.AbortCause.TheVariants as causes
 use Rattle.qc_msg.specs.declared.step.Command.{Command}
 use Rattle.qc_msg.specs.declared.step.Command.TheVariants as commands
-use Rattle.qc_msg.specs.Turns.{quiet, telling}
-use Rattle.qc_plan.specs.Round.{RoundState, verdict, wanted}
+use Rattle.qc_msg.specs.Names.{quiet, telling}
+use Rattle.qc_plan.specs.Names.{RoundState, verdict, wanted}
 use Rattle.qc_plan.specs.declared.standing.Verdict.{Verdict}
 use Rattle.qc_plan.specs.declared.standing.Verdict.TheVariants as verdicts
-use Rattle.qc_record.specs.Legal.{IsWithin}
+use Rattle.qc_record.specs.Names.{IsWithin}
 use Rattle.laws_bounds.proofs.Forms.{CommandInForm, EventInForm, InvocationInForm}
 use Rattle.laws_bounds.proofs.TransactionsInForm.{TransactionInForm, absent_form, asked_form, doomed_form}
 use Rattle.laws_bounds.proofs.TransactionsInForm.{event_form, no_lines, weaker}

@@ -7,11 +7,8 @@ use Rattle.qc_front.specs.declared.doing.Doing.{Doing}
 use Rattle.qc_front.specs.declared.doing.Doing.TheVariants.{Idle, Reading, Appending}
 use Rattle.qc_front.specs.declared.front.Front.{Front}
 use Rattle.qc_front.specs.declared.transaction.Transaction.{Transaction}
-use Rattle.qc_front.specs.Answering.{resp_of}
-use Rattle.qc_front.specs.Conduct.{appending_takes, called, reading_takes, takes, takes_in}
-use Rattle.qc_front.specs.Counting.{appended_with, learns, read_with, standing_of}
-use Rattle.qc_front.specs.Front.{FrontMove}
-use Rattle.qc_front.specs.Requests.{AreSent, IsFor, IsSent}
+use Rattle.qc_front.specs.Names.{AreSent, FrontMove, IsFor, IsSent, appended_with, appending_takes, called, learns}
+use Rattle.qc_front.specs.Names.{read_with, reading_takes, resp_of, standing_of, takes, takes_in}
 use Rattle.qc_front.proofs.Sending.{called_sent, takes_sent}
 use Rattle.qc_msg.specs.declared.message.Answer.{Answer}
 use Rattle.qc_msg.specs.declared.message.Answer.TheVariants as answers
@@ -21,8 +18,8 @@ use Rattle.qc_msg.specs.declared.message.Outcome.{Outcome}
 use Rattle.qc_msg.specs.declared.message.Want.{Want}
 use Rattle.qc_msg.specs.declared.step.Command.{Command}
 use Rattle.qc_msg.specs.declared.turn.Posting.{Posting}
-use Rattle.qc_msg.specs.Calls.{site_called, without_call}
-use Rattle.qc_plan.specs.Round.{note, verdict}
+use Rattle.qc_msg.specs.Names.{site_called, without_call}
+use Rattle.qc_plan.specs.Names.{note, verdict}
 use Rattle.laws_bounds.proofs.Forms.{CameInForm, CommandInForm, MessageInForm, OrdinalsInForm}
 use Rattle.laws_bounds.proofs.Forms.{SendsInForm, VerdictInForm, WantInForm}
 use Rattle.laws_bounds.proofs.TransactionsInForm.{TransactionInForm, appended_form}

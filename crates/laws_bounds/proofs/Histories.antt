@@ -3,11 +3,10 @@ use Rattle.std.proofs.Common.{◌≡◌, ℕ, ◌+◌, ◌≤◌, ◌==◌, Bool
 use Rattle.std.proofs.Common.{ap, ◌∙◌, subst, arith, eqb-true, append_assoc, length-append}
 use Rattle.std.proofs.lemmas.List.Sums.{fold-append}
 use Rattle.qc_list.proofs.Members.{every-append, every-weaker}
-use Rattle.qc_core.specs.Actors.{actor_after, actor_does}
-use Rattle.qc_core.specs.Conduct.{IsLawfulWithFalls, with_record}
+use Rattle.qc_core.specs.Names.{IsLawfulWithFalls, actor_after, actor_does, with_record}
 use Rattle.qc_core.proofs.ByTurns.{after_takes, called_turn}
 use Rattle.qc_core.proofs.LivesLaws.{falls as after_falls, rises as after_rises}
-use Rattle.qc_decl.specs.Actors.{controller}
+use Rattle.qc_decl.specs.Names.{controller}
 use Rattle.qc_decl.specs.declared.declaration.Declaration.{Declaration}
 use Rattle.qc_inbox.proofs.FallMail.{ready_sent}
 use Rattle.qc_inbox.proofs.Keeping.{same_mail}
@@ -25,20 +24,19 @@ use Rattle.qc_msg.specs.declared.turn.Appended.{Appended}
 use Rattle.qc_msg.specs.declared.turn.Appended.TheVariants.{Done, Failed, Stopped}
 use Rattle.qc_msg.specs.declared.turn.Posting.{Posting}
 use Rattle.qc_msg.specs.declared.turn.Turn.{Turn}
-use Rattle.qc_msg.specs.Deeds.{Deed, WasSentTo, deeds, deeds_as, envelopes, mail}
-use Rattle.qc_msg.specs.Steps.{Entry, by, marked, posted_as, sends_as, step_of}
+use Rattle.qc_msg.specs.Names.{Deed, Entry, WasSentTo, by, deeds, deeds_as, envelopes, mail, marked, posted_as}
+use Rattle.qc_msg.specs.Names.{sends_as, step_of}
 use Rattle.qc_msg.proofs.GrownMail.{mail-append, mail-taken}
 use Rattle.qc_msg.proofs.Growth.{deeds-other, deeds-posted_as, deeds-taken, mail-posted_as}
-use Rattle.qc_promise.specs.Kept.{Kept}
-use Rattle.qc_script.specs.Ready.{phase_of}
-use Rattle.qc_script.specs.RunsWithFalls.{RunsWithFalls, begins, takes, posts, phase, control, falls, rises, damaged}
-use Rattle.qc_script.specs.RunsWithFalls.{unopened}
+use Rattle.qc_promise.specs.Names.{Kept}
+use Rattle.qc_script.specs.Names.{RunsWithFalls, begins, control, damaged, falls, phase, phase_of, posts, rises, takes}
+use Rattle.qc_script.specs.Names.{unopened}
 use Rattle.qc_script.specs.declared.script.Script.{Script}
-use Rattle.laws_turns.specs.Within.{MailWithin, MessageWithin, SendsWithin}
+use Rattle.laws_turns.specs.Names.{MailWithin, MessageWithin, SendsWithin}
 use Rattle.laws_turns.proofs.Bounding.{given-within}
 use Rattle.laws_turns.proofs.Greater.{mail_le}
-use Rattle.laws_bounds.specs.Records.{AllRisen, records_at}
-use Rattle.laws_bounds.specs.Within.{AreWithin, MoveWithin, PutWithin, RecordWithin, RiseWithin, TurnWithin}
+use Rattle.laws_bounds.specs.Names.{AllRisen, AreWithin, MoveWithin, PutWithin, RecordWithin, RiseWithin, TurnWithin}
+use Rattle.laws_bounds.specs.Names.{records_at}
 use Rattle.laws_bounds.proofs.ActorsWithin.{deeds_post, down_within, move_le, new_within, posts_within, records_le}
 use Rattle.laws_bounds.proofs.ActorsWithin.{takes_within}
 use Rattle.laws_bounds.proofs.Putting.{back_has, input_puts, line_puts, post_puts, puts_both, risen_all}

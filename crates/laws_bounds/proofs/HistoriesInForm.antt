@@ -6,13 +6,11 @@ use Rattle.std.proofs.Common.{arith}
 use Rattle.std.specs.List.{AllByRecursion as Every}
 use Rattle.std.proofs.lemmas.List.Sums.{fold-append}
 use Rattle.qc_list.proofs.Members.{every-append, every-at}
-use Rattle.qc_core.specs.Actors.{actor_after, actor_does}
-use Rattle.qc_core.specs.Conduct.{IsLawfulWithFalls, with_record}
+use Rattle.qc_core.specs.Names.{IsLawfulWithFalls, actor_after, actor_does, with_record}
 use Rattle.qc_core.proofs.ByTurns.{after_takes, called_turn}
 use Rattle.qc_core.proofs.LivesLaws.{falls as after_falls, rises as after_rises}
-use Rattle.qc_decl.specs.Accepted.{IsAccepted}
-use Rattle.qc_decl.specs.Actors.{actors, controller}
-use Rattle.qc_link.specs.Limits.{most_actors}
+use Rattle.qc_decl.specs.Names.{IsAccepted, actors, controller}
+use Rattle.qc_link.specs.Names.{most_actors}
 use Rattle.qc_decl.specs.declared.declaration.Declaration.{Declaration}
 use Rattle.qc_inbox.proofs.FallMail.{ready_sent}
 use Rattle.qc_inbox.proofs.Keeping.{same_mail}
@@ -31,14 +29,12 @@ use Rattle.qc_msg.specs.declared.turn.Appended.{Appended}
 use Rattle.qc_msg.specs.declared.turn.Appended.TheVariants.{Done, Failed, Stopped}
 use Rattle.qc_msg.specs.declared.turn.Posting.{Posting}
 use Rattle.qc_msg.specs.declared.turn.Turn.{Turn}
-use Rattle.qc_msg.specs.Deeds.{Deed, WasSentTo, deeds, deeds_as, envelopes, mail}
-use Rattle.qc_msg.specs.Steps.{Entry, by, marked, posted_as, sends_as, step_of}
+use Rattle.qc_msg.specs.Names.{Deed, Entry, WasSentTo, by, deeds, deeds_as, envelopes, mail, marked, posted_as}
+use Rattle.qc_msg.specs.Names.{sends_as, step_of}
 use Rattle.qc_msg.proofs.GrownMail.{mail-append, mail-taken}
 use Rattle.qc_msg.proofs.Growth.{deeds-other, deeds-posted_as, deeds-taken, mail-posted_as}
-use Rattle.qc_script.specs.Ready.{phase_of, ready}
-use Rattle.qc_script.specs.RunsWithFalls.{RunsWithFalls, begins, takes, posts, phase, control, falls, rises, damaged}
-use Rattle.qc_script.specs.RunsWithFalls.{unopened}
-use Rattle.qc_script.specs.Sound.{IsScriptFor}
+use Rattle.qc_script.specs.Names.{IsScriptFor, RunsWithFalls, begins, control, damaged, falls, phase, phase_of, posts}
+use Rattle.qc_script.specs.Names.{ready, rises, takes, unopened}
 use Rattle.qc_script.specs.declared.script.Script.{Script}
 use Rattle.laws_bounds.proofs.ActorsWithin.{deeds_post}
 use Rattle.laws_bounds.proofs.AskedNamed.{given_named}

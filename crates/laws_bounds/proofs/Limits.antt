@@ -2,10 +2,10 @@
 use Rattle.std.proofs.Common.{◌≡◌, ℕ, ◌<◌, ◌≤◌, Bool, true, false, List, [], ◌∷◌, ◌++◌, length, refl}
 use Rattle.std.proofs.Common.{ap, ◌∙◌, arith}
 use Rattle.std.specs.List.{list_any}
-use Rattle.qc_msg.specs.Steps.{Entry}
+use Rattle.qc_msg.specs.Names.{Entry}
 use Rattle.qc_msg.specs.declared.step.Step.{Step}
 use Rattle.qc_msg.specs.declared.step.Step.TheVariants.{Damaged}
-use Rattle.laws_bounds.specs.Limits.{IsDamagedWithin, before_last}
+use Rattle.laws_bounds.specs.Names.{IsDamagedWithin, before_last}
 
 module _ (begins : Step → Bool) where
   abbrev is_one : Entry → Bool

@@ -7,17 +7,15 @@ use Rattle.std.specs.List.{AllByRecursion as Every, fold}
 use Rattle.std.specs.Option.{option_map_or}
 use Rattle.qc_decl.specs.declared.declaration.Declaration.{Declaration}
 use Rattle.qc_inbox.proofs.Sent.{sends_count}
-use Rattle.qc_link.specs.Cuts.{with_cut, without_cut}
+use Rattle.qc_link.specs.Names.{with_cut, without_cut}
 use Rattle.qc_list.proofs.Members.{every-at}
-use Rattle.qc_msg.specs.Steps.{Entry}
+use Rattle.qc_msg.specs.Names.{Entry}
 use Rattle.qc_msg.specs.declared.step.Control.{Control}
 use Rattle.qc_msg.specs.declared.step.Step.{Step}
 use Rattle.qc_msg.specs.declared.step.Step.TheVariants as steps
-use Rattle.qc_script.specs.Inbox.{Inbox, acting, actor_fell, control_acted, does_nothing, empty_inbox, emptied}
-use Rattle.qc_script.specs.Inbox.{inbox_at, is_by_line, is_up, opened, opened_by, phase_begun}
-use Rattle.qc_script.specs.Ready.{controls_left}
-use Rattle.qc_script.specs.Requests.{requests_to, requests_to_others, with_lost}
-use Rattle.qc_script.specs.Sound.{IsControlFor, IsPhaseFor, IsScriptFor}
+use Rattle.qc_script.specs.Names.{Inbox, IsControlFor, IsPhaseFor, IsScriptFor, acting, actor_fell, control_acted}
+use Rattle.qc_script.specs.Names.{controls_left, does_nothing, emptied, empty_inbox, inbox_at, is_by_line, is_up}
+use Rattle.qc_script.specs.Names.{opened, opened_by, phase_begun, requests_to, requests_to_others, with_lost}
 use Rattle.qc_script.specs.declared.script.PhaseLines.{PhaseLines}
 use Rattle.qc_script.specs.declared.script.Script.{Script}
 

@@ -3,14 +3,12 @@ use Rattle.std.proofs.Common.{◌≡◌, ℕ, List, [], ◌∷◌, ◌++◌, fol
 use Rattle.std.proofs.Common.{append-nil}
 use Rattle.std.proofs.lemmas.List.Sums.{fold-append}
 use Rattle.qc_decl.specs.declared.declaration.Declaration.{Declaration}
-use Rattle.qc_msg.specs.Deeds.{own}
-use Rattle.qc_msg.specs.Steps.{Entry, by}
+use Rattle.qc_msg.specs.Names.{Entry, by, own}
 use Rattle.qc_msg.specs.declared.step.Step.{Step}
 use Rattle.qc_msg.specs.declared.step.Step.TheVariants as steps
 use Rattle.qc_msg.proofs.Growth.{own-append, own-more}
-use Rattle.qc_promise.specs.Kept.{IsKeptAt, Journal, journal_of, journal_with, no_journal}
-use Rattle.qc_promise.specs.Stores.{AreKept, IsOfOthers}
-use Rattle.laws_bounds.specs.Misfits.{AreKeptOrMisfits, IsKeptOrMisfit, NextAreKeptOrMisfits}
+use Rattle.qc_promise.specs.Names.{AreKept, IsKeptAt, IsOfOthers, Journal, journal_of, journal_with, no_journal}
+use Rattle.laws_bounds.specs.Names.{AreKeptOrMisfits, IsKeptOrMisfit, NextAreKeptOrMisfits}
 use Rattle.laws_bounds.proofs.Cuts.{CutIn, cut_in, in_first, in_second, none_cut}
 
 pub no_misfits : (decl : Declaration) (a : ℕ) → AreKeptOrMisfits decl a []

@@ -2,7 +2,7 @@
 use Rattle.std.proofs.Common.{◌≡◌, ℕ, Bool, List, [], ◌∷◌, ◌++◌, length, Some, sym, ◌∙◌, ap}
 use Rattle.std.proofs.Common.{subst, append-nil}
 use Rattle.std.specs.List.{AllByRecursion as Every}
-use Rattle.qc_decl.specs.Actors.{controller}
+use Rattle.qc_decl.specs.Names.{controller}
 use Rattle.qc_decl.specs.declared.declaration.Declaration.{Declaration}
 use Rattle.qc_msg.specs.declared.record.Record.{Record}
 use Rattle.qc_msg.specs.declared.step.Control.{Control}
@@ -10,11 +10,9 @@ use Rattle.qc_msg.specs.declared.step.Control.TheVariants as controls
 use Rattle.qc_msg.specs.declared.step.Step.{Step}
 use Rattle.qc_msg.specs.declared.step.Step.TheVariants as steps
 use Rattle.qc_msg.specs.declared.turn.Turn.{Turn}
-use Rattle.qc_msg.specs.Deeds.{Deed, mail}
-use Rattle.qc_msg.specs.Steps.{Entry, by, marked, posted_as, step_of}
-use Rattle.qc_script.specs.Ready.{controller_step}
-use Rattle.qc_script.specs.RunsWithFalls.{RunWithFalls, RunsWithFalls, begins, takes, posts, phase, control, falls}
-use Rattle.qc_script.specs.RunsWithFalls.{rises, damaged, unopened}
+use Rattle.qc_msg.specs.Names.{Deed, Entry, by, mail, marked, posted_as, step_of}
+use Rattle.qc_script.specs.Names.{RunWithFalls, RunsWithFalls, begins, control, controller_step, damaged, falls, phase}
+use Rattle.qc_script.specs.Names.{posts, rises, takes, unopened}
 use Rattle.qc_script.specs.declared.script.Script.{Script}
 use Rattle.laws_bounds.proofs.Cuts.{CutIn, cut_in, every_at_cut, in_first, in_second, none_cut, the_one}
 use Rattle.laws_bounds.proofs.Posts.{IsActing, every_by, input_acting, posts_acting}

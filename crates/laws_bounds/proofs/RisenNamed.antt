@@ -5,19 +5,18 @@ use Rattle.std.specs.List.{AllByRecursion as Every}
 use Rattle.std.specs.Option.{option_map_or}
 use Rattle.qc_list.proofs.Members.{every-append, every-filter}
 use Rattle.qc_decl.specs.declared.declaration.Declaration.{Declaration}
-use Rattle.qc_entry.specs.Log.{has_line, without}
+use Rattle.qc_entry.specs.Names.{has_line, without}
 use Rattle.qc_entry.specs.declared.line.Line.{Line}
 use Rattle.qc_entry.specs.declared.record.Prepared.{Prepared}
 use Rattle.qc_entry.proofs.Union.{every-union}
-use Rattle.qc_fit.specs.Said.{HasPlan}
+use Rattle.qc_fit.specs.Names.{HasPlan}
 use Rattle.qc_msg.specs.declared.record.Record.{Record}
 use Rattle.qc_msg.specs.declared.record.Record.TheVariants as records
-use Rattle.qc_msg.specs.Begun.{first_epoch}
-use Rattle.qc_recover.specs.Clients.{client_of}
-use Rattle.qc_recover.specs.Sites.{Kept, done_lines, done_stamp, inquiry, keeps, kept_by, nothing_kept, site_of}
-use Rattle.qc_recover.specs.Sites.{with_promise}
-use Rattle.qc_site.specs.Promise.{lines_of, prepared_of, without_prepared}
-use Rattle.qc_stamp.specs.Order.{same_tx}
+use Rattle.qc_msg.specs.Names.{first_epoch}
+use Rattle.qc_recover.specs.Names.{Kept, client_of, done_lines, done_stamp, inquiry, keeps, kept_by, nothing_kept}
+use Rattle.qc_recover.specs.Names.{site_of, with_promise}
+use Rattle.qc_site.specs.Names.{lines_of, prepared_of, without_prepared}
+use Rattle.qc_stamp.specs.Names.{same_tx}
 use Rattle.qc_stamp.specs.declared.stamp.TxId.{TxId}
 use Rattle.laws_bounds.proofs.ClientsNamed.{ClientNamed}
 use Rattle.laws_bounds.proofs.Names.{AreNamed, LineNamed, LinesNamed, PromiseNamed, RecordNamed, SendsNamed}

@@ -4,7 +4,7 @@ use Rattle.std.proofs.Common.{ap, ◌∙◌, subst, arith}
 use Rattle.std.specs.Prelude.{slice_get}
 use Rattle.std.specs.List.{AllByRecursion as Every}
 use Rattle.qc_list.proofs.Members.{every-append, every-weaker}
-use Rattle.qc_decl.specs.Actors.{actors, administrator, controller}
+use Rattle.qc_decl.specs.Names.{actors, administrator, controller}
 use Rattle.qc_decl.specs.declared.declaration.Declaration.{Declaration}
 use Rattle.laws_turns.proofs.Places.{length-replicate, length-slice_set}
 use Rattle.qc_msg.specs.declared.record.Record.{Record}
@@ -13,16 +13,13 @@ use Rattle.qc_msg.specs.declared.step.Control.TheVariants as controls
 use Rattle.qc_msg.specs.declared.step.Step.{Step}
 use Rattle.qc_msg.specs.declared.step.Step.TheVariants as steps
 use Rattle.qc_msg.specs.declared.turn.Turn.{Turn}
-use Rattle.qc_msg.specs.Deeds.{Deed, mail}
-use Rattle.qc_msg.specs.Steps.{Entry, by, marked, posted_as, step_of}
-use Rattle.qc_promise.specs.DiskAccount.{AreFallsBelow, IsFallBelow}
-use Rattle.qc_script.specs.Ready.{controller_step, controls_left}
-use Rattle.qc_script.specs.RunsWithFalls.{RunsWithFalls, begins, takes, posts, phase, control, falls, rises, damaged}
-use Rattle.qc_script.specs.RunsWithFalls.{unopened}
-use Rattle.qc_script.specs.Sound.{IsControlFor, IsPhaseFor, IsScriptFor}
+use Rattle.qc_msg.specs.Names.{Deed, Entry, by, mail, marked, posted_as, step_of}
+use Rattle.qc_promise.specs.Names.{AreFallsBelow, IsFallBelow}
+use Rattle.qc_script.specs.Names.{IsControlFor, IsPhaseFor, IsScriptFor, RunsWithFalls, begins, control}
+use Rattle.qc_script.specs.Names.{controller_step, controls_left, damaged, falls, phase, posts, rises, takes, unopened}
 use Rattle.qc_script.specs.declared.script.PhaseLines.{PhaseLines}
 use Rattle.qc_script.specs.declared.script.Script.{Script}
-use Rattle.laws_bounds.specs.Faults.{AreControlsBelow, AreFaultsBelow, IsControlBelow, IsFaultBelow}
+use Rattle.laws_bounds.specs.Names.{AreControlsBelow, AreFaultsBelow, IsControlBelow, IsFaultBelow}
 use Rattle.laws_bounds.proofs.SettledLines.{next_line}
 use Rattle.laws_bounds.proofs.Posts.{IsActing, every_by, input_acting, posts_acting}
 

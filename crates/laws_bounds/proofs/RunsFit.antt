@@ -4,24 +4,21 @@ use Rattle.std.proofs.Common.{◌≡◌, ℕ, ◌+◌, ◌<◌, ◌≤◌, Bool,
 use Rattle.std.proofs.Common.{slice_get}
 use Rattle.std.proofs.Common.{refl, sym, ap, ◌∙◌, subst, arith}
 use Rattle.std.specs.List.{AllByRecursion as Every}
-use Rattle.qc_list.specs.Members.{In}
+use Rattle.qc_list.specs.Names.{In}
 use Rattle.qc_list.proofs.Members.{every-In, every-append}
-use Rattle.qc_admin.specs.Fits.{MessageFits}
+use Rattle.qc_admin.specs.Names.{MessageFits}
 use Rattle.qc_core.specs.declared.actor.Actor.{Actor}
 use Rattle.qc_core.specs.declared.actor.Actor.TheVariants as actors_of
-use Rattle.qc_core.specs.Actors.{ActorMove, actor_after, actor_takes}
-use Rattle.qc_core.specs.Acts.{is_running}
-use Rattle.qc_core.specs.Conduct.{IsLawfulWithFalls, with_record}
+use Rattle.qc_core.specs.Names.{ActorMove, IsLawfulWithFalls, actor_after, actor_takes, is_running, with_record}
 use Rattle.qc_core.proofs.Answers.{answers_rising}
 use Rattle.qc_core.proofs.ByTurns.{after_takes, called_turn}
-use Rattle.qc_decl.specs.Accepted.{IsAccepted}
-use Rattle.qc_decl.specs.Actors.{actors, controller}
+use Rattle.qc_decl.specs.Names.{IsAccepted, actors, controller}
 use Rattle.qc_decl.specs.declared.declaration.Declaration.{Declaration}
 use Rattle.qc_inbox.proofs.Keeping.{same_mail}
-use Rattle.laws_turns.specs.LivesIn.{LivesIn}
+use Rattle.laws_turns.specs.Names.{LivesIn}
 use Rattle.laws_turns.proofs.Lived.{deeds-rise, line_silent, run_lives}
 use Rattle.laws_turns.proofs.Numbered.{mail-silent}
-use Rattle.qc_link.specs.Limits.{most_actors}
+use Rattle.qc_link.specs.Names.{most_actors}
 use Rattle.qc_msg.specs.declared.message.Envelope.{Envelope}
 use Rattle.qc_msg.specs.declared.record.Record.{Record}
 use Rattle.qc_msg.specs.declared.step.Fall.TheVariants as causes
@@ -32,17 +29,13 @@ use Rattle.qc_msg.specs.declared.turn.Appended.{Appended}
 use Rattle.qc_msg.specs.declared.turn.Appended.TheVariants.{Done, Failed, Stopped}
 use Rattle.qc_msg.specs.declared.turn.Posting.{Posting}
 use Rattle.qc_msg.specs.declared.turn.Turn.{Turn}
-use Rattle.qc_msg.specs.Deeds.{Deed, Rises, deeds, envelope_of, envelopes, mail}
-use Rattle.qc_msg.specs.Steps.{Entry, by, marked, posted_as, sends_as}
+use Rattle.qc_msg.specs.Names.{Deed, Entry, Rises, by, deeds, envelope_of, envelopes, mail, marked, posted_as, sends_as}
 use Rattle.qc_msg.proofs.GrownMail.{mail-append, mail-taken}
 use Rattle.qc_msg.proofs.Growth.{mail-posted_as}
-use Rattle.qc_script.specs.Ready.{phase_of}
-use Rattle.qc_script.specs.RunsWithFalls.{RunsWithFalls, begins, takes, posts, phase, control, falls, rises, damaged}
-use Rattle.qc_script.specs.RunsWithFalls.{unopened}
+use Rattle.qc_script.specs.Names.{RunsWithFalls, begins, control, damaged, falls, phase, phase_of, posts, rises, takes}
+use Rattle.qc_script.specs.Names.{unopened}
 use Rattle.qc_script.specs.declared.script.Script.{Script}
-use Rattle.laws_bounds.specs.Calls.{IsSound}
-use Rattle.laws_bounds.specs.Fitting.{AllFit, AllRiseFit}
-use Rattle.laws_bounds.specs.Records.{risen_at}
+use Rattle.laws_bounds.specs.Names.{AllFit, AllRiseFit, IsSound, risen_at}
 use Rattle.laws_bounds.proofs.FitBounds.{rise_clients}
 use Rattle.laws_bounds.proofs.MailFits.{SendsFit, TurnFits, admin_fits, client_fits, site_fits, unanswering_fit}
 use Rattle.laws_bounds.proofs.Senders.{AreFrom, AreSound, IsSoundMessage, deeds_sound, run_from}

@@ -12,15 +12,13 @@ use Rattle.qc_entry.specs.declared.line.Line.{Line}
 use Rattle.qc_entry.specs.declared.line.Op.{Op}
 use Rattle.qc_entry.proofs.Union.{ascending-union, every-union}
 use Rattle.qc_front.specs.declared.transaction.Transaction.{Transaction}
-use Rattle.qc_front.specs.Answering.{next_own, op_of, view_log, with_event, with_op, with_view}
-use Rattle.qc_front.specs.Appending.{own_appended, weighs}
-use Rattle.qc_front.specs.Counting.{appended_with, lived, read_with}
-use Rattle.qc_front.specs.Rounds.{doomed, with_asked}
+use Rattle.qc_front.specs.Names.{appended_with, doomed, lived, next_own, op_of, own_appended, read_with, view_log}
+use Rattle.qc_front.specs.Names.{weighs, with_asked, with_event, with_op, with_view}
 use Rattle.qc_msg.specs.declared.begun.Begun.{Begun}
 use Rattle.qc_msg.specs.declared.message.Answer.{Answer}
 use Rattle.qc_msg.specs.declared.message.Answer.TheVariants as answers
-use Rattle.qc_record.specs.Legal.{IsOp, IsOwn}
-use Rattle.qc_view.specs.View.{empty_view, with_log, with_own}
+use Rattle.qc_record.specs.Names.{IsOp, IsOwn}
+use Rattle.qc_view.specs.Names.{empty_view, with_log, with_own}
 use Rattle.qc_view.specs.declared.view.View.{View}
 use Rattle.laws_bounds.proofs.Forms.{CameInForm, EventInForm, InvocationInForm, LineInForm, LinesInForm, OrdinalsInForm}
 

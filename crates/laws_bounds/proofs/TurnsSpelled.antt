@@ -2,24 +2,19 @@
 use Rattle.std.proofs.Common.{◌≡◌, ℕ, ◌+◌, ◌^◌, ◌<◌, ◌≤◌, true, Bool, List, [], length, Option, Some, subst, arith}
 use Rattle.std.specs.Prelude.{option_to_list}
 use Rattle.std.specs.List.{AllByRecursion as Every}
-use Rattle.qc_core.specs.Conduct.{IsLawfulWithFalls, with_record}
+use Rattle.qc_core.specs.Names.{IsLawfulWithFalls, with_record}
 use Rattle.qc_core.proofs.ByTurns.{called_turn}
-use Rattle.qc_decl.specs.Accepted.{IsAccepted}
-use Rattle.qc_decl.specs.Limits.{most_record_bytes}
+use Rattle.qc_decl.specs.Names.{IsAccepted, most_record_bytes}
 use Rattle.qc_decl.specs.declared.declaration.Declaration.{Declaration}
-use Rattle.qc_fit.specs.Numbers.{greatest_clock}
+use Rattle.qc_fit.specs.Names.{greatest_clock}
 use Rattle.qc_msg.specs.declared.record.Record.{Record}
 use Rattle.qc_msg.specs.declared.turn.Turn.{Turn}
-use Rattle.qc_msg.specs.Deeds.{deeds}
-use Rattle.qc_msg.specs.Steps.{Entry}
-use Rattle.qc_record.specs.Records.{is_legal, spelled}
+use Rattle.qc_msg.specs.Names.{Entry, deeds}
+use Rattle.qc_record.specs.Names.{is_legal, spelled}
 use Rattle.qc_record.proofs.InForm.{legal_is}
-use Rattle.qc_script.specs.RunsWithFalls.{RunsWithFalls}
-use Rattle.qc_script.specs.Sound.{IsScriptFor}
+use Rattle.qc_script.specs.Names.{IsScriptFor, RunsWithFalls}
 use Rattle.qc_script.specs.declared.script.Script.{Script}
-use Rattle.laws_bounds.specs.Bounds.{IsBoundedWithFalls}
-use Rattle.laws_bounds.specs.Fitting.{AllFit}
-use Rattle.laws_bounds.specs.Within.{AreWithin, TurnWithin}
+use Rattle.laws_bounds.specs.Names.{AllFit, AreWithin, IsBoundedWithFalls, TurnWithin}
 use Rattle.laws_bounds.proofs.ActorsWithin.{records_le}
 use Rattle.laws_bounds.proofs.FitBounds.{fit_few, rise_within}
 use Rattle.laws_bounds.proofs.Needs.{run_bounded}

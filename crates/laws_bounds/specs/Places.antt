@@ -1,14 +1,12 @@
 -- What the places of a rack hold once disks came back: the journals of their actors.
 use Rattle.std.specs.Prelude.{◌≡◌, ℕ, ◌<◌, Bool, true, List, map, Option, Some, None, IfSome, IsSome, option_map}
-use Rattle.qc_decl.specs.Actors.{controller}
+use Rattle.qc_decl.specs.Names.{controller}
 use Rattle.qc_decl.specs.declared.declaration.Declaration.{Declaration}
-use Rattle.qc_msg.specs.Deeds.{own}
-use Rattle.qc_msg.specs.Steps.{Entry}
-use Rattle.qc_outside.specs.Images.{Told}
-use Rattle.qc_outside.specs.Places.{Place, Places}
-use Rattle.qc_promise.specs.Kept.{Journal, journal_of}
-use Rattle.qc_record.specs.Records.{spelled}
-use Rattle.qc_store.specs.Contents.{DiskHolds, HoldsBodies}
+use Rattle.qc_msg.specs.Names.{Entry, own}
+use Rattle.qc_outside.specs.Names.{Place, Places, Told}
+use Rattle.qc_promise.specs.Names.{Journal, journal_of}
+use Rattle.qc_record.specs.Names.{spelled}
+use Rattle.qc_store.specs.Names.{DiskHolds, HoldsBodies}
 
 -- the place of an actor in a folder, or without one
 abbrev pub place_of : Option (List ℕ) → ℕ → Place

@@ -5,15 +5,14 @@ use Rattle.std.proofs.Common.{map, Option, Some, None, refl, sym, ap, subst}
 use Rattle.std.specs.Prelude.{is_none}
 use Rattle.std.specs.List.{cons_option}
 use Rattle.std.proofs.lemmas.List.{map-append}
-use Rattle.qc_list.specs.Members.{In}
+use Rattle.qc_list.specs.Names.{In}
 use Rattle.qc_list.proofs.Members.{In-more}
 use Rattle.qc_decl.specs.declared.declaration.Declaration.{Declaration}
-use Rattle.qc_decl.specs.Limits.{most_record_bytes}
+use Rattle.qc_decl.specs.Names.{most_record_bytes, plan_in}
 use Rattle.qc_plan.specs.declared.standing.Verdict.{Verdict}
 use Rattle.qc_plan.specs.declared.standing.Verdict.TheVariants as verdicts
-use Rattle.qc_plan.specs.Round.{RoundState, note, verdict, wanted}
+use Rattle.qc_plan.specs.Names.{RoundState, note, verdict, wanted}
 use Rattle.qc_plan.specs.declared.plan.Plan.{Plan}
-use Rattle.qc_decl.specs.Lookup.{plan_in}
 use Rattle.qc_msg.specs.declared.call.Call.{Call}
 use Rattle.qc_msg.specs.declared.message.Answer.{Answer}
 use Rattle.qc_msg.specs.declared.message.Outcome.{Outcome}
@@ -23,19 +22,16 @@ use Rattle.qc_msg.specs.declared.step.Command.{Command}
 use Rattle.qc_msg.specs.declared.step.Command.TheVariants as commands
 use Rattle.qc_msg.specs.declared.step.Input.{Input}
 use Rattle.qc_msg.specs.declared.step.Input.TheVariants as inputs
-use Rattle.qc_msg.specs.Calls.{site_called, with_call, without_call}
-use Rattle.qc_msg.specs.Lengths.{epoch_length}
-use Rattle.qc_epoch.specs.Admin.{Admin, AdminMove, Decided, Doing, Resting, Closing, Asking, Installing, Question}
-use Rattle.qc_epoch.specs.Admin.{ShutSite, moved}
-use Rattle.qc_epoch.specs.Answers.{outcome_in, standing_of, taken_for, with_installed, with_shut_of}
+use Rattle.qc_msg.specs.Names.{epoch_length, quiet, sending, site_called, with_call, without_call}
+use Rattle.qc_epoch.specs.Names.{Admin, AdminMove, Asking, Closing, Decided, Doing, Installing, Question, Resting}
+use Rattle.qc_epoch.specs.Names.{ShutSite, all_taken, decision, doing, first_doubt, in_asked_order, most_asks, moved}
+use Rattle.qc_epoch.specs.Names.{numbered_first, outcome_in, questions_of, requested, sent_one, standing_of, taken_for}
+use Rattle.qc_epoch.specs.Names.{with_installed, with_shut_of}
 use Rattle.qc_epoch.specs.Conduct as conduct
-use Rattle.qc_epoch.specs.Conduct.{doing, numbered_first, requested, sent_one}
-use Rattle.qc_epoch.specs.Deciding.{all_taken, decision, first_doubt, in_asked_order, most_asks, questions_of}
-use Rattle.qc_script.specs.Inbox.{is_request}
+use Rattle.qc_script.specs.Names.{is_request}
 use Rattle.laws_turns.proofs.Fewer.{IsNotFor}
-use Rattle.laws_turns.specs.Calls.{IsAnswerTo}
+use Rattle.laws_turns.specs.Names.{IsAnswerTo}
 use Rattle.qc_msg.specs.declared.reply.Reply.TheVariants as replies
-use Rattle.qc_msg.specs.Turns.{quiet, sending}
 use Rattle.std.specs.Prelude.{take}
 use Rattle.laws_due.proofs.AdminNumbers.{DoingPlain, IsFresh, all_unnumbered, called_spares, fresh_among, fresh_spares}
 use Rattle.laws_due.proofs.AdminNumbers.{none_numbered, number_if, numbers_in, open_in, open_numbers, spares_then}

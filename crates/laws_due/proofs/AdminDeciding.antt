@@ -5,27 +5,22 @@ use Rattle.std.specs.Prelude.{is_some}
 use Rattle.std.specs.List.{filter_map, range_with_len}
 use Rattle.std.specs.Option.{option_or}
 use Rattle.std.proofs.lemmas.List.{append-nil, length-map}
-use Rattle.qc_decl.specs.Limits.{most_record_bytes}
+use Rattle.qc_decl.specs.Names.{most_record_bytes}
 use Rattle.qc_decl.specs.declared.declaration.Declaration.{Declaration}
 use Rattle.qc_plan.specs.declared.standing.Verdict.TheVariants as verdicts
-use Rattle.qc_plan.specs.Round.{verdict}
+use Rattle.qc_plan.specs.Names.{verdict}
 use Rattle.qc_msg.specs.declared.reply.Reply.TheVariants as replies
-use Rattle.qc_msg.specs.Deeds.{Deed, sends_of}
-use Rattle.qc_msg.specs.Lengths.{epoch_length}
-use Rattle.qc_msg.specs.Readings.{Installing as Started}
-use Rattle.qc_promise.specs.AdminAccount.{AdminAccount, AdminRequest, asks, closes, installs}
-use Rattle.qc_promise.specs.AdminAccounting.{admin_account_at, decided_now}
-use Rattle.qc_promise.specs.AdminDue.{AreAdminDeedsDue, decide_record}
-use Rattle.qc_promise.specs.AdminRounds.{Promised, ToldShut, all_answered, close_round, decision_due, first_doubt}
-use Rattle.qc_promise.specs.AdminRounds.{promised_once, shuts_told, told_shut}
-use Rattle.qc_promise.specs.AdminRows.{admin_due, close_row, closed_sites, decide_due, decided_met, decided_of}
-use Rattle.qc_promise.specs.AdminRows.{decided_row, doubt_row, fits_record, site_set}
-use Rattle.qc_epoch.specs.Admin.{Admin, Decided, Installing, Question, ShutSite}
-use Rattle.qc_epoch.specs.Conduct.{decide_turn, decides, install_of, install_sends, installing, replies_with, settles}
-use Rattle.qc_epoch.specs.Conduct.{settles_by}
+use Rattle.qc_msg.specs.Names.{Deed, Installing as Started, epoch_length, sends_of}
+use Rattle.qc_promise.specs.Names.{AdminAccount, AdminRequest, AreAdminDeedsDue, Promised, ToldShut, admin_account_at}
+use Rattle.qc_promise.specs.Names.{admin_due, all_answered, asks, close_round, close_row, closed_sites, closes}
+use Rattle.qc_promise.specs.Names.{decide_due, decide_record, decided_met, decided_now, decided_of, decided_row}
+use Rattle.qc_promise.specs.Names.{decision_due, doubt_row, first_doubt, installs, promised_once, shuts_told, site_set}
+use Rattle.qc_promise.specs.Names.{told_shut}
+use Rattle.qc_promise.specs.AdminRows.{fits_record}
+use Rattle.qc_epoch.specs.Names.{Admin, Decided, Installing, Question, ShutSite, decide_turn, decides, decision}
+use Rattle.qc_epoch.specs.Names.{install_of, install_sends, installing, replies_with, settles, settles_by}
 use Rattle.qc_epoch.specs.Deciding as deciding
-use Rattle.qc_epoch.specs.Deciding.{decision}
-use Rattle.qc_admin.specs.Sent.{sent_each}
+use Rattle.qc_admin.specs.Names.{sent_each}
 use Rattle.laws_due.proofs.AdminRequests.{all_taken, open_calls}
 use Rattle.laws_due.proofs.AdminShuts.{shuts_of, to_shut}
 use Rattle.laws_due.proofs.AdminDecisions.{SameDoubt, decision_is, doubt_is, started}

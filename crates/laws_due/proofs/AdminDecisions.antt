@@ -11,18 +11,17 @@ use Rattle.qc_stamp.specs.declared.stamp.Stamp.{Stamp}
 use Rattle.qc_stamp.specs.declared.stamp.TxId.{TxId}
 use Rattle.qc_entry.specs.declared.line.Line.{Line}
 use Rattle.qc_entry.specs.declared.record.Prepared.{Prepared}
-use Rattle.qc_entry.specs.Log.{union}
+use Rattle.qc_entry.specs.Names.{union}
 use Rattle.qc_msg.specs.declared.message.Outcome.{Outcome}
 use Rattle.qc_msg.specs.declared.message.Outcome.TheVariants.{Committed, Aborted, Active}
-use Rattle.qc_msg.specs.Readings.{Installing}
-use Rattle.qc_promise.specs.AdminAccount.{AdminAccount, AdminRequest, decided_epoch}
-use Rattle.qc_promise.specs.AdminRounds.{Promised, ToldShut, all_answered, ask_of, decision_due, first_doubt, is_final}
-use Rattle.qc_promise.specs.AdminRounds.{most_questions, promised_once, shuts_told, verdict_of, with_told}
+use Rattle.qc_msg.specs.Names.{Installing}
+use Rattle.qc_promise.specs.Names.{AdminAccount, AdminRequest, Promised, ToldShut, all_answered, ask_of, decided_epoch}
+use Rattle.qc_promise.specs.Names.{decision_due, first_doubt, lines_of, most_questions, promised_once, shuts_told}
+use Rattle.qc_promise.specs.Names.{verdict_of, with_told}
+use Rattle.qc_promise.specs.AdminRounds.{is_final}
 use Rattle.qc_promise.specs.AdminRounds as account
-use Rattle.qc_promise.specs.SiteLogs.{lines_of}
-use Rattle.qc_epoch.specs.Admin.{Decided, Question, ShutSite}
-use Rattle.qc_epoch.specs.Deciding.{all_taken, clock_in, decision, greatest, is_settled, most_asks, promised_lines}
-use Rattle.qc_epoch.specs.Deciding.{stamp_in, stamp_of, with_promised, with_shut}
+use Rattle.qc_epoch.specs.Names.{Decided, Question, ShutSite, all_taken, clock_in, decision, greatest, is_settled}
+use Rattle.qc_epoch.specs.Names.{most_asks, promised_lines, stamp_in, stamp_of, with_promised, with_shut}
 use Rattle.qc_epoch.specs.Deciding as deciding
 use Rattle.laws_due.proofs.AdminShuts.{to_shut}
 use Rattle.laws_due.proofs.AdminAgreements.{Agree, is_taken}

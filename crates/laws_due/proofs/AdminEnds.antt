@@ -4,32 +4,25 @@ use Rattle.std.proofs.Common.{◌≡◌, ◌⊎◌, ℕ, zero, suc, ◌+◌, ◌
 use Rattle.std.specs.Prelude.{fold, option_and_then, slice_get}
 use Rattle.std.specs.List.{AllByRecursion as Every, filter_map}
 use Rattle.std.proofs.lemmas.Bool.{eqb-true}
-use Rattle.qc_list.specs.Members.{In}
+use Rattle.qc_list.specs.Names.{In}
 use Rattle.qc_core.specs.declared.actor.Actor.{Actor}
 use Rattle.qc_core.specs.declared.actor.Actor.TheVariants as actors
-use Rattle.qc_core.specs.Actors.{ActorMove, actor_after, actor_takes}
-use Rattle.qc_core.specs.Acts.{is_running}
-use Rattle.qc_core.specs.Conduct.{IsLawfulWithFalls, with_record}
+use Rattle.qc_core.specs.Names.{ActorMove, IsLawfulWithFalls, actor_after, actor_takes, is_running, with_record}
 use Rattle.qc_core.proofs.AdminWrites.{FaultsAlone, admin_written}
 use Rattle.qc_core.proofs.ByNumber.{admin_no_client, admin_no_site, admin_risen}
 use Rattle.qc_core.proofs.ByTurns.{called_turn}
-use Rattle.qc_decl.specs.Accepted.{IsAccepted}
-use Rattle.qc_decl.specs.Actors.{administrator, controller}
+use Rattle.qc_decl.specs.Names.{IsAccepted, administrator, controller}
 use Rattle.qc_decl.specs.Actors as numbers
 use Rattle.qc_decl.specs.declared.declaration.Declaration.{Declaration}
-use Rattle.qc_epoch.specs.Admin.{Admin}
-use Rattle.laws_turns.specs.Asked.{AsksDeclared}
-use Rattle.laws_turns.specs.Calls.{IsAwaited}
-use Rattle.laws_turns.specs.LivesIn.{LivesIn}
-use Rattle.laws_turns.specs.Waits.{IsAtReceiver, IsTaken}
-use Rattle.laws_turns.specs.Whole.{IsQuiet, asked_in_all, call_in, calls_of}
+use Rattle.qc_epoch.specs.Names.{Admin}
+use Rattle.laws_turns.specs.Names.{AsksDeclared, IsAtReceiver, IsAwaited, IsQuiet, IsTaken, LivesIn, asked_in_all}
+use Rattle.laws_turns.specs.Names.{call_in, calls_of}
 use Rattle.laws_turns.proofs.Lived.{run_lives}
 use Rattle.laws_turns.proofs.Mailed.{both_all}
 use Rattle.laws_turns.proofs.Proper.{front_part}
-use Rattle.qc_link.specs.Limits.{most_actors}
-use Rattle.qc_msg.specs.Deeds.{Deed, Falls, Rises, Sends, Takes, Tells, Writes, deeds, deeds_as, mail, sends_of, tells_of, writes_of}
-use Rattle.qc_msg.specs.InputReadings.{epoch_in}
-use Rattle.qc_msg.specs.Steps.{Entry, MayEnd, by, posted_as}
+use Rattle.qc_link.specs.Names.{most_actors}
+use Rattle.qc_msg.specs.Names.{Deed, Entry, Falls, MayEnd, Rises, Sends, Takes, Tells, Writes, by, deeds, deeds_as}
+use Rattle.qc_msg.specs.Names.{epoch_in, mail, posted_as, sends_of, tells_of, writes_of}
 use Rattle.qc_msg.specs.declared.record.Record.{Record}
 use Rattle.qc_msg.specs.declared.reply.Reply.{Reply}
 use Rattle.qc_msg.specs.declared.step.Command.{Command}
@@ -43,19 +36,13 @@ use Rattle.qc_msg.specs.declared.turn.Appended.TheVariants.{Done, Failed, Stoppe
 use Rattle.qc_msg.specs.declared.turn.Posting.{Posting}
 use Rattle.qc_msg.specs.declared.turn.Turn.{Turn}
 use Rattle.qc_msg.proofs.Growth.{deeds-posted_as}
-use Rattle.qc_promise.specs.AdminAccount.{AdminAccount, new_admin_account}
-use Rattle.qc_promise.specs.AdminAccounting.{admin_account_at}
-use Rattle.qc_promise.specs.AdminDue.{AreAdminDeedsDue, IsAdminDue}
-use Rattle.qc_promise.specs.AdminRows.{admin_row}
-use Rattle.qc_promise.specs.Posts.{pending_next}
-use Rattle.qc_script.specs.Inbox.{commands_for, inbox}
-use Rattle.qc_script.specs.Ready.{controls_left, phase_of}
-use Rattle.qc_script.specs.RunsWithFalls.{RunsWithFalls}
+use Rattle.qc_promise.specs.Names.{AdminAccount, AreAdminDeedsDue, IsAdminDue, admin_account_at, admin_row}
+use Rattle.qc_promise.specs.Names.{new_admin_account, pending_next}
+use Rattle.qc_script.specs.Names.{RunsWithFalls, commands_for, controls_left, inbox, phase_of}
 use Rattle.qc_script.specs.declared.script.CommandLine.{CommandLine}
 use Rattle.qc_script.specs.declared.script.PhaseLines.{PhaseLines}
 use Rattle.qc_script.specs.declared.script.Script.{Script}
-use Rattle.laws_due.specs.Known.{AsksEpochs, AsksKnown, IsEpoch}
-use Rattle.laws_due.specs.Order.{AreInOrder}
+use Rattle.laws_due.specs.Names.{AreInOrder, AsksEpochs, AsksKnown, IsEpoch}
 use Rattle.laws_due.proofs.AdminNumbers.{open_numbers}
 use Rattle.laws_due.proofs.AdminLives.{IsAtInput, admin_lives}
 use Rattle.laws_due.proofs.AdminOpen.{none_commanded}

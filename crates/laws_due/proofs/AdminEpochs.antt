@@ -2,20 +2,17 @@
 use Rattle.std.proofs.Common.{ℕ, ◌+◌, ◌==◌, nat_le, Bool, true, false, cond, List, [], ◌∷◌, length, map, take, Option}
 use Rattle.std.proofs.Common.{Some, None}
 use Rattle.std.specs.List.{AllByRecursion as Every}
-use Rattle.qc_decl.specs.Limits.{most_record_bytes}
+use Rattle.qc_decl.specs.Names.{most_record_bytes}
 use Rattle.qc_decl.specs.declared.declaration.Declaration.{Declaration}
 use Rattle.laws_due.proofs.Epochs.{TellPlanned, TurnPlanned, says_nothing}
-use Rattle.laws_due.specs.Declares.{IsPlanned}
-use Rattle.laws_due.specs.Planned.{IsRecordPlanned}
-use Rattle.qc_epoch.specs.Admin.{Admin, AdminMove, Decided, Doing, Question, ShutSite, Resting, Closing, Asking}
-use Rattle.qc_epoch.specs.Admin.{Installing, moved, new_admin}
-use Rattle.qc_epoch.specs.Answers.{outcome_in, standing_of, taken_for, with_installed, with_shut_of}
+use Rattle.laws_due.specs.Names.{IsPlanned, IsRecordPlanned}
+use Rattle.qc_epoch.specs.Names.{Admin, AdminMove, Asking, Closing, Decided, Doing, Installing, Question, Resting}
+use Rattle.qc_epoch.specs.Names.{ShutSite, all_taken, decision, first_doubt, in_asked_order, most_asks, moved}
+use Rattle.qc_epoch.specs.Names.{new_admin, outcome_in, questions_of, standing_of, taken_for, with_installed}
+use Rattle.qc_epoch.specs.Names.{with_shut_of}
 use Rattle.qc_epoch.specs.Conduct as admins
-use Rattle.qc_epoch.specs.Deciding.{all_taken, decision, first_doubt, in_asked_order, most_asks, questions_of}
 use Rattle.laws_turns.proofs.Proper.{IsAskableGiven}
-use Rattle.qc_msg.specs.Calls.{site_called, without_call}
-use Rattle.qc_msg.specs.Lengths.{epoch_length}
-use Rattle.qc_msg.specs.Turns.{quiet, sending}
+use Rattle.qc_msg.specs.Names.{epoch_length, quiet, sending, site_called, without_call}
 use Rattle.qc_msg.specs.declared.call.Call.{Call}
 use Rattle.qc_msg.specs.declared.message.Answer.{Answer}
 use Rattle.qc_msg.specs.declared.message.Message.{Message}
@@ -29,10 +26,11 @@ use Rattle.qc_msg.specs.declared.step.Command.{Command}
 use Rattle.qc_msg.specs.declared.step.Command.TheVariants as commands
 use Rattle.qc_msg.specs.declared.step.Input.{Input}
 use Rattle.qc_msg.specs.declared.step.Input.TheVariants as inputs
-use Rattle.qc_plan.specs.Round.{RoundState, note, verdict, wanted}
+use Rattle.qc_plan.specs.Names.{RoundState, note, verdict, wanted}
 use Rattle.qc_plan.specs.declared.standing.Verdict.{Verdict}
 use Rattle.qc_plan.specs.declared.standing.Verdict.TheVariants as verdicts
-use Rattle.qc_recover.specs.Admins.{admin_by, keeps, kept_by}
+use Rattle.qc_recover.specs.Names.{admin_by}
+use Rattle.qc_recover.specs.Admins.{keeps, kept_by}
 use Rattle.std.specs.Prelude.{◌++◌, fold}
 
 -- what he is asked for

@@ -5,11 +5,10 @@ use Rattle.std.specs.Option.{option_map_or}
 use Rattle.std.proofs.lemmas.List.Sums.{sum_by-append}
 use Rattle.qc_msg.specs.declared.message.Answer.{Answer}
 use Rattle.qc_msg.specs.declared.message.Answer.TheVariants as answers
-use Rattle.qc_msg.specs.Readings.{has_installed}
-use Rattle.qc_promise.specs.AdminAccount.{AdminRequest, answer_to}
-use Rattle.qc_promise.specs.AdminRows.{site_set}
-use Rattle.qc_epoch.specs.Answers.{with_installed}
-use Rattle.laws_due.specs.Calls.{AreApart}
+use Rattle.qc_msg.specs.Names.{has_installed}
+use Rattle.qc_promise.specs.Names.{AdminRequest, answer_to, site_set}
+use Rattle.qc_epoch.specs.Names.{with_installed}
+use Rattle.laws_due.specs.Names.{AreApart}
 use Rattle.laws_due.proofs.AdminRequests.{IsCalled, numbers_of, others_taken, other_taken, takes, this_taken, took}
 use Rattle.laws_due.proofs.AdminCloses.{in_map}
 

@@ -3,13 +3,11 @@ use Rattle.std.proofs.Common.{◌≡◌, ◌≤◌, ℕ, ◌+◌, ◌==◌, Bool
 use Rattle.std.specs.Prelude.{option_and_then}
 use Rattle.std.proofs.lemmas.List.{append-nil}
 use Rattle.qc_core.specs.declared.actor.Actor.{Actor}
-use Rattle.qc_core.specs.Actors.{ActorMove, actor_after, actor_does, actor_takes, by_admin}
-use Rattle.qc_core.specs.Acts.{MayTake}
-use Rattle.qc_core.specs.Conduct.{IsLawfulWithFalls, with_record}
-use Rattle.qc_core.specs.Lives.{Lives, MayReach, is_up}
+use Rattle.qc_core.specs.Names.{ActorMove, IsLawfulWithFalls, Lives, MayReach, MayTake, actor_after, actor_does}
+use Rattle.qc_core.specs.Names.{actor_takes, by_admin, is_up, with_record}
 use Rattle.qc_core.specs.Lives as lives
 use Rattle.qc_core.proofs.Steady.{turn_steady}
-use Rattle.qc_decl.specs.Actors.{administrator}
+use Rattle.qc_decl.specs.Names.{administrator}
 use Rattle.qc_decl.specs.declared.declaration.Declaration.{Declaration}
 use Rattle.qc_msg.specs.declared.record.Record.{Record}
 use Rattle.qc_msg.specs.declared.reply.Reply.TheVariants as replies
@@ -21,17 +19,12 @@ use Rattle.qc_msg.specs.declared.step.Input.TheVariants as inputs
 use Rattle.qc_msg.specs.declared.turn.Appended.{Appended}
 use Rattle.qc_msg.specs.declared.turn.Appended.TheVariants.{Done, Failed, Stopped}
 use Rattle.qc_msg.specs.declared.turn.Turn.{Turn}
-use Rattle.qc_msg.specs.Deeds.{Deed, Takes, Tells, Falls, deeds_as, sends_of, tells_of, turn_deeds}
-use Rattle.qc_msg.specs.InputReadings.{epoch_in}
-use Rattle.qc_msg.specs.Steps.{IsByDisk, MayEnd, sends_as}
-use Rattle.qc_msg.specs.Turns.{telling}
-use Rattle.qc_promise.specs.AdminAccount.{AdminAccount}
-use Rattle.qc_promise.specs.AdminAccounting.{admin_account_at, admin_taken}
-use Rattle.qc_promise.specs.AdminDue.{AreAdminDeedsDue, IsAdminDue, IsAdminReplyDue, IsDecisionMet}
-use Rattle.qc_promise.specs.AdminRows.{admin_due, decided_for, epoch_row}
-use Rattle.qc_promise.specs.Posts.{pending_next}
-use Rattle.qc_epoch.specs.Conduct.{admin_takes}
-use Rattle.qc_admin.specs.Sent.{sent_each}
+use Rattle.qc_msg.specs.Names.{Deed, Falls, IsByDisk, MayEnd, Takes, Tells, deeds_as, epoch_in, sends_as, sends_of}
+use Rattle.qc_msg.specs.Names.{telling, tells_of, turn_deeds}
+use Rattle.qc_promise.specs.Names.{AdminAccount, AreAdminDeedsDue, IsAdminDue, IsAdminReplyDue, IsDecisionMet}
+use Rattle.qc_promise.specs.Names.{admin_account_at, admin_due, admin_taken, decided_for, epoch_row, pending_next}
+use Rattle.qc_epoch.specs.Names.{admin_takes}
+use Rattle.qc_admin.specs.Names.{sent_each}
 use Rattle.laws_due.proofs.Standing.{no_act, none_follows, steady_up}
 use Rattle.laws_due.proofs.Happenings.{as_record}
 use Rattle.laws_due.proofs.AdminStages.{Ties}

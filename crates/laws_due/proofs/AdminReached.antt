@@ -4,21 +4,18 @@ use Rattle.std.proofs.Common.{◌≡◌, ℕ, ◌+◌, ◌<◌, ◌≤◌, ◌&&
 use Rattle.std.proofs.Common.{ap, subst, arith}
 use Rattle.std.specs.List.{AllByRecursion as Every}
 use Rattle.std.proofs.lemmas.Bool.{le-leb, lt-ltb}
-use Rattle.qc_list.specs.Members.{In}
+use Rattle.qc_list.specs.Names.{In}
 use Rattle.qc_list.proofs.Members.{every-In}
 use Rattle.qc_core.specs.declared.actor.Actor.{Actor}
 use Rattle.qc_core.specs.declared.actor.Actor.TheVariants as kinds
-use Rattle.qc_client.specs.Conduct.{heard}
-use Rattle.qc_core.specs.Actors.{actor_after, actor_takes}
-use Rattle.qc_core.specs.Conduct.{IsLawfulWithFalls}
+use Rattle.qc_client.specs.Names.{heard}
+use Rattle.qc_core.specs.Names.{IsLawfulWithFalls, actor_after, actor_takes}
 use Rattle.qc_core.specs.Lives as lives
-use Rattle.qc_decl.specs.Accepted.{IsAccepted}
-use Rattle.qc_decl.specs.Actors.{actors, administrator, client_actor, is_client}
+use Rattle.qc_decl.specs.Names.{IsAccepted, actors, administrator, client_actor, is_client}
 use Rattle.qc_decl.specs.declared.declaration.Declaration.{Declaration}
-use Rattle.laws_turns.specs.Waits.{IsAtReceiver}
-use Rattle.qc_link.specs.Limits.{most_actors}
-use Rattle.qc_msg.specs.Deeds.{Deed, envelopes, mail}
-use Rattle.qc_msg.specs.Steps.{Entry, by, posted_as, sends_as}
+use Rattle.laws_turns.specs.Names.{IsAtReceiver}
+use Rattle.qc_link.specs.Names.{most_actors}
+use Rattle.qc_msg.specs.Names.{Deed, Entry, by, envelopes, mail, posted_as, sends_as}
 use Rattle.qc_msg.specs.declared.message.Envelope.{Envelope}
 use Rattle.qc_msg.specs.declared.message.Message.{Message}
 use Rattle.qc_msg.specs.declared.message.Message.TheVariants as messages
@@ -28,14 +25,11 @@ use Rattle.qc_msg.specs.declared.step.Step.TheVariants as steps
 use Rattle.qc_msg.specs.declared.turn.Posting.{Posting}
 use Rattle.qc_msg.proofs.GrownMail.{mail-append}
 use Rattle.qc_msg.proofs.Growth.{mail-posted_as}
-use Rattle.qc_script.specs.Inbox.{inbox, is_request}
-use Rattle.qc_script.specs.Requests.{request_numbers}
-use Rattle.qc_script.specs.RunsWithFalls.{RunsWithFalls}
+use Rattle.qc_script.specs.Names.{RunsWithFalls, inbox, is_request, request_numbers}
 use Rattle.qc_script.specs.declared.script.Script.{Script}
 use Rattle.qc_site.proofs.Cases.{close_cases, install_cases}
-use Rattle.qc_site.specs.Conduct.{passed, site_at}
-use Rattle.qc_site.specs.Site.{SiteMove, SiteState}
-use Rattle.laws_due.specs.Known.{AsksKnown, IsKnown}
+use Rattle.qc_site.specs.Names.{SiteMove, SiteState, passed, site_at}
+use Rattle.laws_due.specs.Names.{AsksKnown, IsKnown}
 use Rattle.laws_due.proofs.AdminSends.{GoesHis, post_goes, rise_goes, run_goes}
 use Rattle.laws_due.proofs.AdminSited.{GoWell, GoesWell}
 use Rattle.laws_due.proofs.Places.{apart, few_actors}

@@ -5,10 +5,9 @@ use Rattle.std.specs.Prelude.{is_some, option_and_then}
 use Rattle.std.specs.Option.{option_map_or}
 use Rattle.std.proofs.lemmas.List.Sums.{fold-append}
 use Rattle.qc_core.specs.declared.actor.Actor.TheVariants as actors
-use Rattle.qc_core.specs.Actors.{ActorMove, actor_after, actor_does, moved, new_actor}
-use Rattle.qc_core.specs.Acts.{MayTake, is_running, runs_at}
-use Rattle.qc_core.specs.Lives.{is_up, up_at}
-use Rattle.qc_decl.specs.Actors.{administrator}
+use Rattle.qc_core.specs.Names.{ActorMove, MayTake, actor_after, actor_does, is_running, is_up, moved, new_actor}
+use Rattle.qc_core.specs.Names.{runs_at, up_at}
+use Rattle.qc_decl.specs.Names.{administrator}
 use Rattle.qc_decl.specs.declared.declaration.Declaration.{Declaration}
 use Rattle.qc_msg.specs.declared.message.Message.{Message}
 use Rattle.qc_msg.specs.declared.record.Record.{Record}
@@ -19,20 +18,20 @@ use Rattle.qc_msg.specs.declared.step.Input.{Input}
 use Rattle.qc_msg.specs.declared.step.Input.TheVariants as inputs
 use Rattle.qc_msg.specs.declared.turn.Posting.{Posting}
 use Rattle.qc_msg.specs.declared.turn.Turn.{Turn}
-use Rattle.qc_msg.specs.Deeds.{Deed, Takes, Writes, Sends, Tells, Falls, Rises, sends_of, tells_of, turn_deeds, writes_of}
-use Rattle.qc_msg.specs.InputReadings.{epoch_in}
-use Rattle.qc_msg.specs.Readings.{Answered, Installing as Started, answer_in, asking_in, closing_in, decide_in, installing_in}
-use Rattle.qc_msg.specs.Turns.{quiet}
+use Rattle.qc_msg.specs.Names.{Answered, Deed, Falls, Installing as Started, Rises, Sends, Takes, Tells, Writes}
+use Rattle.qc_msg.specs.Names.{answer_in, asking_in, closing_in, decide_in, epoch_in, installing_in, quiet, sends_of}
+use Rattle.qc_msg.specs.Names.{tells_of, turn_deeds, writes_of}
 use Rattle.qc_stamp.specs.declared.stamp.TxId.{TxId}
-use Rattle.qc_promise.specs.AdminAccount.{AdminAccount, AdminWant, Ask, Close, Install, asks, closes, installs, new_admin_account}
-use Rattle.qc_promise.specs.AdminAccounting.{admin_account, admin_account_at, admin_counted, admin_heard, admin_sent, admin_written, calls_ask, calls_close, calls_install, commanded, if_called_for}
-use Rattle.qc_promise.specs.AdminDue.{AreAdminDeedsDue, IsAdminDue, IsAdminFree, IsAdminInputDue}
-use Rattle.qc_promise.specs.AdminRounds.{all_answered, decision_due, first_doubt, promised_once}
-use Rattle.qc_promise.specs.AdminRows.{admin_due, admin_row, close_row, closed_sites, decide_due, decided_for, decided_met, decided_of, decided_row, doubt_row, epoch_row, moved_row, site_set}
-use Rattle.qc_epoch.specs.Admin.{Admin, Doing, Resting, Closing, Asking, Installing, Question, ShutSite}
-use Rattle.qc_epoch.specs.Conduct.{sent_one}
+use Rattle.qc_promise.specs.Names.{AdminAccount, AdminWant, AreAdminDeedsDue, Ask, Close, Install, IsAdminDue}
+use Rattle.qc_promise.specs.Names.{IsAdminFree, IsAdminInputDue, admin_account, admin_account_at, admin_counted}
+use Rattle.qc_promise.specs.Names.{admin_due, admin_heard, admin_row, admin_sent, admin_written, all_answered, asks}
+use Rattle.qc_promise.specs.Names.{calls_ask, calls_close, calls_install, close_row, closed_sites, closes, commanded}
+use Rattle.qc_promise.specs.Names.{decide_due, decided_for, decided_met, decided_of, decided_row, decision_due}
+use Rattle.qc_promise.specs.Names.{doubt_row, epoch_row, first_doubt, if_called_for, installs, moved_row}
+use Rattle.qc_promise.specs.Names.{new_admin_account, promised_once, site_set}
+use Rattle.qc_epoch.specs.Names.{Admin, Asking, Closing, Doing, Installing, Question, Resting, ShutSite, sent_one}
 use Rattle.qc_epoch.specs.Deciding as deciding
-use Rattle.qc_admin.specs.Sent.{sent_each}
+use Rattle.qc_admin.specs.Names.{sent_each}
 use Rattle.laws_due.proofs.Standing.{Follows}
 use Rattle.laws_due.proofs.AdminRequests.{all_taken}
 use Rattle.laws_due.proofs.AdminDecisions.{answered_is}

@@ -7,16 +7,13 @@ use Rattle.std.specs.Option.{option_or}
 use Rattle.std.proofs.lemmas.List.{append-nil, map-append}
 use Rattle.std.proofs.lemmas.List.Elements.{filter_map-append}
 use Rattle.std.proofs.lemmas.List.Folds.{find-append}
-use Rattle.qc_list.specs.Members.{In}
+use Rattle.qc_list.specs.Names.{In}
 use Rattle.qc_msg.specs.declared.message.Answer.{Answer}
 use Rattle.qc_msg.specs.declared.message.Answer.TheVariants as answers
-use Rattle.qc_msg.specs.Readings.{Shutting, shut_in}
-use Rattle.qc_promise.specs.AdminAccount.{AdminRequest, answer_to}
-use Rattle.qc_promise.specs.AdminRounds.{ToldShut, close_asked, told_shut}
-use Rattle.qc_epoch.specs.Admin.{ShutSite}
-use Rattle.qc_epoch.specs.Answers.{with_shut_of}
-use Rattle.qc_epoch.specs.Deciding.{in_asked_order, shut_at, shut_list}
-use Rattle.laws_due.specs.Calls.{AreApart}
+use Rattle.qc_msg.specs.Names.{Shutting, shut_in}
+use Rattle.qc_promise.specs.Names.{AdminRequest, ToldShut, answer_to, close_asked, told_shut}
+use Rattle.qc_epoch.specs.Names.{ShutSite, in_asked_order, shut_at, shut_list, with_shut_of}
+use Rattle.laws_due.specs.Names.{AreApart}
 use Rattle.laws_due.proofs.AdminRequests.{IsCalled, differ, numbers_of, others_taken, other_taken, sites_of, takes}
 use Rattle.laws_due.proofs.AdminRequests.{this_taken, took}
 use Rattle.laws_due.proofs.AdminCloses.{in_map}

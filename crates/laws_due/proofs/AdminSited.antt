@@ -4,23 +4,17 @@ use Rattle.std.proofs.Common.{◌≡◌, ℕ, ◌+◌, ◌-◌, ◌<◌, ◌≤�
 use Rattle.std.proofs.Common.{take, Option, Some, None, refl, arith}
 use Rattle.std.specs.Prelude.{nat_le, slice_get}
 use Rattle.std.specs.List.{AllByRecursion as Every}
-use Rattle.qc_decl.specs.Accepted.{IsAccepted}
-use Rattle.qc_decl.specs.Actors.{client_actor}
-use Rattle.qc_decl.specs.Limits.{most_record_bytes}
-use Rattle.qc_decl.specs.Lookup.{plan_in}
+use Rattle.qc_decl.specs.Names.{IsAccepted, client_actor, most_record_bytes, plan_in}
 use Rattle.qc_decl.specs.declared.declaration.Declaration.{Declaration}
-use Rattle.qc_epoch.specs.Admin.{Admin, AdminMove, Asking, Closing, Decided, Doing, Installing, Question, Resting}
-use Rattle.qc_epoch.specs.Admin.{ShutSite, new_admin}
+use Rattle.qc_epoch.specs.Names.{Admin, AdminMove, Asking, Closing, Decided, Doing, Installing, Question, Resting}
+use Rattle.qc_epoch.specs.Names.{ShutSite, admin_takes, all_taken, decision, doing, first_doubt, in_asked_order}
+use Rattle.qc_epoch.specs.Names.{most_asks, new_admin, outcome_in, questions_of, requested, sent_one, standing_of}
+use Rattle.qc_epoch.specs.Names.{taken_for, with_installed, with_shut_of}
 use Rattle.qc_epoch.specs.Admin as epochs
-use Rattle.qc_epoch.specs.Answers.{outcome_in, standing_of, taken_for, with_installed, with_shut_of}
 use Rattle.qc_epoch.specs.Conduct as conduct
-use Rattle.qc_epoch.specs.Conduct.{admin_takes, doing, requested, sent_one}
-use Rattle.qc_epoch.specs.Deciding.{all_taken, decision, first_doubt, in_asked_order, most_asks, questions_of}
 use Rattle.laws_turns.proofs.DeclaredSites.{AreSites, asking_rest, sites_cyclic, sites_filter, sites_range}
 use Rattle.laws_turns.proofs.DeclaredSites.{wanted_sites}
-use Rattle.qc_msg.specs.Calls.{site_called, without_call}
-use Rattle.qc_msg.specs.Lengths.{epoch_length}
-use Rattle.qc_msg.specs.Turns.{quiet, sending}
+use Rattle.qc_msg.specs.Names.{epoch_length, quiet, sending, site_called, without_call}
 use Rattle.qc_msg.specs.declared.call.Call.{Call}
 use Rattle.qc_msg.specs.declared.message.Answer.{Answer}
 use Rattle.qc_msg.specs.declared.message.Message.{Message}
@@ -31,7 +25,7 @@ use Rattle.qc_msg.specs.declared.step.Command.TheVariants as commands
 use Rattle.qc_msg.specs.declared.step.Input.{Input}
 use Rattle.qc_msg.specs.declared.step.Input.TheVariants as inputs
 use Rattle.qc_msg.specs.declared.turn.Posting.{Posting}
-use Rattle.qc_plan.specs.Round.{RoundState, note, verdict, wanted}
+use Rattle.qc_plan.specs.Names.{RoundState, note, verdict, wanted}
 use Rattle.qc_plan.specs.declared.plan.Plan.{Plan}
 use Rattle.qc_plan.specs.declared.standing.Verdict.{Verdict}
 use Rattle.qc_plan.specs.declared.standing.Verdict.TheVariants as verdicts

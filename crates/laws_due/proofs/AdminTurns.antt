@@ -4,23 +4,20 @@ use Rattle.std.specs.Prelude.{is_some, ◌^◌}
 use Rattle.std.specs.List.{filter_map}
 use Rattle.std.specs.Option.{option_map_or}
 use Rattle.qc_decl.specs.declared.declaration.Declaration.{Declaration}
-use Rattle.qc_plan.specs.Round.{RoundState, note, verdict, wanted}
+use Rattle.qc_plan.specs.Names.{RoundState, note, verdict, wanted}
 use Rattle.qc_msg.specs.declared.call.Call.{Call}
 use Rattle.qc_msg.specs.declared.message.Answer.{Answer}
 use Rattle.qc_msg.specs.declared.reply.Reply.TheVariants as replies
-use Rattle.qc_msg.specs.Calls.{site_called, without_call}
-use Rattle.qc_msg.specs.Readings.{Installing as Started, has_installed}
-use Rattle.qc_msg.specs.Turns.{quiet}
-use Rattle.qc_promise.specs.AdminAccount.{AdminAccount, AdminRequest, asks, closes, decided_epoch, installs, is_ask, is_close, is_install}
-use Rattle.qc_promise.specs.AdminAccounting.{admin_counted}
-use Rattle.qc_promise.specs.AdminRounds.{ToldShut, close_round, decision_due, first_doubt, fresh_round, most_questions, promised_once, told_shut}
-use Rattle.qc_promise.specs.AdminRows.{admin_due, close_row, closed_sites, decide_due, decided_met, decided_of, decided_row, doubt_row, moved_row, site_set}
-use Rattle.qc_epoch.specs.Admin.{Admin, Doing, Resting, Closing, Asking, Installing, Question, ShutSite, moved}
-use Rattle.qc_epoch.specs.Answers.{outcome_in, standing_of, taken_for, with_installed, with_shut_of}
+use Rattle.qc_msg.specs.Names.{Installing as Started, has_installed, quiet, site_called, without_call}
+use Rattle.qc_promise.specs.Names.{AdminAccount, AdminRequest, ToldShut, admin_counted, admin_due, asks, close_round}
+use Rattle.qc_promise.specs.Names.{close_row, closed_sites, closes, decide_due, decided_epoch, decided_met, decided_of}
+use Rattle.qc_promise.specs.Names.{decided_row, decision_due, doubt_row, first_doubt, fresh_round, installs, is_ask}
+use Rattle.qc_promise.specs.Names.{is_close, is_install, most_questions, moved_row, promised_once, site_set, told_shut}
+use Rattle.qc_epoch.specs.Names.{Admin, Asking, Closing, Doing, Installing, Question, Resting, ShutSite, doing, moved}
+use Rattle.qc_epoch.specs.Names.{outcome_in, replies_with, standing_of, taken_for, with_installed, with_shut_of}
 use Rattle.qc_epoch.specs.Conduct as conduct
-use Rattle.qc_epoch.specs.Conduct.{doing, replies_with}
 use Rattle.qc_epoch.specs.Deciding as deciding
-use Rattle.laws_due.specs.Calls.{AreApart}
+use Rattle.laws_due.specs.Names.{AreApart}
 use Rattle.laws_due.proofs.AdminRequests.{IsCalled, all_taken, called, calls_taken, length_taken, none_called, none_open, map_taken, open_calls, sites_of, takes, taken_already, wanting_taken}
 use Rattle.laws_due.proofs.AdminCloses.{round_of, round_taken}
 use Rattle.laws_due.proofs.AdminShuts.{shuts_of, shuts_taken}

@@ -8,12 +8,9 @@ use Rattle.qc_decl.specs.declared.declaration.Declaration.{Declaration}
 use Rattle.qc_msg.specs.declared.message.Message.TheVariants as messages
 use Rattle.qc_msg.specs.declared.message.Want.{Want}
 use Rattle.qc_msg.specs.declared.turn.Posting.{Posting}
-use Rattle.qc_msg.specs.Begun.{life_of}
-use Rattle.qc_msg.specs.Deeds.{Deed, Sends, sends_of}
-use Rattle.qc_promise.specs.Account.{Account, ClientRequest, Current}
-use Rattle.qc_promise.specs.Accounting.{account_at}
-use Rattle.qc_promise.specs.Asked.{command_asks, is_asked_for}
-use Rattle.laws_due.specs.ByRows.{AreByRows}
+use Rattle.qc_msg.specs.Names.{Deed, Sends, life_of, sends_of}
+use Rattle.qc_promise.specs.Names.{Account, ClientRequest, Current, account_at, command_asks, is_asked_for}
+use Rattle.laws_due.specs.Names.{AreByRows}
 use Rattle.laws_due.proofs.Requests.{request_at, requests_from}
 
 -- a request of the transaction, in its epoch, to a site in the life of its first grant

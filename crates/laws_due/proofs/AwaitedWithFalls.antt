@@ -4,29 +4,28 @@ use Rattle.std.proofs.Common.{◌≡◌, ℕ, ◌+◌, ◌-◌, ◌<◌, ◌≤�
 use Rattle.std.specs.Prelude.{fold}
 use Rattle.std.proofs.lemmas.List.Sums.{fold-append}
 use Rattle.qc_decl.proofs.Clients.{client_within}
-use Rattle.qc_list.specs.Members.{In}
+use Rattle.qc_list.specs.Names.{In}
 use Rattle.qc_core.proofs.ByNumber.{admin_new, admin_no_client, admin_no_site, admin_risen, client_new, client_risen}
 use Rattle.qc_core.proofs.ByTurns.{called_turn}
 use Rattle.qc_core.specs.declared.actor.Actor.{Actor}
 use Rattle.qc_core.specs.declared.actor.Actor.TheVariants as actors
-use Rattle.qc_core.specs.Actors.{ActorMove, actor_after, actor_does, actor_rises, by_admin, moved, new_actor}
-use Rattle.qc_core.specs.Conduct.{IsLawfulWithFalls, with_record}
+use Rattle.qc_core.specs.Names.{ActorMove, IsLawfulWithFalls, actor_after, actor_does, actor_rises, by_admin, moved}
+use Rattle.qc_core.specs.Names.{new_actor, with_record}
 use Rattle.qc_core.specs.Lives as lives
 use Rattle.qc_core.proofs.LivesLaws as laws
 use Rattle.qc_decl.specs.declared.declaration.Declaration.{Declaration}
 use Rattle.qc_decl.specs.Actors as numbers
-use Rattle.qc_decl.specs.Actors.{administrator, controller, is_client}
-use Rattle.qc_epoch.specs.Admin.{Admin, new_admin}
-use Rattle.qc_recover.specs.Admins.{admin_rises}
-use Rattle.qc_recover.specs.Sites.{rising}
+use Rattle.qc_decl.specs.Names.{administrator, controller, is_client}
+use Rattle.qc_epoch.specs.Names.{Admin, new_admin}
+use Rattle.qc_recover.specs.Names.{admin_rises, client_rises, rising}
 use Rattle.laws_due.proofs.AdminNumbers.{open_numbers}
 use Rattle.qc_client.specs.declared.client.Client.{Client}
-use Rattle.qc_client.specs.Client.{new_client}
+use Rattle.qc_client.specs.Names.{new_client}
 use Rattle.qc_inbox.proofs.FallLaws.{up_by_deeds}
 use Rattle.qc_inbox.proofs.FallMail.{ready_sent}
-use Rattle.laws_turns.specs.Calls.{IsAwaited, open_calls}
+use Rattle.laws_turns.specs.Names.{IsAwaited, open_calls}
 use Rattle.laws_turns.proofs.Acted.{deeds-silent}
-use Rattle.qc_link.specs.Limits.{most_actors}
+use Rattle.qc_link.specs.Names.{most_actors}
 use Rattle.laws_turns.proofs.Downs.{tells, up_is}
 use Rattle.laws_turns.proofs.Lived.{deeds-fall, deeds-rise}
 use Rattle.qc_msg.specs.declared.call.Call.{Call}
@@ -38,16 +37,13 @@ use Rattle.qc_msg.specs.declared.step.Step.TheVariants as steps
 use Rattle.qc_msg.specs.declared.turn.Appended.{Appended}
 use Rattle.qc_msg.specs.declared.turn.Appended.TheVariants.{Done, Failed, Stopped}
 use Rattle.qc_msg.specs.declared.turn.Turn.{Turn}
-use Rattle.qc_msg.specs.Deeds.{Deed, Takes, Writes, Rises, deeds, deeds_as, mail, turn_deeds}
-use Rattle.qc_msg.specs.Steps.{Entry, by, marked, posted, posted_as, step_of}
-use Rattle.qc_msg.specs.Turns.{quiet}
+use Rattle.qc_msg.specs.Names.{Deed, Entry, Rises, Takes, Writes, by, deeds, deeds_as, mail, marked, posted, posted_as}
+use Rattle.qc_msg.specs.Names.{quiet, step_of, turn_deeds}
 use Rattle.qc_msg.proofs.Growth.{deeds-other, deeds-posted_as, deeds-taken}
-use Rattle.qc_recover.specs.Clients.{client_rises}
 use Rattle.qc_script.proofs.AllUp.{is_up-everybody}
 use Rattle.qc_script.specs.declared.script.Script.{Script}
-use Rattle.qc_script.specs.Inbox.{Inbox, empty_inbox, everybody, inbox, is_up}
-use Rattle.qc_script.specs.Ready.{phase_of, ready}
-use Rattle.qc_script.specs.RunsWithFalls.{RunsWithFalls, begins, takes, posts, phase, control, falls, rises, damaged, unopened}
+use Rattle.qc_script.specs.Names.{Inbox, RunsWithFalls, begins, control, damaged, empty_inbox, everybody, falls, inbox}
+use Rattle.qc_script.specs.Names.{is_up, phase, phase_of, posts, ready, rises, takes, unopened}
 use Rattle.laws_due.proofs.Places.{apart, rose_split}
 use Rattle.laws_due.proofs.Telling.{broken_down}
 use Rattle.laws_due.proofs.Covered.{Awaits, one_step, others_steps, own_take, own_turn, step_in}

@@ -4,12 +4,11 @@ use Rattle.std.specs.Prelude.{set}
 use Rattle.std.specs.Option.{option_map_or}
 use Rattle.std.proofs.lemmas.Bool.{eqb-false, eqb-true}
 use Rattle.std.proofs.lemmas.List.{get_or-set_other}
-use Rattle.qc_list.specs.Members.{In}
+use Rattle.qc_list.specs.Names.{In}
 use Rattle.qc_list.proofs.Members.{In-filter, In-first, In-second}
-use Rattle.laws_turns.specs.Calls.{HasAnswer, IsAwaited}
+use Rattle.laws_turns.specs.Names.{HasAnswer, IsAnswerTo, IsAwaited}
 use Rattle.laws_turns.proofs.Awaiting.{at_once, number_added, number_stays}
-use Rattle.qc_link.specs.Cuts.{with_cut, without_cut}
-use Rattle.qc_link.specs.Fate.{fate}
+use Rattle.qc_link.specs.Names.{fate, with_cut, without_cut}
 use Rattle.qc_link.specs.declared.rule.Fate.{Fate}
 use Rattle.qc_msg.specs.declared.message.Answer.{Answer}
 use Rattle.qc_msg.specs.declared.message.Envelope.{Envelope}
@@ -20,11 +19,14 @@ use Rattle.qc_msg.specs.declared.step.Step.{Step}
 use Rattle.qc_msg.specs.declared.step.Step.TheVariants as steps
 use Rattle.qc_script.specs.declared.script.PhaseLines.{PhaseLines}
 use Rattle.qc_script.specs.declared.script.Script.{Script}
-use Rattle.qc_script.specs.Requests.{SentRequest, has_request, request_numbers, requests_to, requests_to_others, with_lost, with_number, without_number, without_request}
+use Rattle.qc_script.specs.Names.{Inbox, SentRequest, acting, actor_fell, answers_by, comes, comes_at_once, comes_with}
+use Rattle.qc_script.specs.Names.{command_called, commands_for, control_acted, copies_at_once, copy_taken, count_of}
+use Rattle.qc_script.specs.Names.{emptied, goes, goes_with, has_request, if_up, inbox_at, is_by_line, is_request, is_up}
+use Rattle.qc_script.specs.Names.{loss_taken, one_more, opened, opened_by, phase_begun, reply_told, request_answered}
+use Rattle.qc_script.specs.Names.{request_numbers, request_sent, requests_to, requests_to_others, with_copies}
+use Rattle.qc_script.specs.Names.{with_lost, with_number, without_number, without_request}
 use Rattle.qc_script.proofs.Inboxes.{opened_keeps, sends_does}
 use Rattle.qc_script.proofs.Requests.{added-number, without-numbers}
-use Rattle.qc_script.specs.Inbox.{Inbox, acting, actor_fell, answers_by, comes, comes_at_once, comes_with, command_called, copies_at_once, commands_for, control_acted, copy_taken, count_of, emptied, goes, goes_with, if_up, inbox_at, is_by_line, is_request, is_up, loss_taken, one_more, opened, opened_by, phase_begun, reply_told, request_answered, request_sent, with_copies}
-use Rattle.laws_turns.specs.Calls.{IsAnswerTo}
 
 -- numbers
 

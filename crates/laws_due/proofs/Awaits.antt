@@ -6,13 +6,11 @@ use Rattle.std.specs.Prelude.{is_none}
 use Rattle.std.specs.List.{list_all, AllByRecursion as Every}
 use Rattle.std.specs.Option.{option_or}
 use Rattle.std.proofs.lemmas.Bool.{le-leb}
-use Rattle.qc_list.specs.Members.{In}
+use Rattle.qc_list.specs.Names.{In}
 use Rattle.qc_list.proofs.Members.{every-filter}
-use Rattle.qc_core.specs.Acts.{Acts}
-use Rattle.qc_core.specs.Conduct.{IsLawful}
+use Rattle.qc_core.specs.Names.{Acts, IsLawful}
 use Rattle.qc_decl.specs.declared.declaration.Declaration.{Declaration}
-use Rattle.qc_decl.specs.Actors.{is_client}
-use Rattle.qc_decl.specs.Lookup.{append_need_of, read_need_of}
+use Rattle.qc_decl.specs.Names.{append_need_of, is_client, read_need_of}
 use Rattle.qc_front.specs.declared.doing.Doing.{Doing}
 use Rattle.qc_front.specs.declared.doing.Doing.TheVariants.{Reading, Appending}
 use Rattle.qc_front.specs.declared.front.Front.{Front}
@@ -25,18 +23,13 @@ use Rattle.qc_msg.specs.declared.message.Answer.{Answer}
 use Rattle.qc_msg.specs.declared.message.Want.{Want}
 use Rattle.qc_msg.specs.declared.reply.Reply.TheVariants as replies
 use Rattle.qc_msg.specs.declared.turn.Turn.{Turn}
-use Rattle.qc_msg.specs.Deeds.{Deed}
+use Rattle.qc_msg.specs.Names.{Deed}
 use Rattle.qc_plan.specs.declared.standing.Verdict.TheVariants as verdicts
-use Rattle.qc_plan.specs.Round.{all_noted, has_granted, refusal, settled, verdict, first_clash, first_closed}
-use Rattle.qc_plan.specs.Weights.{weight}
-use Rattle.qc_promise.specs.Account.{Account, ClientRequest, Current, is_append, is_read}
-use Rattle.qc_promise.specs.Rounds.{answer_of, asked_by, resp_of, round_of, weights_of}
-use Rattle.qc_promise.specs.Rows.{answer_row, append_row, running_row, read_row}
-use Rattle.laws_due.specs.Calls.{call_of, calls_in}
-use Rattle.laws_due.specs.Goes.{Holds}
-use Rattle.laws_due.specs.Told.{front_of}
-use Rattle.laws_due.specs.Ties.{IsDo, NoneRuns, Ties, appends, reads, rests, votes}
-use Rattle.laws_due.specs.Waits.{IsEnough, IsGranted, IsGrantedDo, IsWaiting}
+use Rattle.qc_plan.specs.Names.{all_noted, first_clash, first_closed, has_granted, refusal, settled, verdict, weight}
+use Rattle.qc_promise.specs.Names.{Account, ClientRequest, Current, answer_of, answer_row, append_row, asked_by}
+use Rattle.qc_promise.specs.Names.{is_append, is_read, read_row, resp_of, round_of, running_row, weights_of}
+use Rattle.laws_due.specs.Names.{Holds, IsDo, IsEnough, IsGranted, IsGrantedDo, IsWaiting, NoneRuns, Ties, appends}
+use Rattle.laws_due.specs.Names.{call_of, calls_in, front_of, reads, rests, votes}
 use Rattle.laws_due.proofs.Nothing.{do_row_is, tied_none}
 use Rattle.laws_due.proofs.Courses.{account_of, clients_hold, clients_tied, move_of, turns_tell}
 

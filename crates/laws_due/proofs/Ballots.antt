@@ -4,22 +4,19 @@ use Rattle.std.proofs.Common.{Option, Some, None, option_map, is_some, inl, inr,
 use Rattle.std.specs.Prelude.{slice_get}
 use Rattle.std.specs.List.{list_all, AllByRecursion as Every}
 use Rattle.std.specs.Option.{option_or}
-use Rattle.qc_list.specs.Members.{In}
+use Rattle.qc_list.specs.Names.{In}
 use Rattle.qc_commit.specs.declared.ballot.Ballot.{Ballot}
 use Rattle.qc_commit.specs.Votes as ballots
-use Rattle.qc_commit.specs.Votes.{are_cast, blank, cast, vote_of}
+use Rattle.qc_commit.specs.Names.{are_cast, blank, cast, vote_of}
 use Rattle.qc_msg.specs.declared.begun.Begun.{Begun}
 use Rattle.qc_msg.specs.declared.message.Answer.{Answer}
 use Rattle.qc_msg.specs.declared.message.Answer.TheVariants as answers
 use Rattle.qc_msg.specs.declared.message.Want.{Want}
 use Rattle.qc_msg.specs.declared.message.Want.TheVariants.{Prepare}
 use Rattle.qc_msg.specs.declared.reply.AbortCause.TheVariants as causes
-use Rattle.qc_msg.specs.Begun.{life_of}
-use Rattle.qc_promise.specs.Account.{ClientRequest, Current, is_prepare}
-use Rattle.qc_promise.specs.Rounds.{against, first_against}
-use Rattle.laws_due.specs.Calls.{AreApart, ballot_of}
-use Rattle.laws_due.specs.Told.{begun_of}
-use Rattle.laws_due.specs.Ties.{IsPrepare}
+use Rattle.qc_msg.specs.Names.{life_of}
+use Rattle.qc_promise.specs.Names.{ClientRequest, Current, against, first_against, is_prepare}
+use Rattle.laws_due.specs.Names.{AreApart, IsPrepare, ballot_of, begun_of}
 use Rattle.laws_due.proofs.Requests.{requests_from, sites_in}
 
 -- lists of requests for promises

@@ -8,8 +8,8 @@ use Rattle.std.specs.Option.{option_map_or}
 use Rattle.std.proofs.lemmas.List.{append-nil}
 use Rattle.std.proofs.lemmas.List.Elements.{filter_map-append}
 use Rattle.qc_decl.specs.declared.declaration.Declaration.{Declaration}
-use Rattle.qc_decl.specs.Actors.{controller}
-use Rattle.laws_turns.specs.Whole.{asked_in_all, asked_until, call_in, calls_of}
+use Rattle.qc_decl.specs.Names.{controller}
+use Rattle.laws_turns.specs.Names.{asked_in_all, asked_until, call_in, calls_of}
 use Rattle.laws_turns.proofs.Acted.{deeds-silent}
 use Rattle.laws_turns.proofs.Calling.{phase_taken}
 use Rattle.laws_turns.proofs.Numbered.{phase_silent}
@@ -21,14 +21,12 @@ use Rattle.qc_msg.specs.declared.step.Input.{Input}
 use Rattle.qc_msg.specs.declared.step.Input.TheVariants as inputs
 use Rattle.qc_msg.specs.declared.step.Step.TheVariants as steps
 use Rattle.qc_msg.specs.declared.turn.Turn.{Turn}
-use Rattle.qc_msg.specs.Deeds.{Deed, Takes, deeds, mail}
-use Rattle.qc_msg.specs.Steps.{Entry, by, marked, posted_as, step_of}
+use Rattle.qc_msg.specs.Names.{Deed, Entry, Takes, by, deeds, mail, marked, posted_as, step_of}
 use Rattle.qc_msg.proofs.Growth.{deeds-other, deeds-taken}
-use Rattle.qc_script.specs.Inbox.{Inbox, command_called, commands_for, inbox, phase_begun}
-use Rattle.qc_script.specs.Ready.{after_controls, command_in, first_command, first_copy, first_lost, phase_of, ready}
-use Rattle.qc_script.specs.Ready.{ready_in, takes_commands}
-use Rattle.qc_script.specs.RunsWithFalls.{RunsWithFalls, begins, takes, posts, phase, control, falls, rises, damaged}
-use Rattle.qc_script.specs.RunsWithFalls.{unopened}
+use Rattle.qc_script.specs.Names.{Inbox, RunsWithFalls, after_controls, begins, command_called, command_in}
+use Rattle.qc_script.specs.Names.{commands_for, control, damaged, falls, first_command, first_copy, first_lost, inbox}
+use Rattle.qc_script.specs.Names.{phase, phase_begun, phase_of, posts, ready, ready_in, rises, takes, takes_commands}
+use Rattle.qc_script.specs.Names.{unopened}
 use Rattle.qc_script.specs.declared.script.PhaseLines.{PhaseLines}
 use Rattle.qc_script.specs.declared.script.Script.{Script}
 use Rattle.laws_due.proofs.Plain.{ArePlain, entries_calls, entries_left, entries_phase, inbox_then, line_plain}

@@ -2,36 +2,28 @@
 -- client is at its site.
 use Rattle.std.proofs.Common.{◌≡◌, ℕ, ◌<◌, ◌≤◌, Bool, true, List, [], ◌∷◌, refl, sym, subst, arith}
 use Rattle.std.proofs.lemmas.Bool.{lt-ltb}
-use Rattle.qc_list.specs.Members.{In}
+use Rattle.qc_list.specs.Names.{In}
 use Rattle.qc_list.proofs.Members.{every-In}
 use Rattle.qc_core.specs.declared.actor.Actor.{Actor}
 use Rattle.qc_core.specs.declared.actor.Actor.TheVariants as actor
-use Rattle.qc_core.specs.Actors.{actor_after, actor_takes}
-use Rattle.qc_core.specs.Conduct.{IsLawfulWithFalls}
-use Rattle.qc_core.specs.Lives.{MayReach, up_at}
+use Rattle.qc_core.specs.Names.{IsLawfulWithFalls, MayReach, actor_after, actor_takes, up_at}
 use Rattle.qc_core.specs.Lives as lives
-use Rattle.qc_decl.specs.Accepted.{IsAccepted}
-use Rattle.qc_decl.specs.Actors.{actors, is_client}
+use Rattle.qc_decl.specs.Names.{IsAccepted, actors, is_client}
 use Rattle.qc_decl.specs.declared.declaration.Declaration.{Declaration}
-use Rattle.laws_turns.specs.Asked.{AsksDeclared}
-use Rattle.laws_turns.specs.Waits.{IsAtReceiver}
+use Rattle.laws_turns.specs.Names.{AsksDeclared, IsAtReceiver}
 use Rattle.laws_turns.proofs.Rounds.{AreProper, IsProper}
 use Rattle.laws_turns.proofs.SiteReplies.{IsReply}
-use Rattle.qc_link.specs.Limits.{most_actors}
+use Rattle.qc_link.specs.Names.{most_actors}
 use Rattle.qc_msg.specs.declared.message.Envelope.{Envelope}
 use Rattle.qc_msg.specs.declared.message.Message.{Message}
 use Rattle.qc_msg.specs.declared.message.Message.TheVariants as messages
 use Rattle.qc_msg.specs.declared.record.Record.{Record}
 use Rattle.qc_msg.specs.declared.step.Input.TheVariants as inputs
 use Rattle.qc_msg.specs.declared.turn.Posting.{Posting}
-use Rattle.qc_msg.specs.Deeds.{Deed, mail}
-use Rattle.qc_msg.specs.Steps.{Entry, sends_as}
+use Rattle.qc_msg.specs.Names.{Deed, Entry, mail, sends_as}
 use Rattle.qc_script.specs.declared.script.Script.{Script}
-use Rattle.qc_script.specs.Requests.{request_numbers}
-use Rattle.qc_script.specs.Inbox.{inbox, is_request}
-use Rattle.qc_script.specs.RunsWithFalls.{RunsWithFalls}
-use Rattle.qc_site.specs.Conduct.{passed, site_at}
-use Rattle.qc_site.specs.Site.{SiteState}
+use Rattle.qc_script.specs.Names.{RunsWithFalls, inbox, is_request, request_numbers}
+use Rattle.qc_site.specs.Names.{SiteState, passed, site_at}
 use Rattle.laws_due.proofs.Places.{apart, client_past, client_within, few_actors}
 use Rattle.laws_due.proofs.Proper.{IsOwnProper, post_sends, rise_sends, run_proper}
 use Rattle.laws_due.proofs.Somewhere.{AreToOthers, IsOther}

@@ -1,12 +1,12 @@
 -- In a run with falls each command that is called is one that the script asks of that client.
 use Rattle.std.proofs.Common.{◌≡◌, ℕ, ◌+◌, ◌-◌, ◌==◌, ◌&&◌, not, Bool, true, false, cond, if◌then◌else◌, List, [], ◌∷◌, ◌++◌, drop, filter, map, length, Option, Some, None, slice_get, refl, subst, eqb-true}
 use Rattle.std.specs.Prelude.{fold, option_to_list, set}
-use Rattle.qc_link.specs.Cuts.{with_cut, without_cut}
+use Rattle.qc_link.specs.Names.{with_cut, without_cut}
 use Rattle.std.specs.Option.{option_map_or}
 use Rattle.std.specs.List.{AllByRecursion as Every}
-use Rattle.qc_decl.specs.Actors.{controller}
+use Rattle.qc_decl.specs.Names.{controller}
 use Rattle.qc_decl.specs.declared.declaration.Declaration.{Declaration}
-use Rattle.laws_turns.specs.Asked.{AreAskable, AsksDeclared, IsAskable}
+use Rattle.laws_turns.specs.Names.{AreAskable, AsksDeclared, IsAskable}
 use Rattle.laws_turns.proofs.Mailed.{all_at, both_all}
 use Rattle.laws_turns.proofs.Proper.{IsAskableDeed}
 use Rattle.qc_msg.specs.declared.message.Envelope.{Envelope}
@@ -25,12 +25,14 @@ use Rattle.qc_msg.specs.declared.turn.Appended.{Appended}
 use Rattle.qc_msg.specs.declared.turn.Appended.TheVariants.{Done, Failed, Stopped}
 use Rattle.qc_msg.specs.declared.turn.Posting.{Posting}
 use Rattle.qc_msg.specs.declared.turn.Turn.{Turn}
-use Rattle.qc_msg.specs.Deeds.{Deed, deed_at, deeds, envelope_of, heard, mail}
-use Rattle.qc_msg.specs.Steps.{Entry, by, fell, posted_as, sents, step_of, told, wrote}
-use Rattle.qc_script.specs.Inbox.{Inbox, command_called, copy_taken, loss_taken, reply_told, acting, actor_fell, answers_by, comes, commands_for, control_acted, emptied, empty_inbox, goes, goes_with, inbox, inbox_at, is_by_line, is_request, is_up, opened, opened_by, phase_begun}
-use Rattle.qc_script.specs.Requests.{requests_to, requests_to_others, with_lost}
-use Rattle.qc_script.specs.Ready.{after_controls, command_in, controller_step, first_command, first_copy, first_lost, ready, ready_in, takes_commands}
-use Rattle.qc_script.specs.RunsWithFalls.{RunsWithFalls, begins, takes, posts, phase, control, falls, rises, damaged, unopened}
+use Rattle.qc_msg.specs.Names.{Deed, Entry, by, deed_at, deeds, envelope_of, fell, heard, mail, posted_as, sents}
+use Rattle.qc_msg.specs.Names.{step_of, told, wrote}
+use Rattle.qc_script.specs.Names.{Inbox, RunsWithFalls, acting, actor_fell, after_controls, answers_by, begins, comes}
+use Rattle.qc_script.specs.Names.{command_called, command_in, commands_for, control, control_acted, controller_step}
+use Rattle.qc_script.specs.Names.{copy_taken, damaged, emptied, empty_inbox, falls, first_command, first_copy}
+use Rattle.qc_script.specs.Names.{first_lost, goes, goes_with, inbox, inbox_at, is_by_line, is_request, is_up}
+use Rattle.qc_script.specs.Names.{loss_taken, opened, opened_by, phase, phase_begun, posts, ready, ready_in, reply_told}
+use Rattle.qc_script.specs.Names.{requests_to, requests_to_others, rises, takes, takes_commands, unopened, with_lost}
 use Rattle.qc_script.specs.declared.script.CommandLine.{CommandLine}
 use Rattle.qc_script.specs.declared.script.PhaseLines.{PhaseLines}
 use Rattle.qc_script.specs.declared.script.Script.{Script}

@@ -11,16 +11,14 @@ use Rattle.qc_view.specs.declared.view.View.{View}
 use Rattle.qc_commit.specs.declared.desk.Desk.{Desk}
 use Rattle.qc_commit.specs.declared.desk.Voting.{Voting}
 use Rattle.qc_commit.specs.Conduct as desks
-use Rattle.qc_commit.specs.Desk.{moved as desk_moved}
+use Rattle.qc_commit.specs.Names.{are_cast, blank, cast, moved as desk_moved, vote_of}
 use Rattle.qc_commit.specs.Votes as ballots
-use Rattle.qc_commit.specs.Votes.{are_cast, blank, cast, vote_of}
 use Rattle.qc_front.specs.declared.doing.Doing.TheVariants.{Idle}
 use Rattle.qc_front.specs.declared.front.Front.{Front}
 use Rattle.qc_front.specs.declared.transaction.Transaction.{Transaction}
-use Rattle.qc_front.specs.Front.{ended}
+use Rattle.qc_front.specs.Names.{ended}
 use Rattle.qc_client.specs.declared.client.Client.{Client}
-use Rattle.qc_client.specs.Client.{ClientMove, by_desk}
-use Rattle.qc_client.specs.Conduct.{client_does}
+use Rattle.qc_client.specs.Names.{ClientMove, by_desk, client_does}
 use Rattle.qc_msg.specs.declared.begun.Begun.{Begun}
 use Rattle.qc_msg.specs.declared.call.Call.{Call}
 use Rattle.qc_msg.specs.declared.message.Outcome.TheVariants as outcomes
@@ -29,19 +27,11 @@ use Rattle.qc_msg.specs.declared.reply.Reply.TheVariants as replies
 use Rattle.qc_msg.specs.declared.reply.AbortCause.{AbortCause}
 use Rattle.qc_msg.specs.declared.reply.AbortCause.TheVariants as causes
 use Rattle.qc_msg.specs.declared.step.Command.TheVariants as commands
-use Rattle.qc_msg.specs.Begun.{decisions}
-use Rattle.qc_msg.specs.Calls.{calls_from}
-use Rattle.qc_msg.specs.Deeds.{Tells, sends_of}
-use Rattle.qc_msg.specs.Turns.{quiet, sending}
-use Rattle.qc_promise.specs.Account.{Account, ClientRequest, Current, is_prepare, view_of}
-use Rattle.qc_promise.specs.Accounting.{account_told}
-use Rattle.qc_promise.specs.Asked.{command_asks, is_this}
-use Rattle.qc_promise.specs.Rounds.{are_votes_in, first_against, participants}
-use Rattle.qc_promise.specs.Rows.{running_row, vote_row}
-use Rattle.laws_due.specs.Calls.{AreApart, ballot_of, calls_in}
-use Rattle.laws_due.specs.Goes.{Goes}
-use Rattle.laws_due.specs.Told.{begun_of, front_of, transaction_of}
-use Rattle.laws_due.specs.Ties.{IsPrepare, Ties, rests, votes}
+use Rattle.qc_msg.specs.Names.{Tells, calls_from, decisions, quiet, sending, sends_of}
+use Rattle.qc_promise.specs.Names.{Account, ClientRequest, Current, account_told, are_votes_in, command_asks}
+use Rattle.qc_promise.specs.Names.{first_against, is_prepare, is_this, participants, running_row, view_of, vote_row}
+use Rattle.laws_due.specs.Names.{AreApart, Goes, IsPrepare, Ties, ballot_of, begun_of, calls_in, front_of, rests}
+use Rattle.laws_due.specs.Names.{transaction_of, votes}
 use Rattle.laws_due.proofs.Asks.{asking}
 use Rattle.laws_due.proofs.Ballots.{against_are, all_prepare, cast_are, dropped_at, dropped_more, new_ballots, new_numbers, new_sites}
 use Rattle.laws_due.proofs.Requests.{calls_new, every_new, request_at, requests_from, sites_in}

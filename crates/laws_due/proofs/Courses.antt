@@ -3,29 +3,20 @@ use Rattle.std.proofs.Common.{◌≡◌, ℕ, ◌-◌, Bool, true, false, List, 
 use Rattle.std.specs.Prelude.{fold}
 use Rattle.std.proofs.lemmas.List.Sums.{fold-append}
 use Rattle.qc_decl.specs.declared.declaration.Declaration.{Declaration}
-use Rattle.qc_decl.specs.Actors.{is_client}
-use Rattle.qc_core.specs.Acts.{Acts, MayTake, starts, takes, posts}
-use Rattle.qc_core.specs.Conduct.{IsLawful}
-use Rattle.qc_client.specs.Client.{ClientMove, moved, new_client}
-use Rattle.qc_client.specs.Conduct.{client_after, client_does, client_takes}
+use Rattle.qc_decl.specs.Names.{is_client}
+use Rattle.qc_core.specs.Names.{Acts, AreSteady, IsLawful, MayTake, posts, starts, takes}
+use Rattle.qc_client.specs.Names.{ClientMove, client_after, client_does, client_takes, moved, new_client}
 use Rattle.qc_msg.specs.declared.step.Input.{Input}
 use Rattle.qc_msg.specs.declared.turn.Turn.{Turn}
-use Rattle.qc_msg.specs.Deeds.{Deed, Takes, turn_deeds}
-use Rattle.qc_msg.specs.Turns.{quiet}
-use Rattle.qc_promise.specs.Account.{Account, new_account}
-use Rattle.qc_promise.specs.Accounting.{account_at, account_taken}
-use Rattle.qc_promise.specs.Replies.{IsInputDue}
-use Rattle.qc_promise.specs.Rows.{running_row}
-use Rattle.laws_due.specs.ByRows.{AreByRows}
-use Rattle.laws_due.specs.Goes.{Goes, Holds}
-use Rattle.laws_due.specs.Ties.{Ties, rests}
+use Rattle.qc_msg.specs.Names.{Deed, Takes, quiet, turn_deeds}
+use Rattle.qc_promise.specs.Names.{Account, IsInputDue, account_at, account_taken, new_account, running_row}
+use Rattle.laws_due.specs.Names.{AreByRows, Goes, Holds, Ties, rests}
 use Rattle.laws_due.proofs.Asks.{due_more}
 use Rattle.laws_due.proofs.Commands.{lawful_turn, may_give}
 use Rattle.laws_due.proofs.Fits.{takes_fit}
 use Rattle.laws_due.proofs.Nothing.{tied_none}
 use Rattle.laws_due.proofs.Step.{inputs_are_answered_as_is_due}
 use Rattle.laws_turns.proofs.Up.{acts_up}
-use Rattle.qc_core.specs.Lives.{AreSteady}
 
 module _ (decl : Declaration) (a : ℕ) (client : is_client decl a ≡ true) where
   abbrev pub account_of : List Deed → Account

@@ -1,21 +1,18 @@
 -- In a run with falls what comes to a client is declared, where nobody rises with an epoch without a plan.
 use Rattle.std.proofs.Common.{◌≤◌, ◌<◌, ℕ, Bool, List, []}
-use Rattle.qc_core.specs.Conduct.{IsLawfulWithFalls}
-use Rattle.qc_decl.specs.Accepted.{IsAccepted}
-use Rattle.qc_decl.specs.Actors.{actors, client_actor}
+use Rattle.qc_core.specs.Names.{IsLawfulWithFalls}
+use Rattle.qc_decl.specs.Names.{IsAccepted, actors, client_actor}
 use Rattle.qc_decl.specs.declared.declaration.Declaration.{Declaration}
-use Rattle.laws_turns.specs.Asked.{AsksDeclared}
-use Rattle.qc_link.specs.Limits.{most_actors}
+use Rattle.laws_turns.specs.Names.{AsksDeclared}
+use Rattle.qc_link.specs.Names.{most_actors}
 use Rattle.qc_msg.specs.declared.record.Record.{Record}
-use Rattle.qc_msg.specs.Deeds.{deeds}
-use Rattle.qc_msg.specs.Steps.{Entry}
-use Rattle.qc_promise.specs.Replies.{AreRepliesDue}
-use Rattle.qc_script.specs.RunsWithFalls.{RunsWithFalls}
+use Rattle.qc_msg.specs.Names.{Entry, deeds}
+use Rattle.qc_promise.specs.Names.{AreRepliesDue}
+use Rattle.qc_script.specs.Names.{RunsWithFalls}
 use Rattle.qc_script.specs.declared.script.Script.{Script}
-use Rattle.laws_due.specs.Declares.{Declares}
+use Rattle.laws_due.specs.Names.{AllRisePlanned, Declares}
 use Rattle.laws_due.proofs.Declaring.{all_declared, first_planned}
 use Rattle.laws_due.proofs.PlannedMail.{deeds_planned}
-use Rattle.laws_due.specs.Risen.{AllRisePlanned}
 use Rattle.laws_due.proofs.Clients.{clients_due}
 use Rattle.laws_due.proofs.Commanded.{run_askable}
 use Rattle.laws_due.proofs.MailPlanned.{run_planned}

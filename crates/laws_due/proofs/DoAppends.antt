@@ -10,26 +10,23 @@ use Rattle.std.proofs.lemmas.List.{append-nil, length-map}
 use Rattle.std.proofs.lemmas.List.Elements.{filter-append}
 use Rattle.qc_list.proofs.Members.{every-append}
 use Rattle.qc_decl.specs.declared.declaration.Declaration.{Declaration}
-use Rattle.qc_decl.specs.Limits.{most_transaction_operations}
-use Rattle.qc_decl.specs.Lookup.{append_need_of, read_need_of}
+use Rattle.qc_decl.specs.Names.{append_need_of, most_transaction_operations, read_need_of}
 use Rattle.qc_entry.specs.declared.line.Line.{Line}
 use Rattle.qc_entry.specs.declared.line.OwnLine.{OwnLine}
 use Rattle.qc_entry.proofs.Orders.{line_order}
 use Rattle.qc_plan.specs.declared.standing.Verdict.{Verdict}
 use Rattle.qc_plan.specs.declared.standing.Verdict.TheVariants as verdicts
-use Rattle.qc_plan.specs.Round.{RoundState, asking_all, next_site, verdict, wanted}
+use Rattle.qc_plan.specs.Names.{RoundState, asking_all, next_site, verdict, wanted}
 use Rattle.qc_view.specs.declared.view.View.{View}
 use Rattle.qc_commit.specs.declared.desk.Desk.{Desk}
 use Rattle.qc_front.specs.declared.doing.Doing.{Doing}
 use Rattle.qc_front.specs.declared.doing.Doing.TheVariants.{Idle, Appending}
 use Rattle.qc_front.specs.declared.front.Front.{Front}
 use Rattle.qc_front.specs.declared.transaction.Transaction.{Transaction}
-use Rattle.qc_front.specs.Answering.{with_event}
-use Rattle.qc_front.specs.Appending.{append_want}
-use Rattle.qc_front.specs.Holds.{RecordsHold}
+use Rattle.qc_front.specs.Names.{RecordsHold, append_want, with_event}
 use Rattle.qc_front.specs.Rounds as fronts
 use Rattle.qc_client.specs.declared.client.Client.{Client}
-use Rattle.qc_client.specs.Client.{by_front}
+use Rattle.qc_client.specs.Names.{by_front}
 use Rattle.qc_msg.specs.declared.call.Call.{Call}
 use Rattle.qc_msg.specs.declared.message.Want.{Want}
 use Rattle.qc_msg.specs.declared.message.Want.TheVariants.{Append}
@@ -37,18 +34,12 @@ use Rattle.qc_msg.specs.declared.reply.Half.TheVariants as halves
 use Rattle.qc_msg.specs.declared.reply.Reply.{Reply}
 use Rattle.qc_msg.specs.declared.reply.Reply.TheVariants as replies
 use Rattle.qc_msg.specs.declared.step.Command.TheVariants as commands
-use Rattle.qc_msg.specs.Begun.{with_site}
-use Rattle.qc_msg.specs.Calls.{calls_from}
-use Rattle.qc_msg.specs.Turns.{sending}
-use Rattle.qc_promise.specs.Account.{Account, ClientRequest, Current, is_append, is_read, view_of}
-use Rattle.qc_promise.specs.Accounting.{doomed_if, with_response}
-use Rattle.qc_promise.specs.Asked.{are_reads_met, carries, command_asks, is_met, is_next_voter, is_this, own_appended, same_line, same_own}
-use Rattle.qc_promise.specs.Rounds.{answer_of, asked_by, resp_of}
-use Rattle.qc_promise.specs.Rows.{answer_row, append_row, running_row, read_row}
-use Rattle.laws_due.specs.Calls.{calls_in}
-use Rattle.laws_due.specs.Goes.{Goes}
-use Rattle.laws_due.specs.Told.{IsOpenIn, front_of, transaction_of}
-use Rattle.laws_due.specs.Ties.{IsIdleDesk, Ties, appends}
+use Rattle.qc_msg.specs.Names.{calls_from, sending, with_site}
+use Rattle.qc_promise.specs.Names.{Account, ClientRequest, Current, answer_of, answer_row, append_row, are_reads_met}
+use Rattle.qc_promise.specs.Names.{asked_by, carries, command_asks, doomed_if, is_append, is_met, is_next_voter}
+use Rattle.qc_promise.specs.Names.{is_read, is_this, own_appended, read_row, resp_of, running_row, same_line, same_own}
+use Rattle.qc_promise.specs.Names.{view_of, with_response}
+use Rattle.laws_due.specs.Names.{Goes, IsIdleDesk, IsOpenIn, Ties, appends, calls_in, front_of, transaction_of}
 use Rattle.laws_due.proofs.Nexts.{first_wanted}
 use Rattle.laws_due.proofs.Halves.{clash_asked, closed_asked, round_asked, round_at, round_from, round_one}
 use Rattle.laws_due.proofs.Asks.{asking}

@@ -5,22 +5,21 @@ use Rattle.std.specs.List.{AllByRecursion as Every}
 use Rattle.std.proofs.lemmas.List.Elements.{filter-append}
 use Rattle.qc_list.proofs.Members.{every-append, every-weaker}
 use Rattle.qc_decl.specs.declared.declaration.Declaration.{Declaration}
-use Rattle.qc_decl.specs.Lookup.{append_need_of, read_need_of}
+use Rattle.qc_decl.specs.Names.{append_need_of, read_need_of}
 use Rattle.qc_plan.specs.declared.standing.Verdict.{Verdict}
 use Rattle.qc_plan.specs.declared.standing.Verdict.TheVariants as verdicts
-use Rattle.qc_plan.specs.Round.{RoundState, all_noted, asking_all, has_granted, refusal, settled, verdict, wanted}
-use Rattle.qc_plan.specs.Weights.{weight}
+use Rattle.qc_plan.specs.Names.{RoundState, all_noted, asking_all, has_granted, refusal, settled, verdict, wanted}
+use Rattle.qc_plan.specs.Names.{weight}
 use Rattle.qc_view.specs.declared.view.View.{View}
 use Rattle.qc_commit.specs.declared.desk.Desk.{Desk}
 use Rattle.qc_front.specs.declared.doing.Doing.{Doing}
 use Rattle.qc_front.specs.declared.doing.Doing.TheVariants.{Idle, Reading}
 use Rattle.qc_front.specs.declared.front.Front.{Front}
 use Rattle.qc_front.specs.declared.transaction.Transaction.{Transaction}
-use Rattle.qc_front.specs.Answering.{op_of, with_op}
-use Rattle.qc_front.specs.Appending.{round_for}
+use Rattle.qc_front.specs.Names.{op_of, round_for, with_op}
 use Rattle.qc_front.specs.Rounds as fronts
 use Rattle.qc_client.specs.declared.client.Client.{Client}
-use Rattle.qc_client.specs.Client.{by_front}
+use Rattle.qc_client.specs.Names.{by_front}
 use Rattle.qc_msg.specs.declared.call.Call.{Call}
 use Rattle.qc_msg.specs.declared.message.Answer.{Answer}
 use Rattle.qc_msg.specs.declared.message.Want.{Want}
@@ -28,18 +27,11 @@ use Rattle.qc_msg.specs.declared.message.Want.TheVariants.{Read}
 use Rattle.qc_msg.specs.declared.reply.Half.TheVariants as halves
 use Rattle.qc_msg.specs.declared.reply.Reply.TheVariants as replies
 use Rattle.qc_msg.specs.declared.step.Command.TheVariants as commands
-use Rattle.qc_msg.specs.Begun.{with_site}
-use Rattle.qc_msg.specs.Calls.{calls_from}
-use Rattle.qc_msg.specs.Turns.{sending}
-use Rattle.qc_promise.specs.Account.{Account, ClientRequest, Current, is_append, is_read, requests_for}
-use Rattle.qc_promise.specs.Accounting.{doomed_if, with_absent}
-use Rattle.qc_promise.specs.Asked.{command_asks, is_next_voter}
-use Rattle.qc_promise.specs.Rounds.{answer_of, asked_by, standing_of}
-use Rattle.qc_promise.specs.Rows.{answer_row, read_row}
-use Rattle.laws_due.specs.Calls.{call_of, calls_in}
-use Rattle.laws_due.specs.Goes.{Goes}
-use Rattle.laws_due.specs.Told.{IsOpenIn, front_of, transaction_of}
-use Rattle.laws_due.specs.Ties.{Ties, reads}
+use Rattle.qc_msg.specs.Names.{calls_from, sending, with_site}
+use Rattle.qc_promise.specs.Names.{Account, ClientRequest, Current, answer_of, answer_row, asked_by, command_asks}
+use Rattle.qc_promise.specs.Names.{doomed_if, is_append, is_next_voter, is_read, read_row, requests_for, standing_of}
+use Rattle.qc_promise.specs.Names.{with_absent}
+use Rattle.laws_due.specs.Names.{Goes, IsOpenIn, Ties, call_of, calls_in, front_of, reads, transaction_of}
 use Rattle.laws_due.proofs.DoAppends.{IsNext, Runs, appends_go, due_do, next_one, next_voter, run}
 use Rattle.laws_due.proofs.Asks.{asking}
 use Rattle.laws_due.proofs.Halves.{round_asked, round_at, round_from}

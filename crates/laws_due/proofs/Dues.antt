@@ -21,19 +21,14 @@ use Rattle.qc_msg.specs.declared.reply.Reply.TheVariants as replies
 use Rattle.qc_msg.specs.declared.step.Command.{Command}
 use Rattle.qc_msg.specs.declared.step.Command.TheVariants as commands
 use Rattle.qc_msg.specs.declared.step.Input.TheVariants as inputs
-use Rattle.qc_msg.specs.Deeds.{Deed, Takes, Writes, Sends, Tells, Falls, Rises}
-use Rattle.qc_core.specs.Lives.{AreSteady, IsSteady}
-use Rattle.qc_promise.specs.Account.{Account, ClientRequest, Current, new_account}
+use Rattle.qc_msg.specs.Names.{Deed, Falls, Rises, Sends, Takes, Tells, Writes}
+use Rattle.qc_core.specs.Names.{AreSteady, IsSteady}
+use Rattle.qc_promise.specs.Names.{Account, ClientRequest, Current, IsInputDue, IsRecordDue, account_at, answer_of, due}
+use Rattle.qc_promise.specs.Names.{is_asked_for, is_declared_for, new_account, pending_next, reply_to, row_of}
+use Rattle.qc_promise.specs.Names.{running_row}
 use Rattle.qc_promise.specs.Accounting as accounting
-use Rattle.qc_promise.specs.Accounting.{account_at}
-use Rattle.qc_promise.specs.Asked.{is_asked_for}
-use Rattle.qc_promise.specs.Posts.{pending_next}
 use Rattle.qc_promise.specs.Replies as promise
-use Rattle.qc_promise.specs.Replies.{IsInputDue, IsRecordDue}
-use Rattle.qc_promise.specs.Rounds.{answer_of}
-use Rattle.qc_promise.specs.Rows.{due, is_declared_for, reply_to, row_of, running_row}
-use Rattle.laws_due.specs.ByRows.{AreByRows, IsByRow}
-use Rattle.laws_due.specs.Declares.{Declares, IsDeclaredCommand, IsDeclaredDeed, IsPlanned}
+use Rattle.laws_due.specs.Names.{AreByRows, Declares, IsByRow, IsDeclaredCommand, IsDeclaredDeed, IsPlanned}
 
 -- an account of a client that is up, which knows, has begun and runs what is declared
 

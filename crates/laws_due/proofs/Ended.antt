@@ -6,20 +6,16 @@ use Rattle.std.specs.Prelude.{is_none, replicate}
 use Rattle.std.specs.List.{list_all}
 use Rattle.qc_decl.proofs.Clients.{client_within}
 use Rattle.qc_client.specs.declared.client.Client.{Client}
-use Rattle.qc_client.specs.Conduct.{client_after}
+use Rattle.qc_client.specs.Names.{client_after}
 use Rattle.qc_commit.specs.declared.desk.Desk.{Desk}
 use Rattle.qc_commit.specs.declared.desk.Voting.{Voting}
-use Rattle.qc_core.specs.Acts.{Acts, is_running}
-use Rattle.qc_core.specs.Conduct.{IsLawful}
+use Rattle.qc_core.specs.Names.{Acts, IsLawful, is_running}
 use Rattle.qc_decl.specs.declared.declaration.Declaration.{Declaration}
-use Rattle.qc_decl.specs.Accepted.{IsAccepted}
-use Rattle.qc_decl.specs.Actors.{actors, is_client}
+use Rattle.qc_decl.specs.Names.{IsAccepted, actors, is_client}
 use Rattle.qc_front.specs.Going as going
 use Rattle.qc_front.proofs.Goes.{waits}
-use Rattle.laws_turns.specs.Asked.{AsksDeclared}
+use Rattle.laws_turns.specs.Names.{ActsIn, AsksDeclared, IsClosed, IsQuiet, IsWhole, calls_of, replies_of}
 use Rattle.laws_turns.specs.Calls as laws
-use Rattle.laws_turns.specs.Turns.{ActsIn}
-use Rattle.laws_turns.specs.Whole.{IsClosed, IsQuiet, IsWhole, calls_of, replies_of}
 use Rattle.laws_turns.proofs.Acted.{has_entry, run_acts}
 use Rattle.laws_turns.proofs.Busy.{run_waits}
 use Rattle.laws_turns.proofs.Ends.{none_open}
@@ -27,14 +23,11 @@ use Rattle.laws_turns.proofs.Ordered.{run_replied}
 use Rattle.laws_turns.proofs.Places.{replicate_at}
 use Rattle.laws_turns.proofs.WholeLaw.{is_whole}
 use Rattle.qc_msg.specs.declared.message.Answer.{Answer}
-use Rattle.qc_msg.specs.Deeds.{Deed, deeds}
-use Rattle.qc_msg.specs.Steps.{Entry}
-use Rattle.qc_promise.specs.Account.{Account, ClientRequest}
+use Rattle.qc_msg.specs.Names.{Deed, Entry, deeds}
+use Rattle.qc_promise.specs.Names.{Account, ClientRequest}
 use Rattle.qc_script.specs.declared.script.Script.{Script}
-use Rattle.qc_script.specs.Ready.{controls_left, phase_of}
-use Rattle.laws_due.specs.Calls.{call_of, calls_in}
-use Rattle.laws_due.specs.Goes.{Holds}
-use Rattle.laws_due.specs.Ties.{Ties, appends, reads, rests, votes}
+use Rattle.qc_script.specs.Names.{controls_left, phase_of}
+use Rattle.laws_due.specs.Names.{Holds, Ties, appends, call_of, calls_in, reads, rests, votes}
 use Rattle.laws_due.proofs.Courses.{clients_hold, clients_tied}
 
 -- while a commit waits for votes, one of its requests is open

@@ -4,23 +4,18 @@ use Rattle.std.proofs.Common.{length, map, max, replicate, Option, Some, None, r
 use Rattle.std.specs.Prelude.{slice_get}
 use Rattle.qc_stamp.specs.declared.stamp.TxId.{TxId}
 use Rattle.qc_decl.specs.declared.declaration.Declaration.{Declaration}
-use Rattle.qc_decl.specs.Limits.{most_transaction_operations}
-use Rattle.qc_decl.specs.Lookup.{read_need_of}
+use Rattle.qc_decl.specs.Names.{most_transaction_operations, read_need_of}
 use Rattle.qc_view.specs.declared.view.View.{View}
-use Rattle.qc_view.specs.View.{empty_view}
+use Rattle.qc_view.specs.Names.{empty_view}
 use Rattle.qc_commit.specs.declared.desk.Desk.{Desk}
 use Rattle.qc_commit.specs.Conduct as desks
-use Rattle.qc_commit.specs.Desk.{DeskMove, moved as desk_moved}
-use Rattle.qc_commit.specs.Votes.{blank, participants as desk_participants, prepares}
+use Rattle.qc_commit.specs.Names.{DeskMove, blank, moved as desk_moved, participants as desk_participants, prepares}
 use Rattle.qc_front.specs.declared.doing.Doing.TheVariants.{Idle}
 use Rattle.qc_front.specs.declared.transaction.Transaction.{Transaction}
-use Rattle.qc_front.specs.Appending.{round_for}
+use Rattle.qc_front.specs.Names.{RecordsHold, fresh, gives_up, moved as front_moved, performs, reads, round_for}
 use Rattle.qc_front.specs.Conduct as fronts
-use Rattle.qc_front.specs.Front.{fresh, gives_up, moved as front_moved}
-use Rattle.qc_front.specs.Holds.{RecordsHold}
-use Rattle.qc_front.specs.Rounds.{performs, reads}
 use Rattle.qc_client.specs.declared.client.Client.{Client}
-use Rattle.qc_client.specs.Client.{by_desk, by_front}
+use Rattle.qc_client.specs.Names.{by_desk, by_front}
 use Rattle.qc_client.specs.Conduct as clients
 use Rattle.qc_msg.specs.declared.message.Outcome.TheVariants as outcomes
 use Rattle.qc_msg.specs.declared.reply.Reply.{Reply}
@@ -28,14 +23,11 @@ use Rattle.qc_msg.specs.declared.reply.Reply.TheVariants as replies
 use Rattle.qc_msg.specs.declared.reply.AbortCause.TheVariants as causes
 use Rattle.qc_msg.specs.declared.step.Command.{Command}
 use Rattle.qc_msg.specs.declared.step.Command.TheVariants as commands
-use Rattle.qc_msg.specs.Turns.{quiet, sending, telling}
-use Rattle.qc_plan.specs.Round.{verdict}
-use Rattle.qc_promise.specs.Account.{Account, Current, is_read, new_current, view_of}
-use Rattle.qc_promise.specs.Rounds.{participants}
-use Rattle.qc_promise.specs.Rows.{running_row, read_row, vote_row}
-use Rattle.laws_due.specs.Goes.{Goes}
-use Rattle.laws_due.specs.Told.{begun_of, transaction_of}
-use Rattle.laws_due.specs.Ties.{IsIdleDesk, Ties, rests}
+use Rattle.qc_msg.specs.Names.{quiet, sending, telling}
+use Rattle.qc_plan.specs.Names.{verdict}
+use Rattle.qc_promise.specs.Names.{Account, Current, is_read, new_current, participants, read_row, running_row, view_of}
+use Rattle.qc_promise.specs.Names.{vote_row}
+use Rattle.laws_due.specs.Names.{Goes, IsIdleDesk, Ties, begun_of, rests, transaction_of}
 use Rattle.laws_due.proofs.Commits.{decides_go, votes_start, voting_desk}
 use Rattle.laws_due.proofs.DoAppends.{run}
 use Rattle.laws_due.proofs.DoReads.{reads_go}

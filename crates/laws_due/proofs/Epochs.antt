@@ -5,13 +5,12 @@ use Rattle.std.specs.List.{AllByRecursion as Every, fold}
 use Rattle.qc_stamp.specs.declared.stamp.Stamp.{Stamp}
 use Rattle.qc_stamp.specs.declared.stamp.TxId.{TxId}
 use Rattle.qc_decl.specs.declared.declaration.Declaration.{Declaration}
-use Rattle.qc_decl.specs.Limits.{most_record_bytes}
+use Rattle.qc_decl.specs.Names.{most_record_bytes}
 use Rattle.qc_entry.specs.declared.line.Line.{Line}
 use Rattle.qc_entry.specs.declared.line.OwnLine.{OwnLine}
 use Rattle.qc_entry.specs.declared.record.Prepared.{Prepared}
 use Rattle.qc_lock.specs.declared.clash.Clash.{Clash as Conflict}
-use Rattle.qc_lock.specs.Clash.{append_clash, read_clash}
-use Rattle.qc_lock.specs.Held.{is_held}
+use Rattle.qc_lock.specs.Names.{append_clash, is_held, read_clash}
 use Rattle.qc_msg.specs.declared.message.Answer.{Answer}
 use Rattle.qc_msg.specs.declared.message.Answer.TheVariants as answers
 use Rattle.qc_msg.specs.declared.message.Message.{Message}
@@ -26,20 +25,14 @@ use Rattle.qc_msg.specs.declared.step.Input.{Input}
 use Rattle.qc_msg.specs.declared.step.Input.TheVariants as inputs
 use Rattle.qc_msg.specs.declared.turn.Posting.{Posting}
 use Rattle.qc_msg.specs.declared.turn.Turn.{Turn}
-use Rattle.qc_msg.specs.Deeds.{Deed, Takes, Writes, Sends, Tells, Falls, Rises}
-use Rattle.qc_msg.specs.Readings.{closed_in}
-use Rattle.qc_msg.specs.Turns.{quiet, sending}
-use Rattle.qc_site.specs.Conduct.{passed, site_at, site_does, site_on, site_takes}
-use Rattle.qc_site.specs.Epochs.{closed, shut_answer}
-use Rattle.qc_site.specs.Promise.{finishes, is_prepared, joins, prepare_length, prepared_of, prepares, promise_of}
-use Rattle.qc_site.specs.Promise.{promises}
-use Rattle.qc_site.specs.Requests.{appends_by, closed_fault, fault_of, grants, names_declared, reads_by, relation_at}
-use Rattle.qc_site.specs.Requests.{requested}
-use Rattle.qc_site.specs.Site.{SiteMove, SiteState, moved, recording}
+use Rattle.qc_msg.specs.Names.{Deed, Falls, Rises, Sends, Takes, Tells, Writes, closed_in, quiet, sending}
+use Rattle.qc_site.specs.Names.{SiteMove, SiteState, appends_by, closed, closed_fault, fault_of, finishes, grants}
+use Rattle.qc_site.specs.Names.{is_prepared, joins, moved, names_declared, passed, prepare_length, prepared_of}
+use Rattle.qc_site.specs.Names.{prepares, promise_of, promises, reads_by, recording, relation_at, requested}
+use Rattle.qc_site.specs.Names.{shut_answer, site_at, site_does, site_on, site_takes}
 use Rattle.qc_site.proofs.Cases.{close_rows, install_rows, state_cases}
 use Rattle.laws_turns.proofs.OwnStamps.{by_two}
-use Rattle.laws_due.specs.Declares.{ArePlanned, IsPlanned}
-use Rattle.laws_due.specs.Planned.{IsRecordPlanned}
+use Rattle.laws_due.specs.Names.{ArePlanned, IsPlanned, IsRecordPlanned}
 
 -- an epoch that is told has a plan, and so has one that is to be closed for or installed
 

@@ -8,23 +8,21 @@ use Rattle.qc_stamp.specs.declared.stamp.TxId.{TxId}
 use Rattle.qc_decl.specs.declared.declaration.Declaration.{Declaration}
 use Rattle.qc_commit.specs.declared.desk.Voting.{Voting}
 use Rattle.qc_commit.specs.Conduct as desks
-use Rattle.qc_commit.specs.Desk.{DeskMove}
+use Rattle.qc_commit.specs.Names.{DeskMove}
 use Rattle.qc_commit.proofs.Moves.{IsMove, IsPrepare, IsPromiseWanted, prepare-moves, tx_of, vote-moves}
 use Rattle.qc_front.specs.declared.doing.Doing.{Doing}
 use Rattle.qc_front.specs.declared.doing.Doing.TheVariants.{Idle, Reading, Appending}
 use Rattle.qc_front.specs.declared.front.Front.{Front}
 use Rattle.qc_front.specs.declared.transaction.Transaction.{Transaction}
-use Rattle.qc_front.specs.Appending.{append_want, read_want, request_of}
+use Rattle.qc_front.specs.Names.{AsksAll, AsksAtOnce, AsksIn, AsksNobody, FrontHolds, FrontMove, IsNumbered}
+use Rattle.qc_front.specs.Names.{append_want, ended, is_request, numbered_all, numbered_one, read_want, request_of}
 use Rattle.qc_front.specs.Conduct as fronts
-use Rattle.qc_front.specs.Front.{FrontMove, ended}
-use Rattle.qc_front.specs.Holds.{FrontHolds, IsNumbered}
-use Rattle.qc_front.specs.Requests.{AsksAll, AsksAtOnce, AsksIn, AsksNobody, is_request, numbered_all, numbered_one}
 use Rattle.qc_front.proofs.AtOnce.{called_at_once, takes_at_once}
 use Rattle.qc_front.proofs.Keeping.{called_holds, ended_holds, takes_holds}
 use Rattle.qc_front.proofs.Numbering.{sent_holds}
 use Rattle.qc_client.specs.declared.client.Client.{Client}
-use Rattle.qc_client.specs.Client.{ClientMove, by_desk, by_front, moved}
-use Rattle.qc_client.specs.Conduct.{answered, answered_by, called, client_does, client_takes, commits, heard, sent_one}
+use Rattle.qc_client.specs.Names.{ClientMove, answered, answered_by, by_desk, by_front, called, client_does}
+use Rattle.qc_client.specs.Names.{client_takes, commits, heard, moved, sent_one}
 use Rattle.qc_msg.specs.declared.begun.Begun.{Begun}
 use Rattle.qc_msg.specs.declared.call.Call.{Call}
 use Rattle.qc_msg.specs.declared.message.Answer.{Answer}
@@ -42,9 +40,9 @@ use Rattle.qc_msg.specs.declared.step.Input.{Input}
 use Rattle.qc_msg.specs.declared.step.Input.TheVariants as inputs
 use Rattle.qc_msg.specs.declared.turn.Posting.{Posting}
 use Rattle.qc_msg.specs.declared.turn.Turn.{Turn}
-use Rattle.qc_msg.specs.Deeds.{sends_of, tells_of, turn_deeds, writes_of}
-use Rattle.qc_plan.specs.Round.{RoundState}
-use Rattle.laws_due.specs.Goes.{Holds}
+use Rattle.qc_msg.specs.Names.{sends_of, tells_of, turn_deeds, writes_of}
+use Rattle.qc_plan.specs.Names.{RoundState}
+use Rattle.laws_due.specs.Names.{Holds}
 
 -- a turn's record and reply are nothing to the client
 

@@ -3,16 +3,14 @@ use Rattle.std.proofs.Common.{◌≡◌, ℕ, ◌-◌, Bool, true, false, cond, 
 use Rattle.std.specs.Prelude.{fold, option_and_then}
 use Rattle.qc_core.proofs.ByNumber.{client_risen}
 use Rattle.qc_core.specs.declared.actor.Actor.{Actor}
-use Rattle.qc_core.specs.Actors.{ActorMove, actor_after, actor_does, actor_takes, by_client}
-use Rattle.qc_core.specs.Acts.{MayTake}
-use Rattle.qc_core.specs.Conduct.{IsLawfulWithFalls, with_record}
-use Rattle.qc_core.specs.Lives.{is_up}
-use Rattle.qc_msg.specs.Steps.{IsByDisk, MayEnd}
+use Rattle.qc_core.specs.Names.{ActorMove, IsLawfulWithFalls, MayTake, actor_after, actor_does, actor_takes, by_client}
+use Rattle.qc_core.specs.Names.{is_up, with_record}
+use Rattle.qc_msg.specs.Names.{Deed, Falls, IsByDisk, MayEnd, Rises, Takes, Tells, Writes, deeds_as, first_epoch}
+use Rattle.qc_msg.specs.Names.{sends_of, telling, tells_of, turn_deeds, writes_of}
 use Rattle.qc_core.proofs.Steady.{turn_steady}
-use Rattle.qc_client.specs.Client.{ClientMove}
-use Rattle.qc_client.specs.Conduct.{client_does, client_takes}
+use Rattle.qc_client.specs.Names.{ClientMove, client_does, client_takes}
 use Rattle.qc_decl.specs.declared.declaration.Declaration.{Declaration}
-use Rattle.qc_decl.specs.Actors.{is_client}
+use Rattle.qc_decl.specs.Names.{is_client}
 use Rattle.qc_entry.specs.declared.record.Commit.{Commit}
 use Rattle.laws_turns.proofs.Up.{turn_up}
 use Rattle.qc_msg.specs.declared.record.Record.{Record}
@@ -27,20 +25,12 @@ use Rattle.qc_msg.specs.declared.step.Input.TheVariants as inputs
 use Rattle.qc_msg.specs.declared.turn.Appended.{Appended}
 use Rattle.qc_msg.specs.declared.turn.Appended.TheVariants.{Done, Failed, Stopped}
 use Rattle.qc_msg.specs.declared.turn.Turn.{Turn}
-use Rattle.qc_msg.specs.Begun.{first_epoch}
-use Rattle.qc_msg.specs.Deeds.{Deed, Takes, Writes, Tells, Falls, Rises, deeds_as, sends_of, tells_of, turn_deeds, writes_of}
-use Rattle.qc_msg.specs.Turns.{telling}
-use Rattle.qc_promise.specs.Account.{Account, account_with}
-use Rattle.qc_promise.specs.Accounting.{account_at, account_taken}
-use Rattle.qc_promise.specs.Posts.{Act, IsPostOf, Wrote, fallen_in, pending_next, posted_due}
-use Rattle.qc_promise.specs.Replies.{AreDeedsDue, IsInputDue, IsRecordDue, IsReplyDue, rising_turn}
-use Rattle.qc_promise.specs.Rows.{due, is_declared_for, reply_to, row_of, running_row}
-use Rattle.qc_recover.specs.Clients.{client_rises}
-use Rattle.qc_recover.specs.Sites.{rising}
+use Rattle.qc_promise.specs.Names.{Account, Act, AreDeedsDue, IsInputDue, IsPostOf, IsRecordDue, IsReplyDue, Wrote}
+use Rattle.qc_promise.specs.Names.{account_at, account_taken, account_with, due, fallen_in, is_declared_for}
+use Rattle.qc_promise.specs.Names.{pending_next, posted_due, reply_to, rising_turn, row_of, running_row}
+use Rattle.qc_recover.specs.Names.{client_rises, rising}
 use Rattle.laws_due.specs.ByRows as rows
-use Rattle.laws_due.specs.Declares.{IsDeclaredDeed, IsPlanned}
-use Rattle.laws_due.specs.Goes.{Goes}
-use Rattle.laws_due.specs.Ties.{Ties}
+use Rattle.laws_due.specs.Names.{Goes, IsDeclaredDeed, IsPlanned, Ties}
 use Rattle.laws_due.proofs.Anew.{begins_anew}
 use Rattle.laws_due.proofs.Commands.{free_for}
 use Rattle.laws_due.proofs.Dues.{IsWithin, due_as, due_then, none_due, within_all, within_at}

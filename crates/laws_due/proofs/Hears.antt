@@ -4,36 +4,31 @@ use Rattle.std.specs.Prelude.{is_none}
 use Rattle.std.specs.List.{find, AllByRecursion as Every}
 use Rattle.qc_list.proofs.Members.{every-In, every-weaker}
 use Rattle.qc_decl.specs.declared.declaration.Declaration.{Declaration}
-use Rattle.qc_decl.specs.Lookup.{append_need_of, read_need_of}
+use Rattle.qc_decl.specs.Names.{append_need_of, read_need_of}
 use Rattle.qc_entry.specs.declared.line.Line.{Line}
 use Rattle.qc_plan.specs.declared.standing.Verdict.TheVariants as verdicts
-use Rattle.qc_plan.specs.Round.{RoundState, all_noted, note, verdict}
+use Rattle.qc_plan.specs.Names.{RoundState, all_noted, note, verdict}
 use Rattle.qc_view.specs.declared.view.View.{View}
 use Rattle.qc_commit.specs.declared.desk.Desk.{Desk}
 use Rattle.qc_front.specs.declared.doing.Doing.TheVariants.{Reading, Appending}
 use Rattle.qc_front.specs.declared.front.Front.{Front}
 use Rattle.qc_front.specs.declared.transaction.Transaction.{Transaction}
-use Rattle.qc_front.specs.Answering.{with_granted}
-use Rattle.qc_front.specs.Conduct.{append_counts, appending_takes, read_counts, reading_takes, takes}
-use Rattle.qc_front.specs.Counting.{learns, read_with}
-use Rattle.qc_front.specs.Holds.{RecordsHold}
+use Rattle.qc_front.specs.Names.{RecordsHold, append_counts, appending_takes, learns, read_counts, read_with}
+use Rattle.qc_front.specs.Names.{reading_takes, takes, with_granted}
 use Rattle.qc_front.specs.Rounds as fronts
 use Rattle.qc_front.proofs.Recording.{read_recorded}
 use Rattle.qc_client.specs.declared.client.Client.{Client}
-use Rattle.qc_client.specs.Client.{by_front}
+use Rattle.qc_client.specs.Names.{by_front}
 use Rattle.qc_msg.specs.declared.call.Call.{Call}
 use Rattle.qc_msg.specs.declared.message.Answer.{Answer}
 use Rattle.qc_msg.specs.declared.message.Answer.TheVariants as answers
 use Rattle.qc_msg.specs.declared.message.Want.{Want}
 use Rattle.qc_msg.specs.declared.message.Want.TheVariants.{Read, Append, Prepare}
-use Rattle.qc_msg.specs.Calls.{without_call}
-use Rattle.qc_promise.specs.Account.{Account, ClientRequest, Current, is_append, is_read}
-use Rattle.qc_promise.specs.Accounting.{counted, counted_for, granted, is_open, lived, promised, taken_for, told_by, with_read}
-use Rattle.qc_promise.specs.Rounds.{answer_of, standing_of}
-use Rattle.qc_promise.specs.Rows.{append_row, read_row}
-use Rattle.laws_due.specs.Calls.{AreApart, calls_in}
-use Rattle.laws_due.specs.Goes.{Goes}
-use Rattle.laws_due.specs.Told.{IsBegun, IsOpenIn, front_of, transaction_of}
+use Rattle.qc_msg.specs.Names.{without_call}
+use Rattle.qc_promise.specs.Names.{Account, ClientRequest, Current, answer_of, append_row, counted, counted_for}
+use Rattle.qc_promise.specs.Names.{granted, is_append, is_open, is_read, lived, promised, read_row, standing_of}
+use Rattle.qc_promise.specs.Names.{taken_for, told_by, with_read}
+use Rattle.laws_due.specs.Names.{AreApart, Goes, IsBegun, IsOpenIn, calls_in, front_of, transaction_of}
 use Rattle.laws_due.proofs.DoAppends.{Runs, appends_go, appends_tie, due_do, row_is, run}
 use Rattle.laws_due.proofs.DoReads.{IsRead, open_read, reads_go, reads_tie}
 use Rattle.laws_due.proofs.Halves.{round_at, round_from, round_taken, waiting_verdict}

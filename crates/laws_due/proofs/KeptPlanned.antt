@@ -6,13 +6,12 @@ use Rattle.std.specs.List.{AllByRecursion as Every}
 use Rattle.laws_turns.proofs.Proper.{IsAskableDeed}
 use Rattle.laws_due.proofs.Commanded.{run_askable}
 use Rattle.qc_list.proofs.Members.{every-weaker}
-use Rattle.qc_core.specs.Conduct.{IsLawfulWithFalls}
-use Rattle.qc_decl.specs.Accepted.{IsAccepted}
-use Rattle.qc_decl.specs.Actors.{actors}
+use Rattle.qc_core.specs.Names.{IsLawfulWithFalls}
+use Rattle.qc_decl.specs.Names.{IsAccepted, actors}
 use Rattle.qc_decl.specs.declared.declaration.Declaration.{Declaration}
-use Rattle.laws_turns.specs.Asked.{AsksDeclared}
+use Rattle.laws_turns.specs.Names.{AsksDeclared}
 use Rattle.laws_turns.proofs.Mailed.{both_all}
-use Rattle.qc_link.specs.Limits.{most_actors}
+use Rattle.qc_link.specs.Names.{most_actors}
 use Rattle.laws_turns.proofs.FallKept.{kept_rises}
 use Rattle.qc_msg.specs.declared.record.Record.{Record}
 use Rattle.qc_msg.specs.declared.reply.Reply.{Reply}
@@ -27,19 +26,15 @@ use Rattle.qc_msg.specs.declared.turn.Appended.{Appended}
 use Rattle.qc_msg.specs.declared.turn.Appended.TheVariants.{Done, Failed, Stopped}
 use Rattle.qc_msg.specs.declared.turn.Posting.{Posting}
 use Rattle.qc_msg.specs.declared.turn.Turn.{Turn}
-use Rattle.qc_msg.specs.Deeds.{deeds, mail, own}
-use Rattle.qc_msg.specs.Steps.{Entry, by, fell, marked, posted_as, sents, step_of, told, wrote}
-use Rattle.qc_promise.specs.Due.{Due}
-use Rattle.qc_promise.specs.Kept.{IsGivenBack, Journal, Kept, journal_of, journal_with, no_journal, pending_with}
-use Rattle.qc_script.specs.Ready.{controller_step}
-use Rattle.qc_script.specs.RunsWithFalls.{RunsWithFalls, begins, takes, posts, phase, control, falls, rises, damaged}
-use Rattle.qc_script.specs.RunsWithFalls.{unopened}
+use Rattle.qc_msg.specs.Names.{Entry, by, deeds, fell, mail, marked, own, posted_as, sents, step_of, told, wrote}
+use Rattle.qc_promise.specs.Names.{Due, IsGivenBack, Journal, Kept, journal_of, journal_with, no_journal, pending_with}
+use Rattle.qc_script.specs.Names.{RunsWithFalls, begins, control, controller_step, damaged, falls, phase, posts, rises}
+use Rattle.qc_script.specs.Names.{takes, unopened}
 use Rattle.qc_script.specs.declared.script.Script.{Script}
-use Rattle.laws_due.specs.Planned.{IsRecordPlanned}
+use Rattle.laws_due.specs.Names.{AllRisePlanned, IsRecordPlanned, RisesPlanned}
 use Rattle.laws_due.proofs.Declaring.{first_planned}
 use Rattle.laws_due.proofs.PlannedMail.{IsMailPlanned, deeds_planned}
 use Rattle.qc_inbox.proofs.Keeping.{same_mail}
-use Rattle.laws_due.specs.Risen.{AllRisePlanned, RisesPlanned}
 use Rattle.laws_due.proofs.AllDue.{runs_due}
 use Rattle.laws_due.proofs.MailPlanned.{deeds_risen, lawful_writes, rise_askable, run_planned}
 

@@ -2,23 +2,21 @@
 use Rattle.std.proofs.Common.{◌≡◌, ℕ, ◌+◌, ◌-◌, ◌==◌, Bool, true, false, cond, List, [], ◌∷◌, ◌++◌, length, Option, Some, None, slice_get, inl, inr, refl, sym, subst, append_assoc}
 use Rattle.std.specs.Prelude.{fold, option_to_list}
 use Rattle.std.specs.List.{AllByRecursion as Every}
-use Rattle.qc_core.specs.Actors.{by_admin}
-use Rattle.qc_recover.specs.Admins.{admin_rises}
-use Rattle.qc_epoch.specs.Admin.{new_admin}
+use Rattle.qc_core.specs.Names.{ActorMove, IsLawfulWithFalls, actor_does, actor_rises, actor_sends, actor_takes}
+use Rattle.qc_core.specs.Names.{by_admin, by_client, by_site, moved, new_actor, with_record}
+use Rattle.qc_recover.specs.Names.{admin_rises, client_rises, site_rises}
+use Rattle.qc_epoch.specs.Names.{new_admin}
 use Rattle.laws_turns.proofs.Lived.{deeds-rise}
-use Rattle.laws_turns.specs.Asked.{AsksDeclared}
+use Rattle.laws_turns.specs.Names.{AsksDeclared}
 use Rattle.laws_turns.proofs.Proper.{IsAskableDeed}
 use Rattle.laws_due.proofs.Commanded.{run_askable}
 use Rattle.laws_due.proofs.AdminEpochs.{AdminMovePlanned, AdminPlanned, IsPlannedInput, admin_planned, input_planned, new_admin_planned, risen_admin_planned, sent_planned}
-use Rattle.qc_client.specs.Client.{new_client}
-use Rattle.qc_client.specs.Conduct.{client_takes}
+use Rattle.qc_client.specs.Names.{client_takes, new_client}
 use Rattle.qc_core.specs.declared.actor.Actor.{Actor}
 use Rattle.qc_core.specs.declared.actor.Actor.TheVariants as actor
-use Rattle.qc_core.specs.Actors.{ActorMove, actor_does, actor_rises, actor_sends, actor_takes, by_client, by_site, moved, new_actor}
-use Rattle.qc_core.specs.Conduct.{IsLawfulWithFalls, with_record}
 use Rattle.qc_core.proofs.ByTurns.{called_turn}
 use Rattle.qc_core.proofs.Written.{client_written}
-use Rattle.qc_decl.specs.Actors.{controller, is_client, is_site}
+use Rattle.qc_decl.specs.Names.{controller, is_client, is_site}
 use Rattle.qc_decl.specs.declared.declaration.Declaration.{Declaration}
 use Rattle.qc_inbox.proofs.Keeping.{same_mail}
 use Rattle.laws_turns.proofs.Mailed.{both_all}
@@ -35,25 +33,19 @@ use Rattle.qc_msg.specs.declared.step.Step.TheVariants as steps
 use Rattle.qc_msg.specs.declared.turn.Appended.{Appended}
 use Rattle.qc_msg.specs.declared.turn.Appended.TheVariants.{Done, Failed, Stopped}
 use Rattle.qc_msg.specs.declared.turn.Turn.{Turn}
-use Rattle.qc_msg.specs.Begun.{first_epoch}
-use Rattle.qc_msg.specs.Deeds.{Deed, Takes, Writes, Sends, Tells, Falls, Rises, deed_at, deeds, envelope_of, heard, mail}
-use Rattle.qc_msg.specs.Steps.{Entry, by, marked, posted_as, sends_as}
-use Rattle.qc_msg.specs.Turns.{quiet}
+use Rattle.qc_msg.specs.Names.{Deed, Entry, Falls, Rises, Sends, Takes, Tells, Writes, by, deed_at, deeds, envelope_of}
+use Rattle.qc_msg.specs.Names.{first_epoch, heard, mail, marked, posted_as, quiet, sends_as}
 use Rattle.qc_msg.proofs.GrownMail.{mail-append, mail-taken}
 use Rattle.qc_msg.proofs.Growth.{mail-posted_as}
-use Rattle.qc_recover.specs.Clients.{client_rises}
-use Rattle.qc_recover.specs.Sites.{site_rises}
-use Rattle.qc_script.specs.Ready.{controller_step, phase_of}
-use Rattle.qc_script.specs.RunsWithFalls.{RunsWithFalls, begins, takes, posts, phase, control, falls, rises, damaged, unopened}
+use Rattle.qc_script.specs.Names.{RunsWithFalls, begins, control, controller_step, damaged, falls, phase, phase_of}
+use Rattle.qc_script.specs.Names.{posts, rises, takes, unopened}
 use Rattle.qc_script.specs.declared.script.Script.{Script}
-use Rattle.qc_site.specs.Site.{new_site}
-use Rattle.laws_due.specs.Declares.{IsPlanned}
-use Rattle.laws_due.specs.Planned.{IsRecordPlanned}
+use Rattle.qc_site.specs.Names.{new_site}
+use Rattle.laws_due.specs.Names.{AllRisePlanned, IsPlanned, IsRecordPlanned, RisesPlanned}
 use Rattle.laws_due.proofs.Epochs.{DeedPlanned, SitePlanned, TakesPlanned, TellPlanned, TellsPlanned, TurnPlanned, says_nothing, takes_planned, takes_stay_planned}
 use Rattle.laws_due.proofs.ClientEpochs.{client_takes_planned}
 use Rattle.laws_due.proofs.PlannedMail.{IsMailPlanned, deeds_planned, envelopes_planned}
 use Rattle.laws_due.proofs.Writing.{IsClientTurn, takes_turn}
-use Rattle.laws_due.specs.Risen.{AllRisePlanned, RisesPlanned}
 use Rattle.laws_due.proofs.SiteRises.{rises_planned, rising_planned}
 
 -- an actor over its deeds

@@ -5,9 +5,9 @@ use Rattle.std.specs.List.{AllByRecursion as Every, filter_map}
 use Rattle.std.proofs.lemmas.List.{append-nil}
 use Rattle.std.proofs.lemmas.List.Elements.{filter_map-append}
 use Rattle.std.proofs.lemmas.List.Sums.{fold-append}
-use Rattle.qc_core.specs.Acts.{is_running, runs_at}
-use Rattle.laws_turns.specs.Whole.{call_in, calls_of}
-use Rattle.qc_link.specs.Cuts.{with_cut, without_cut}
+use Rattle.qc_core.specs.Names.{is_running, runs_at}
+use Rattle.laws_turns.specs.Names.{call_in, calls_of}
+use Rattle.qc_link.specs.Names.{with_cut, without_cut}
 use Rattle.qc_link.specs.declared.rule.Fate.{Fate}
 use Rattle.qc_msg.specs.declared.message.Envelope.{Envelope}
 use Rattle.qc_msg.specs.declared.message.Message.{Message}
@@ -22,12 +22,13 @@ use Rattle.qc_msg.specs.declared.turn.Appended.{Appended}
 use Rattle.qc_msg.specs.declared.turn.Appended.TheVariants.{Done, Failed, Stopped}
 use Rattle.qc_msg.specs.declared.turn.Posting.{Posting}
 use Rattle.qc_msg.specs.declared.turn.Turn.{Turn}
-use Rattle.qc_msg.specs.Deeds.{deed_at, deeds, heard, mail}
-use Rattle.qc_msg.specs.Steps.{Entry, by, fell, posted_as, sents, told, wrote}
+use Rattle.qc_msg.specs.Names.{Entry, by, deed_at, deeds, fell, heard, mail, posted_as, sents, told, wrote}
 use Rattle.qc_msg.proofs.Growth.{deeds-append}
-use Rattle.qc_script.specs.Inbox.{Inbox, acting, actor_fell, answers_by, comes, comes_at_once, control_acted, copy_taken, emptied, empty_inbox, goes, goes_with, inbox, inbox_at, is_by_line, is_request, is_up, loss_taken, opened, opened_by, reply_told, with_copies}
-use Rattle.qc_script.specs.Requests.{has_request, requests_to, requests_to_others, with_lost}
-use Rattle.qc_script.specs.Ready.{controller_step, phase_at, phase_of}
+use Rattle.qc_script.specs.Names.{Inbox, acting, actor_fell, answers_by, comes, comes_at_once, control_acted}
+use Rattle.qc_script.specs.Names.{controller_step, copy_taken, emptied, empty_inbox, goes, goes_with, has_request}
+use Rattle.qc_script.specs.Names.{inbox, inbox_at, is_by_line, is_request, is_up, loss_taken, opened, opened_by}
+use Rattle.qc_script.specs.Names.{phase_at, phase_of, reply_told, requests_to, requests_to_others, with_copies}
+use Rattle.qc_script.specs.Names.{with_lost}
 use Rattle.qc_script.specs.declared.script.Script.{Script}
 
 abbrev pub IsPlain : Step → Type 0

@@ -3,21 +3,18 @@ use Rattle.std.proofs.Common.{◌≡◌, ℕ, ◌+◌, ◌<◌, ◌≤◌, ◌==
 use Rattle.std.specs.Prelude.{fold, slice_set}
 use Rattle.std.proofs.lemmas.Bool.{eq-eqb, eqb-true}
 use Rattle.std.proofs.lemmas.List.Sums.{fold-append}
-use Rattle.qc_list.specs.Members.{In}
-use Rattle.qc_core.specs.Actors.{ActorMove, actor_after, actor_takes}
-use Rattle.qc_core.specs.Conduct.{IsLawfulWithFalls, with_record}
-use Rattle.qc_core.specs.Lives.{MayReach, up_at}
+use Rattle.qc_list.specs.Names.{In}
+use Rattle.qc_core.specs.Names.{ActorMove, IsLawfulWithFalls, MayReach, actor_after, actor_takes, up_at, with_record}
 use Rattle.qc_core.specs.Lives as lives
 use Rattle.qc_core.proofs.ByTurns.{after_takes, called_turn}
-use Rattle.qc_decl.specs.Actors.{actors, controller}
+use Rattle.qc_decl.specs.Names.{actors, controller}
 use Rattle.qc_decl.specs.declared.declaration.Declaration.{Declaration}
 use Rattle.qc_inbox.proofs.FallLaws.{lines_close}
 use Rattle.qc_inbox.proofs.FallMail.{ready_sent}
-use Rattle.laws_turns.specs.Waits.{IsAtReceiver, IsTaken}
+use Rattle.laws_turns.specs.Names.{IsAtReceiver, IsTaken, LivesIn}
 use Rattle.laws_turns.proofs.Covered.{ready_copy}
 use Rattle.laws_turns.proofs.Places.{slice_get-set_other, slice_get-set_same}
-use Rattle.qc_link.specs.Limits.{most_actors}
-use Rattle.laws_turns.specs.LivesIn.{LivesIn}
+use Rattle.qc_link.specs.Names.{most_actors}
 use Rattle.laws_turns.proofs.Lived.{run_lives}
 use Rattle.qc_msg.specs.declared.message.Envelope.{Envelope}
 use Rattle.qc_msg.specs.declared.message.Answer.{Answer}
@@ -34,15 +31,15 @@ use Rattle.qc_msg.specs.declared.turn.Appended.{Appended}
 use Rattle.qc_msg.specs.declared.turn.Appended.TheVariants.{Done, Failed, Stopped}
 use Rattle.qc_msg.specs.declared.turn.Posting.{Posting}
 use Rattle.qc_msg.specs.declared.turn.Turn.{Turn}
-use Rattle.qc_msg.specs.Deeds.{Deed, Takes, deeds, mail}
-use Rattle.qc_msg.specs.Steps.{Entry, by, fell, marked, posted, posted_as, sends_as, sents, step_of, told}
+use Rattle.qc_msg.specs.Names.{Deed, Entry, Takes, by, deeds, fell, mail, marked, posted, posted_as, sends_as, sents}
+use Rattle.qc_msg.specs.Names.{step_of, told}
 use Rattle.qc_msg.proofs.GrownMail.{mail-taken}
 use Rattle.qc_msg.proofs.Growth.{deeds-other, deeds-taken}
 use Rattle.qc_script.specs.declared.script.Script.{Script}
-use Rattle.qc_script.specs.Requests.{SentRequest, request_numbers}
-use Rattle.qc_script.specs.Inbox.{Inbox, command_called, copy_taken, empty_inbox, inbox, inbox_at, is_request, loss_taken}
-use Rattle.qc_script.specs.Ready.{controller_step, controls_left, phase_of, ready, ready_in}
-use Rattle.qc_script.specs.RunsWithFalls.{RunsWithFalls, begins, takes, posts, phase, control, falls, rises, damaged, unopened}
+use Rattle.qc_script.specs.Names.{Inbox, RunsWithFalls, SentRequest, begins, command_called, control, controller_step}
+use Rattle.qc_script.specs.Names.{controls_left, copy_taken, damaged, empty_inbox, falls, inbox, inbox_at, is_request}
+use Rattle.qc_script.specs.Names.{loss_taken, phase, phase_of, posts, ready, ready_in, request_numbers, rises, takes}
+use Rattle.qc_script.specs.Names.{unopened}
 use Rattle.laws_due.proofs.Answering.{IsSpared, copies_left}
 use Rattle.laws_due.proofs.Places.{apart}
 use Rattle.laws_due.proofs.Plain.{inbox_then}

@@ -4,16 +4,13 @@ use Rattle.std.specs.Prelude.{is_none}
 use Rattle.std.specs.List.{find, AllByRecursion as Every}
 use Rattle.std.proofs.lemmas.List.{map-append}
 use Rattle.std.proofs.lemmas.List.Elements.{filter-append}
-use Rattle.qc_list.specs.Members.{In}
+use Rattle.qc_list.specs.Names.{In}
 use Rattle.qc_msg.specs.declared.call.Call.{Call}
 use Rattle.qc_msg.specs.declared.message.Answer.{Answer}
 use Rattle.qc_msg.specs.declared.message.Want.{Want}
-use Rattle.qc_msg.specs.Calls.{calls_from, site_called, without_call}
-use Rattle.qc_msg.specs.Begun.{life_of}
-use Rattle.qc_promise.specs.Account.{ClientRequest, Current}
-use Rattle.qc_promise.specs.Accounting.{is_open, taken_for}
-use Rattle.laws_due.specs.Calls.{AreApart, call_of, calls_in}
-use Rattle.laws_due.specs.Told.{IsOpenIn}
+use Rattle.qc_msg.specs.Names.{calls_from, life_of, site_called, without_call}
+use Rattle.qc_promise.specs.Names.{ClientRequest, Current, is_open, taken_for}
+use Rattle.laws_due.specs.Names.{AreApart, IsOpenIn, call_of, calls_in}
 
 abbrev pub sites_in : List ClientRequest → List ℕ
 sites_in qs = map (λ (q : ClientRequest). q.site) qs

@@ -4,19 +4,17 @@ use Rattle.std.proofs.Common.{Option, Some, None, refl, sym, ap, ◌∙◌, subs
 use Rattle.std.specs.Prelude.{fold}
 use Rattle.std.proofs.lemmas.Bool.{eq-eqb}
 use Rattle.std.proofs.lemmas.List.Sums.{fold-append}
-use Rattle.qc_list.specs.Members.{In}
-use Rattle.qc_client.specs.Client.{new_client}
-use Rattle.qc_client.specs.Conduct.{client_takes, sent_one}
+use Rattle.qc_list.specs.Names.{In}
+use Rattle.qc_client.specs.Names.{client_takes, new_client, sent_one}
 use Rattle.qc_client.specs.declared.client.Client.{Client}
 use Rattle.qc_core.proofs.ByNumber.{client_new, client_risen, site_new, site_risen}
 use Rattle.qc_core.specs.declared.actor.Actor.{Actor}
 use Rattle.qc_core.specs.declared.actor.Actor.TheVariants as actor
-use Rattle.qc_core.specs.Actors.{ActorMove, actor_after, actor_does, actor_rises, actor_sends, actor_takes, moved}
-use Rattle.qc_core.specs.Actors.{new_actor}
-use Rattle.qc_core.specs.Lives.{MayReach, up_at}
+use Rattle.qc_core.specs.Names.{ActorMove, MayReach, actor_after, actor_does, actor_rises, actor_sends, actor_takes}
+use Rattle.qc_core.specs.Names.{moved, new_actor, up_at}
 use Rattle.qc_core.specs.Lives as lives
 use Rattle.qc_core.proofs.OpenedInputs.{Opened, opened}
-use Rattle.qc_decl.specs.Actors.{is_client, is_site}
+use Rattle.qc_decl.specs.Names.{is_client, is_site}
 use Rattle.qc_decl.specs.declared.declaration.Declaration.{Declaration}
 use Rattle.laws_turns.proofs.Answering.{answer_ends, others_fewer}
 use Rattle.laws_turns.proofs.Rounds.{IsProper}
@@ -34,17 +32,13 @@ use Rattle.qc_msg.specs.declared.step.Step.{Step}
 use Rattle.qc_msg.specs.declared.step.Step.TheVariants as steps
 use Rattle.qc_msg.specs.declared.turn.Posting.{Posting}
 use Rattle.qc_msg.specs.declared.turn.Turn.{Turn}
-use Rattle.qc_msg.specs.Deeds.{Deed, Takes, Writes, Sends, Tells, Falls, Rises}
-use Rattle.qc_msg.specs.Steps.{Entry, by, fell, marked, posted, sents, told, wrote}
-use Rattle.qc_msg.specs.Turns.{quiet}
+use Rattle.qc_msg.specs.Names.{Deed, Entry, Falls, Rises, Sends, Takes, Tells, Writes, by, fell, marked, posted, quiet}
+use Rattle.qc_msg.specs.Names.{sents, told, wrote}
 use Rattle.qc_msg.proofs.GrownMail.{by-append}
 use Rattle.qc_script.specs.declared.script.Script.{Script}
-use Rattle.qc_script.specs.Requests.{SentRequest, request_numbers}
-use Rattle.qc_script.specs.Inbox.{Inbox, inbox, inbox_at, is_request, reply_told}
-use Rattle.qc_site.specs.Conduct.{site_at, site_takes}
-use Rattle.qc_site.specs.Site.{SiteState, new_site}
-use Rattle.qc_recover.specs.Clients.{client_rises}
-use Rattle.qc_recover.specs.Sites.{site_rises}
+use Rattle.qc_script.specs.Names.{Inbox, SentRequest, inbox, inbox_at, is_request, reply_told, request_numbers}
+use Rattle.qc_site.specs.Names.{SiteState, new_site, site_at, site_takes}
+use Rattle.qc_recover.specs.Names.{client_rises, site_rises}
 use Rattle.laws_due.proofs.Answering.{after_fall}
 use Rattle.laws_due.proofs.Plain.{inbox_then}
 

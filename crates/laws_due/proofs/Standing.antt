@@ -5,30 +5,22 @@ use Rattle.std.specs.Prelude.{fold}
 use Rattle.std.specs.List.{AllByRecursion as Every}
 use Rattle.std.proofs.lemmas.List.Sums.{fold-append}
 use Rattle.qc_core.specs.declared.actor.Actor.TheVariants as actors
-use Rattle.qc_core.specs.Actors.{actor_after, actor_does, by_client, moved, new_actor}
-use Rattle.qc_core.specs.Acts.{MayTake}
-use Rattle.qc_core.specs.Conduct.{IsLawfulWithFalls, with_record}
-use Rattle.qc_core.specs.Lives.{AreSteady, MayReach, is_up, up_at}
+use Rattle.qc_core.specs.Names.{AreSteady, IsLawfulWithFalls, MayReach, MayTake, actor_after, actor_does, by_client}
+use Rattle.qc_core.specs.Names.{is_up, moved, new_actor, up_at, with_record}
 use Rattle.qc_client.specs.declared.client.Client.{Client}
-use Rattle.qc_client.specs.Client.{ClientMove}
-use Rattle.qc_client.specs.Conduct.{client_does, client_takes}
+use Rattle.qc_client.specs.Names.{ClientMove, client_does, client_takes}
 use Rattle.qc_decl.specs.declared.declaration.Declaration.{Declaration}
-use Rattle.qc_decl.specs.Actors.{is_administrator, is_client, is_site}
+use Rattle.qc_decl.specs.Names.{is_administrator, is_client, is_site}
 use Rattle.qc_msg.specs.declared.record.Record.{Record}
 use Rattle.qc_msg.specs.declared.reply.Reply.{Reply}
 use Rattle.qc_msg.specs.declared.step.Input.{Input}
 use Rattle.qc_msg.specs.declared.turn.Posting.{Posting}
 use Rattle.qc_msg.specs.declared.turn.Turn.{Turn}
-use Rattle.qc_msg.specs.Deeds.{Deed, Takes, Writes, Sends, Tells, Falls, Rises, sends_of, tells_of, turn_deeds}
-use Rattle.qc_msg.specs.Deeds.{writes_of}
-use Rattle.qc_msg.specs.Turns.{quiet}
-use Rattle.qc_promise.specs.Account.{Account, new_account}
-use Rattle.qc_promise.specs.Accounting.{account_at, account_of}
-use Rattle.qc_promise.specs.Posts.{pending_first, pending_next, posted_next}
-use Rattle.qc_promise.specs.Replies.{AreDeedsDue}
-use Rattle.laws_due.specs.Declares.{IsDeclaredDeed}
-use Rattle.laws_due.specs.Goes.{Holds}
-use Rattle.laws_due.specs.Ties.{Ties}
+use Rattle.qc_msg.specs.Names.{Deed, Falls, Rises, Sends, Takes, Tells, Writes, quiet, sends_of, tells_of, turn_deeds}
+use Rattle.qc_msg.specs.Names.{writes_of}
+use Rattle.qc_promise.specs.Names.{Account, AreDeedsDue, account_at, account_of, new_account, pending_first}
+use Rattle.qc_promise.specs.Names.{pending_next, posted_next}
+use Rattle.laws_due.specs.Names.{Holds, IsDeclaredDeed, Ties}
 use Rattle.laws_due.proofs.Dues.{IsWithin}
 
 -- deeds behind others: of one that is up they begin with no act of its post, and of one that is down with no record

@@ -19,13 +19,11 @@ use Rattle.qc_msg.specs.declared.reply.Reply.TheVariants as replies
 use Rattle.qc_msg.specs.declared.step.Command.{Command}
 use Rattle.qc_msg.specs.declared.step.Command.TheVariants as commands
 use Rattle.qc_msg.specs.declared.step.Input.TheVariants as inputs
-use Rattle.qc_msg.specs.Deeds.{Deed, Takes, Writes, Sends, Tells, Falls, Rises}
-use Rattle.qc_core.specs.Lives.{AreSteady, IsSteady}
-use Rattle.qc_promise.specs.Account.{Account, ClientRequest}
-use Rattle.qc_promise.specs.Accounting.{account_at, account_heard, account_sent, account_told_in, account_written}
-use Rattle.qc_promise.specs.Accounting.{counted, counted_for, found_absent, granted, is_open, promised, responded}
-use Rattle.qc_promise.specs.Accounting.{short_of, taken_for, told_by}
-use Rattle.qc_promise.specs.Asked.{is_asked_for}
+use Rattle.qc_msg.specs.Names.{Deed, Falls, Rises, Sends, Takes, Tells, Writes}
+use Rattle.qc_core.specs.Names.{AreSteady, IsSteady}
+use Rattle.qc_promise.specs.Names.{Account, ClientRequest, account_at, account_heard, account_sent, account_told_in}
+use Rattle.qc_promise.specs.Names.{account_written, counted, counted_for, found_absent, granted, is_asked_for, is_open}
+use Rattle.qc_promise.specs.Names.{promised, responded, short_of, taken_for, told_by}
 
 granted_up : (d : Account) (site life clock : ℕ) (log : List Line) (w : Want)
     → (granted d site life clock log w).up ≡ d.up

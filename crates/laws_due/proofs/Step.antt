@@ -1,24 +1,22 @@
 -- One input of a client: its turn is due, and the tie holds after it.
 use Rattle.std.proofs.Common.{◌≡◌, ◌≢◌, ◌≤◌, ◌<◌, ℕ, zero, suc, ◌+◌, ◌-◌, ◌⊎◌, inl, inr, List, [], ◌∷◌, ◌++◌, map, filter, Option, Some, None, refl, sym, ap, ◌∙◌, subst, arith}
 use Rattle.std.specs.List.{find, range_with_len}
-use Rattle.qc_list.specs.Members.{In}
+use Rattle.qc_list.specs.Names.{In}
 use Rattle.qc_decl.specs.declared.declaration.Declaration.{Declaration}
-use Rattle.qc_decl.specs.Actors.{first_site}
-use Rattle.qc_decl.specs.Lookup.{append_need_of, read_need_of}
-use Rattle.qc_plan.specs.Round.{RoundState, cyclic}
+use Rattle.qc_decl.specs.Names.{append_need_of, first_site, read_need_of}
+use Rattle.qc_plan.specs.Names.{RoundState, cyclic}
 use Rattle.qc_commit.specs.declared.desk.Voting.{Voting}
 use Rattle.qc_front.specs.declared.doing.Doing.{Doing}
 use Rattle.qc_front.specs.declared.doing.Doing.TheVariants.{Idle, Reading, Appending}
 use Rattle.qc_front.specs.declared.front.Front.{Front}
 use Rattle.qc_front.specs.declared.transaction.Transaction.{Transaction}
 use Rattle.qc_front.specs.Conduct as fronts
-use Rattle.qc_front.specs.Front.{FrontMove, moved as front_moved}
-use Rattle.qc_front.specs.Holds.{AppendingHolds, FrontHolds, ReadingHolds, RecordsHold, sites_of}
+use Rattle.qc_front.specs.Names.{AppendingHolds, FrontHolds, FrontMove, ReadingHolds, RecordsHold, moved as front_moved}
+use Rattle.qc_front.specs.Names.{sites_of}
 use Rattle.qc_front.proofs.Apart.{apart_filter}
 use Rattle.qc_front.proofs.Noting.{ascends_apart, round_apart}
 use Rattle.qc_client.specs.declared.client.Client.{Client}
-use Rattle.qc_client.specs.Client.{by_front}
-use Rattle.qc_client.specs.Conduct.{answered, answered_by, called, client_takes, heard}
+use Rattle.qc_client.specs.Names.{answered, answered_by, by_front, called, client_takes, heard}
 use Rattle.qc_msg.specs.declared.call.Call.{Call}
 use Rattle.qc_msg.specs.declared.message.Answer.{Answer}
 use Rattle.qc_msg.specs.declared.message.Message.{Message}
@@ -27,16 +25,11 @@ use Rattle.qc_msg.specs.declared.step.Command.{Command}
 use Rattle.qc_msg.specs.declared.step.Command.TheVariants as commands
 use Rattle.qc_msg.specs.declared.step.Input.{Input}
 use Rattle.qc_msg.specs.declared.step.Input.TheVariants as inputs
-use Rattle.qc_msg.specs.Begun.{has_granted}
-use Rattle.qc_msg.specs.Turns.{quiet}
-use Rattle.qc_promise.specs.Account.{Account, ClientRequest, Current, is_append, is_read}
-use Rattle.qc_promise.specs.Accounting.{account_taken, counted, counted_for, is_open}
-use Rattle.qc_promise.specs.Rounds.{asked_by, round_of}
-use Rattle.laws_due.specs.Calls.{AreApart, ballot_of, calls_in}
-use Rattle.laws_due.specs.Goes.{Goes, Holds}
-use Rattle.qc_promise.specs.Replies.{IsFreeFor}
-use Rattle.laws_due.specs.Told.{AreBegun, front_of, transaction_of}
-use Rattle.laws_due.specs.Ties.{Appends, Reads, Rests, Ties, Votes, appends, reads, rests, votes}
+use Rattle.qc_msg.specs.Names.{has_granted, quiet}
+use Rattle.qc_promise.specs.Names.{Account, ClientRequest, Current, IsFreeFor, account_taken, asked_by, counted}
+use Rattle.qc_promise.specs.Names.{counted_for, is_append, is_open, is_read, round_of}
+use Rattle.laws_due.specs.Names.{Appends, AreApart, AreBegun, Goes, Holds, Reads, Rests, Ties, Votes, appends}
+use Rattle.laws_due.specs.Names.{ballot_of, calls_in, front_of, reads, rests, transaction_of, votes}
 use Rattle.laws_due.proofs.Commits.{commit_at, voting_desk, voting_front}
 use Rattle.laws_due.proofs.DoAppends.{run}
 use Rattle.laws_due.proofs.Ends.{called_at, within_go, without_go}

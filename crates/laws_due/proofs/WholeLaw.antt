@@ -7,31 +7,22 @@ use Rattle.std.proofs.lemmas.Bool.{eq-eqb, eqb-true}
 use Rattle.std.proofs.lemmas.List.{append-nil, take_all}
 use Rattle.qc_client.specs.declared.client.Client.{Client}
 use Rattle.qc_core.specs.declared.actor.Actor.TheVariants as actor
-use Rattle.qc_core.specs.Actors.{actor_after}
-use Rattle.qc_core.specs.Acts.{is_running, runs_at}
-use Rattle.qc_core.specs.Conduct.{IsLawfulWithFalls}
-use Rattle.qc_decl.specs.Accepted.{IsAccepted}
-use Rattle.qc_decl.specs.Actors.{actors, administrator, is_client}
+use Rattle.qc_core.specs.Names.{IsLawfulWithFalls, actor_after, is_running, runs_at}
+use Rattle.qc_decl.specs.Names.{IsAccepted, actors, administrator, is_client}
 use Rattle.qc_decl.specs.declared.declaration.Declaration.{Declaration}
-use Rattle.laws_turns.specs.Asked.{AsksDeclared}
-use Rattle.laws_turns.specs.Calls.{open_calls}
-use Rattle.laws_turns.specs.Whole.{IsQuiet, asked_by, asked_in_all, call_in, calls_of, replies_of}
+use Rattle.laws_turns.specs.Names.{AreAnswered, AsksDeclared, IsQuiet, asked_by, asked_in_all, call_in, calls_of}
+use Rattle.laws_turns.specs.Names.{exchanges, exchanges_from, open_calls, replies_of}
 use Rattle.laws_turns.proofs.Places.{replicate_at}
 use Rattle.qc_msg.specs.declared.message.Envelope.{Envelope}
 use Rattle.qc_msg.specs.declared.record.Record.{Record}
 use Rattle.qc_msg.specs.declared.step.Command.{Command}
 use Rattle.qc_msg.specs.declared.step.Input.TheVariants as inputs
-use Rattle.qc_msg.specs.Deeds.{Deed, Takes, Writes, Sends, Tells, Falls, Rises, deeds}
-use Rattle.qc_msg.specs.Steps.{Entry}
-use Rattle.qc_script.specs.Inbox.{inbox}
-use Rattle.qc_script.specs.Ready.{command_in, controls_left, first_command, first_copy, first_lost, phase_of}
-use Rattle.qc_script.specs.Ready.{takes_commands}
+use Rattle.qc_msg.specs.Names.{Deed, Entry, Falls, Rises, Sends, Takes, Tells, Writes, deeds}
+use Rattle.qc_script.specs.Names.{command_in, controls_left, first_command, first_copy, first_lost, inbox, phase_of}
+use Rattle.qc_script.specs.Names.{takes_commands}
 use Rattle.qc_script.specs.declared.script.PhaseLines.{PhaseLines}
 use Rattle.qc_script.specs.declared.script.Script.{Script}
-use Rattle.laws_due.specs.Order.{AreInOrder}
-use Rattle.laws_turns.specs.Exchanges.{AreAnswered, exchanges, exchanges_from}
-use Rattle.laws_due.specs.Known.{AsksEpochs, AsksKnown}
-use Rattle.laws_due.specs.Whole.{IsClosedWithFalls, IsWholeWithFalls}
+use Rattle.laws_due.specs.Names.{AreInOrder, AsksEpochs, AsksKnown, IsClosedWithFalls, IsWholeWithFalls}
 use Rattle.laws_due.proofs.AdminEnds.{his_none_runs, his_order}
 use Rattle.laws_due.proofs.Busy.{busy_runs}
 use Rattle.laws_due.proofs.Calling.{run_asked, run_phases}

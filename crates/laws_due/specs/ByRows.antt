@@ -4,12 +4,8 @@ use Rattle.std.specs.Prelude.{◌≡◌, ℕ, true, false, List, [], ◌∷◌}
 use Rattle.qc_decl.specs.declared.declaration.Declaration.{Declaration}
 use Rattle.qc_msg.specs.declared.message.Message.{Message}
 use Rattle.qc_msg.specs.declared.message.Message.TheVariants as messages
-use Rattle.qc_msg.specs.Deeds.{Deed, Takes, Writes, Sends, Tells, Falls, Rises}
-use Rattle.qc_promise.specs.Account.{Account}
-use Rattle.qc_promise.specs.Accounting.{account_at}
-use Rattle.qc_promise.specs.Asked.{is_asked_for}
-use Rattle.qc_promise.specs.Replies.{IsInputDue, IsRecordDue, IsReplyDue}
-use Rattle.qc_promise.specs.Rows.{running_row}
+use Rattle.qc_msg.specs.Names.{Deed, Falls, Rises, Sends, Takes, Tells, Writes}
+use Rattle.qc_promise.specs.Names.{Account, IsInputDue, IsRecordDue, IsReplyDue, account_at, is_asked_for, running_row}
 
 -- a request goes to the site that is next, and asks what the running command calls for
 abbrev pub IsSendDue : Declaration → Account → ℕ → Message → Type 0

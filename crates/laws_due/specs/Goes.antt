@@ -2,14 +2,11 @@
 -- command's row tells, and the tie holds after it.
 use Rattle.std.specs.Prelude.{◌≡◌, ℕ, false, fold}
 use Rattle.qc_client.specs.declared.client.Client.{Client}
-use Rattle.qc_client.specs.Client.{ClientMove}
-use Rattle.qc_client.specs.Conduct.{client_does}
+use Rattle.qc_client.specs.Names.{ClientMove, client_does}
 use Rattle.qc_decl.specs.declared.declaration.Declaration.{Declaration}
-use Rattle.qc_front.specs.Holds.{FrontHolds, IsNumbered}
-use Rattle.qc_msg.specs.Deeds.{turn_deeds}
-use Rattle.qc_promise.specs.Account.{Account}
-use Rattle.qc_promise.specs.Accounting.{account_at}
-use Rattle.qc_promise.specs.Rows.{running_row}
+use Rattle.qc_front.specs.Names.{FrontHolds, IsNumbered}
+use Rattle.qc_msg.specs.Names.{turn_deeds}
+use Rattle.qc_promise.specs.Names.{Account, account_at, running_row}
 use Rattle.laws_due.specs.ByRows.{AreByRows}
 use Rattle.laws_due.specs.Ties.{Ties}
 

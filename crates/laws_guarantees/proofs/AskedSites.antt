@@ -1,16 +1,15 @@
 -- A transaction knows each site that it asked to hold something, and its end is told to them all: of a front end's moves.
 use Rattle.std.proofs.Common.{◌≡◌, ℕ, ◌==◌, ◌&&◌, inl, inr, nat_le, Bool, true, false, cond, List, [], ◌∷◌, ◌++◌, map, fold, length, Option, Some, None, option_map, refl, sym, ap, ◌∙◌, subst, eq-eqb, eqb-true}
 use Rattle.std.specs.Prelude.{slice_get}
-use Rattle.qc_list.specs.Members.{In}
+use Rattle.qc_list.specs.Names.{In}
 use Rattle.qc_stamp.specs.declared.stamp.TxId.{TxId}
-use Rattle.qc_stamp.specs.Order.{same_tx}
+use Rattle.qc_stamp.specs.Names.{same_tx}
 use Rattle.qc_decl.specs.declared.declaration.Declaration.{Declaration}
-use Rattle.qc_decl.specs.Limits.{most_transaction_operations}
-use Rattle.qc_decl.specs.Lookup.{append_need_of, read_need_of}
+use Rattle.qc_decl.specs.Names.{append_need_of, most_transaction_operations, read_need_of}
 use Rattle.qc_lock.proofs.Entries.{same_self, tx_apart}
 use Rattle.qc_plan.specs.declared.standing.Verdict.{Verdict}
 use Rattle.qc_plan.specs.declared.standing.Verdict.TheVariants as verdicts
-use Rattle.qc_plan.specs.Round.{RoundState, note, verdict, wanted}
+use Rattle.qc_plan.specs.Names.{RoundState, note, verdict, wanted}
 use Rattle.qc_msg.specs.declared.begun.Begun.{Begun}
 use Rattle.qc_msg.specs.declared.call.Call.{Call}
 use Rattle.qc_msg.specs.declared.message.Answer.{Answer}
@@ -27,28 +26,24 @@ use Rattle.qc_msg.specs.declared.step.Command.{Command}
 use Rattle.qc_msg.specs.declared.step.Command.TheVariants as commands
 use Rattle.qc_msg.specs.declared.turn.Posting.{Posting}
 use Rattle.qc_msg.specs.declared.turn.Turn.{Turn}
-use Rattle.qc_msg.specs.Begun.{decisions}
-use Rattle.qc_msg.specs.Calls.{site_called, without_call}
-use Rattle.qc_msg.specs.Turns.{quiet, telling}
-use Rattle.qc_promise.specs.SiteEnds.{is_final}
+use Rattle.qc_msg.specs.Names.{decisions, quiet, site_called, telling, without_call}
+use Rattle.qc_promise.specs.Names.{is_final}
 use Rattle.qc_view.specs.declared.view.View.{View}
-use Rattle.qc_view.specs.View.{with_log, with_own}
+use Rattle.qc_view.specs.Names.{with_log, with_own}
 use Rattle.qc_front.specs.declared.doing.Doing.{Doing}
 use Rattle.qc_front.specs.declared.doing.Doing.TheVariants.{Idle, Reading, Appending}
 use Rattle.qc_front.specs.declared.front.Front.{Front}
 use Rattle.qc_front.specs.declared.transaction.Transaction.{Transaction}
-use Rattle.qc_front.specs.Answering.{answer_of, next_own, op_of, resp_of, with_event, with_op}
-use Rattle.qc_front.specs.Appending.{append_want, read_want, request_of, round_for}
+use Rattle.qc_front.specs.Names.{FrontMove, aborts, answer_of, answered, append_by, append_want, appended_with}
+use Rattle.qc_front.specs.Names.{appending_takes, begins, doomed, fresh, gives_up, learns, lived, next_own, next_tx}
+use Rattle.qc_front.specs.Names.{op_of, performs, read_by, read_want, read_with, reading_takes, reads, request_of}
+use Rattle.qc_front.specs.Names.{resp_of, round_for, standing_of, with_asked, with_event, with_op}
 use Rattle.qc_front.specs.Conduct as fronts
-use Rattle.qc_front.specs.Conduct.{appending_takes, reading_takes}
-use Rattle.qc_front.specs.Counting.{appended_with, learns, lived, read_with, standing_of}
-use Rattle.qc_front.specs.Front.{FrontMove, aborts, begins, fresh, gives_up, next_tx}
 use Rattle.qc_front.specs.Front as front_moves
-use Rattle.qc_front.specs.Rounds.{answered, append_by, doomed, performs, read_by, reads, with_asked}
 use Rattle.qc_front.proofs.Keeping.{appended_is, view_keeps}
-use Rattle.laws_turns.specs.Books.{begun_in}
+use Rattle.laws_turns.specs.Names.{begun_in}
 use Rattle.laws_guarantees.proofs.Joined.{joined_first, joined_second}
-use Rattle.laws_guarantees.specs.Open.{asks_to_hold, open_said}
+use Rattle.laws_guarantees.specs.Names.{asks_to_hold, open_said}
 
 -- whether a transaction is open at a site after messages more
 

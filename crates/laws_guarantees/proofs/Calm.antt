@@ -5,12 +5,10 @@ use Rattle.std.specs.Prelude.{get_or, replicate}
 use Rattle.std.specs.List.{fold}
 use Rattle.std.proofs.lemmas.List.{append-nil, append_assoc}
 use Rattle.std.proofs.lemmas.List.Sums.{fold-append}
-use Rattle.qc_link.specs.Cuts.{no_cuts, pair_place}
-use Rattle.qc_link.specs.Fate.{fate}
+use Rattle.qc_link.specs.Names.{fate, most_actors, no_cuts, pair_place}
 use Rattle.qc_link.specs.declared.plan.Link.{Link}
 use Rattle.qc_link.specs.declared.rule.Fate.{Fate}
 use Rattle.qc_link.specs.declared.rule.Fate.TheVariants.{Pass, Drop}
-use Rattle.qc_link.specs.Limits.{most_actors}
 use Rattle.qc_msg.specs.declared.message.Envelope.{Envelope}
 use Rattle.qc_msg.specs.declared.message.Message.{Message}
 use Rattle.qc_msg.specs.declared.message.Message.TheVariants as messages
@@ -18,15 +16,14 @@ use Rattle.qc_msg.specs.declared.record.Record.{Record}
 use Rattle.qc_msg.specs.declared.reply.Reply.{Reply}
 use Rattle.qc_msg.specs.declared.turn.Posting.{Posting}
 use Rattle.qc_msg.specs.declared.turn.Turn.{Turn}
-use Rattle.qc_msg.specs.Deeds.{envelopes}
-use Rattle.qc_msg.specs.Steps.{Entry, by, posted, sents, told, wrote}
+use Rattle.qc_msg.specs.Names.{Entry, by, envelopes, posted, sents, told, wrote}
 use Rattle.qc_msg.proofs.GrownMail.{by-posted}
 use Rattle.qc_script.proofs.AllUp.{is_up-everybody, wrote_up}
-use Rattle.qc_script.specs.Requests.{has_request, with_number, without_request}
-use Rattle.qc_script.specs.Inbox.{Inbox, everybody, is_up, answers_by, comes, comes_with, count_of, goes, goes_with}
-use Rattle.qc_script.specs.Inbox.{inbox_at, is_request, one_more, with_copies}
+use Rattle.qc_script.specs.Names.{Inbox, answers_by, comes, comes_with, count_of, everybody, goes, goes_with}
+use Rattle.qc_script.specs.Names.{has_request, inbox_at, is_request, is_up, one_more, with_copies, with_number}
+use Rattle.qc_script.specs.Names.{without_request}
 use Rattle.qc_script.specs.declared.script.Script.{Script}
-use Rattle.laws_guarantees.specs.Arrives.{IsCalm, sent_to}
+use Rattle.laws_guarantees.specs.Names.{IsCalm, sent_to}
 
 -- a message passes
 

@@ -7,12 +7,10 @@ use Rattle.std.proofs.lemmas.List.{take-append-le}
 use Rattle.std.proofs.lemmas.List.Elements.{filter-append}
 use Rattle.std.proofs.lemmas.List.Sums.{fold-append}
 use Rattle.std.proofs.Math.Seq.{take-append-add}
-use Rattle.qc_list.specs.Members.{In}
+use Rattle.qc_list.specs.Names.{In}
 use Rattle.qc_stamp.specs.declared.stamp.TxId.{TxId}
-use Rattle.qc_core.specs.Acts.{is_running}
-use Rattle.qc_core.specs.Conduct.{IsLawful}
-use Rattle.qc_decl.specs.Accepted.{IsAccepted}
-use Rattle.qc_decl.specs.Actors.{administrator, client_actor, controller, is_client}
+use Rattle.qc_core.specs.Names.{IsLawful, is_running}
+use Rattle.qc_decl.specs.Names.{IsAccepted, administrator, client_actor, controller, is_client}
 use Rattle.qc_decl.specs.declared.declaration.Declaration.{Declaration}
 use Rattle.qc_msg.specs.declared.message.Envelope.{Envelope}
 use Rattle.qc_msg.specs.declared.message.Message.TheVariants as messages
@@ -21,29 +19,24 @@ use Rattle.qc_msg.specs.declared.step.Step.{Step}
 use Rattle.qc_msg.specs.declared.step.Step.TheVariants as steps
 use Rattle.qc_msg.specs.declared.turn.Posting.{Posting}
 use Rattle.qc_msg.specs.declared.turn.Turn.{Turn}
-use Rattle.qc_msg.specs.Deeds.{Deed, Takes, WasSentTo, deeds, envelopes, mail, turn_deeds}
-use Rattle.qc_msg.specs.Steps.{Entry, by, marked, posted, step_of}
+use Rattle.qc_msg.specs.Names.{Deed, Entry, Takes, WasSentTo, by, deeds, envelopes, mail, marked, posted, step_of}
+use Rattle.qc_msg.specs.Names.{turn_deeds}
 use Rattle.qc_msg.proofs.GrownMail.{mail-append, mail-posted, mail-taken}
 use Rattle.qc_msg.proofs.Growth.{deeds-other, deeds-posted, deeds-taken}
-use Rattle.qc_script.specs.Ready.{phase_of}
-use Rattle.qc_script.specs.Runs.{Runs, begins, takes, posts, phase, control}
+use Rattle.qc_script.specs.Names.{Runs, phase_of}
+use Rattle.qc_script.specs.Runs.{begins, takes, posts, phase, control}
 use Rattle.qc_script.specs.declared.script.Script.{Script}
-use Rattle.laws_turns.specs.Asked.{AsksDeclared}
-use Rattle.laws_turns.specs.Turns.{ActsIn}
+use Rattle.laws_turns.specs.Names.{ActsIn, AsksDeclared}
 use Rattle.laws_turns.proofs.Acted.{deeds-silent, run_acts}
 use Rattle.laws_turns.proofs.Idle.{posts_before}
 use Rattle.laws_turns.proofs.Arrivals.{what_is_ready_was_sent}
 use Rattle.laws_turns.proofs.Numbered.{IsSilent, control_silent, mail-silent, phase_silent, run_numbered}
 use Rattle.laws_turns.proofs.Places.{slice_get-set_same}
 use Rattle.laws_due.proofs.Courses.{clients_due}
-use Rattle.laws_due.specs.ByRows.{AreByRows}
-use Rattle.qc_promise.specs.Account.{Account, ClientRequest, Current, new_account}
-use Rattle.qc_promise.specs.Accounting.{account, account_at, account_taken}
-use Rattle.laws_guarantees.specs.Answers.{sent_before}
-use Rattle.laws_guarantees.specs.Arrives.{sent_to}
-use Rattle.laws_guarantees.specs.Elsewhere.{begun_by, name_of}
-use Rattle.laws_guarantees.specs.Open.{is_open, is_open_at, open_said}
-use Rattle.laws_guarantees.specs.Undisturbed.{IsUndisturbed}
+use Rattle.laws_due.specs.Names.{AreByRows}
+use Rattle.qc_promise.specs.Names.{Account, ClientRequest, Current, account, account_at, account_taken, new_account}
+use Rattle.laws_guarantees.specs.Names.{IsStill, IsUndisturbed, begun_by, is_open, is_open_at, name_of, open_said}
+use Rattle.laws_guarantees.specs.Names.{sent_before, sent_to}
 use Rattle.laws_guarantees.proofs.Accounts.{HasGrounds, WasSent}
 use Rattle.laws_guarantees.proofs.AnswerRuns.{number_from}
 use Rattle.laws_guarantees.proofs.Asking.{IsFrom, IsNamed, due_second, is_busy, less_open, taken_from, told_clears, turn_named}
@@ -53,7 +46,6 @@ use Rattle.laws_guarantees.proofs.Names.{stays_named, taken_named, untold_stays}
 use Rattle.laws_guarantees.proofs.OwnWords.{client_is, open_begun}
 use Rattle.laws_guarantees.proofs.PartsOf.{posted_parts}
 use Rattle.laws_guarantees.proofs.Still.{one_still}
-use Rattle.laws_guarantees.specs.Acting.{IsStill}
 use Rattle.laws_turns.proofs.Up.{run_up}
 
 pub record IsElsewhere (decl : Declaration) (a : ℕ) (h : List Entry) (x : TxId) : Type 0 where

@@ -25,22 +25,20 @@ use Rattle.qc_msg.specs.declared.step.Command.{Command}
 use Rattle.qc_msg.specs.declared.step.Command.TheVariants as commands
 use Rattle.qc_msg.specs.declared.step.Input.{Input}
 use Rattle.qc_msg.specs.declared.step.Input.TheVariants as inputs
-use Rattle.qc_msg.specs.Deeds.{Deed, Takes, Writes, Sends, Tells, Falls, Rises, deeds}
-use Rattle.qc_promise.specs.Account.{Account, ClientRequest, new_account}
-use Rattle.qc_promise.specs.Accounting.{account_at, account_taken, account_heard, account_sent, account_told_in}
-use Rattle.qc_promise.specs.Accounting.{account_written, counted, counted_for, found_absent, granted, is_open, promised}
-use Rattle.qc_promise.specs.Accounting.{responded, short_of, taken_for, told_by}
-use Rattle.qc_promise.specs.Asked.{is_asked_for}
-use Rattle.laws_due.specs.ByRows.{AreByRows, IsByRow}
-use Rattle.qc_core.specs.Conduct.{IsLawful}
-use Rattle.qc_decl.specs.Actors.{is_client}
-use Rattle.qc_msg.specs.Steps.{Entry}
-use Rattle.qc_script.specs.Runs.{Runs}
+use Rattle.qc_msg.specs.Names.{Deed, Entry, Falls, Rises, Sends, Takes, Tells, Writes, deeds}
+use Rattle.qc_promise.specs.Names.{Account, ClientRequest, account_at, account_heard, account_sent, account_taken}
+use Rattle.qc_promise.specs.Names.{account_told_in, account_written, counted, counted_for, found_absent, granted}
+use Rattle.qc_promise.specs.Names.{is_asked_for, is_open, new_account, promised, responded, short_of, taken_for}
+use Rattle.qc_promise.specs.Names.{told_by}
+use Rattle.laws_due.specs.Names.{AreByRows, IsByRow}
+use Rattle.qc_core.specs.Names.{IsLawful}
+use Rattle.qc_decl.specs.Names.{is_client}
+use Rattle.qc_script.specs.Names.{Runs}
 use Rattle.qc_script.specs.declared.script.Script.{Script}
 use Rattle.laws_turns.proofs.Acted.{has_entry, run_acts}
-use Rattle.laws_turns.specs.Turns.{ActsIn}
+use Rattle.laws_turns.specs.Names.{ActsIn}
 use Rattle.laws_due.proofs.Courses.{clients_due}
-use Rattle.laws_guarantees.specs.Clocks.{GrantTells, IsCounted, PromiseTells, Tells as TellsClock}
+use Rattle.laws_guarantees.specs.Names.{GrantTells, IsCounted, PromiseTells, Tells as TellsClock}
 use Rattle.laws_guarantees.proofs.Requests.{due_at}
 use Rattle.laws_guarantees.proofs.DueStamps.{due_stamp}
 

@@ -4,12 +4,10 @@ use Rattle.std.proofs.Common.{◌≡◌, inl, inr, ℕ, ◌≤◌, ◌*◌, Bool
 use Rattle.std.proofs.Common.{Some, None, slice_get, refl, sym, ap, ◌∙◌, subst, arith}
 use Rattle.std.specs.Prelude.{option_and_then}
 use Rattle.std.specs.Option.{option_or}
-use Rattle.qc_list.specs.Members.{In}
+use Rattle.qc_list.specs.Names.{In}
 use Rattle.qc_list.proofs.Members.{In-passes, In-unfiltered}
-use Rattle.qc_core.specs.Conduct.{IsLawful}
-use Rattle.qc_decl.specs.Accepted.{IsAccepted}
-use Rattle.qc_decl.specs.Actors.{is_client}
-use Rattle.qc_decl.specs.Limits.{most_committed_operations}
+use Rattle.qc_core.specs.Names.{IsLawful}
+use Rattle.qc_decl.specs.Names.{IsAccepted, is_client, most_committed_operations}
 use Rattle.qc_decl.specs.declared.declaration.Declaration.{Declaration}
 use Rattle.qc_msg.specs.declared.message.Answer.{Answer}
 use Rattle.qc_msg.specs.declared.message.Answer.TheVariants as answers
@@ -22,25 +20,19 @@ use Rattle.qc_msg.specs.declared.reply.AbortCause.TheVariants as causes
 use Rattle.qc_msg.specs.declared.step.Command.{Command}
 use Rattle.qc_msg.specs.declared.step.Command.TheVariants as commands
 use Rattle.qc_msg.specs.declared.turn.Turn.{Turn}
-use Rattle.qc_msg.specs.Counts.{operations_of}
+use Rattle.qc_msg.specs.Names.{Entry, by, deeds, mail, operations_of, posted}
 use Rattle.qc_msg.proofs.Growth.{operations-grow}
-use Rattle.qc_msg.specs.Deeds.{deeds, mail}
-use Rattle.qc_msg.specs.Steps.{Entry, by, posted}
-use Rattle.qc_script.specs.Runs.{Runs}
-use Rattle.qc_script.specs.Sound.{IsScriptFor}
+use Rattle.qc_script.specs.Names.{IsScriptFor, Runs}
 use Rattle.qc_script.specs.declared.script.Script.{Script}
-use Rattle.laws_turns.specs.Asked.{AsksDeclared}
-use Rattle.laws_turns.specs.Turns.{ActsIn}
+use Rattle.laws_turns.specs.Names.{ActsIn, AsksDeclared}
 use Rattle.laws_turns.proofs.Acted.{run_acts}
-use Rattle.qc_promise.specs.Account.{Account, ClientRequest, Current, is_prepare, requests_for}
-use Rattle.qc_promise.specs.Accounting.{account}
-use Rattle.qc_promise.specs.Rounds.{against, are_votes_in, first_against}
-use Rattle.qc_promise.specs.Rows.{commit_row, running_row, next_stamp, row_of, vote_row}
+use Rattle.qc_promise.specs.Names.{Account, ClientRequest, Current, account, against, are_votes_in, commit_row}
+use Rattle.qc_promise.specs.Names.{first_against, is_prepare, next_stamp, requests_for, row_of, running_row, vote_row}
 use Rattle.laws_due.proofs.Courses.{turns_tell}
 use Rattle.laws_due.proofs.AccountDeclared.{asks_declared}
 use Rattle.laws_guarantees.proofs.Counted.{counted_remembered}
-use Rattle.laws_guarantees.specs.Succeeds.{CommitOf, CommitSucceeds, CommitsSucceed, EachReply, IsCommitted, OfRunning}
-use Rattle.laws_guarantees.specs.Undisturbed.{IsUndisturbed}
+use Rattle.laws_guarantees.specs.Names.{CommitOf, CommitSucceeds, CommitsSucceed, EachReply, IsCommitted, IsUndisturbed}
+use Rattle.laws_guarantees.specs.Names.{OfRunning}
 use Rattle.laws_guarantees.proofs.UndisturbedCounted.{GoodTaken, taken_good}
 use Rattle.laws_guarantees.proofs.Dos.{post_stays}
 use Rattle.laws_guarantees.proofs.Each.{run_each, untold}

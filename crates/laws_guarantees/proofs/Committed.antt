@@ -6,24 +6,20 @@ use Rattle.std.specs.Prelude.{option_and_then}
 use Rattle.std.proofs.lemmas.List.{length-append}
 use Rattle.qc_stamp.specs.declared.stamp.Stamp.{Stamp}
 use Rattle.qc_stamp.specs.declared.stamp.TxId.{TxId}
-use Rattle.qc_list.specs.Members.{In}
+use Rattle.qc_list.specs.Names.{In}
 use Rattle.qc_entry.specs.declared.line.Line.{Line}
 use Rattle.qc_entry.specs.declared.line.Op.{Op}
 use Rattle.qc_entry.specs.declared.record.Commit.{Commit as CommitRecord}
-use Rattle.qc_table.specs.Rules.{Rules, event, event_number, events_of}
+use Rattle.qc_table.specs.Names.{Rules, event, event_number, events_of}
 use Rattle.qc_decl.specs.declared.declaration.Declaration.{Declaration}
-use Rattle.qc_decl.specs.Accepted.{IsAccepted}
-use Rattle.theory_onecopy.specs.Executed.{Executed, committed_line, depends_at, own_line}
-use Rattle.theory_onecopy.specs.Logged.{IsOperation, event_at}
+use Rattle.qc_decl.specs.Names.{IsAccepted}
+use Rattle.theory_onecopy.specs.Names.{Executed, IsOperation, committed_line, depends_at, event_at, own_line}
 use Rattle.theory_onecopy.proofs.Lists.{Mapped, map_in}
 use Rattle.theory_onecopy.proofs.Runs.{table_is}
-use Rattle.qc_promise.specs.Account.{Current, view_of}
-use Rattle.theory_machine.specs.Acts.{Act, state}
-use Rattle.theory_machine.specs.Guards.{IsLive, IsRun, op_of}
-use Rattle.theory_machine.specs.Logs.{AreInOrder, LogLaws}
-use Rattle.theory_machine.specs.State.{Aborted, Active, Committed, Granted, Status, YesVote}
+use Rattle.qc_promise.specs.Names.{Current, view_of}
+use Rattle.theory_machine.specs.Names.{Aborted, Act, Active, AreInOrder, Committed, Granted, IsLive, IsOutcome, IsRun}
+use Rattle.theory_machine.specs.Names.{LogLaws, StateLaws, Status, YesVote, op_of, state}
 use Rattle.theory_machine.specs.State as machine
-use Rattle.theory_machine.specs.StateLaws.{IsOutcome, StateLaws}
 use Rattle.theory_machine.proofs.Keeps.{laws}
 use Rattle.theory_machine.proofs.LogKeeps.{log_laws}
 use Rattle.theory_machine.proofs.Outcomes.{committed_record}

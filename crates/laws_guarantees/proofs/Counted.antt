@@ -3,19 +3,17 @@
 use Rattle.std.proofs.Common.{◌*◌, ◌≡◌, ◌≤◌, ◌+◌, ◌-◌, ◌==◌, ℕ, nat_le, Bool, true, false, List, [], ◌∷◌, ◌++◌, inl, inr, length, Option, Some, None, slice_get, refl, sym, ap, ◌∙◌, subst, eqb-true, ltb-true}
 use Rattle.std.specs.Prelude.{fold, slice_set}
 use Rattle.qc_stamp.specs.declared.stamp.TxId.{TxId}
-use Rattle.qc_list.specs.Members.{In}
+use Rattle.qc_list.specs.Names.{In}
 use Rattle.qc_list.proofs.Members.{In-first, In-more, In-second, every-In}
 use Rattle.theory_onecopy.proofs.Lists.{in_split}
-use Rattle.qc_core.specs.Conduct.{IsLawful}
-use Rattle.qc_core.specs.Sites.{IsShown}
+use Rattle.qc_core.specs.Names.{IsLawful, IsShown, posts as acts_post}
 use Rattle.qc_decl.specs.declared.declaration.Declaration.{Declaration}
-use Rattle.qc_decl.specs.Accepted.{IsAccepted}
-use Rattle.qc_decl.specs.Actors.{controller, is_client, is_site}
-use Rattle.qc_decl.specs.Limits.{most_committed_operations, most_record_bytes}
+use Rattle.qc_decl.specs.Names.{IsAccepted, controller, is_client, is_site, most_committed_operations}
+use Rattle.qc_decl.specs.Names.{most_record_bytes}
 use Rattle.qc_entry.specs.declared.record.Prepared.{Prepared}
-use Rattle.qc_entry.specs.Log.{without}
+use Rattle.qc_entry.specs.Names.{without}
 use Rattle.qc_lock.specs.declared.held.Held.{Held}
-use Rattle.qc_lock.specs.Held.{held_of, is_held}
+use Rattle.qc_lock.specs.Names.{held_of, is_held}
 use Rattle.qc_msg.specs.declared.message.Answer.{Answer}
 use Rattle.qc_msg.specs.declared.message.Message.TheVariants as messages
 use Rattle.qc_msg.specs.declared.message.Want.TheVariants.{Prepare}
@@ -28,32 +26,25 @@ use Rattle.qc_msg.specs.declared.step.Input.TheVariants as inputs
 use Rattle.qc_msg.specs.declared.step.Step.TheVariants as steps
 use Rattle.qc_msg.specs.declared.turn.Posting.{Posting}
 use Rattle.qc_msg.specs.declared.turn.Turn.{Turn}
-use Rattle.qc_msg.specs.Counts.{operations_of}
-use Rattle.qc_msg.specs.Deeds.{Deed, Sends, Takes, Tells, WasSentTo, deeds, mail, sends_of, tells_of, turn_deeds, writes_of}
-use Rattle.qc_msg.specs.Steps.{Entry, by as by_actor, marked, posted, step_of}
+use Rattle.qc_msg.specs.Names.{Deed, Entry, Sends, Takes, Tells, WasSentTo, by as by_actor, deeds, mail, marked}
+use Rattle.qc_msg.specs.Names.{operations_of, posted, sends_of, step_of, tells_of, turn_deeds, writes_of}
 use Rattle.qc_msg.proofs.Growth.{deeds-other, deeds-posted, deeds-taken}
-use Rattle.qc_promise.specs.Account.{Account, ClientRequest, Current}
-use Rattle.qc_promise.specs.Accounting.{account, account_at, account_taken}
-use Rattle.qc_promise.specs.SiteDue.{fits_record, promise_due}
-use Rattle.qc_promise.specs.SiteHeld.{held_shown}
-use Rattle.qc_script.specs.Ready.{phase_of}
-use Rattle.qc_script.specs.Runs.{Runs, begins, takes, posts, phase, control}
-use Rattle.qc_script.specs.Sound.{IsScriptFor}
+use Rattle.qc_promise.specs.Names.{Account, ClientRequest, Current, account, account_at, account_taken, fits_record}
+use Rattle.qc_promise.specs.Names.{held_shown, promise_due}
+use Rattle.qc_script.specs.Names.{IsScriptFor, Runs, phase_of}
+use Rattle.qc_script.specs.Runs.{begins, takes, posts, phase, control}
 use Rattle.qc_script.specs.declared.script.Script.{Script}
-use Rattle.qc_site.specs.Conduct.{site_after}
-use Rattle.qc_site.specs.Promise.{prepare_length, promise_of}
-use Rattle.qc_site.specs.Site.{SiteState}
+use Rattle.qc_site.specs.Names.{SiteState, prepare_length, promise_of, site_after}
 use Rattle.laws_turns.proofs.Acted.{deeds-silent, run_acts}
 use Rattle.laws_turns.proofs.Arrivals.{what_is_ready_was_sent}
 use Rattle.laws_turns.proofs.Numbered.{control_silent, phase_silent}
 use Rattle.laws_turns.proofs.Served.{run_shown}
-use Rattle.laws_turns.specs.Turns.{ActsIn}
+use Rattle.laws_turns.specs.Names.{ActsIn}
 use Rattle.laws_due.proofs.Courses.{turns_tell}
 use Rattle.laws_due.proofs.Mute.{IsMuteDeed, sites_mute}
-use Rattle.qc_core.specs.Acts.{posts as acts_post}
-use Rattle.laws_guarantees.specs.Votes.{IsOpenVote, IsRemembered}
-use Rattle.laws_due.specs.Ties.{Votes}
-use Rattle.qc_client.specs.Conduct.{client_after}
+use Rattle.laws_guarantees.specs.Names.{IsOpenVote, IsRemembered}
+use Rattle.laws_due.specs.Names.{Votes}
+use Rattle.qc_client.specs.Names.{client_after}
 use Rattle.laws_guarantees.proofs.Accounts.{WasSent}
 use Rattle.laws_guarantees.proofs.Grounds.{has_grounds, turn_old}
 use Rattle.laws_guarantees.proofs.ForgettingAnswers.{Forgets}

@@ -4,8 +4,7 @@ use Rattle.std.specs.List.{AllByRecursion as Every, find}
 use Rattle.std.specs.Option.{option_map_or}
 use Rattle.qc_list.proofs.Members.{every-append}
 use Rattle.qc_stamp.specs.declared.stamp.TxId.{TxId}
-use Rattle.qc_stamp.specs.Lives.{first_life}
-use Rattle.qc_stamp.specs.Order.{same_tx}
+use Rattle.qc_stamp.specs.Names.{first_life, same_tx}
 use Rattle.qc_entry.specs.declared.line.Line.{Line}
 use Rattle.qc_decl.specs.declared.declaration.Declaration.{Declaration}
 use Rattle.qc_msg.specs.declared.begun.LifeAt.{LifeAt}
@@ -25,14 +24,16 @@ use Rattle.qc_msg.specs.declared.step.Command.{Command}
 use Rattle.qc_msg.specs.declared.step.Command.TheVariants as commands
 use Rattle.qc_msg.specs.declared.step.Input.{Input}
 use Rattle.qc_msg.specs.declared.step.Input.TheVariants as inputs
-use Rattle.qc_msg.specs.Begun.{first_epoch, has_granted, life_of, with_life}
-use Rattle.qc_msg.specs.Deeds.{Deed, Takes, Writes, Sends, Tells, Falls, Rises}
-use Rattle.qc_promise.specs.Account.{Account, account_with, ClientRequest, Current, is_append, new_account, requests_for}
-use Rattle.qc_promise.specs.Accounting.{account_at, account_fallen, account_heard, account_sent, account_taken, account_told, account_told_in, account_written, counted, counted_for, doomed_if, found_absent, granted, is_open, lived, promised, refused, responded, short_of, taken_for, told_by, with_absent, with_current, with_read, with_response}
-use Rattle.qc_promise.specs.Asked.{command_asks, is_asked_for, is_of}
-use Rattle.qc_promise.specs.Rounds.{answer_of}
-use Rattle.laws_due.specs.ByRows.{AreByRows, IsSendDue}
-use Rattle.laws_guarantees.specs.First.{IsFirst, IsFirstAnswer}
+use Rattle.qc_msg.specs.Names.{Deed, Falls, Rises, Sends, Takes, Tells, Writes, first_epoch, has_granted, life_of}
+use Rattle.qc_msg.specs.Names.{with_life}
+use Rattle.qc_promise.specs.Names.{Account, ClientRequest, Current, account_at, account_fallen, account_heard}
+use Rattle.qc_promise.specs.Names.{account_sent, account_taken, account_told, account_told_in, account_with}
+use Rattle.qc_promise.specs.Names.{account_written, answer_of, command_asks, counted, counted_for, doomed_if}
+use Rattle.qc_promise.specs.Names.{found_absent, granted, is_append, is_asked_for, is_of, is_open, lived, new_account}
+use Rattle.qc_promise.specs.Names.{promised, refused, requests_for, responded, short_of, taken_for, told_by}
+use Rattle.qc_promise.specs.Names.{with_absent, with_current, with_read, with_response}
+use Rattle.laws_due.specs.Names.{AreByRows, IsSendDue}
+use Rattle.laws_guarantees.specs.Names.{IsFirst, IsFirstAnswer}
 
 abbrev pub FirstLives : List LifeAt → Type 0
 FirstLives lives = Every (λ (l : LifeAt). l.life ≡ first_life) lives

@@ -2,7 +2,7 @@
 use Rattle.std.proofs.Common.{◌≡◌, ℕ, ◌==◌, ◌⊎◌, inl, inr, nat_lt, cond, List, [], ◌∷◌, Some, None, ap, ◌∙◌}
 use Rattle.std.specs.List.{AllByRecursion as Every}
 use Rattle.qc_stamp.specs.declared.stamp.TxId.{TxId}
-use Rattle.qc_stamp.specs.Lives.{first_life}
+use Rattle.qc_stamp.specs.Names.{first_life}
 use Rattle.qc_decl.specs.declared.declaration.Declaration.{Declaration}
 use Rattle.qc_msg.specs.declared.message.Answer.TheVariants as says
 use Rattle.qc_msg.specs.declared.message.Message.{Message}
@@ -13,14 +13,12 @@ use Rattle.qc_msg.specs.declared.message.Want.TheVariants.{Append, Prepare, Read
 use Rattle.qc_msg.specs.declared.step.Input.{Input}
 use Rattle.qc_msg.specs.declared.step.Input.TheVariants as inputs
 use Rattle.qc_msg.specs.declared.turn.Posting.{Posting}
-use Rattle.qc_msg.specs.Begun.{first_epoch}
-use Rattle.qc_msg.specs.Deeds.{Deed, Takes, Writes, Sends, Tells, Falls, Rises}
-use Rattle.qc_site.specs.Conduct.{passed, site_at, site_takes}
-use Rattle.qc_site.specs.Requests.{closed_fault, fault_of, grants, life_fault}
-use Rattle.qc_site.specs.Site.{SiteMove, SiteState}
+use Rattle.qc_msg.specs.Names.{Deed, Falls, Rises, Sends, Takes, Tells, Writes, first_epoch}
+use Rattle.qc_site.specs.Names.{SiteMove, SiteState, closed_fault, fault_of, grants, life_fault, passed, site_at}
+use Rattle.qc_site.specs.Names.{site_takes}
 use Rattle.qc_site.proofs.Cases.{append_cases, join_cases, prepare_cases, read_cases, request_cases}
 use Rattle.laws_atomic.proofs.FirstSites.{IsAtFirst, IsCalmGiven, IsCalmMessage, TakesCalm}
-use Rattle.laws_guarantees.specs.First.{IsFirst}
+use Rattle.laws_guarantees.specs.Names.{IsFirst}
 use Rattle.laws_guarantees.proofs.FirstAccounts.{FirstGiven, TakesFirst}
 
 -- a request of the first epoch, which names the first life or none, isn't refused for them

@@ -12,13 +12,10 @@ use Rattle.qc_msg.specs.declared.message.Want.{Want}
 use Rattle.qc_msg.specs.declared.message.Want.TheVariants.{Append, Prepare, Read}
 use Rattle.qc_msg.specs.declared.step.Input.TheVariants as inputs
 use Rattle.qc_msg.specs.declared.turn.Posting.{Posting}
-use Rattle.qc_site.specs.Conduct.{passed, site_at, site_takes}
-use Rattle.qc_site.specs.Requests.{fault_of, grants, relation_at}
-use Rattle.qc_site.specs.Site.{SiteMove, SiteState}
+use Rattle.qc_site.specs.Names.{SiteMove, SiteState, fault_of, grants, passed, relation_at, site_at, site_takes}
 use Rattle.laws_atomic.proofs.FirstSites.{IsAtFirst}
 use Rattle.qc_site.proofs.Cases.{append_cases, join_cases, prepare_cases, read_cases, request_cases}
-use Rattle.laws_guarantees.specs.Answers.{Fits}
-use Rattle.laws_guarantees.specs.First.{IsFirst}
+use Rattle.laws_guarantees.specs.Names.{Fits, IsFirst}
 use Rattle.laws_guarantees.proofs.FirstSites.{first_free}
 use Rattle.laws_guarantees.proofs.Held.{AreOpen, IsInTheWay, append_way, read_way}
 

@@ -3,19 +3,19 @@ use Rattle.std.proofs.Common.{◌≡◌, ◌≤◌, ◌&&◌, ◌||◌, not, ℕ
 use Rattle.std.specs.Prelude.{fold}
 use Rattle.std.specs.Option.{option_map_or}
 use Rattle.qc_stamp.specs.declared.stamp.TxId.{TxId}
-use Rattle.qc_stamp.specs.Order.{same_tx}
+use Rattle.qc_stamp.specs.Names.{same_tx}
 use Rattle.qc_stamp.proofs.Orders.{same_tx_is}
-use Rattle.qc_list.specs.Members.{In}
+use Rattle.qc_list.specs.Names.{In}
 use Rattle.qc_list.proofs.Members.{In-first, In-second}
 use Rattle.theory_onecopy.proofs.Lists.{in_map, in_split}
 use Rattle.qc_entry.specs.declared.line.Line.{Line}
 use Rattle.qc_entry.specs.declared.line.OwnLine.{OwnLine}
 use Rattle.qc_entry.specs.declared.record.Commit.{Commit as CommitRecord}
-use Rattle.qc_core.specs.Conduct.{IsLawful}
+use Rattle.qc_core.specs.Names.{IsLawful}
 use Rattle.qc_decl.specs.declared.declaration.Declaration.{Declaration}
-use Rattle.qc_decl.specs.Accepted.{IsAccepted}
+use Rattle.qc_decl.specs.Names.{IsAccepted}
 use Rattle.qc_lock.specs.declared.held.Held.{Held}
-use Rattle.qc_lock.specs.Held.{held_of, with_held}
+use Rattle.qc_lock.specs.Names.{held_of, with_held}
 use Rattle.qc_msg.specs.declared.message.Envelope.{Envelope}
 use Rattle.qc_msg.specs.declared.message.Message.{Message}
 use Rattle.qc_msg.specs.declared.message.Message.TheVariants as messages
@@ -24,28 +24,20 @@ use Rattle.qc_msg.specs.declared.message.Outcome.TheVariants as outcomes
 use Rattle.qc_msg.specs.declared.message.Want.{Want}
 use Rattle.qc_msg.specs.declared.message.Want.TheVariants.{Read, Append, Prepare}
 use Rattle.qc_msg.specs.declared.step.Input.TheVariants as inputs
-use Rattle.qc_msg.specs.Counts.{written}
-use Rattle.qc_msg.specs.Deeds.{Deed, Takes, Writes, Sends, Tells, Falls, Rises, deeds, mail}
-use Rattle.qc_msg.specs.Steps.{Entry}
-use Rattle.theory_onecopy.specs.Executed.{Executed, own_line}
-use Rattle.qc_msg.specs.InputReadings.{got_in}
-use Rattle.qc_msg.specs.Readings.{Decided, decision_in, request_in}
-use Rattle.qc_promise.specs.SiteEnds.{is_decision, is_ended, is_final}
-use Rattle.qc_promise.specs.SiteHeld.{Grant, held_shown, holding, is_granted, standing, standing_as, standing_by, stands}
-use Rattle.theory_machine.specs.Acts.{state}
-use Rattle.theory_machine.specs.Logs.{IsExecutedOrChosen, IsOwnClosedAt, LogLaws}
-use Rattle.theory_machine.specs.Site.{Item, Lock, Own}
+use Rattle.qc_msg.specs.Names.{Decided, Deed, Entry, Falls, Rises, Sends, Takes, Tells, Writes, decision_in, deeds}
+use Rattle.qc_msg.specs.Names.{got_in, mail, request_in, written}
+use Rattle.theory_onecopy.specs.Names.{Executed, own_line}
+use Rattle.qc_promise.specs.Names.{Grant, held_shown, holding, is_decision, is_ended, is_final, is_granted, standing}
+use Rattle.qc_promise.specs.Names.{standing_as, standing_by, stands}
+use Rattle.theory_machine.specs.Names.{IsExecutedOrChosen, IsOwnClosedAt, Item, Lock, LogLaws, Own, state}
 use Rattle.theory_machine.proofs.LogKeeps.{log_laws}
 use Rattle.theory_machine.proofs.Places.{at}
-use Rattle.qc_script.specs.Runs.{Runs}
-use Rattle.qc_script.specs.Sound.{IsScriptFor}
+use Rattle.qc_script.specs.Names.{IsScriptFor, Runs}
 use Rattle.qc_script.specs.declared.script.Script.{Script}
-use Rattle.laws_refinement.specs.Items.{own_item, own_items}
-use Rattle.laws_refinement.specs.Messages.{Backed}
-use Rattle.laws_refinement.specs.Sites.{IsHeld}
+use Rattle.laws_refinement.specs.Names.{Backed, IsHeld, own_item, own_items}
 use Rattle.laws_refinement.proofs.Held.{given_keeps, lock_given_here, own_given_here}
 use Rattle.laws_atomic.proofs.Runs.{decisions_tell_the_records}
-use Rattle.laws_guarantees.specs.Held.{HasWanted, IsGrantedSince}
+use Rattle.laws_guarantees.specs.Names.{HasWanted, IsGrantedSince}
 use Rattle.laws_guarantees.proofs.Mailed.{taken_mail}
 use Rattle.laws_guarantees.proofs.Room.{numbered_within}
 use Rattle.laws_guarantees.proofs.Uncut.{held_from_first}

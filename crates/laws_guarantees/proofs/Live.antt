@@ -5,32 +5,25 @@ use Rattle.std.proofs.Common.{◌≡◌, ◌⊎◌, ◌≤◌, ℕ, Bool, true, 
 use Rattle.std.proofs.Common.{slice_get, refl, sym, ap, ◌∙◌, subst, arith}
 use Rattle.qc_stamp.specs.declared.stamp.Stamp.{Stamp}
 use Rattle.qc_stamp.specs.declared.stamp.TxId.{TxId}
-use Rattle.qc_list.specs.Members.{In}
+use Rattle.qc_list.specs.Names.{In}
 use Rattle.qc_entry.specs.declared.line.Line.{Line}
-use Rattle.qc_core.specs.Conduct.{IsLawful}
+use Rattle.qc_core.specs.Names.{IsLawful}
 use Rattle.qc_decl.specs.declared.declaration.Declaration.{Declaration}
-use Rattle.qc_decl.specs.Accepted.{IsAccepted}
-use Rattle.qc_decl.specs.Actors.{is_client}
-use Rattle.qc_msg.specs.Deeds.{deeds}
-use Rattle.qc_msg.specs.Steps.{Entry}
+use Rattle.qc_decl.specs.Names.{IsAccepted, is_client}
+use Rattle.qc_msg.specs.Names.{Entry, deeds}
 use Rattle.qc_commit.specs.declared.desk.Voting.{Voting}
 use Rattle.qc_front.specs.declared.transaction.Transaction.{Transaction}
-use Rattle.qc_promise.specs.Account.{Account, Current, view_of}
-use Rattle.qc_promise.specs.Accounting.{account, account_taken}
-use Rattle.laws_due.specs.Ties.{Ties}
+use Rattle.qc_promise.specs.Names.{Account, Current, account, account_taken, view_of}
+use Rattle.laws_due.specs.Names.{Ties}
 use Rattle.laws_due.proofs.Courses.{clients_tied}
 use Rattle.laws_turns.proofs.Acted.{run_acts}
-use Rattle.laws_turns.specs.Turns.{ActsIn}
-use Rattle.theory_machine.specs.Acts.{state}
-use Rattle.theory_machine.specs.Guards.{IsShown, op_of}
-use Rattle.theory_machine.specs.State.{Aborted, Active, State, Status}
+use Rattle.laws_turns.specs.Names.{ActsIn}
+use Rattle.theory_machine.specs.Names.{Aborted, Active, IsOutcome, IsShown, State, Status, op_of, state}
 use Rattle.theory_machine.specs.State as machine
-use Rattle.theory_machine.specs.StateLaws.{IsOutcome}
-use Rattle.qc_script.specs.Runs.{Runs}
-use Rattle.qc_script.specs.Sound.{IsScriptFor}
+use Rattle.qc_script.specs.Names.{IsScriptFor, Runs}
 use Rattle.qc_script.specs.declared.script.Script.{Script}
-use Rattle.laws_refinement.specs.Clients.{BegunMirrors, ClientMirrors, RunningMirrors, TransactionMirrors, status_by}
-use Rattle.laws_refinement.specs.Mirrors.{Refines}
+use Rattle.laws_refinement.specs.Names.{BegunMirrors, ClientMirrors, Refines, RunningMirrors, TransactionMirrors}
+use Rattle.laws_refinement.specs.Names.{status_by}
 use Rattle.laws_refinement.proofs.Refining.{nets_refine}
 use Rattle.laws_atomic.proofs.Calm.{all_up, is_reached}
 use Rattle.laws_guarantees.proofs.ClockLaw.{take_clock}

@@ -7,26 +7,22 @@ use Rattle.std.proofs.Common.{IsSome, refl, sym, ap, ◌∙◌, subst, arith}
 use Rattle.std.proofs.lemmas.Bool.{cases_eq}
 use Rattle.qc_stamp.specs.declared.stamp.Stamp.{Stamp}
 use Rattle.qc_stamp.specs.declared.stamp.TxId.{TxId}
-use Rattle.qc_list.specs.Members.{In}
+use Rattle.qc_list.specs.Names.{In}
 use Rattle.qc_list.proofs.Members.{In-first, In-second}
 use Rattle.qc_entry.specs.declared.line.OwnLine.{OwnLine}
 use Rattle.qc_entry.specs.declared.line.ReadLock.{ReadLock}
 use Rattle.qc_table.specs.declared.kind.Kind.{Kind}
-use Rattle.qc_table.specs.Rules.{events_of}
-use Rattle.qc_plan.specs.Weights.{IsShared, weight}
+use Rattle.qc_table.specs.Names.{events_of}
+use Rattle.qc_plan.specs.Names.{IsShared, weight}
 use Rattle.qc_plan.specs.declared.plan.Plan.{Plan}
 use Rattle.qc_decl.specs.declared.declaration.Declaration.{Declaration}
-use Rattle.qc_decl.specs.Accepted.{IsAccepted}
-use Rattle.qc_decl.specs.Lookup.{append_need_of, plan_in, read_need_of}
-use Rattle.theory_onecopy.specs.Executed.{Executed, committed_line, depends_at, kind_at, own_line}
-use Rattle.theory_machine.specs.Site.{Deed, Grants, LearnsCommit, Lock, Own, Site, after_deed, done_records, empty_site}
-use Rattle.theory_machine.specs.Site.{epoch_from, items_of, site_after, site_from}
-use Rattle.theory_machine.specs.SiteLaws.{SparesUntilDone}
-use Rattle.theory_machine.specs.State.{Aborted, Granted, Status}
-use Rattle.theory_machine.specs.Acts.{Act, state}
-use Rattle.theory_machine.specs.Guards.{HasGranted, HasQuorum, IsRun, read_lock, weights_of}
-use Rattle.theory_machine.specs.Logs.{IsAnsweredFromQuorum, IsDependedOn, IsReadAt, LogLaws}
-use Rattle.theory_machine.specs.StateLaws.{CountedLaw, HasRisingEpochs, IsOutcome, StateLaws}
+use Rattle.qc_decl.specs.Names.{IsAccepted, append_need_of, plan_in, read_need_of}
+use Rattle.theory_onecopy.specs.Names.{Executed, committed_line, depends_at, kind_at, own_line}
+use Rattle.theory_machine.specs.Names.{Aborted, Act, CountedLaw, Deed, Granted, Grants, HasGranted, HasQuorum}
+use Rattle.theory_machine.specs.Names.{HasRisingEpochs, IsAnsweredFromQuorum, IsDependedOn, IsOutcome, IsReadAt, IsRun}
+use Rattle.theory_machine.specs.Names.{LearnsCommit, Lock, LogLaws, Own, Site, SparesUntilDone, StateLaws, Status}
+use Rattle.theory_machine.specs.Names.{after_deed, done_records, empty_site, epoch_from, items_of, read_lock}
+use Rattle.theory_machine.specs.Names.{site_after, site_from, state, weights_of}
 use Rattle.theory_machine.proofs.Decided.{IsOfEpoch, kept_lines, of_epoch, passed_stamps, positive}
 use Rattle.theory_machine.proofs.Epochs.{rising-left}
 use Rattle.theory_machine.proofs.Keeps.{laws}

@@ -3,15 +3,14 @@
 use Rattle.std.proofs.Common.{◌≡◌, ◌⊎◌, ◌<◌, ◌≤◌, ◌&&◌, ℕ, Bool, true, false, List, ◌++◌, inl, inr, length, Option, Some, None, slice_get, refl, sym, ap, ◌∙◌, subst, arith, ltb-true}
 use Rattle.qc_decl.proofs.Clients.{client_past}
 use Rattle.qc_stamp.specs.declared.stamp.TxId.{TxId}
-use Rattle.qc_list.specs.Members.{In}
+use Rattle.qc_list.specs.Names.{In}
 use Rattle.qc_list.proofs.Members.{In-first}
 use Rattle.theory_onecopy.proofs.Lists.{in_split}
 use Rattle.qc_entry.specs.declared.line.Line.{Line}
 use Rattle.qc_entry.specs.declared.line.ReadLock.{ReadLock}
 use Rattle.qc_decl.specs.declared.declaration.Declaration.{Declaration}
-use Rattle.qc_decl.specs.Accepted.{IsAccepted}
-use Rattle.qc_decl.specs.Actors.{is_client, is_site}
-use Rattle.qc_lock.specs.Held.{held_of, is_held}
+use Rattle.qc_decl.specs.Names.{IsAccepted, is_client, is_site}
+use Rattle.qc_lock.specs.Names.{held_of, is_held}
 use Rattle.qc_msg.specs.declared.message.Answer.TheVariants as answers
 use Rattle.qc_msg.specs.declared.message.Envelope.{Envelope}
 use Rattle.qc_msg.specs.declared.message.Message.{Message}
@@ -21,16 +20,12 @@ use Rattle.qc_msg.specs.declared.message.Want.TheVariants.{Read, Append, Prepare
 use Rattle.qc_msg.specs.declared.step.Input.{Input}
 use Rattle.qc_msg.specs.declared.step.Input.TheVariants as inputs
 use Rattle.qc_msg.specs.declared.turn.Posting.{Posting}
-use Rattle.qc_msg.specs.Deeds.{envelopes}
-use Rattle.theory_machine.specs.Acts.{state}
-use Rattle.qc_site.specs.Conduct.{passed, site_at, site_takes}
-use Rattle.qc_site.specs.Site.{SiteMove, SiteState}
-use Rattle.qc_site.specs.Sorted.{IsMessageSorted, IsSiteSorted}
+use Rattle.qc_msg.specs.Names.{envelopes}
+use Rattle.theory_machine.specs.Names.{state}
+use Rattle.qc_site.specs.Names.{IsMessageSorted, IsSiteSorted, SiteMove, SiteState, passed, site_at, site_takes}
 use Rattle.qc_site.proofs.Sorted.{stays_sorted}
-use Rattle.qc_client.specs.Conduct.{client_takes}
-use Rattle.laws_refinement.specs.Messages.{Backed, IsGrantTo, IsRequest}
-use Rattle.laws_refinement.specs.Mirrors.{Refines}
-use Rattle.laws_refinement.specs.Net.{MayCome, Net, after_site}
+use Rattle.qc_client.specs.Names.{client_takes}
+use Rattle.laws_refinement.specs.Names.{Backed, IsGrantTo, IsRequest, MayCome, Net, Refines, after_site}
 use Rattle.laws_atomic.proofs.Calm.{IsCalm, is_reached}
 use Rattle.laws_atomic.proofs.Calm as calm
 use Rattle.laws_refinement.proofs.Machine.{put_one, slice_get-append}

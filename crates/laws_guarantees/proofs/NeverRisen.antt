@@ -6,9 +6,8 @@ use Rattle.qc_decl.specs.declared.declaration.Declaration.{Declaration}
 use Rattle.qc_entry.specs.declared.record.Commit.{Commit}
 use Rattle.qc_list.proofs.Members.{every-append}
 use Rattle.qc_msg.proofs.Growth.{operations-written}
-use Rattle.qc_msg.specs.Counts.{IsNoRise, answered, operations_of, written}
-use Rattle.qc_msg.specs.Deeds.{Deed, mail}
-use Rattle.qc_msg.specs.Steps.{Entry, by, marked, posted, sents, step_of, told, wrote}
+use Rattle.qc_msg.specs.Names.{Deed, Entry, IsNoRise, answered, by, mail, marked, operations_of, posted, sents, step_of}
+use Rattle.qc_msg.specs.Names.{told, written, wrote}
 use Rattle.qc_msg.specs.declared.record.Record.{Record}
 use Rattle.qc_msg.specs.declared.reply.Reply.{Reply}
 use Rattle.qc_msg.specs.declared.step.Control.{Control}
@@ -19,8 +18,8 @@ use Rattle.qc_msg.specs.declared.step.Step.{Step}
 use Rattle.qc_msg.specs.declared.step.Step.TheVariants as steps
 use Rattle.qc_msg.specs.declared.turn.Posting.{Posting}
 use Rattle.qc_msg.specs.declared.turn.Turn.{Turn}
-use Rattle.qc_script.specs.Ready.{step_of_control}
-use Rattle.qc_script.specs.Runs.{Runs, begins, takes, posts, phase, control}
+use Rattle.qc_script.specs.Names.{Runs, step_of_control}
+use Rattle.qc_script.specs.Runs.{begins, takes, posts, phase, control}
 use Rattle.qc_script.specs.declared.script.Script.{Script}
 
 abbrev AreNoRises : List Entry → Type 0

@@ -3,14 +3,13 @@ use Rattle.std.proofs.Common.{◌≡◌, ◌<◌, ◌≤◌, ◌+◌, ◌-◌, �
 use Rattle.std.proofs.Common.{inl, inr, length, Option, Some, None, slice_get, refl, sym, ap, ◌∙◌, subst, eqb-true}
 use Rattle.std.proofs.Common.{le-leb, lt-ltb, ltb-false, ltb-true}
 use Rattle.qc_stamp.specs.declared.stamp.TxId.{TxId}
-use Rattle.qc_list.specs.Members.{In}
+use Rattle.qc_list.specs.Names.{In}
 use Rattle.qc_list.proofs.Members.{In-more, every-In}
 use Rattle.theory_onecopy.proofs.Lists.{in_split}
-use Rattle.qc_core.specs.Conduct.{IsLawful}
+use Rattle.qc_core.specs.Names.{IsLawful}
 use Rattle.qc_decl.specs.declared.declaration.Declaration.{Declaration}
-use Rattle.qc_decl.specs.Accepted.{IsAccepted}
+use Rattle.qc_decl.specs.Names.{IsAccepted, administrator, controller, is_client}
 use Rattle.qc_decl.proofs.Clients.{client_within}
-use Rattle.qc_decl.specs.Actors.{administrator, controller, is_client}
 use Rattle.qc_msg.specs.declared.message.Envelope.{Envelope}
 use Rattle.qc_msg.specs.declared.message.Message.{Message}
 use Rattle.qc_msg.specs.declared.message.Message.TheVariants as messages
@@ -23,12 +22,11 @@ use Rattle.qc_msg.specs.declared.step.Input.TheVariants as inputs
 use Rattle.qc_msg.specs.declared.step.Step.TheVariants as steps
 use Rattle.qc_msg.specs.declared.turn.Posting.{Posting}
 use Rattle.qc_msg.specs.declared.turn.Turn.{Turn}
-use Rattle.qc_msg.specs.Deeds.{Deed, Takes, Sends, deeds, mail, sends_of, tells_of, turn_deeds, writes_of}
-use Rattle.qc_msg.specs.Steps.{Entry, by as by_actor, marked, posted, step_of}
+use Rattle.qc_msg.specs.Names.{Deed, Entry, Sends, Takes, by as by_actor, deeds, mail, marked, posted, sends_of}
+use Rattle.qc_msg.specs.Names.{step_of, tells_of, turn_deeds, writes_of}
 use Rattle.qc_msg.proofs.Growth.{deeds-other, deeds-posted, deeds-taken}
-use Rattle.qc_script.specs.Ready.{phase_of}
-use Rattle.qc_script.specs.Runs.{Runs, begins, takes, posts, phase, control}
-use Rattle.qc_script.specs.Sound.{IsScriptFor}
+use Rattle.qc_script.specs.Names.{IsScriptFor, Runs, phase_of}
+use Rattle.qc_script.specs.Runs.{begins, takes, posts, phase, control}
 use Rattle.qc_script.specs.declared.script.Script.{Script}
 use Rattle.laws_turns.proofs.Acted.{deeds-silent, has_entry, run_acts}
 use Rattle.laws_turns.proofs.Idle.{IsInput, idle}
@@ -36,11 +34,11 @@ use Rattle.laws_turns.proofs.Arrivals.{what_is_ready_was_sent}
 use Rattle.laws_turns.proofs.Numbered.{control_silent, phase_silent}
 use Rattle.laws_turns.proofs.Proper.{run_proper}
 use Rattle.laws_turns.proofs.SiteReplies.{IsProperFrom}
-use Rattle.laws_turns.specs.Turns.{ActsIn}
+use Rattle.laws_turns.specs.Names.{ActsIn}
 use Rattle.laws_due.proofs.Courses.{clients_due}
 use Rattle.laws_due.proofs.AccountDeclared.{asks_declared}
-use Rattle.laws_refinement.specs.Net.{IsNamed}
-use Rattle.laws_atomic.specs.Reached.{AreNamed}
+use Rattle.laws_refinement.specs.Names.{IsNamed}
+use Rattle.laws_atomic.specs.Names.{AreNamed}
 use Rattle.laws_atomic.proofs.Asked.{ready_named}
 use Rattle.laws_atomic.proofs.Names.{script_named}
 use Rattle.laws_guarantees.proofs.Mailed.{mail_sent}

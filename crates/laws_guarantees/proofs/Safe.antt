@@ -2,15 +2,14 @@
 -- life in which it granted.
 use Rattle.std.proofs.Common.{Bool, inl, List}
 use Rattle.qc_stamp.specs.declared.stamp.TxId.{TxId}
-use Rattle.qc_core.specs.Conduct.{IsLawful}
+use Rattle.qc_core.specs.Names.{IsLawful}
 use Rattle.qc_decl.specs.declared.declaration.Declaration.{Declaration}
-use Rattle.qc_decl.specs.Accepted.{IsAccepted}
-use Rattle.qc_msg.specs.Steps.{Entry}
+use Rattle.qc_decl.specs.Names.{IsAccepted}
+use Rattle.qc_msg.specs.Names.{Entry}
 use Rattle.theory_machine.proofs.Keeps.{laws}
-use Rattle.qc_script.specs.Runs.{Runs}
-use Rattle.qc_script.specs.Sound.{IsScriptFor}
+use Rattle.qc_script.specs.Names.{IsScriptFor, Runs}
 use Rattle.qc_script.specs.declared.script.Script.{Script}
-use Rattle.laws_refinement.specs.Mirrors.{Refines}
+use Rattle.laws_refinement.specs.Names.{Refines}
 use Rattle.laws_atomic.proofs.CalmGrants.{is_of_its_life}
 use Rattle.laws_atomic.proofs.Stood.{Stood}
 use Rattle.laws_guarantees.proofs.Live.{mirror, stood}

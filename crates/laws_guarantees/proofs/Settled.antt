@@ -5,20 +5,16 @@ use Rattle.std.proofs.Common.{◌≡◌, ◌≢◌, ℕ, zero, suc, ◌<◌, ◌
 use Rattle.std.proofs.Common.{sym, ap, ◌∙◌, subst, arith}
 use Rattle.qc_stamp.specs.declared.stamp.Stamp.{Stamp}
 use Rattle.qc_stamp.specs.declared.stamp.TxId.{TxId}
-use Rattle.qc_list.specs.Members.{In}
+use Rattle.qc_list.specs.Names.{In}
 use Rattle.qc_list.proofs.Members.{In-first, In-second}
 use Rattle.qc_entry.specs.declared.record.Commit.{Commit as CommitRecord}
 use Rattle.qc_decl.specs.declared.declaration.Declaration.{Declaration}
-use Rattle.qc_decl.specs.Accepted.{IsAccepted}
-use Rattle.qc_decl.specs.Lookup.{plan_in}
-use Rattle.theory_machine.specs.Site.{Deed, Grants, Item, LearnsCommit, Promise, epoch_from}
-use Rattle.theory_machine.specs.SiteLaws.{SparesUntilDone}
-use Rattle.theory_machine.specs.State.{Aborted, Committed, Decision, Granted, Snapshot, Status, YesVote}
+use Rattle.qc_decl.specs.Names.{IsAccepted, plan_in}
+use Rattle.theory_machine.specs.Names.{Aborted, Act, Committed, CountedLaw, Decision, Deed, Granted, Grants}
+use Rattle.theory_machine.specs.Names.{IsDecisionFrom, IsDependedOn, IsOutcome, IsResolved, IsRun, Item, LearnsCommit}
+use Rattle.theory_machine.specs.Names.{Promise, Snapshot, SparesUntilDone, StateLaws, Status, YesVote, epoch_from}
+use Rattle.theory_machine.specs.Names.{state}
 use Rattle.theory_machine.specs.State as machine
-use Rattle.theory_machine.specs.Acts.{Act, state}
-use Rattle.theory_machine.specs.Guards.{IsResolved, IsRun}
-use Rattle.theory_machine.specs.Logs.{IsDependedOn}
-use Rattle.theory_machine.specs.StateLaws.{CountedLaw, IsDecisionFrom, IsOutcome, StateLaws}
 use Rattle.theory_machine.proofs.Decided.{IsPast, of_epoch, order, past, suc_of, tells}
 use Rattle.theory_machine.proofs.Keeps.{laws}
 use Rattle.theory_machine.proofs.Order.{ended}

@@ -5,18 +5,14 @@ use Rattle.std.specs.Option.{option_map_or}
 use Rattle.std.specs.List.{flat_map}
 use Rattle.qc_stamp.specs.declared.stamp.Stamp.{Stamp}
 use Rattle.qc_stamp.specs.declared.stamp.TxId.{TxId}
-use Rattle.qc_list.specs.Members.{In}
+use Rattle.qc_list.specs.Names.{In}
 use Rattle.qc_list.proofs.Members.{In-first, In-second}
-use Rattle.qc_entry.specs.Log.{union}
+use Rattle.qc_entry.specs.Names.{union}
 use Rattle.qc_entry.specs.declared.line.Line.{Line}
-use Rattle.qc_core.specs.Acts.{Acts, starts, takes, posts}
-use Rattle.qc_core.specs.Conduct.{IsLawful}
-use Rattle.qc_core.specs.Sites.{IsShown}
+use Rattle.qc_core.specs.Names.{Acts, AreSteady, IsLawful, IsShown, IsSteady, posts, starts, takes}
 use Rattle.qc_core.proofs.SiteLines.{began_shows}
 use Rattle.qc_decl.specs.declared.declaration.Declaration.{Declaration}
-use Rattle.qc_decl.specs.Accepted.{IsAccepted}
-use Rattle.qc_decl.specs.Actors.{is_site}
-use Rattle.qc_decl.specs.Limits.{most_record_bytes}
+use Rattle.qc_decl.specs.Names.{IsAccepted, is_site, most_record_bytes}
 use Rattle.qc_msg.specs.declared.message.Envelope.{Envelope}
 use Rattle.qc_msg.specs.declared.message.Message.{Message}
 use Rattle.qc_msg.specs.declared.message.Message.TheVariants as messages
@@ -26,35 +22,29 @@ use Rattle.qc_msg.specs.declared.record.Record.{Record}
 use Rattle.qc_msg.specs.declared.record.Record.TheVariants as records
 use Rattle.qc_msg.specs.declared.step.Input.{Input}
 use Rattle.qc_msg.specs.declared.step.Input.TheVariants as inputs
-use Rattle.qc_msg.specs.Deeds.{Deed, Takes, Writes, Sends, Tells, Falls, Rises, deeds, turn_deeds}
-use Rattle.qc_msg.specs.Steps.{Entry}
+use Rattle.qc_msg.specs.Names.{Deed, Entry, Falls, Installing, Requested, Rises, Sends, Takes, Tells, Writes, deeds}
+use Rattle.qc_msg.specs.Names.{epoch_length, turn_deeds}
 use Rattle.qc_msg.specs.declared.message.Answer.{Answer}
 use Rattle.qc_msg.specs.declared.message.Answer.TheVariants as answers
-use Rattle.qc_msg.specs.Lengths.{epoch_length}
 use Rattle.qc_msg.specs.declared.step.Fall.{Fall}
 use Rattle.qc_msg.specs.declared.step.Fall.TheVariants as causes
 use Rattle.qc_msg.specs.declared.turn.Posting.{Posting}
-use Rattle.qc_msg.specs.Readings.{Installing, Requested}
-use Rattle.qc_promise.specs.Lifetimes.{Lifetime}
-use Rattle.qc_promise.specs.Posts.{Act, Fell, Sent, TurnDue, Wrote, ends_with, fallen_in, posted_due, posted_next, quiet_turn, sending}
-use Rattle.qc_promise.specs.SiteClocks.{clock_shown, clocks_at, clocks_in, clocks_in_record}
-use Rattle.qc_promise.specs.SiteDue.{AreDue, IsDueAt, IsDueOrOpen, answers_due, close_turn, done_turn, grant_due, granting_turn, heard_turn, install_turn, is_declared, is_epoch, is_new_promise, promise_turn, recording_turn, refusal_due, request_turn, shut_due, telling_turn, turn_due}
-use Rattle.qc_promise.specs.SiteLogs.{log_shown}
-use Rattle.qc_promise.specs.SitePromises.{is_promised}
-use Rattle.qc_promise.specs.SiteRecords.{closed_shown, epoch_shown}
-use Rattle.theory_machine.specs.Acts.{state}
-use Rattle.qc_script.specs.Runs.{Runs}
-use Rattle.qc_script.specs.Sound.{IsScriptFor}
+use Rattle.qc_promise.specs.Names.{Act, AreDue, Fell, IsDueAt, IsDueOrOpen, Lifetime, Sent, TurnDue, Wrote, answers_due}
+use Rattle.qc_promise.specs.Names.{clock_shown, clocks_at, clocks_in, clocks_in_record, close_turn, closed_shown}
+use Rattle.qc_promise.specs.Names.{done_turn, ends_with, epoch_shown, fallen_in, grant_due, granting_turn, heard_turn}
+use Rattle.qc_promise.specs.Names.{install_turn, is_declared, is_epoch, is_new_promise, is_promised, log_shown}
+use Rattle.qc_promise.specs.Names.{posted_due, posted_next, promise_turn, quiet_turn, recording_turn, refusal_due}
+use Rattle.qc_promise.specs.Names.{request_turn, sending, shut_due, telling_turn, turn_due}
+use Rattle.theory_machine.specs.Names.{state}
+use Rattle.qc_script.specs.Names.{IsScriptFor, Runs}
 use Rattle.qc_script.specs.declared.script.Script.{Script}
-use Rattle.qc_site.specs.Conduct.{site_after}
-use Rattle.qc_site.specs.Site.{SiteState, known}
+use Rattle.qc_site.specs.Names.{SiteState, known, site_after}
 use Rattle.laws_turns.proofs.Acted.{run_acts}
 use Rattle.laws_turns.proofs.Served.{run_due, run_shown}
-use Rattle.laws_turns.specs.Turns.{ActsIn}
+use Rattle.laws_turns.specs.Names.{ActsIn}
 use Rattle.laws_turns.proofs.FirstLives.{only_life}
 use Rattle.laws_turns.proofs.Up.{run_up}
-use Rattle.qc_core.specs.Lives.{AreSteady, IsSteady}
-use Rattle.laws_refinement.specs.Sites.{SiteMirrors}
+use Rattle.laws_refinement.specs.Names.{SiteMirrors}
 use Rattle.laws_atomic.proofs.Calm.{all_up}
 use Rattle.laws_guarantees.proofs.Voted.{mirror, stood}
 

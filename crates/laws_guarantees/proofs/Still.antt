@@ -8,10 +8,8 @@ use Rattle.std.proofs.lemmas.List.Elements.{filter_map-append}
 use Rattle.std.proofs.lemmas.List.Sums.{fold-append}
 use Rattle.qc_decl.proofs.Clients.{client_within}
 use Rattle.qc_list.proofs.Members.{every-at}
-use Rattle.qc_core.specs.Acts.{is_running, runs_at}
-use Rattle.qc_core.specs.Conduct.{IsLawful}
-use Rattle.qc_decl.specs.Accepted.{IsAccepted}
-use Rattle.qc_decl.specs.Actors.{actors, administrator, controller, is_client}
+use Rattle.qc_core.specs.Names.{IsLawful, is_running, runs_at}
+use Rattle.qc_decl.specs.Names.{IsAccepted, actors, administrator, controller, is_client}
 use Rattle.qc_decl.specs.declared.declaration.Declaration.{Declaration}
 use Rattle.qc_msg.specs.declared.message.Envelope.{Envelope}
 use Rattle.qc_msg.specs.declared.reply.Reply.{Reply}
@@ -22,18 +20,17 @@ use Rattle.qc_msg.specs.declared.step.Step.TheVariants as steps
 use Rattle.qc_msg.specs.declared.turn.Posting.{Posting}
 use Rattle.qc_msg.specs.declared.record.Record.{Record}
 use Rattle.qc_msg.specs.declared.turn.Turn.{Turn}
-use Rattle.qc_msg.specs.Deeds.{Deed, Takes, deeds, mail, sends_of, tells_of, turn_deeds, writes_of}
-use Rattle.qc_msg.specs.Steps.{Entry, by, marked, posted, step_of}
+use Rattle.qc_msg.specs.Names.{Deed, Entry, Takes, by, deeds, mail, marked, posted, sends_of, step_of, tells_of}
+use Rattle.qc_msg.specs.Names.{turn_deeds, writes_of}
 use Rattle.qc_msg.proofs.Growth.{deeds-other, deeds-posted, deeds-taken}
-use Rattle.qc_script.specs.Inbox.{commands_for, inbox}
-use Rattle.qc_script.specs.Ready.{command_in, controls_left, first_command, first_copy, first_lost, phase_at, phase_of, ready, takes_commands}
-use Rattle.qc_script.specs.Runs.{Runs, begins, takes, posts, phase, control}
+use Rattle.qc_script.specs.Names.{Runs, command_in, commands_for, controls_left, first_command, first_copy, first_lost}
+use Rattle.qc_script.specs.Names.{inbox, phase_at, phase_of, ready, takes_commands}
+use Rattle.qc_script.specs.Runs.{begins, takes, posts, phase, control}
 use Rattle.qc_script.specs.declared.script.CommandLine.{CommandLine}
 use Rattle.qc_script.specs.declared.script.PhaseLines.{PhaseLines}
 use Rattle.qc_script.specs.declared.script.Script.{Script}
-use Rattle.laws_turns.specs.Asked.{AsksDeclared}
-use Rattle.laws_turns.specs.Turns.{ActsIn}
-use Rattle.laws_turns.specs.Whole.{IsClosed, IsQuiet, asked_in_all, asked_until, call_in, calls_of}
+use Rattle.laws_turns.specs.Names.{ActsIn, AsksDeclared, IsClosed, IsQuiet, asked_in_all, asked_until, call_in}
+use Rattle.laws_turns.specs.Names.{calls_of}
 use Rattle.laws_turns.proofs.Acted.{as_many, deeds-silent, run_acts}
 use Rattle.laws_turns.proofs.Arrivals.{what_is_ready_was_sent}
 use Rattle.laws_turns.proofs.Calling.{phase_posted, phase_taken, run_asked}
@@ -43,12 +40,8 @@ use Rattle.laws_turns.proofs.Places.{slice_get-within}
 use Rattle.laws_turns.proofs.Replying.{running_more, running_turn, told_runs}
 use Rattle.laws_turns.proofs.Running.{busy_is_running}
 use Rattle.laws_due.proofs.Ended.{none_runs}
-use Rattle.qc_promise.specs.Account.{new_account}
-use Rattle.qc_promise.specs.Accounting.{account, account_at}
-use Rattle.laws_guarantees.specs.Acting.{IsStill}
-use Rattle.laws_guarantees.specs.Arrives.{Arrives}
-use Rattle.laws_guarantees.specs.Elsewhere.{before_phase, begun_by, name_of}
-use Rattle.laws_guarantees.specs.Undisturbed.{AsksOne, IsUndisturbed}
+use Rattle.qc_promise.specs.Names.{account, account_at, new_account}
+use Rattle.laws_guarantees.specs.Names.{Arrives, AsksOne, IsStill, IsUndisturbed, before_phase, begun_by, name_of}
 use Rattle.laws_guarantees.proofs.Names.{stays_named, taken_named, untold_stays}
 use Rattle.laws_guarantees.proofs.PartsOf.{phase_parts, posted_parts, taken_parts}
 use Rattle.laws_guarantees.proofs.Passing.{no_request_is_lost}

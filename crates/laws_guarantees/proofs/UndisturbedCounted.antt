@@ -3,13 +3,12 @@
 use Rattle.std.proofs.Common.{◌≡◌, ℕ, ◌+◌, ◌-◌, ◌≤◌, ◌==◌, ◌⊎◌, inl, inr, Bool, true, false, cond, List, [], ◌∷◌, ◌++◌, fold, length, Option, Some, None, option_map, refl, sym, ap, ◌∙◌, subst, arith, eqb-true}
 use Rattle.std.specs.Prelude.{drop}
 use Rattle.std.specs.List.{AllByRecursion as Every, find}
-use Rattle.qc_list.specs.Members.{In}
+use Rattle.qc_list.specs.Names.{In}
 use Rattle.qc_list.proofs.Members.{In-more, every-In, every-append}
 use Rattle.qc_stamp.specs.declared.stamp.TxId.{TxId}
-use Rattle.qc_stamp.specs.Order.{same_tx}
-use Rattle.qc_core.specs.Conduct.{IsLawful}
-use Rattle.qc_decl.specs.Accepted.{IsAccepted}
-use Rattle.qc_decl.specs.Actors.{controller, is_client}
+use Rattle.qc_stamp.specs.Names.{same_tx}
+use Rattle.qc_core.specs.Names.{IsLawful}
+use Rattle.qc_decl.specs.Names.{IsAccepted, controller, is_client}
 use Rattle.qc_decl.specs.declared.declaration.Declaration.{Declaration}
 use Rattle.qc_lock.proofs.Entries.{same_self}
 use Rattle.qc_msg.specs.declared.message.Answer.{Answer}
@@ -24,27 +23,24 @@ use Rattle.qc_msg.specs.declared.record.Record.TheVariants as records
 use Rattle.qc_msg.specs.declared.step.Input.{Input}
 use Rattle.qc_msg.specs.declared.step.Input.TheVariants as inputs
 use Rattle.qc_msg.specs.declared.step.Step.TheVariants as steps
-use Rattle.qc_msg.specs.Deeds.{Deed, Takes, Writes, Sends, Tells, Falls, Rises, deeds, mail, turn_deeds}
-use Rattle.qc_msg.specs.Steps.{Entry, by, marked, posted, step_of}
+use Rattle.qc_msg.specs.Names.{Deed, Entry, Falls, Rises, Sends, Takes, Tells, Writes, by, deeds, mail, marked, posted}
+use Rattle.qc_msg.specs.Names.{step_of, turn_deeds}
 use Rattle.qc_msg.proofs.Growth.{deeds-other, deeds-posted, deeds-taken}
-use Rattle.qc_script.specs.Inbox.{inbox}
-use Rattle.qc_script.specs.Ready.{phase_of}
-use Rattle.qc_script.specs.Runs.{Runs, begins, takes, posts, phase, control}
+use Rattle.qc_script.specs.Names.{Runs, inbox, phase_of}
+use Rattle.qc_script.specs.Runs.{begins, takes, posts, phase, control}
 use Rattle.qc_script.specs.declared.script.Script.{Script}
-use Rattle.laws_turns.specs.Asked.{AsksDeclared}
+use Rattle.laws_turns.specs.Names.{AsksDeclared}
 use Rattle.laws_turns.proofs.Acted.{deeds-silent}
 use Rattle.laws_turns.proofs.Arrivals.{what_is_ready_was_sent}
 use Rattle.laws_turns.proofs.Covered.{ready_loss}
 use Rattle.laws_turns.proofs.Numbered.{AreNumbered, control_silent, phase_silent, run_numbered}
-use Rattle.qc_promise.specs.Account.{Account, account_with, ClientRequest, Current, new_account}
-use Rattle.qc_promise.specs.Accounting.{account, account_at, account_fallen, account_heard, account_sent, account_taken, account_written, counted, counted_for, is_open, taken_for}
-use Rattle.qc_promise.specs.Asked.{is_asked_for}
+use Rattle.qc_promise.specs.Names.{Account, ClientRequest, Current, account, account_at, account_fallen, account_heard}
+use Rattle.qc_promise.specs.Names.{account_sent, account_taken, account_with, account_written, counted, counted_for}
+use Rattle.qc_promise.specs.Names.{is_asked_for, is_open, new_account, taken_for}
 use Rattle.laws_turns.proofs.Bounding.{turn-posts}
 use Rattle.laws_turns.proofs.ClientsWithin.{IsPost}
-use Rattle.laws_guarantees.specs.Answers.{Fits, FitsHold, FitsPromise, IfAnswered, IsAnswered, sent_before}
-use Rattle.laws_guarantees.specs.Arrives.{Arrives}
-use Rattle.laws_guarantees.specs.Elsewhere.{begun_by}
-use Rattle.laws_guarantees.specs.Undisturbed.{IsUndisturbed}
+use Rattle.laws_guarantees.specs.Names.{Arrives, Fits, FitsHold, FitsPromise, IfAnswered, IsAnswered, IsUndisturbed}
+use Rattle.laws_guarantees.specs.Names.{begun_by, sent_before}
 use Rattle.laws_guarantees.proofs.Accounts.{HasGrounds, IsTakenNow, WasSent, WasTaken, after_taken, told_requests}
 use Rattle.laws_guarantees.proofs.AnswerRuns.{number_from, run_answered}
 use Rattle.laws_guarantees.proofs.Clear.{IsElsewhere, run_clear}

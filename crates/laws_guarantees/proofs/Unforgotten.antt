@@ -3,13 +3,12 @@ use Rattle.std.proofs.Common.{◌*◌, ◌≡◌, ◌⊎◌, ◌<◌, ◌≤◌,
 use Rattle.std.specs.Prelude.{fold}
 use Rattle.std.proofs.lemmas.List.Sums.{fold-append}
 use Rattle.qc_stamp.specs.declared.stamp.TxId.{TxId}
-use Rattle.qc_list.specs.Members.{In}
+use Rattle.qc_list.specs.Names.{In}
 use Rattle.qc_list.proofs.Members.{In-last, every-In}
 use Rattle.theory_onecopy.proofs.Lists.{in_split}
-use Rattle.qc_core.specs.Conduct.{IsLawful}
+use Rattle.qc_core.specs.Names.{IsLawful}
 use Rattle.qc_decl.specs.declared.declaration.Declaration.{Declaration}
-use Rattle.qc_decl.specs.Accepted.{IsAccepted}
-use Rattle.qc_decl.specs.Actors.{controller, is_client, is_site}
+use Rattle.qc_decl.specs.Names.{IsAccepted, controller, is_client, is_site, most_committed_operations}
 use Rattle.qc_msg.specs.declared.message.Answer.{Answer}
 use Rattle.qc_msg.specs.declared.message.Envelope.{Envelope}
 use Rattle.qc_msg.specs.declared.message.Message.TheVariants as messages
@@ -19,21 +18,16 @@ use Rattle.qc_msg.specs.declared.step.Step.{Step}
 use Rattle.qc_msg.specs.declared.step.Step.TheVariants as steps
 use Rattle.qc_msg.specs.declared.turn.Posting.{Posting}
 use Rattle.qc_msg.specs.declared.turn.Turn.{Turn}
-use Rattle.qc_msg.specs.Counts.{operations_of}
-use Rattle.qc_msg.specs.Deeds.{Deed, Takes, WasSentTo, deeds, envelopes, mail, turn_deeds}
-use Rattle.qc_msg.specs.Steps.{Entry, by as by_actor, marked, posted, step_of}
+use Rattle.qc_msg.specs.Names.{Deed, Entry, Takes, WasSentTo, by as by_actor, deeds, envelopes, mail, marked}
+use Rattle.qc_msg.specs.Names.{operations_of, posted, step_of, turn_deeds}
 use Rattle.qc_msg.proofs.GrownMail.{mail-append, mail-posted, mail-taken}
 use Rattle.qc_msg.proofs.Growth.{deeds-other, deeds-posted, deeds-taken, operations-grow}
-use Rattle.qc_promise.specs.Account.{Account, ClientRequest, new_account}
-use Rattle.qc_promise.specs.Accounting.{account, account_at, account_taken}
-use Rattle.qc_script.specs.Ready.{phase_of}
-use Rattle.qc_script.specs.Runs.{Runs, begins, takes, posts, phase, control}
-use Rattle.qc_script.specs.Sound.{IsScriptFor}
+use Rattle.qc_promise.specs.Names.{Account, ClientRequest, account, account_at, account_taken, new_account}
+use Rattle.qc_script.specs.Names.{IsScriptFor, Runs, phase_of}
+use Rattle.qc_script.specs.Runs.{begins, takes, posts, phase, control}
 use Rattle.qc_script.specs.declared.script.Script.{Script}
-use Rattle.qc_client.specs.Client.{ClientMove}
-use Rattle.qc_client.specs.Conduct.{client_after, client_takes}
-use Rattle.qc_site.specs.Conduct.{site_after}
-use Rattle.qc_site.specs.Site.{SiteMove}
+use Rattle.qc_client.specs.Names.{ClientMove, client_after, client_takes}
+use Rattle.qc_site.specs.Names.{SiteMove, site_after}
 use Rattle.laws_turns.proofs.Acted.{deeds-silent, run_acts}
 use Rattle.laws_turns.proofs.Arrivals.{what_is_ready_was_sent}
 use Rattle.laws_turns.proofs.Numbered.{IsSilent, control_silent, mail-silent, phase_silent}
@@ -41,13 +35,13 @@ use Rattle.laws_turns.proofs.Proper.{run_proper}
 use Rattle.laws_turns.proofs.SiteReplies.{IsProperFrom}
 use Rattle.laws_turns.proofs.Replying.{after_taken as after_given}
 use Rattle.laws_turns.proofs.Served.{lawful_site}
-use Rattle.laws_turns.specs.Turns.{ActsIn}
+use Rattle.laws_turns.specs.Names.{ActsIn}
 use Rattle.laws_due.proofs.Commands.{lawful_turn}
 use Rattle.laws_due.proofs.Courses.{IsAtInput, client_acts}
 use Rattle.laws_due.proofs.AccountDeclared.{asks_declared}
 use Rattle.laws_refinement.proofs.Posts.{Place, placed}
 use Rattle.laws_atomic.proofs.Stood.{OpenSite}
-use Rattle.laws_guarantees.specs.Votes.{IsOpenVote}
+use Rattle.laws_guarantees.specs.Names.{IsOpenVote}
 use Rattle.laws_guarantees.proofs.ClientTalks.{client_answers}
 use Rattle.laws_guarantees.proofs.Grounds.{open_before, turn_old}
 use Rattle.laws_guarantees.proofs.Mailed.{taken_mail}
@@ -55,7 +49,6 @@ use Rattle.laws_guarantees.proofs.ForgettingAnswers.{Forgets}
 use Rattle.laws_guarantees.proofs.SiteMoves.{IsAnswering, answers_inputs}
 use Rattle.laws_guarantees.proofs.Stale.{below_length, remembered}
 use Rattle.laws_guarantees.proofs.Voted.{stood}
-use Rattle.qc_decl.specs.Limits.{most_committed_operations}
 
 -- an answer to a request of this number was sent
 pub record IsAnswered (mail : List Envelope) (number : ℕ) (answer : Answer) : Type 0 where

@@ -4,16 +4,15 @@ use Rattle.std.proofs.Common.{◌*◌, ◌≡◌, ◌⊎◌, ◌≤◌, ◌-◌,
 use Rattle.std.proofs.Common.{Some, None, is_none, slice_get, refl, sym, ap, ◌∙◌, subst, lt-ltb}
 use Rattle.std.specs.Prelude.{sum_by}
 use Rattle.qc_stamp.specs.declared.stamp.TxId.{TxId}
-use Rattle.qc_list.specs.Members.{In}
+use Rattle.qc_list.specs.Names.{In}
 use Rattle.qc_list.proofs.Members.{In-passes, every-In}
 use Rattle.theory_onecopy.proofs.Lists.{in_map}
 use Rattle.qc_entry.specs.declared.record.Commit.{Commit as CommitRecord}
-use Rattle.qc_core.specs.Conduct.{IsLawful}
+use Rattle.qc_core.specs.Names.{IsLawful}
 use Rattle.qc_decl.specs.declared.declaration.Declaration.{Declaration}
-use Rattle.qc_decl.specs.Accepted.{IsAccepted}
-use Rattle.qc_decl.specs.Actors.{first_site, is_client, is_site}
-use Rattle.qc_decl.specs.Limits.{most_committed_operations, most_record_bytes}
-use Rattle.qc_lock.specs.Held.{is_held}
+use Rattle.qc_decl.specs.Names.{IsAccepted, first_site, is_client, is_site, most_committed_operations}
+use Rattle.qc_decl.specs.Names.{most_record_bytes}
+use Rattle.qc_lock.specs.Names.{is_held}
 use Rattle.qc_msg.specs.declared.message.Envelope.{Envelope}
 use Rattle.qc_msg.specs.declared.message.Message.{Message}
 use Rattle.qc_msg.specs.declared.message.Message.TheVariants as messages
@@ -21,43 +20,32 @@ use Rattle.qc_msg.specs.declared.message.Outcome.{Outcome}
 use Rattle.qc_msg.specs.declared.message.Outcome.TheVariants as outcomes
 use Rattle.qc_msg.specs.declared.message.Want.{Want}
 use Rattle.qc_msg.specs.declared.message.Want.TheVariants.{Read, Prepare}
-use Rattle.qc_msg.specs.Begun.{first_epoch, has_granted}
-use Rattle.qc_msg.specs.Counts.{answered, operations_of}
-use Rattle.qc_msg.specs.Deeds.{Sends, deeds, mail}
-use Rattle.qc_msg.specs.Steps.{Entry}
-use Rattle.qc_plan.specs.Round.{cyclic}
-use Rattle.qc_promise.specs.Account.{Account, ClientRequest, Current, is_append}
-use Rattle.qc_promise.specs.Accounting.{account}
-use Rattle.theory_machine.specs.Acts.{state}
-use Rattle.theory_machine.specs.State.{Status, Voting as IsVoting}
-use Rattle.theory_machine.specs.StateLaws.{IsOutcome}
+use Rattle.qc_msg.specs.Names.{Entry, Sends, answered, deeds, first_epoch, has_granted, mail, operations_of}
+use Rattle.qc_plan.specs.Names.{cyclic}
+use Rattle.qc_promise.specs.Names.{Account, ClientRequest, Current, account, is_append}
+use Rattle.theory_machine.specs.Names.{IsOutcome, Status, Voting as IsVoting, state}
 use Rattle.theory_machine.proofs.Keeps.{laws}
-use Rattle.qc_script.specs.Runs.{Runs}
-use Rattle.qc_script.specs.Sound.{IsScriptFor}
+use Rattle.qc_script.specs.Names.{IsScriptFor, Runs}
 use Rattle.qc_script.specs.declared.script.Script.{Script}
 use Rattle.qc_commit.specs.declared.desk.Desk.{Desk}
 use Rattle.qc_commit.specs.declared.desk.Voting.{Voting}
 use Rattle.qc_front.specs.declared.front.Front.{Front}
 use Rattle.qc_front.specs.declared.transaction.Transaction.{Transaction}
-use Rattle.qc_client.specs.Conduct.{client_after}
+use Rattle.qc_client.specs.Names.{client_after}
 use Rattle.qc_client.specs.declared.client.Client.{Client}
-use Rattle.qc_site.specs.Ended.{is_final}
-use Rattle.qc_site.specs.Promise.{prepare_length, promise_of}
+use Rattle.qc_site.specs.Names.{is_final, prepare_length, promise_of}
 use Rattle.laws_turns.proofs.Acted.{run_acts}
 use Rattle.laws_turns.proofs.Proper.{run_proper}
 use Rattle.laws_turns.proofs.SiteReplies.{IsProperFrom}
-use Rattle.laws_turns.specs.Turns.{ActsIn}
-use Rattle.laws_due.specs.Calls.{ballot_of, calls_in}
-use Rattle.laws_due.specs.Ties.{Ties, Votes, appends, reads, rests, votes}
-use Rattle.laws_due.specs.Told.{IsOpenIn}
+use Rattle.laws_turns.specs.Names.{ActsIn}
+use Rattle.laws_due.specs.Names.{IsOpenIn, Ties, Votes, appends, ballot_of, calls_in, reads, rests, votes}
 use Rattle.laws_due.proofs.Courses.{clients_tied}
 use Rattle.laws_due.proofs.AccountDeclared.{asks_declared}
-use Rattle.laws_refinement.specs.Messages.{Backed, IsGrantTo, IsRequest, IsVerdictBacked}
-use Rattle.laws_refinement.specs.Mirrors.{Refines}
+use Rattle.laws_refinement.specs.Names.{Backed, IsGrantTo, IsRequest, IsVerdictBacked, Refines}
 use Rattle.laws_atomic.proofs.CalmGrants.{is_of_first_epoch}
 use Rattle.laws_atomic.proofs.RunsStand.{runs_stand}
 use Rattle.laws_atomic.proofs.Stood.{Stood}
-use Rattle.laws_guarantees.specs.Votes.{IsOpenVote}
+use Rattle.laws_guarantees.specs.Names.{IsOpenVote}
 use Rattle.laws_guarantees.proofs.Accounts.{HasGrounds, WasGranted, WasSent}
 use Rattle.laws_guarantees.proofs.Grounds.{has_grounds}
 use Rattle.laws_guarantees.proofs.NeverRisen.{operations_written}

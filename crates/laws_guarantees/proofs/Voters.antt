@@ -7,10 +7,9 @@ use Rattle.std.proofs.lemmas.List.{append-nil, length-map, map-append}
 use Rattle.std.proofs.lemmas.List.Elements.{filter-append}
 use Rattle.qc_stamp.specs.declared.stamp.TxId.{TxId}
 use Rattle.qc_entry.specs.declared.line.Line.{Line}
-use Rattle.qc_decl.specs.Actors.{first_site}
+use Rattle.qc_decl.specs.Names.{first_site, read_need_of}
 use Rattle.qc_decl.specs.declared.declaration.Declaration.{Declaration}
-use Rattle.qc_decl.specs.Lookup.{read_need_of}
-use Rattle.qc_plan.specs.Round.{cyclic, first, may_ask, weighing}
+use Rattle.qc_plan.specs.Names.{cyclic, first, may_ask, weighing}
 use Rattle.qc_msg.specs.declared.message.Answer.{Answer}
 use Rattle.qc_msg.specs.declared.message.Answer.TheVariants as answers
 use Rattle.qc_msg.specs.declared.message.Message.{Message}
@@ -23,12 +22,14 @@ use Rattle.qc_msg.specs.declared.step.Command.{Command}
 use Rattle.qc_msg.specs.declared.step.Command.TheVariants as commands
 use Rattle.qc_msg.specs.declared.step.Input.{Input}
 use Rattle.qc_msg.specs.declared.step.Input.TheVariants as inputs
-use Rattle.qc_msg.specs.Deeds.{Deed, Takes, Writes, Sends, Tells, Falls, Rises}
-use Rattle.qc_promise.specs.Account.{Account, ClientRequest, Current, is_append, is_read, new_account, requests_for}
-use Rattle.qc_promise.specs.Accounting.{account_at, account_heard, account_sent, account_taken, account_written, counted, counted_for, granted, is_open, lived, promised, taken_for, told_by, with_current, with_read}
-use Rattle.qc_promise.specs.Asked.{append_need, are_reads_met, carries, command_asks, commit_asks, do_asks, is_asked_for, is_next_voter, is_of, is_this}
-use Rattle.qc_promise.specs.Rounds.{answer_of, asked_by, round_of, weights_of}
-use Rattle.laws_due.specs.ByRows.{AreByRows, IsSendDue}
+use Rattle.qc_msg.specs.Names.{Deed, Falls, Rises, Sends, Takes, Tells, Writes}
+use Rattle.qc_promise.specs.Names.{Account, ClientRequest, Current, account_at, account_heard, account_sent}
+use Rattle.qc_promise.specs.Names.{account_taken, account_written, answer_of, append_need, are_reads_met, asked_by}
+use Rattle.qc_promise.specs.Names.{carries, command_asks, commit_asks, counted, counted_for, do_asks, granted}
+use Rattle.qc_promise.specs.Names.{is_append, is_asked_for, is_next_voter, is_of, is_open, is_read, is_this, lived}
+use Rattle.qc_promise.specs.Names.{new_account, promised, requests_for, round_of, taken_for, told_by, weights_of}
+use Rattle.qc_promise.specs.Names.{with_current, with_read}
+use Rattle.laws_due.specs.Names.{AreByRows, IsSendDue}
 use Rattle.laws_guarantees.proofs.Accounts.{told_requests}
 
 -- the sites of positive weight in a client's order

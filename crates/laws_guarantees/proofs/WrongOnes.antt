@@ -1,9 +1,7 @@
 -- The wrong histories are refused, each at its last reply.
 use Rattle.std.proofs.Common.{◌≡◌, Some, None, refl, arith}
-use Rattle.laws_guarantees.specs.Elsewhere.{IsOpenElsewhere}
-use Rattle.laws_guarantees.specs.Succeeds.{CommitsSucceed, DosSucceed}
-use Rattle.laws_guarantees.specs.WrongUndisturbed.{aborted, mine, others, refused, refused_for_ended, refused_for_new}
-use Rattle.laws_guarantees.specs.WrongUndisturbed.{refused_for_own, short, two_clients}
+use Rattle.laws_guarantees.specs.Names.{CommitsSucceed, DosSucceed, IsOpenElsewhere, aborted, mine, others, refused}
+use Rattle.laws_guarantees.specs.Names.{refused_for_ended, refused_for_new, refused_for_own, short, two_clients}
 
 pub takes_refused : DosSucceed two_clients refused
 takes_refused = (

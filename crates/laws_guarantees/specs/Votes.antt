@@ -1,13 +1,11 @@
 -- What a client waits for while it commits, and what a site has then.
 use Rattle.std.specs.Prelude.{◌≡◌, true, List, None}
 use Rattle.qc_stamp.specs.declared.stamp.TxId.{TxId}
-use Rattle.qc_list.specs.Members.{In}
-use Rattle.qc_lock.specs.Held.{is_held}
+use Rattle.qc_list.specs.Names.{In}
+use Rattle.qc_lock.specs.Names.{is_held}
 use Rattle.qc_msg.specs.declared.message.Want.TheVariants.{Prepare}
-use Rattle.qc_msg.specs.Deeds.{Deed}
-use Rattle.qc_promise.specs.Account.{Account, ClientRequest}
-use Rattle.qc_promise.specs.SiteDue.{fits_record, promise_due}
-use Rattle.qc_promise.specs.SiteHeld.{held_shown}
+use Rattle.qc_msg.specs.Names.{Deed}
+use Rattle.qc_promise.specs.Names.{Account, ClientRequest, fits_record, held_shown, promise_due}
 
 -- a request for a promise, of the running command, for which nothing was taken yet
 pub record IsOpenVote (d : Account) (q : ClientRequest) : Type 0 where

@@ -3,20 +3,19 @@
 use Rattle.std.proofs.Common.{ℕ, Bool, true, false, List, [], ◌∷◌, fold, inl, inr, Option, Some, None, option_to_list}
 use Rattle.std.proofs.Common.{sym, subst}
 use Rattle.std.specs.List.{AllByRecursion as Every}
-use Rattle.qc_client.specs.Conduct.{client_takes}
+use Rattle.qc_client.specs.Names.{client_takes}
 use Rattle.qc_client.specs.declared.client.Client.{Client}
 use Rattle.qc_core.specs.declared.actor.Actor.{Actor}
 use Rattle.qc_core.specs.declared.actor.Actor.TheVariants as actors
-use Rattle.qc_core.specs.Actors.{ActorMove, actor_does, actor_rises, actor_sends, actor_takes, moved, new_actor}
-use Rattle.qc_core.specs.Conduct.{IsLawfulWithFalls, with_record}
+use Rattle.qc_core.specs.Names.{ActorMove, IsLawfulWithFalls, actor_does, actor_rises, actor_sends, actor_takes, moved}
+use Rattle.qc_core.specs.Names.{new_actor, with_record}
 use Rattle.qc_core.proofs.AdminWrites.{IsAdminTurn, IsOfAdmin, IsSentByAdmin, WritesDecision, admin_written}
 use Rattle.qc_core.proofs.ByNumber.{new_by, rises_by}
 use Rattle.qc_core.proofs.ByTurns.{called_turn}
 use Rattle.qc_core.proofs.Written.{client_written}
-use Rattle.qc_decl.specs.Actors.{is_client, is_site}
+use Rattle.qc_decl.specs.Names.{is_client, is_site}
 use Rattle.qc_decl.specs.declared.declaration.Declaration.{Declaration}
-use Rattle.qc_epoch.specs.Admin.{Admin}
-use Rattle.qc_epoch.specs.Conduct.{admin_takes}
+use Rattle.qc_epoch.specs.Names.{Admin, admin_takes}
 use Rattle.qc_list.proofs.Members.{every-weaker}
 use Rattle.qc_msg.specs.declared.message.Message.{Message}
 use Rattle.qc_msg.specs.declared.message.Message.TheVariants as messages
@@ -28,10 +27,8 @@ use Rattle.qc_msg.specs.declared.turn.Appended.{Appended}
 use Rattle.qc_msg.specs.declared.turn.Appended.TheVariants.{Done, Failed, Stopped}
 use Rattle.qc_msg.specs.declared.turn.Posting.{Posting}
 use Rattle.qc_msg.specs.declared.turn.Turn.{Turn}
-use Rattle.qc_msg.specs.Deeds.{Deed, Takes, Writes, Sends, Tells, Falls, Rises}
-use Rattle.qc_msg.specs.Steps.{sends_as}
-use Rattle.qc_msg.specs.Turns.{quiet}
-use Rattle.qc_recover.specs.Sites.{site_rises}
+use Rattle.qc_msg.specs.Names.{Deed, Falls, Rises, Sends, Takes, Tells, Writes, quiet, sends_as}
+use Rattle.qc_recover.specs.Names.{site_rises}
 use Rattle.laws_turns.proofs.RightTurns.{IsNoInquiry, NoInquiries}
 use Rattle.laws_turns.proofs.SitesAsk.{GivenTells, HeldFor, PreparedFor}
 use Rattle.qc_stamp.specs.declared.stamp.TxId.{TxId}

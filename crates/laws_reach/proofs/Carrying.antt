@@ -1,13 +1,13 @@
 -- A commit record that is known after a client's deeds has the operations that the client was told: deed by deed.
 use Rattle.std.proofs.Common.{◌≡◌, ◌≤◌, ◌⊎◌, inl, inr, ℕ, ◌+◌, Bool, true, false, cond, fold, List, [], ◌∷◌, ◌++◌, Option, Some, None, option_map, option_to_list, option_and_then, refl, sym, ap, ◌∙◌, subst, arith}
 use Rattle.std.proofs.lemmas.List.Sums.{fold-append}
-use Rattle.qc_list.specs.Members.{In}
+use Rattle.qc_list.specs.Names.{In}
 use Rattle.qc_list.proofs.Members.{In-more}
-use Rattle.qc_stamp.specs.Lives.{first_life}
+use Rattle.qc_stamp.specs.Names.{first_life}
 use Rattle.qc_stamp.specs.declared.stamp.Stamp.{Stamp}
 use Rattle.qc_decl.specs.declared.declaration.Declaration.{Declaration}
 use Rattle.qc_entry.specs.declared.record.Commit.{Commit as CommitRecord}
-use Rattle.qc_core.specs.Journals.{journal_at}
+use Rattle.qc_core.specs.Names.{journal_at}
 use Rattle.qc_msg.specs.declared.message.Message.{Message}
 use Rattle.qc_msg.specs.declared.record.Record.{Record}
 use Rattle.qc_msg.specs.declared.record.Record.TheVariants.{Life, Prepare, Done, Close, Install, Commit, Decide}
@@ -18,17 +18,10 @@ use Rattle.qc_msg.specs.declared.step.Command.TheVariants as commands
 use Rattle.qc_msg.specs.declared.step.Fall.{Fall}
 use Rattle.qc_msg.specs.declared.step.Input.{Input}
 use Rattle.qc_msg.specs.declared.step.Input.TheVariants as inputs
-use Rattle.qc_msg.specs.Deeds.{Deed, Takes, Writes, Sends, Falls, Rises}
-use Rattle.qc_msg.specs.Readings.{is_life}
-use Rattle.qc_promise.specs.Account.{Account, Current, life_with}
-use Rattle.qc_promise.specs.Accounting.{account_at}
-use Rattle.qc_promise.specs.Deals.{Dealing, deal}
-use Rattle.qc_promise.specs.Kept.{IsGivenBack, Journal, pending_with}
-use Rattle.qc_promise.specs.Posts.{pending_next}
-use Rattle.qc_promise.specs.Replies.{IsInputDue, IsRecordDue}
-use Rattle.qc_promise.specs.Rows.{commit_of, due, reply_to}
-use Rattle.qc_promise.specs.Turns.{Place}
-use Rattle.laws_reach.specs.Says.{Says, SaysIn}
+use Rattle.qc_msg.specs.Names.{Deed, Falls, Rises, Sends, Takes, Writes, is_life}
+use Rattle.qc_promise.specs.Names.{Account, Current, Dealing, IsGivenBack, IsInputDue, IsRecordDue, Journal, Place}
+use Rattle.qc_promise.specs.Names.{account_at, commit_of, deal, due, life_with, pending_next, pending_with, reply_to}
+use Rattle.laws_reach.specs.Names.{Says, SaysIn}
 use Rattle.laws_reach.proofs.Gists.{Gist, gist, going, counted_same, finished, heard_same, sent_same, with_call}
 use Rattle.laws_reach.proofs.Rows.{reply_says}
 use Rattle.laws_reach.proofs.Steps.{Base, Both, IsPast, Settled, both_as, called, ends, lives_on, none_some, risen, some_is, true_false}

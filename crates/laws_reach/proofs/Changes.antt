@@ -17,19 +17,18 @@ use Rattle.qc_msg.specs.declared.step.Command.TheVariants as commands
 use Rattle.qc_msg.specs.declared.step.Input.{Input}
 use Rattle.qc_msg.specs.declared.step.Input.TheVariants as inputs
 use Rattle.qc_msg.specs.declared.turn.Turn.{Turn}
-use Rattle.qc_msg.specs.Deeds.{Deed, Takes, Writes, Sends, Tells, Falls, Rises}
+use Rattle.qc_msg.specs.Names.{Deed, Falls, Rises, Sends, Takes, Tells, Writes, decisions}
 use Rattle.std.specs.List.{AllByRecursion as Every}
 use Rattle.laws_turns.proofs.ClientsWithin.{IsPost}
 use Rattle.qc_commit.specs.declared.desk.Voting.{Voting}
 use Rattle.qc_commit.specs.Conduct as desks
-use Rattle.qc_commit.specs.Conduct.{commit_of}
-use Rattle.qc_commit.specs.Desk.{DeskMove}
+use Rattle.qc_commit.specs.Names.{DeskMove, commit_of}
 use Rattle.qc_front.specs.declared.transaction.Transaction.{Transaction}
 use Rattle.qc_front.specs.Conduct as fronts
-use Rattle.qc_front.specs.Front.{FrontMove, ended, next_tx}
+use Rattle.qc_front.specs.Names.{FrontMove, ended, next_tx}
 use Rattle.qc_client.specs.declared.client.Client.{Client}
-use Rattle.qc_client.specs.Client.{ClientMove, by_desk, by_front, moved}
-use Rattle.qc_client.specs.Conduct.{answered, answered_by, called, client_does, client_takes, commits, heard, sent_one}
+use Rattle.qc_client.specs.Names.{ClientMove, answered, answered_by, by_desk, by_front, called, client_does}
+use Rattle.qc_client.specs.Names.{client_takes, commits, heard, moved, sent_one}
 use Rattle.laws_turns.proofs.Dealing.{IsAbort}
 use Rattle.laws_turns.proofs.HandMoves.{IsHandMove, prepare-it, vote-it}
 use Rattle.laws_turns.proofs.FrontKinds.{FrontKind, IsRequestFor, ToldNeutral, called-kind, takes-kind}
@@ -38,7 +37,6 @@ use Rattle.qc_list.proofs.Members.{every-weaker}
 use Rattle.qc_msg.specs.declared.message.Outcome.{Outcome}
 use Rattle.qc_msg.specs.declared.message.Outcome.TheVariants as outcomes
 use Rattle.qc_msg.specs.declared.turn.Posting.{Posting}
-use Rattle.qc_msg.specs.Begun.{decisions}
 use Rattle.std.specs.Prelude.{fold, map}
 use Rattle.laws_turns.proofs.StatusActs.{page_of}
 use Rattle.laws_turns.proofs.Statuses.{Page}

@@ -9,19 +9,14 @@ use Rattle.qc_msg.specs.declared.reply.Reply.{Reply}
 use Rattle.qc_msg.specs.declared.reply.Reply.TheVariants as replies
 use Rattle.qc_msg.specs.declared.step.Command.{Command}
 use Rattle.qc_msg.specs.declared.step.Command.TheVariants as commands
-use Rattle.qc_msg.specs.Deeds.{Deed, Tells}
+use Rattle.qc_msg.specs.Names.{Deed, Tells}
 use Rattle.qc_stamp.specs.declared.stamp.TxId.{TxId}
-use Rattle.qc_promise.specs.Account.{Account, Current}
-use Rattle.qc_promise.specs.Accounting.{account_told, found_absent, refused, responded, short_of, with_absent}
-use Rattle.qc_promise.specs.Accounting.{with_response}
-use Rattle.qc_promise.specs.Deals.{Dealing, deal_told, dealt, operation}
-use Rattle.qc_promise.specs.Kept.{Journal}
-use Rattle.qc_promise.specs.Posts.{pending_next}
-use Rattle.qc_promise.specs.Replies.{IsReplyDue}
-use Rattle.qc_promise.specs.Rounds.{answer_of, resp_of}
-use Rattle.qc_promise.specs.Rows.{due, next_commit, next_stamp, commit_of, pending_with}
-use Rattle.qc_promise.specs.Turns.{Place, saying_of}
-use Rattle.laws_reach.specs.Says.{Finds, IsNoCommit, Responds, Says}
+use Rattle.qc_promise.specs.Names.{Account, Current, Dealing, IsReplyDue, Journal, Place, account_told, answer_of}
+use Rattle.qc_promise.specs.Names.{commit_of, deal_told, dealt, due, found_absent, next_commit, next_stamp, operation}
+use Rattle.qc_promise.specs.Names.{pending_next, refused, resp_of, responded, saying_of, short_of, with_absent}
+use Rattle.qc_promise.specs.Names.{with_response}
+use Rattle.qc_promise.specs.Rows.{pending_with}
+use Rattle.laws_reach.specs.Names.{Finds, IsNoCommit, Responds, Says}
 use Rattle.laws_reach.proofs.Gists.{Gist, Going, finished, gist, going, refused_same, replied, short_same}
 use Rattle.laws_reach.proofs.Steps.{Base, Both, IsPast, Settled, adds, answered, begins, both_as, ends, none_some}
 use Rattle.laws_reach.proofs.Steps.{some_is}

@@ -1,26 +1,20 @@
 -- Over all of a client's deeds: each commit record that its journal has then has the operations that it was told.
 use Rattle.std.proofs.Common.{◌≡◌, ℕ, inl, inr, true, false, fold, List, [], ◌∷◌, Option, Some, None, is_some, refl}
 use Rattle.std.proofs.Common.{subst}
-use Rattle.qc_list.specs.Members.{In}
+use Rattle.qc_list.specs.Names.{In}
 use Rattle.qc_decl.specs.declared.declaration.Declaration.{Declaration}
 use Rattle.qc_entry.specs.declared.record.Commit.{Commit as CommitRecord}
-use Rattle.qc_core.specs.Journals.{journal_after, journal_at}
+use Rattle.qc_core.specs.Names.{AreGivenBack, IsGivenBackAt, journal_after, journal_at}
 use Rattle.qc_msg.specs.declared.record.Record.TheVariants.{Commit}
-use Rattle.qc_msg.specs.Deeds.{Deed, Takes, Writes, Sends, Tells, Falls, Rises}
-use Rattle.qc_promise.specs.Account.{Account, new_account}
-use Rattle.qc_promise.specs.Accounting.{account_at}
-use Rattle.qc_promise.specs.Deals.{Dealing, deal, dealing_in, no_dealing}
-use Rattle.qc_promise.specs.Kept.{Journal, no_journal}
-use Rattle.qc_promise.specs.Posts.{pending_next}
-use Rattle.qc_promise.specs.Replies.{AreDeedsDue, AreRepliesDue, IsDeedDue}
-use Rattle.qc_promise.specs.Turns.{AreByTurns, Place, Idle, goes, goes_on, saying_of}
-use Rattle.qc_core.specs.GivenBack.{AreGivenBack, IsGivenBackAt}
+use Rattle.qc_msg.specs.Names.{Deed, Falls, Rises, Sends, Takes, Tells, Writes, is_life}
+use Rattle.qc_promise.specs.Names.{Account, AreByTurns, AreDeedsDue, AreRepliesDue, Dealing, Idle, IsDeedDue, Journal}
+use Rattle.qc_promise.specs.Names.{Place, account_at, deal, dealing_in, goes, goes_on, new_account, no_dealing}
+use Rattle.qc_promise.specs.Names.{no_journal, pending_next, saying_of}
 use Rattle.laws_reach.proofs.Steps.{none_some}
 use Rattle.laws_reach.proofs.DealingsTurning.{CameTo, FellTo, RoseTo, ToldTo, WroteTo, comes, falls, is_off, rises}
 use Rattle.laws_reach.proofs.DealingsTurning.{sends, tells, writes}
 use Rattle.laws_reach.proofs.Carrying.{Known, Ongoing, fell, rose, sent, takes, wrote}
 use Rattle.laws_reach.proofs.DealingsTelling.{tells_on}
-use Rattle.qc_msg.specs.Readings.{is_life}
 
 module _ (decl : Declaration) (c : CommitRecord) where
   pub one : (p q : Place) (d : Account) (x : Dealing) (j : Journal) (deed : Deed) (after : List Deed)

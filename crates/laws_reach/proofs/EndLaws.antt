@@ -1,22 +1,18 @@
 -- What a client was told of the ends of its transactions agrees with its records: the laws, one by one.
 use Rattle.std.proofs.Common.{◌≡◌, ◌≢◌, ℕ, false, List, [], sym, subst}
-use Rattle.qc_list.specs.Members.{In}
+use Rattle.qc_list.specs.Names.{In}
 use Rattle.qc_decl.specs.declared.declaration.Declaration.{Declaration}
 use Rattle.qc_entry.specs.declared.record.Commit.{Commit as CommitRecord}
-use Rattle.qc_core.specs.Journals.{journal_after}
+use Rattle.qc_core.specs.Names.{AreGivenBack, journal_after}
 use Rattle.qc_msg.specs.declared.record.Record.TheVariants.{Commit}
 use Rattle.qc_msg.specs.declared.reply.Reply.{Reply}
 use Rattle.qc_msg.specs.declared.reply.Reply.TheVariants as replies
 use Rattle.qc_msg.specs.declared.reply.AbortCause.{AbortCause}
-use Rattle.qc_msg.specs.Deeds.{Deed}
+use Rattle.qc_msg.specs.Names.{Deed}
 use Rattle.qc_stamp.specs.declared.stamp.Stamp.{Stamp}
 use Rattle.qc_stamp.specs.declared.stamp.TxId.{TxId}
-use Rattle.qc_promise.specs.Deals.{dealing_in}
-use Rattle.qc_promise.specs.Kept.{no_journal}
-use Rattle.qc_promise.specs.Replies.{AreRepliesDue}
-use Rattle.qc_promise.specs.Turns.{AreByTurns}
-use Rattle.qc_core.specs.GivenBack.{AreGivenBack}
-use Rattle.laws_reach.specs.Ends.{AreCommitsTold, HasRecord, IsToldOf}
+use Rattle.qc_promise.specs.Names.{AreByTurns, AreRepliesDue, dealing_in, no_journal}
+use Rattle.laws_reach.specs.Names.{AreCommitsTold, HasRecord, IsToldOf}
 use Rattle.laws_reach.proofs.EndDeeds.{other_end, recorded_own, recorded_told, told_committed, told_own}
 
 -- any record of a transaction

@@ -3,22 +3,18 @@ use Rattle.std.proofs.Common.{◌≡◌, ◌⊎◌, ◌<◌, inl, inr, ℕ, Bool
 use Rattle.std.proofs.Common.{refl, sym, ap, subst, arith}
 use Rattle.qc_entry.specs.declared.line.Op.{Op}
 use Rattle.qc_entry.specs.declared.record.Commit.{Commit as CommitRecord}
-use Rattle.qc_list.specs.Members.{In}
-use Rattle.laws_reach.specs.Ends.{AreCommitsTold}
-use Rattle.qc_msg.specs.Deeds.{deeds}
-use Rattle.qc_msg.specs.Steps.{Entry}
+use Rattle.qc_list.specs.Names.{In}
+use Rattle.laws_reach.specs.Names.{AreCommitsTold, Deals, Tells, crashed, cut_off, decl, fallen, first, kept, mine}
+use Rattle.laws_reach.specs.Names.{none_read, read_it, reading_on, record_of, second, tx}
+use Rattle.qc_msg.specs.Names.{Entry, deeds}
 use Rattle.qc_msg.specs.declared.reply.Reply.{Reply}
 use Rattle.qc_msg.specs.declared.reply.Reply.TheVariants as replies
 use Rattle.qc_msg.specs.declared.reply.AbortCause.TheVariants as causes
-use Rattle.qc_promise.specs.Committed.{committed}
-use Rattle.qc_promise.specs.Deals.{deals, endings}
-use Rattle.qc_promise.specs.Told.{HasCommit}
-use Rattle.qc_stamp.specs.Order.{same_tx}
+use Rattle.qc_promise.specs.Names.{HasCommit, committed, deals, endings}
+use Rattle.qc_stamp.specs.Names.{same_tx}
 use Rattle.qc_stamp.proofs.Orders.{same_tx_is}
 use Rattle.qc_stamp.specs.declared.stamp.Stamp.{Stamp}
 use Rattle.qc_stamp.specs.declared.stamp.TxId.{TxId}
-use Rattle.laws_reach.specs.Falling.{Deals, Tells, crashed, cut_off, decl, fallen, first, kept, mine, none_read}
-use Rattle.laws_reach.specs.Falling.{read_it, reading_on, record_of, second, tx}
 
 -- the record of the transaction
 abbrev its : List Op → CommitRecord

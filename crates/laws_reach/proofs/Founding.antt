@@ -1,14 +1,13 @@
 -- What a client's deeds through falls and rises have to rest on; and so have those before them.
 use Rattle.std.proofs.Common.{List, ◌++◌, sym, subst}
 use Rattle.std.proofs.lemmas.List.Sums.{fold-append}
-use Rattle.qc_list.specs.Members.{In}
-use Rattle.qc_core.specs.Journals.{journal_after, journal_at}
+use Rattle.qc_list.specs.Names.{In}
+use Rattle.qc_core.specs.Names.{AreGivenBack, journal_after, journal_at}
 use Rattle.qc_entry.specs.declared.record.Commit.{Commit}
 use Rattle.qc_msg.specs.declared.record.Record.TheVariants as records
-use Rattle.qc_msg.specs.Deeds.{Deed}
-use Rattle.qc_promise.specs.Kept.{Journal, no_journal}
+use Rattle.qc_msg.specs.Names.{Deed}
+use Rattle.qc_promise.specs.Names.{Journal, no_journal}
 use Rattle.laws_atomic.proofs.Founded.{AreFounded, founded-first}
-use Rattle.qc_core.specs.GivenBack.{AreGivenBack}
 use Rattle.qc_core.proofs.KeptBack.{back_first, back_second}
 use Rattle.laws_reach.proofs.Making.{all_stay}
 

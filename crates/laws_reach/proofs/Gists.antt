@@ -16,11 +16,9 @@ use Rattle.qc_msg.specs.declared.message.Want.TheVariants.{Read, Append, Prepare
 use Rattle.qc_msg.specs.declared.reply.Half.{Half}
 use Rattle.qc_msg.specs.declared.reply.Half.TheVariants as halves
 use Rattle.qc_msg.specs.declared.step.Command.{Command}
-use Rattle.qc_promise.specs.Account.{Account, ClientRequest, Current, is_append, requests_for}
-use Rattle.qc_promise.specs.Accounting.{account_heard, account_sent, counted, counted_for, doomed_if, granted, is_open}
-use Rattle.qc_promise.specs.Accounting.{lived, promised, refused, requested, short_of, taken_for, told_by, with_current}
-use Rattle.qc_promise.specs.Accounting.{with_read}
-use Rattle.qc_promise.specs.Asked.{is_asked_for}
+use Rattle.qc_promise.specs.Names.{Account, ClientRequest, Current, account_heard, account_sent, counted, counted_for}
+use Rattle.qc_promise.specs.Names.{doomed_if, granted, is_append, is_asked_for, is_open, lived, promised, refused}
+use Rattle.qc_promise.specs.Names.{requested, requests_for, short_of, taken_for, told_by, with_current, with_read}
 
 pub record Going : Type 0 where
   pub tx : TxId

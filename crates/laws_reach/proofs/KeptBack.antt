@@ -2,12 +2,10 @@
 -- rise.
 use Rattle.std.proofs.Common.{ℕ, List, []}
 use Rattle.qc_core.proofs.KeptBack.{kept_given_back}
-use Rattle.qc_msg.specs.Deeds.{deeds}
-use Rattle.qc_msg.specs.Steps.{Entry}
-use Rattle.qc_promise.specs.Kept.{Kept, no_journal}
-use Rattle.qc_promise.specs.Status.{AreRight, Unborn}
+use Rattle.qc_msg.specs.Names.{Entry, deeds}
+use Rattle.qc_promise.specs.Names.{AreRight, Kept, Unborn, no_journal}
 use Rattle.qc_stamp.specs.declared.stamp.TxId.{TxId}
-use Rattle.laws_reach.specs.Pending.{AreRightButWritten}
+use Rattle.laws_reach.specs.Names.{AreRightButWritten}
 use Rattle.laws_reach.proofs.Rises.{written_right}
 
 pub kept_right : (h : List Entry) → Kept h → (a : ℕ) (tx : TxId)

@@ -5,15 +5,12 @@ use Rattle.std.specs.Prelude.{slice_set}
 use Rattle.std.proofs.lemmas.List.{append-nil}
 use Rattle.qc_core.specs.declared.actor.Actor.{Actor}
 use Rattle.qc_core.specs.declared.actor.Actor.TheVariants as actor
-use Rattle.qc_core.specs.Actors.{ActorMove, actor_after, actor_takes, by_client, by_site}
-use Rattle.qc_core.specs.Conduct.{IsLawfulWithFalls, with_record}
-use Rattle.qc_core.specs.Journals.{journal_after}
-use Rattle.qc_core.specs.Lives.{is_up}
+use Rattle.qc_core.specs.Names.{ActorMove, IsLawfulWithFalls, actor_after, actor_takes, by_client, by_site, is_up}
+use Rattle.qc_core.specs.Names.{journal_after, with_record}
 use Rattle.qc_decl.specs.declared.declaration.Declaration.{Declaration}
-use Rattle.qc_decl.specs.Actors.{administrator, is_administrator, is_client, is_site}
-use Rattle.qc_client.specs.Client.{ClientMove}
-use Rattle.qc_client.specs.Conduct.{client_takes}
-use Rattle.qc_inbox.specs.Downs.{is_down}
+use Rattle.qc_decl.specs.Names.{administrator, is_administrator, is_client, is_site}
+use Rattle.qc_client.specs.Names.{ClientMove, client_takes}
+use Rattle.qc_inbox.specs.Names.{is_down}
 use Rattle.laws_turns.proofs.Downs.{due, tells, up_is}
 use Rattle.qc_msg.specs.declared.message.Envelope.{Envelope}
 use Rattle.qc_msg.specs.declared.record.Record.{Record}
@@ -21,20 +18,19 @@ use Rattle.qc_msg.specs.declared.turn.Appended.{Appended}
 use Rattle.qc_msg.specs.declared.turn.Appended.TheVariants.{Done, Failed, Stopped}
 use Rattle.qc_msg.specs.declared.turn.Posting.{Posting}
 use Rattle.qc_msg.specs.declared.turn.Turn.{Turn}
-use Rattle.qc_msg.specs.Deeds.{Deed, WasSentTo, deeds, deeds_as, envelopes, mail}
-use Rattle.qc_msg.specs.Steps.{Entry, HasRecord, MayEnd, by, posted_as, sends_as}
+use Rattle.qc_msg.specs.Names.{Deed, Entry, HasRecord, MayEnd, WasSentTo, by, deeds, deeds_as, envelopes, mail}
+use Rattle.qc_msg.specs.Names.{posted_as, sends_as}
 use Rattle.qc_msg.proofs.GrownMail.{mail-append}
 use Rattle.qc_msg.proofs.Growth.{deeds-other, deeds-posted_as, mail-posted_as}
-use Rattle.laws_refinement.specs.Net.{MayCome, Net, Reaches, after_client, after_fall, after_site, sent_all}
+use Rattle.laws_refinement.specs.Names.{MayCome, Net, Reaches, after_client, after_fall, after_site, sent_all}
 use Rattle.laws_refinement.specs.Net as nets
 use Rattle.laws_refinement.proofs.Machine.{put_other}
-use Rattle.qc_promise.specs.Kept.{Journal, pending_with}
+use Rattle.qc_promise.specs.Names.{Journal, pending_with}
 use Rattle.theory_machine.proofs.Names.{put_here}
-use Rattle.qc_site.specs.Site.{SiteMove}
+use Rattle.qc_site.specs.Names.{SiteMove, site_takes}
 use Rattle.laws_atomic.proofs.Stood.{may_come, not_now, false_true, slot_other}
-use Rattle.laws_reach.specs.Reached.{HasTaken, TakesInputs, actor_in}
+use Rattle.laws_reach.specs.Names.{HasTaken, TakesInputs, actor_in}
 use Rattle.laws_reach.proofs.Growing.{actor_posted, all_sent, ended_journal, ended_up, journal_posted, up_posted}
-use Rattle.qc_site.specs.Conduct.{site_takes}
 use Rattle.laws_reach.proofs.Stood.{Leaves, Stands, Stood, in_client, in_site, itself, moves}
 
 -- an actor falls in the net

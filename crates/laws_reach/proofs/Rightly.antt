@@ -3,35 +3,29 @@
 use Rattle.std.proofs.Common.{◌≡◌, ◌≢◌, ℕ, ◌-◌, Bool, true, false, List, [], ◌∷◌, ◌++◌, None, refl, sym, ap, ◌∙◌, subst}
 use Rattle.std.specs.List.{AllByRecursion as Every}
 use Rattle.std.proofs.lemmas.List.Sums.{fold-append}
-use Rattle.qc_core.specs.Actors.{actor_after}
-use Rattle.qc_core.specs.Journals.{journal_after, journal_at}
-use Rattle.qc_core.specs.Lives.{Lives}
-use Rattle.qc_client.specs.Conduct.{client_takes}
-use Rattle.qc_decl.specs.Actors.{is_client}
+use Rattle.qc_core.specs.Names.{AreGivenBack, Lives, actor_after, journal_after, journal_at}
+use Rattle.qc_client.specs.Names.{client_takes}
+use Rattle.qc_decl.specs.Names.{is_client}
 use Rattle.qc_decl.specs.declared.declaration.Declaration.{Declaration}
 use Rattle.qc_msg.specs.declared.step.Input.{Input}
 use Rattle.qc_msg.specs.declared.step.Input.TheVariants as inputs
 use Rattle.qc_msg.specs.declared.step.Fall.TheVariants as causes
 use Rattle.qc_msg.specs.declared.reply.Reply.TheVariants as replies
-use Rattle.qc_msg.specs.Begun.{first_epoch}
-use Rattle.qc_msg.specs.Deeds.{Deed, Takes, Tells, Falls, Rises, deeds_as}
-use Rattle.qc_promise.specs.Kept.{Journal, no_journal}
-use Rattle.qc_promise.specs.Status.{AreRight, status, status_at}
-use Rattle.qc_promise.specs.Status.{Unborn, Committed}
+use Rattle.qc_msg.specs.Names.{Deed, Falls, Rises, Takes, Tells, deeds_as, first_epoch}
+use Rattle.qc_promise.specs.Names.{AreRight, Committed, Journal, Unborn, no_journal, status, status_at}
 use Rattle.laws_turns.proofs.KnownDeeds.{IsKnown, KnownFrom, known-first, known-second, right-append}
-use Rattle.qc_recover.specs.Sites.{rising}
+use Rattle.qc_recover.specs.Names.{rising}
 use Rattle.laws_turns.proofs.StatusActs.{page_of}
 use Rattle.qc_list.proofs.Members.{every-In}
 use Rattle.qc_msg.specs.declared.record.Record.TheVariants as records
 use Rattle.qc_stamp.specs.declared.stamp.Stamp.{Stamp}
 use Rattle.qc_stamp.specs.declared.stamp.TxId.{TxId}
-use Rattle.qc_stamp.specs.Order.{same_tx}
+use Rattle.qc_stamp.specs.Names.{same_tx}
 use Rattle.qc_stamp.proofs.Orders.{same_tx_itself}
 use Rattle.laws_due.proofs.Lifelong.{client_lives}
 use Rattle.laws_due.proofs.Standing.{IsAt, IsAtRest, Stands}
-use Rattle.laws_due.specs.Declares.{IsDeclaredDeed, IsPlanned}
-use Rattle.qc_core.specs.GivenBack.{AreGivenBack}
-use Rattle.laws_reach.specs.Recorded.{IsRecorded}
+use Rattle.laws_due.specs.Names.{IsDeclaredDeed, IsPlanned}
+use Rattle.laws_reach.specs.Names.{IsRecorded}
 use Rattle.laws_reach.proofs.Courses.{IsNow, Lasts, course}
 use Rattle.laws_reach.proofs.VerdictsFalling.{called_rests, crashed_rests, down_here, new_rests, risen_rests}
 use Rattle.laws_reach.proofs.VerdictsFalling.{turn_rests, unopened_rests}

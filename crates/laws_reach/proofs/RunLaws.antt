@@ -1,16 +1,13 @@
 -- So what every net keeps, every run with falls keeps whose records are kept.
 use Rattle.std.proofs.Common.{◌≡◌, ℕ, Bool, true, false, List, [], Some, slice_get, inl, inr, refl, sym, ◌∙◌, subst}
 use Rattle.qc_core.specs.declared.actor.Actor.TheVariants as actor
-use Rattle.qc_core.specs.Actors.{actor_after}
-use Rattle.qc_core.specs.Conduct.{IsLawfulWithFalls}
-use Rattle.qc_core.specs.Lives.{is_up}
-use Rattle.qc_decl.specs.Accepted.{IsAccepted}
-use Rattle.qc_decl.specs.Actors.{is_site}
+use Rattle.qc_core.specs.Names.{IsLawfulWithFalls, actor_after, is_up}
+use Rattle.qc_decl.specs.Names.{IsAccepted, is_site}
 use Rattle.qc_decl.specs.declared.declaration.Declaration.{Declaration}
 use Rattle.qc_entry.specs.declared.line.Line.{Line}
 use Rattle.qc_entry.specs.declared.line.OwnLine.{OwnLine}
 use Rattle.qc_entry.specs.declared.record.Commit.{Commit as CommitRecord}
-use Rattle.qc_list.specs.Members.{In}
+use Rattle.qc_list.specs.Names.{In}
 use Rattle.qc_msg.specs.declared.message.Answer.TheVariants.{Yes}
 use Rattle.qc_msg.specs.declared.message.Envelope.{Envelope}
 use Rattle.qc_msg.specs.declared.message.Message.{Message}
@@ -21,29 +18,20 @@ use Rattle.qc_msg.specs.declared.message.Outcome.TheVariants as outcomes
 use Rattle.qc_msg.specs.declared.message.Want.TheVariants.{Append}
 use Rattle.qc_msg.specs.declared.record.Record.{Record}
 use Rattle.qc_msg.specs.declared.record.Record.TheVariants as records
-use Rattle.qc_msg.specs.Deeds.{deeds, mail}
-use Rattle.qc_msg.specs.Steps.{Entry}
-use Rattle.laws_refinement.specs.Lines.{IsTrueVerdict, lines_in}
-use Rattle.laws_refinement.specs.Mirrors.{Refines}
-use Rattle.laws_refinement.specs.Votes.{IsRecorded}
+use Rattle.qc_msg.specs.Names.{Entry, deeds, mail}
+use Rattle.laws_refinement.specs.Names.{IsRecorded, IsTrueVerdict, Refines, lines_in}
 use Rattle.laws_refinement.proofs.Refining.{nets_refine}
 use Rattle.laws_refinement.proofs.NetLaws as nets
 use Rattle.laws_refinement.proofs.VotesKept.{votes_stand_on_records}
-use Rattle.theory_onecopy.specs.Committed.{AreApart, sorted}
-use Rattle.theory_onecopy.specs.Logged.{IsClosedLog, IsLogged}
-use Rattle.theory_onecopy.specs.OneCopy.{OneCopy}
+use Rattle.theory_onecopy.specs.Names.{AreApart, IsClosedLog, IsLogged, OneCopy, sorted}
 use Rattle.theory_onecopy.proofs.Committed.{records_are_sorted}
-use Rattle.qc_promise.specs.Committed.{committed, records as written_in}
-use Rattle.qc_promise.specs.Kept.{Kept}
-use Rattle.qc_promise.specs.Told.{DecisionAgrees}
-use Rattle.qc_script.specs.RunsWithFalls.{RunsWithFalls}
-use Rattle.qc_script.specs.Sound.{IsScriptFor}
+use Rattle.qc_promise.specs.Names.{DecisionAgrees, Kept, committed, records as written_in}
+use Rattle.qc_script.specs.Names.{IsScriptFor, RunsWithFalls}
 use Rattle.qc_script.specs.declared.script.Script.{Script}
-use Rattle.qc_site.specs.Site.{SiteState, known}
+use Rattle.qc_site.specs.Names.{SiteState, known}
 use Rattle.qc_stamp.specs.declared.stamp.TxId.{TxId}
 use Rattle.laws_atomic.proofs.Closed as closed_logs
-use Rattle.laws_reach.specs.Reached.{IsReachedWithFalls}
-use Rattle.laws_reach.specs.Standing.{AreStanding, IsOfClient, IsPromiseRecorded, records_of}
+use Rattle.laws_reach.specs.Names.{AreStanding, IsOfClient, IsPromiseRecorded, IsReachedWithFalls, records_of}
 use Rattle.laws_reach.proofs.Committing.{committed_records_stand}
 use Rattle.laws_reach.proofs.Reaching.{net_of}
 use Rattle.laws_reach.proofs.Sorted.{apart_too, sorted_alike}

@@ -5,8 +5,8 @@ use Rattle.std.proofs.Common.{Option, Some, None, option_to_list, refl, sym, ap,
 use Rattle.std.specs.Option.{option_map_or}
 use Rattle.std.proofs.lemmas.List.Sums.{fold-append}
 use Rattle.qc_stamp.specs.declared.stamp.TxId.{TxId}
-use Rattle.qc_stamp.specs.Lives.{first_life}
-use Rattle.qc_list.specs.Members.{In}
+use Rattle.qc_stamp.specs.Names.{first_life}
+use Rattle.qc_list.specs.Names.{In}
 use Rattle.qc_list.proofs.Members.{In-first, In-more}
 use Rattle.qc_decl.specs.declared.declaration.Declaration.{Declaration}
 use Rattle.qc_entry.specs.declared.record.Commit.{Commit}
@@ -16,13 +16,9 @@ use Rattle.qc_msg.specs.declared.reply.Reply.TheVariants as replies
 use Rattle.qc_msg.specs.declared.step.Command.{Command}
 use Rattle.qc_msg.specs.declared.step.Fall.{Fall}
 use Rattle.qc_msg.specs.declared.step.Input.TheVariants as inputs
-use Rattle.qc_msg.specs.Counts.{commit_of}
-use Rattle.qc_msg.specs.Deeds.{Falls, Rises, Takes, Tells, Writes}
-use Rattle.qc_promise.specs.Account.{Account, clock_with, life_with}
-use Rattle.qc_promise.specs.Accounting.{account_at, account_fallen}
-use Rattle.qc_promise.specs.Deals.{is_begun}
-use Rattle.qc_promise.specs.Kept.{IsGivenBack, Journal}
-use Rattle.qc_promise.specs.Seen.{Sight}
+use Rattle.qc_msg.specs.Names.{Falls, Rises, Takes, Tells, Writes, commit_of}
+use Rattle.qc_promise.specs.Names.{Account, IsGivenBack, Journal, Sight, account_at, account_fallen, clock_with}
+use Rattle.qc_promise.specs.Names.{is_begun, life_with}
 use Rattle.laws_reach.proofs.Carrying.{life_up}
 use Rattle.laws_atomic.proofs.Counted.{IsOpen, name_of}
 use Rattle.laws_atomic.proofs.Seeing.{IsUpTo, in_split}

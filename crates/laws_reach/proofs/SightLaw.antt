@@ -4,18 +4,16 @@ use Rattle.std.proofs.Common.{refl, sym, ap, ◌∙◌, subst, arith}
 use Rattle.qc_decl.proofs.Clients.{client_past, client_within}
 use Rattle.qc_stamp.specs.declared.stamp.Stamp.{Stamp}
 use Rattle.qc_stamp.specs.declared.stamp.TxId.{TxId}
-use Rattle.qc_list.specs.Members.{In}
-use Rattle.qc_core.specs.Conduct.{IsLawfulWithFalls}
-use Rattle.qc_core.specs.Journals.{journal_after}
+use Rattle.qc_list.specs.Names.{In}
+use Rattle.qc_core.specs.Names.{IsLawfulWithFalls, journal_after}
 use Rattle.qc_core.proofs.LivesLaws.{journal}
-use Rattle.qc_decl.specs.Accepted.{IsAccepted}
-use Rattle.qc_decl.specs.Actors.{actors, client_actor, is_client}
+use Rattle.qc_decl.specs.Names.{IsAccepted, actors, client_actor, is_client}
 use Rattle.qc_decl.specs.declared.declaration.Declaration.{Declaration}
 use Rattle.qc_entry.specs.declared.line.Line.{Line}
 use Rattle.qc_entry.specs.declared.record.Commit.{Commit}
 use Rattle.laws_turns.proofs.Places.{slice_get-within}
-use Rattle.qc_link.specs.Limits.{most_actors}
-use Rattle.laws_turns.specs.LivesIn.{LivesIn}
+use Rattle.qc_link.specs.Names.{most_actors}
+use Rattle.laws_turns.specs.Names.{LivesIn}
 use Rattle.laws_turns.proofs.Lived.{run_lives, run_long}
 use Rattle.qc_msg.specs.declared.message.Answer.TheVariants.{Granted}
 use Rattle.qc_msg.specs.declared.message.Envelope.{Envelope}
@@ -25,30 +23,20 @@ use Rattle.qc_msg.specs.declared.message.Want.{Want}
 use Rattle.qc_msg.specs.declared.record.Record.{Record}
 use Rattle.qc_msg.specs.declared.record.Record.TheVariants as journals
 use Rattle.qc_msg.specs.declared.step.Input.TheVariants as inputs
-use Rattle.qc_msg.specs.Deeds.{Sends, Takes, deeds}
-use Rattle.qc_msg.specs.Steps.{Entry}
-use Rattle.laws_refinement.specs.Lines.{lines_in}
-use Rattle.laws_refinement.specs.Messages.{IsGrantTo, IsGrantable}
-use Rattle.laws_refinement.specs.Mirrors.{Refines}
+use Rattle.qc_msg.specs.Names.{Entry, Sends, Takes, deeds}
+use Rattle.laws_refinement.specs.Names.{IsGrantTo, IsGrantable, Refines, lines_in}
 use Rattle.laws_refinement.proofs.Refining.{nets_refine}
-use Rattle.theory_onecopy.specs.Committed.{AreApart}
-use Rattle.theory_onecopy.specs.Logged.{IsLogged}
+use Rattle.theory_onecopy.specs.Names.{AreApart, IsLogged}
 use Rattle.theory_onecopy.proofs.Committed.{records_are_sorted}
-use Rattle.qc_promise.specs.Account.{is_prepare}
-use Rattle.qc_promise.specs.Atomic.{IsAfterSeen}
-use Rattle.qc_promise.specs.Committed.{committed, records}
-use Rattle.qc_promise.specs.Kept.{Journal, Kept, no_journal}
-use Rattle.qc_promise.specs.Seen.{seen_in}
-use Rattle.theory_machine.specs.Acts.{state}
-use Rattle.qc_script.specs.RunsWithFalls.{RunsWithFalls}
-use Rattle.qc_script.specs.Sound.{IsScriptFor}
+use Rattle.qc_promise.specs.Names.{IsAfterSeen, Journal, Kept, committed, is_prepare, no_journal, records, seen_in}
+use Rattle.theory_machine.specs.Names.{state}
+use Rattle.qc_script.specs.Names.{IsScriptFor, RunsWithFalls}
 use Rattle.qc_script.specs.declared.script.Script.{Script}
-use Rattle.laws_due.specs.Declares.{Declares}
+use Rattle.laws_due.specs.Names.{Declares}
 use Rattle.laws_due.proofs.AccountDeclared.{asks_declared}
 use Rattle.laws_due.proofs.Declared.{run_declares}
 use Rattle.laws_due.proofs.KeptPlanned.{kept_planned}
-use Rattle.laws_reach.specs.Reached.{IsReachedWithFalls}
-use Rattle.laws_reach.specs.Standing.{AreStanding, IsOfClient, records_of}
+use Rattle.laws_reach.specs.Names.{AreStanding, IsOfClient, IsReachedWithFalls, records_of}
 use Rattle.laws_reach.proofs.Committing.{committed_records_stand}
 use Rattle.laws_reach.proofs.Reaching.{net_of}
 use Rattle.laws_reach.proofs.RunLaws as reached

@@ -6,14 +6,12 @@ use Rattle.std.proofs.lemmas.List.{append-nil}
 use Rattle.std.proofs.lemmas.List.Sums.{fold-append}
 use Rattle.qc_core.specs.declared.actor.Actor.{Actor}
 use Rattle.qc_core.specs.declared.actor.Actor.TheVariants as actors
-use Rattle.qc_core.specs.Actors.{ActorMove, actor_after, actor_does, actor_takes}
-use Rattle.qc_core.specs.Journals.{journal_after, journal_at}
-use Rattle.qc_core.specs.Lives.{Lives, is_up}
+use Rattle.qc_core.specs.Names.{ActorMove, AreGivenBack, Lives, actor_after, actor_does, actor_takes, is_up}
+use Rattle.qc_core.specs.Names.{journal_after, journal_at}
 use Rattle.qc_core.proofs.Steady.{turn_steady}
 use Rattle.qc_client.specs.declared.client.Client.{Client}
-use Rattle.qc_client.specs.Client.{ClientMove}
-use Rattle.qc_client.specs.Conduct.{client_does, client_takes}
-use Rattle.qc_decl.specs.Actors.{is_client}
+use Rattle.qc_client.specs.Names.{ClientMove, client_does, client_takes}
+use Rattle.qc_decl.specs.Names.{is_client}
 use Rattle.qc_decl.specs.declared.declaration.Declaration.{Declaration}
 use Rattle.qc_entry.specs.declared.record.Commit.{Commit}
 use Rattle.qc_list.proofs.Members.{every-append}
@@ -27,17 +25,15 @@ use Rattle.qc_msg.specs.declared.step.Input.{Input}
 use Rattle.qc_msg.specs.declared.step.Input.TheVariants as inputs
 use Rattle.qc_msg.specs.declared.turn.Appended.{Appended}
 use Rattle.qc_msg.specs.declared.turn.Appended.TheVariants.{Done, Failed, Stopped}
-use Rattle.qc_msg.specs.Begun.{first_epoch}
-use Rattle.qc_msg.specs.Deeds.{Deed, Takes, Writes, Tells, Falls, Rises, deeds_as, sends_of, tells_of, turn_deeds, writes_of}
-use Rattle.qc_msg.specs.Steps.{MayEnd}
-use Rattle.qc_promise.specs.Kept.{IsGivenBack, Journal, no_journal}
+use Rattle.qc_msg.specs.Names.{Deed, Falls, MayEnd, Rises, Takes, Tells, Writes, deeds_as, first_epoch, sends_of}
+use Rattle.qc_msg.specs.Names.{tells_of, turn_deeds, writes_of}
+use Rattle.qc_promise.specs.Names.{IsGivenBack, Journal, no_journal}
 use Rattle.laws_turns.proofs.Bounding.{turn-posts}
-use Rattle.qc_recover.specs.Clients.{client_rises, nothing_kept}
-use Rattle.qc_recover.specs.Sites.{rising}
-use Rattle.laws_due.specs.Declares.{IsDeclaredDeed, IsPlanned}
+use Rattle.qc_recover.specs.Names.{client_rises, rising}
+use Rattle.qc_recover.specs.Clients.{nothing_kept}
+use Rattle.laws_due.specs.Names.{IsDeclaredDeed, IsPlanned}
 use Rattle.laws_due.proofs.Standing.{IsAtRest, IsTied, actor_more, steady_client, steady_up, up_more}
 use Rattle.laws_due.proofs.Writing.{IsClientTurn, IsCommitTurn, takes_turn}
-use Rattle.qc_core.specs.GivenBack.{AreGivenBack}
 use Rattle.laws_reach.proofs.Clocks.{Stamps, clock_posts, takes_stamps}
 use Rattle.laws_reach.proofs.Courses.{IsNow, Lasts, course, rises_to}
 use Rattle.qc_core.proofs.KeptBack.{back_first, back_second}

@@ -4,19 +4,15 @@ use Rattle.std.proofs.Common.{sym, ap, ◌∙◌, subst, append_assoc}
 use Rattle.std.specs.Prelude.{is_some}
 use Rattle.std.proofs.lemmas.List.Sums.{fold-append}
 use Rattle.qc_stamp.specs.declared.stamp.TxId.{TxId}
-use Rattle.qc_list.specs.Members.{In}
+use Rattle.qc_list.specs.Names.{In}
 use Rattle.qc_core.specs.declared.actor.Actor.{Actor}
-use Rattle.qc_core.specs.Actors.{ActorMove, actor_after, actor_takes, by_client}
-use Rattle.qc_core.specs.Acts.{MayTake}
+use Rattle.qc_core.specs.Names.{ActorMove, IsLawfulWithFalls, MayReach, MayTake, actor_after, actor_takes, by_client}
+use Rattle.qc_core.specs.Names.{is_up, journal_after, journal_at}
 use Rattle.qc_core.proofs.ByNumber.{client_risen}
-use Rattle.qc_core.specs.Conduct.{IsLawfulWithFalls}
-use Rattle.qc_core.specs.Journals.{journal_after, journal_at}
-use Rattle.qc_core.specs.Lives.{MayReach, is_up}
 use Rattle.qc_core.proofs.Steady.{turn_steady}
-use Rattle.qc_client.specs.Client.{ClientMove}
-use Rattle.qc_client.specs.Conduct.{client_takes}
+use Rattle.qc_client.specs.Names.{ClientMove, client_takes}
 use Rattle.qc_decl.specs.declared.declaration.Declaration.{Declaration}
-use Rattle.qc_decl.specs.Actors.{is_client}
+use Rattle.qc_decl.specs.Names.{is_client}
 use Rattle.qc_entry.specs.declared.record.Commit.{Commit}
 use Rattle.qc_msg.specs.declared.record.Record.{Record}
 use Rattle.qc_msg.specs.declared.record.Record.TheVariants as records
@@ -30,20 +26,12 @@ use Rattle.qc_msg.specs.declared.step.Input.TheVariants as inputs
 use Rattle.qc_msg.specs.declared.turn.Appended.{Appended}
 use Rattle.qc_msg.specs.declared.turn.Appended.TheVariants.{Done, Failed, Stopped}
 use Rattle.qc_msg.specs.declared.turn.Turn.{Turn}
-use Rattle.qc_msg.specs.Deeds.{Deed, Takes, Writes, Tells, Falls, Rises, deeds_as, sends_of, tells_of, turn_deeds}
-use Rattle.qc_msg.specs.Deeds.{writes_of}
-use Rattle.qc_msg.specs.Steps.{MayEnd}
-use Rattle.qc_msg.specs.Turns.{telling}
-use Rattle.qc_promise.specs.Account.{Account, new_account}
-use Rattle.qc_promise.specs.Accounting.{account_at, account_taken}
-use Rattle.qc_promise.specs.Kept.{IsGivenBack, Journal, no_journal}
-use Rattle.qc_promise.specs.Replies.{IsRecordDue}
-use Rattle.qc_promise.specs.Rows.{running_row}
-use Rattle.qc_promise.specs.Seen.{Sight, no_sight, sight, sight_taken}
-use Rattle.qc_recover.specs.Clients.{client_rises}
-use Rattle.qc_recover.specs.Sites.{rising}
-use Rattle.laws_due.specs.ByRows.{AreByRows}
-use Rattle.laws_due.specs.Goes.{Goes}
+use Rattle.qc_msg.specs.Names.{Deed, Falls, MayEnd, Rises, Takes, Tells, Writes, deeds_as, sends_of, telling, tells_of}
+use Rattle.qc_msg.specs.Names.{turn_deeds, writes_of}
+use Rattle.qc_promise.specs.Names.{Account, IsGivenBack, IsRecordDue, Journal, Sight, account_at, account_taken}
+use Rattle.qc_promise.specs.Names.{new_account, no_journal, no_sight, running_row, sight, sight_taken}
+use Rattle.qc_recover.specs.Names.{client_rises, rising}
+use Rattle.laws_due.specs.Names.{AreByRows, Goes}
 use Rattle.laws_due.proofs.Commands.{free_for}
 use Rattle.laws_due.proofs.Happenings.{as_record}
 use Rattle.laws_due.proofs.Standing.{IsFallen, IsTied, account_is, actor_more, steady_up, turn_is, up_more}

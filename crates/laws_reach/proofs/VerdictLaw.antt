@@ -4,21 +4,20 @@ use Rattle.std.proofs.Common.{◌≡◌, ◌↔◌, ◌-◌, ◌≢◌, ◌≤�
 use Rattle.std.specs.List.{AllByRecursion as Every, AllPairs, filter_map}
 use Rattle.std.proofs.lemmas.List.Sums.{fold-append}
 use Rattle.qc_decl.proofs.Clients.{client_past, client_within}
-use Rattle.qc_core.specs.Conduct.{IsLawfulWithFalls}
-use Rattle.qc_core.specs.Journals.{journal_after}
+use Rattle.qc_core.specs.Names.{IsLawfulWithFalls, journal_after}
 use Rattle.qc_entry.specs.declared.record.Commit.{Commit}
-use Rattle.qc_msg.specs.Counts.{commit_of}
-use Rattle.qc_decl.specs.Accepted.{IsAccepted}
-use Rattle.qc_decl.specs.Actors.{actors, client_actor, controller, is_client}
+use Rattle.qc_msg.specs.Names.{Deed, Entry, Falls, Rises, Sends, Takes, WasSentTo, by, commit_of, deeds, deeds_as, mail}
+use Rattle.qc_msg.specs.Names.{marked, posted_as, sends_of, step_of, tells_of}
+use Rattle.qc_decl.specs.Names.{IsAccepted, actors, client_actor, controller, is_client}
 use Rattle.qc_decl.specs.declared.declaration.Declaration.{Declaration}
 use Rattle.qc_inbox.proofs.FallMail.{ready_sent}
 use Rattle.laws_turns.proofs.Acted.{deeds-silent}
 use Rattle.laws_turns.proofs.Numbered.{IsSilent, phase_silent}
 use Rattle.laws_turns.proofs.Places.{slice_get-within}
-use Rattle.qc_link.specs.Limits.{most_actors}
-use Rattle.qc_list.specs.Members.{In}
+use Rattle.qc_link.specs.Names.{most_actors}
+use Rattle.qc_list.specs.Names.{In}
 use Rattle.qc_list.proofs.Members.{every-append, every-at}
-use Rattle.laws_turns.specs.LivesIn.{LivesIn}
+use Rattle.laws_turns.specs.Names.{LivesIn}
 use Rattle.laws_turns.proofs.Lived.{deeds-fall, deeds-rise, line_silent, run_lives, run_long}
 use Rattle.qc_msg.specs.declared.message.Envelope.{Envelope}
 use Rattle.qc_msg.specs.declared.message.Message.{Message}
@@ -34,36 +33,30 @@ use Rattle.qc_msg.specs.declared.turn.Appended.{Appended}
 use Rattle.qc_msg.specs.declared.turn.Appended.TheVariants.{Done, Failed, Stopped}
 use Rattle.qc_msg.specs.declared.turn.Posting.{Posting}
 use Rattle.qc_msg.specs.declared.turn.Turn.{Turn}
-use Rattle.qc_msg.specs.Deeds.{Deed, Sends, Takes, Falls, Rises, WasSentTo, deeds, deeds_as, mail, sends_of, tells_of}
-use Rattle.qc_msg.specs.Steps.{Entry, by, marked, posted_as, step_of}
 use Rattle.qc_msg.proofs.Growth.{deeds-other, deeds-posted_as, deeds-taken}
-use Rattle.laws_refinement.specs.Messages.{Backed}
-use Rattle.laws_refinement.specs.Mirrors.{Refines}
+use Rattle.laws_refinement.specs.Names.{Backed, Refines}
 use Rattle.laws_refinement.proofs.Refining.{nets_refine}
-use Rattle.qc_promise.specs.Kept.{Journal, Kept}
-use Rattle.qc_promise.specs.Status.{AreRight, AreRightFrom, HasEnded, Status, status, status_at}
-use Rattle.qc_promise.specs.Status.{Unborn, Begun, Committed, Dead}
-use Rattle.theory_machine.specs.Acts.{state}
+use Rattle.qc_promise.specs.Names.{AreRight, AreRightFrom, Begun, Committed, Dead, HasEnded, Journal, Kept, Status}
+use Rattle.qc_promise.specs.Names.{Unborn, status, status_at}
+use Rattle.theory_machine.specs.Names.{state}
 use Rattle.laws_turns.proofs.Bounding.{turn-posts}
 use Rattle.laws_turns.proofs.ClientsWithin.{IsPost}
 use Rattle.laws_turns.proofs.KnownDeeds.{IsKnown, IsKnownIn, KnownFrom, known-append, known-posts, known-second}
 use Rattle.laws_turns.proofs.Lasting.{HasEnd, ended_on, request_born}
 use Rattle.laws_turns.proofs.SitesAsk.{Tells}
-use Rattle.qc_script.specs.Ready.{phase_of}
-use Rattle.qc_script.specs.RunsWithFalls.{RunsWithFalls, begins, takes, posts, phase, control, falls, rises, damaged, unopened}
-use Rattle.qc_script.specs.Sound.{IsScriptFor}
+use Rattle.qc_script.specs.Names.{IsScriptFor, RunsWithFalls, begins, control, damaged, falls, phase, phase_of, posts}
+use Rattle.qc_script.specs.Names.{rises, takes, unopened}
 use Rattle.qc_script.specs.declared.script.Script.{Script}
 use Rattle.qc_stamp.specs.declared.stamp.Stamp.{Stamp}
 use Rattle.qc_stamp.specs.declared.stamp.TxId.{TxId}
 use Rattle.qc_stamp.proofs.Orders.{same_tx_is, same_tx_itself}
-use Rattle.laws_due.specs.Declares.{Declares}
+use Rattle.laws_due.specs.Names.{Declares}
 use Rattle.laws_due.proofs.AccountDeclared.{asks_declared}
 use Rattle.laws_due.proofs.Declared.{run_declares}
 use Rattle.laws_due.proofs.KeptPlanned.{kept_planned}
-use Rattle.laws_reach.specs.Reached.{IsReachedWithFalls}
+use Rattle.laws_reach.specs.Names.{IsReachedWithFalls, IsRecorded}
 use Rattle.laws_reach.proofs.Reaching.{net_of}
 use Rattle.laws_reach.proofs.Rightly.{Shows, course_shows}
-use Rattle.laws_reach.specs.Recorded.{IsRecorded}
 use Rattle.qc_core.proofs.KeptBack.{kept_given_back}
 use Rattle.laws_reach.proofs.Putting.{part_kept}
 use Rattle.laws_reach.proofs.Questions.{Asked, IsRequested, run_asked}

@@ -4,14 +4,11 @@ use Rattle.std.proofs.Common.{◌≡◌, ℕ, ◌-◌, Bool, true, false, List, 
 use Rattle.std.proofs.Common.{option_to_list, refl, sym, ap, ◌∙◌, subst, append_assoc}
 use Rattle.std.specs.List.{AllByRecursion as Every}
 use Rattle.qc_core.specs.declared.actor.Actor.{Actor}
-use Rattle.qc_core.specs.Actors.{ActorMove, actor_after, actor_does}
-use Rattle.qc_core.specs.Journals.{journal_after}
-use Rattle.qc_core.specs.Lives.{is_up}
+use Rattle.qc_core.specs.Names.{ActorMove, AreGivenBack, actor_after, actor_does, is_up, journal_after}
 use Rattle.qc_core.proofs.ActorLaws.{at_client}
 use Rattle.qc_client.specs.declared.client.Client.{Client}
-use Rattle.qc_client.specs.Client.{new_client}
-use Rattle.qc_client.specs.Conduct.{client_takes}
-use Rattle.qc_decl.specs.Actors.{is_client}
+use Rattle.qc_client.specs.Names.{client_takes, new_client}
+use Rattle.qc_decl.specs.Names.{is_client}
 use Rattle.qc_decl.specs.declared.declaration.Declaration.{Declaration}
 use Rattle.qc_list.proofs.Members.{every-append}
 use Rattle.qc_msg.specs.declared.record.Record.{Record}
@@ -25,24 +22,20 @@ use Rattle.qc_msg.specs.declared.step.Input.TheVariants as inputs
 use Rattle.qc_msg.specs.declared.turn.Appended.{Appended}
 use Rattle.qc_msg.specs.declared.turn.Appended.TheVariants.{Done, Failed, Stopped}
 use Rattle.qc_msg.specs.declared.turn.Turn.{Turn}
-use Rattle.qc_msg.specs.Deeds.{Deed, Takes, Writes, Tells, Falls, Rises, deeds_as, sends_of, tells_of, turn_deeds}
-use Rattle.qc_msg.specs.Deeds.{writes_of}
-use Rattle.qc_msg.specs.Steps.{MayEnd}
-use Rattle.qc_promise.specs.Kept.{IsGivenBack, Journal, no_journal}
-use Rattle.qc_promise.specs.Status.{AreRightFrom, IsRightRecord, Status, status, status_risen}
-use Rattle.qc_promise.specs.Status.{Unborn}
+use Rattle.qc_msg.specs.Names.{Deed, Falls, MayEnd, Rises, Takes, Tells, Writes, deeds_as, sends_of, tells_of}
+use Rattle.qc_msg.specs.Names.{turn_deeds, writes_of}
+use Rattle.qc_promise.specs.Names.{AreRightFrom, IsGivenBack, IsRightRecord, Journal, Status, Unborn, no_journal}
+use Rattle.qc_promise.specs.Names.{status, status_risen}
 use Rattle.laws_turns.proofs.KnownDeeds.{IsKnown}
 use Rattle.laws_turns.proofs.RightTurns.{TurnRight}
 use Rattle.laws_turns.proofs.StatusActs.{input_right, page_of}
 use Rattle.laws_turns.proofs.Statuses.{new_status}
-use Rattle.qc_recover.specs.Clients.{client_rises}
-use Rattle.qc_recover.specs.Sites.{rising}
+use Rattle.qc_recover.specs.Names.{client_rises, rising}
 use Rattle.qc_stamp.specs.declared.stamp.TxId.{TxId}
-use Rattle.qc_stamp.specs.Lives.{first_life}
+use Rattle.qc_stamp.specs.Names.{first_life}
 use Rattle.laws_due.proofs.Commands.{no_site}
 use Rattle.laws_due.proofs.Standing.{IsAtRest, IsTied, actor_more, up_more}
 use Rattle.laws_due.proofs.Writing.{IsClientTurn, IsCommitTurn, takes_turn}
-use Rattle.qc_core.specs.GivenBack.{AreGivenBack}
 use Rattle.laws_reach.proofs.Courses.{rises_to}
 use Rattle.qc_core.proofs.KeptBack.{back_first, back_second}
 use Rattle.laws_reach.proofs.VerdictsLifelong.{HereWith, Rests, in_hand, posted_rests, rests_more, same_client, up_here}

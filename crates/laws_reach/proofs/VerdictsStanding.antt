@@ -2,22 +2,21 @@
 use Rattle.std.proofs.Common.{◌≡◌, ◌≢◌, ℕ, ◌<◌, ◌≤◌, ◌⊎◌, not, inl, inr, Bool, true, false, cond, List, [], ◌∷◌, ◌++◌, filter, fold, Option, Some, None, option_to_list, refl, sym, ap, ◌∙◌, subst, arith}
 use Rattle.std.specs.List.{AllByRecursion as Every}
 use Rattle.std.proofs.lemmas.List.Sums.{fold-append}
-use Rattle.qc_list.specs.Members.{In}
+use Rattle.qc_list.specs.Names.{In}
 use Rattle.qc_list.proofs.Members.{In-filter, In-first, In-last, In-more, In-unfiltered, every-In}
 use Rattle.qc_entry.specs.declared.record.Commit.{Commit}
 use Rattle.qc_msg.specs.declared.record.Record.{Record}
 use Rattle.qc_msg.specs.declared.record.Record.TheVariants as records
-use Rattle.qc_promise.specs.Kept.{IsGivenBack, Journal}
-use Rattle.qc_promise.specs.Status.{AreRightKept, IsRightKept, IsRightRecord, Status, given_up, status_risen, status_written}
-use Rattle.qc_promise.specs.Status.{Unborn, Begun, Committed, Dead}
+use Rattle.qc_promise.specs.Names.{AreRightKept, Begun, Committed, Dead, IsGivenBack, IsRightKept, IsRightRecord}
+use Rattle.qc_promise.specs.Names.{Journal, Status, Unborn, given_up, status_risen, status_written}
 use Rattle.laws_turns.proofs.Dealing.{HasRecord}
 use Rattle.laws_turns.proofs.Statuses.{IsStatus, Page}
 use Rattle.qc_recover.specs.Clients.{Kept, keeps, kept_by, nothing_kept}
 use Rattle.qc_stamp.specs.declared.stamp.Stamp.{Stamp}
 use Rattle.qc_stamp.specs.declared.stamp.TxId.{TxId}
-use Rattle.qc_stamp.specs.Order.{same_tx}
+use Rattle.qc_stamp.specs.Names.{same_tx}
 use Rattle.qc_stamp.proofs.Orders.{same_tx_is, same_tx_itself}
-use Rattle.laws_reach.specs.Recorded.{IsRecorded}
+use Rattle.laws_reach.specs.Names.{IsRecorded}
 use Rattle.laws_reach.proofs.Rises.{IsShown}
 
 pub listed_more : (tx : TxId) (stamp : Stamp) (xs ys : List Record) → IsRecorded tx stamp xs → IsRecorded tx stamp (xs ++ ys)

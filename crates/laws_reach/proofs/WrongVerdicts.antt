@@ -2,29 +2,24 @@
 use Rattle.std.proofs.Common.{◌≡◌, ◌≢◌, ◌<◌, ◌↔◌, ◌⊎◌, inl, inr, List, [], ◌∷◌, ◌++◌, option_to_list, refl, ap, arith}
 use Rattle.std.proofs.Common.{true, sym, ◌∙◌, ℕ}
 use Rattle.std.specs.List.{AllPairs, filter_map}
-use Rattle.qc_core.specs.Journals.{journal_after}
-use Rattle.qc_decl.specs.Actors.{client_actor}
-use Rattle.qc_decl.specs.One.{three}
+use Rattle.qc_core.specs.Names.{journal_after}
+use Rattle.qc_decl.specs.Names.{client_actor, three}
 use Rattle.qc_entry.specs.declared.record.Commit.{Commit}
 use Rattle.qc_msg.specs.declared.message.Envelope.{Envelope}
-use Rattle.qc_list.specs.Members.{In}
+use Rattle.qc_list.specs.Names.{In}
 use Rattle.qc_msg.specs.declared.message.Message.TheVariants.{Decision, Inquiry}
 use Rattle.qc_msg.specs.declared.message.Outcome.{Outcome}
-use Rattle.qc_promise.specs.SiteEnds.{is_final}
-use Rattle.laws_reach.specs.Agreement.{AgreeOnVerdicts}
+use Rattle.qc_promise.specs.Names.{AreRight, Begun, Committed, Dead, HasEnded, Status, Unborn, is_final, status}
+use Rattle.laws_reach.specs.Names.{AgreeOnVerdicts, IsRecorded, asked, begins_anew, crashes, falls_rising}
+use Rattle.laws_reach.specs.Names.{falls_writing, is_asked, lives, recorded, rises, told}
 use Rattle.qc_msg.specs.declared.message.Outcome.TheVariants as outcomes
 use Rattle.qc_msg.specs.declared.step.Input.TheVariants.{Got}
-use Rattle.qc_msg.specs.Counts.{commit_of}
+use Rattle.qc_msg.specs.Names.{Deed, Takes, Tells, commit_of}
 use Rattle.qc_msg.specs.declared.reply.Reply.TheVariants as replies
-use Rattle.qc_msg.specs.Deeds.{Deed, Takes, Tells}
-use Rattle.qc_promise.specs.Status.{AreRight, HasEnded, Status, status}
-use Rattle.qc_promise.specs.Status.{Unborn, Begun, Committed, Dead}
-use Rattle.laws_turns.specs.Wrong.{asks, begun, commit, committed, first, says, second, tx}
+use Rattle.laws_turns.specs.Names.{asks, begun, commit, committed, first, says, second, tx}
 use Rattle.qc_stamp.specs.declared.stamp.Stamp.{Stamp}
 use Rattle.qc_stamp.specs.declared.stamp.TxId.{TxId}
-use Rattle.laws_reach.specs.Recorded.{IsRecorded}
-use Rattle.laws_reach.specs.WrongVerdicts.{anew, asked, begins_anew, crashes, falls_rising, falls_writing, is_asked}
-use Rattle.laws_reach.specs.WrongVerdicts.{lives, recorded, rises, told}
+use Rattle.laws_reach.specs.WrongVerdicts.{anew}
 
 -- courses
 

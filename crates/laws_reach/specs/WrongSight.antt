@@ -8,9 +8,9 @@ use Rattle.qc_msg.specs.declared.record.Record.TheVariants as records
 use Rattle.qc_msg.specs.declared.reply.Reply.TheVariants.{Unknown}
 use Rattle.qc_msg.specs.declared.step.Fall.TheVariants.{Disk, Script}
 use Rattle.qc_msg.specs.declared.step.Step.TheVariants.{Fell, Rose, Sent, Told, Wrote}
-use Rattle.qc_msg.specs.Steps.{Entry, marked}
+use Rattle.qc_msg.specs.Names.{Entry, marked}
 use Rattle.qc_stamp.specs.declared.stamp.TxId.{TxId}
-use Rattle.laws_atomic.specs.Wrong.{asks, begins, commit, first, hears, is_granted, is_told, stamp, they_commit, writes}
+use Rattle.laws_atomic.specs.Names.{asks, begins, commit, first, hears, is_granted, is_told, stamp, they_commit, writes}
 
 -- the transaction of the client's second life
 abbrev pub anew : TxId

@@ -1,7 +1,7 @@
 -- What the administrator takes, whatever he does: a command, an answer, or that a request is lost.
 use Rattle.std.proofs.Common.{◌≡◌, ◌≤◌, ℕ, suc, ◌+◌, ◌==◌, Bool, true, false, cond, inl, inr, List, [], ◌∷◌, ◌++◌, length, map, Option, Some, None, is_none, refl, sym, ap, ◌∙◌, subst, eqb-true, arith}
 use Rattle.qc_stamp.specs.declared.stamp.TxId.{TxId}
-use Rattle.qc_list.specs.Members.{In}
+use Rattle.qc_list.specs.Names.{In}
 use Rattle.qc_list.proofs.Members.{In-second, In-unfiltered}
 use Rattle.qc_entry.specs.declared.line.Line.{Line}
 use Rattle.qc_entry.specs.declared.record.Prepared.{Prepared}
@@ -10,12 +10,11 @@ use Rattle.qc_plan.specs.declared.standing.Standing.{Standing}
 use Rattle.qc_plan.specs.declared.standing.Standing.TheVariants as standings
 use Rattle.qc_plan.specs.declared.standing.Verdict.{Verdict}
 use Rattle.qc_plan.specs.declared.standing.Verdict.TheVariants as verdicts
-use Rattle.qc_plan.specs.Round.{RoundState, asking_all, has_granted, note, verdict, wanted}
-use Rattle.qc_plan.specs.Weights.{weight}
+use Rattle.qc_plan.specs.Names.{RoundState, asking_all, has_granted, note, verdict, wanted, weight}
 use Rattle.qc_plan.proofs.Least.{close_weight_is_least}
 use Rattle.qc_plan.proofs.Rounds.{met_weighs}
 use Rattle.qc_decl.specs.declared.declaration.Declaration.{Declaration}
-use Rattle.qc_decl.specs.Actors.{administrator, client_actor}
+use Rattle.qc_decl.specs.Names.{administrator, client_actor}
 use Rattle.theory_onecopy.proofs.Lists.{Mapped, in_map, in_split, map_in}
 use Rattle.qc_msg.specs.declared.call.Call.{Call}
 use Rattle.qc_msg.specs.declared.message.Answer.{Answer}
@@ -28,21 +27,18 @@ use Rattle.qc_msg.specs.declared.step.Command.TheVariants as commands
 use Rattle.qc_msg.specs.declared.step.Input.{Input}
 use Rattle.qc_msg.specs.declared.step.Input.TheVariants.{Called, Got, Lost}
 use Rattle.qc_msg.specs.declared.turn.Posting.{Posting}
-use Rattle.qc_msg.specs.Calls.{site_called, without_call}
-use Rattle.qc_msg.specs.Deeds.{envelopes}
-use Rattle.qc_msg.specs.Turns.{quiet}
-use Rattle.theory_machine.specs.Acts.{Act, state}
-use Rattle.theory_machine.specs.Guards.{IsRun}
-use Rattle.qc_epoch.specs.Admin.{Admin, AdminMove, Decided, Doing, Question, Resting, Asking, Installing, ShutSite, moved}
+use Rattle.qc_msg.specs.Names.{envelopes, quiet, site_called, without_call}
+use Rattle.theory_machine.specs.Names.{Act, IsRun, state}
+use Rattle.qc_epoch.specs.Names.{Admin, AdminMove, Asking, Decided, Doing, Installing, Question, Resting, ShutSite}
+use Rattle.qc_epoch.specs.Names.{admin_takes, again, all_taken, answered_in, asking_takes, close_need, close_of}
+use Rattle.qc_epoch.specs.Names.{close_round, close_round_by, closes, closes_by, closing_takes, doing, goes_on, heard}
+use Rattle.qc_epoch.specs.Names.{in_asked_order, installing_takes, is_number, moved, moves_to, outcome_in, replies_with}
+use Rattle.qc_epoch.specs.Names.{settles, site_set, standing_of, taken_for, with_installed, with_shut_of}
 use Rattle.qc_epoch.specs.Admin as admins
-use Rattle.qc_epoch.specs.Answers.{is_number, outcome_in, standing_of, taken_for, with_installed, with_shut_of}
-use Rattle.qc_epoch.specs.Conduct.{admin_takes, again, answered_in, asking_takes, close_need, close_of, close_round, close_round_by, closes, closes_by, closing_takes, doing, goes_on, heard, installing_takes, moves_to, replies_with, settles, site_set}
-use Rattle.qc_epoch.specs.Deciding.{all_taken, in_asked_order}
-use Rattle.laws_refinement.specs.Admins.{AdminMirrors, AreEnough, AreSnapshots, DoingMirrors, IsCovered, IsNumbered, IsTaken, QuestionMirrors, RoundMirrors}
-use Rattle.laws_refinement.specs.Messages.{Backed, IsAnswerBacked, IsMessage, IsShutTo, IsSnapshot, IsVerdictBacked}
-use Rattle.laws_refinement.specs.Mirrors.{Mirrors}
-use Rattle.laws_refinement.specs.Net.{MayAdminister, MayCome, Net}
-use Rattle.laws_refinement.specs.Sites.{IsPlanned}
+use Rattle.laws_refinement.specs.Names.{AdminMirrors, AreEnough, AreSnapshots, Backed, DoingMirrors, IsAnswerBacked}
+use Rattle.laws_refinement.specs.Names.{IsCovered, IsMessage, IsNumbered, IsPlanned, IsShutTo, IsSnapshot, IsTaken}
+use Rattle.laws_refinement.specs.Names.{IsVerdictBacked, MayAdminister, MayCome, Mirrors, Net, QuestionMirrors}
+use Rattle.laws_refinement.specs.Names.{RoundMirrors}
 use Rattle.laws_refinement.proofs.Asks.{IsCalled, called, order_among, order_told}
 use Rattle.laws_refinement.proofs.Frames.{message_later}
 use Rattle.laws_refinement.proofs.Posts.{at_number}

@@ -6,18 +6,15 @@ use Rattle.std.proofs.lemmas.List.{append-nil}
 use Rattle.qc_entry.specs.declared.line.Line.{Line}
 use Rattle.qc_entry.specs.declared.record.Commit.{Commit as CommitRecord}
 use Rattle.qc_decl.specs.declared.declaration.Declaration.{Declaration}
-use Rattle.qc_decl.specs.Actors.{administrator}
+use Rattle.qc_decl.specs.Names.{administrator}
 use Rattle.qc_msg.specs.declared.record.Record.{Record}
 use Rattle.qc_msg.specs.declared.record.Record.TheVariants as records
-use Rattle.theory_machine.specs.Names.{put}
-use Rattle.theory_machine.specs.Acts.{Act, Decide, state}
-use Rattle.theory_machine.specs.Guards.{IsRun}
+use Rattle.theory_machine.specs.Names.{Act, Decide, IsRun, put, state}
 use Rattle.theory_machine.proofs.Names.{put_here}
-use Rattle.qc_epoch.specs.Admin.{Decided}
+use Rattle.qc_epoch.specs.Names.{Decided}
 use Rattle.qc_recover.specs.Admins.{keeps, kept_by}
-use Rattle.laws_refinement.specs.Admins.{IsDeciding, IsPendingRule, RulesMirror}
-use Rattle.laws_refinement.specs.Mirrors.{Refines}
-use Rattle.laws_refinement.specs.Net.{IsGivenBack, Net, after_admin_rise, after_fall, after_vain_rise, commits_in}
+use Rattle.laws_refinement.specs.Names.{IsDeciding, IsGivenBack, IsPendingRule, Net, Refines, RulesMirror}
+use Rattle.laws_refinement.specs.Names.{after_admin_rise, after_fall, after_vain_rise, commits_in}
 use Rattle.laws_refinement.proofs.AdminTurns.{rule_more}
 use Rattle.laws_refinement.proofs.Frames.{keeps_same, same_state}
 use Rattle.laws_refinement.proofs.Machine.{put_other}

@@ -1,31 +1,26 @@
 -- What the rounds of the administrator keep: which sites have told, and which requests stand under which numbers.
 use Rattle.std.proofs.Common.{◌≡◌, ◌≤◌, ◌<◌, ℕ, ◌+◌, ◌==◌, ◌&&◌, ◌||◌, Bool, true, false, cond, inl, inr, List, [], ◌∷◌}
 use Rattle.std.proofs.Common.{◌++◌, drop, map, Option, Some, None, is_none, refl, sym, ap, ◌∙◌, subst, eqb-true, arith}
-use Rattle.qc_list.specs.Members.{In}
+use Rattle.qc_list.specs.Names.{In}
 use Rattle.qc_list.proofs.Members.{In-first}
 use Rattle.qc_plan.specs.declared.plan.Plan.{Plan}
 use Rattle.qc_plan.specs.declared.standing.Asked.{Asked}
 use Rattle.qc_plan.specs.declared.standing.Standing.{Standing}
 use Rattle.qc_plan.specs.declared.standing.Standing.TheVariants as standings
-use Rattle.qc_plan.specs.Admitted.{Closes as Closing}
-use Rattle.qc_plan.specs.Need.{need_of}
-use Rattle.qc_plan.specs.Round.{RoundState, asking_all, has_granted, is_granted, note_in}
-use Rattle.qc_plan.specs.Weights.{total}
+use Rattle.qc_plan.specs.Names.{Closes as Closing, RoundState, asking_all, has_granted, is_granted, need_of, note_in}
+use Rattle.qc_plan.specs.Names.{total}
 use Rattle.qc_decl.specs.declared.declaration.Declaration.{Declaration}
-use Rattle.qc_decl.specs.Actors.{client_actor}
+use Rattle.qc_decl.specs.Names.{client_actor}
 use Rattle.theory_onecopy.proofs.Lists.{in_split}
 use Rattle.qc_msg.specs.declared.call.Call.{Call}
 use Rattle.qc_msg.specs.declared.message.Envelope.{Envelope}
 use Rattle.qc_msg.specs.declared.message.Message.TheVariants as messages
-use Rattle.qc_msg.specs.Calls.{with_call}
-use Rattle.theory_machine.specs.State.{State}
-use Rattle.qc_epoch.specs.Admin.{Admin, AdminMove, Decided, Doing, Question, Resting, Asking, Installing, ShutSite}
-use Rattle.qc_epoch.specs.Admin.{moved}
+use Rattle.qc_msg.specs.Names.{with_call}
+use Rattle.theory_machine.specs.Names.{State}
+use Rattle.qc_epoch.specs.Names.{Admin, AdminMove, Asking, Decided, Doing, Installing, Question, Resting, ShutSite}
+use Rattle.qc_epoch.specs.Names.{ask_of, close_of, doing, moved, numbered_first}
 use Rattle.qc_epoch.specs.Admin as admins
-use Rattle.qc_epoch.specs.Conduct.{ask_of, close_of, doing, numbered_first}
-use Rattle.laws_refinement.specs.Admins.{HasTold, QuestionMirrors}
-use Rattle.laws_refinement.specs.Messages.{IsMessage}
-use Rattle.laws_refinement.specs.Net.{all_sent}
+use Rattle.laws_refinement.specs.Names.{HasTold, IsMessage, QuestionMirrors, all_sent}
 use Rattle.laws_refinement.proofs.Asks.{IsBeginning, number_all, numbered_after}
 use Rattle.laws_refinement.proofs.Posts.{AtNumber, enveloped}
 

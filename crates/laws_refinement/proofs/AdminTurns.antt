@@ -2,11 +2,10 @@
 -- and none otherwise.
 use Rattle.std.proofs.Common.{◌≡◌, ◌≢◌, ℕ, zero, suc, ◌+◌, ◌==◌, ◌⊎◌, nat_le, Bool, true, false, cond, inl, inr, List, [], ◌∷◌, ◌++◌, length, fold, map, take, Option, Some, None, refl, sym, ap, ◌∙◌, subst}
 use Rattle.qc_stamp.specs.declared.stamp.TxId.{TxId}
-use Rattle.qc_list.specs.Members.{In}
+use Rattle.qc_list.specs.Names.{In}
 use Rattle.qc_entry.specs.declared.line.Line.{Line}
 use Rattle.qc_decl.specs.declared.declaration.Declaration.{Declaration}
-use Rattle.qc_decl.specs.Actors.{administrator}
-use Rattle.qc_decl.specs.Limits.{most_record_bytes}
+use Rattle.qc_decl.specs.Names.{administrator, most_record_bytes}
 use Rattle.theory_onecopy.proofs.Lists.{Mapped, map_in}
 use Rattle.qc_msg.specs.declared.call.Call.{Call}
 use Rattle.qc_msg.specs.declared.message.Envelope.{Envelope}
@@ -14,21 +13,16 @@ use Rattle.qc_msg.specs.declared.message.Outcome.{Outcome}
 use Rattle.qc_msg.specs.declared.reply.Reply.{Reply}
 use Rattle.qc_msg.specs.declared.reply.Reply.TheVariants as replies
 use Rattle.qc_msg.specs.declared.turn.Posting.{Posting}
-use Rattle.qc_msg.specs.Calls.{with_call}
-use Rattle.qc_msg.specs.Deeds.{envelopes}
-use Rattle.qc_msg.specs.Turns.{quiet}
-use Rattle.theory_machine.specs.Acts.{Act, Decide, after_act, state}
-use Rattle.theory_machine.specs.Guards.{IsRun}
-use Rattle.theory_machine.specs.State.{Decision, NotBegun, State}
-use Rattle.qc_epoch.specs.Admin.{Admin, AdminMove, Decided, Doing, Question, Resting, Asking, Installing, ShutSite, moved}
-use Rattle.qc_epoch.specs.Conduct.{again, all_sites, ask_of, asks, decides, doing, install_of, install_sends, installing, replies_with, settles, settles_by}
-use Rattle.qc_epoch.specs.Deciding.{decision, first_doubt, greatest, merged, most_asks, questions_of}
-use Rattle.qc_msg.specs.Lengths.{epoch_length}
-use Rattle.laws_refinement.specs.Admins.{AdminMirrors, AreEnough, AreSnapshots, DecidedMirrors, DoingMirrors, IsCovered, IsNumbered, IsPendingRule, IsTaken, IsTooLong, QuestionMirrors, RulesMirror}
-use Rattle.laws_refinement.specs.Messages.{Backed}
-use Rattle.laws_refinement.specs.Mirrors.{Continues, Mirrors}
-use Rattle.laws_refinement.specs.Net.{Net, after_admin, all_sent}
-use Rattle.laws_refinement.specs.Sites.{IsDecided, IsPlanned}
+use Rattle.qc_msg.specs.Names.{envelopes, epoch_length, quiet, with_call}
+use Rattle.theory_machine.specs.Names.{Act, Decide, Decision, IsRun, NotBegun, State, after_act, state}
+use Rattle.qc_epoch.specs.Names.{Admin, AdminMove, Asking, Decided, Doing, Installing, Question, Resting, ShutSite}
+use Rattle.qc_epoch.specs.Names.{again, all_sites, ask_of, asks, decides, decision, doing, first_doubt, greatest}
+use Rattle.qc_epoch.specs.Names.{install_of, install_sends, installing, merged, most_asks, moved, questions_of}
+use Rattle.qc_epoch.specs.Names.{replies_with, settles, settles_by}
+use Rattle.laws_refinement.specs.Names.{AdminMirrors, AreEnough, AreSnapshots, Backed, Continues, DecidedMirrors}
+use Rattle.laws_refinement.specs.Names.{DoingMirrors, IsCovered, IsDecided, IsNumbered, IsPendingRule, IsPlanned}
+use Rattle.laws_refinement.specs.Names.{IsTaken, IsTooLong, Mirrors, Net, QuestionMirrors, RulesMirror, after_admin}
+use Rattle.laws_refinement.specs.Names.{all_sent}
 use Rattle.std.specs.Prelude.{option_to_list}
 use Rattle.std.proofs.lemmas.List.{append-nil}
 use Rattle.qc_msg.specs.declared.record.Record.{Record}

@@ -4,28 +4,24 @@ use Rattle.std.proofs.Common.{None, IsSome, is_some, refl, sym, ap, ◌∙◌, s
 use Rattle.std.specs.Prelude.{option_and_then, option_map, slice_get, unwrap_or}
 use Rattle.std.specs.Option.{option_map_or}
 use Rattle.std.specs.declared.cmp.Ordering.TheVariants.{Less}
-use Rattle.qc_list.specs.Members.{In}
-use Rattle.qc_list.specs.Order.{IsBelowAll}
+use Rattle.qc_list.specs.Names.{In, IsBelowAll}
 use Rattle.qc_entry.specs.declared.line.Line.{Line}
 use Rattle.qc_entry.specs.declared.line.OwnLine.{OwnLine}
-use Rattle.qc_entry.specs.Line.{IsAscending, line_cmp}
+use Rattle.qc_entry.specs.Names.{IsAscending, line_cmp}
 use Rattle.qc_table.specs.declared.kind.Kind.{Kind}
 use Rattle.qc_table.specs.declared.row.Event.{Event}
-use Rattle.qc_table.specs.Rules.{Rules, event, event_number, events_of}
-use Rattle.qc_table.specs.Run.{after, first_of, lowest_in, next_in, step_of}
+use Rattle.qc_table.specs.Names.{Rules, after, event, event_number, events_of, first_of, lowest_in, next_in, step_of}
 use Rattle.qc_table.proofs.Lowest.{lowest_legal, none_legal}
 use Rattle.qc_table.proofs.Numbered.{first_some, number_is}
-use Rattle.qc_cert.specs.Views.{allows}
+use Rattle.qc_cert.specs.Names.{allows}
 use Rattle.qc_decl.specs.declared.declaration.Declaration.{Declaration}
-use Rattle.qc_decl.specs.Lookup.{kind_at, table_at}
+use Rattle.qc_decl.specs.Names.{kind_at, table_at}
 use Rattle.qc_view.specs.declared.view.View.{View}
-use Rattle.qc_view.specs.View.{answer_in, events_in}
-use Rattle.theory_onecopy.specs.Executed.{IsAnswered, IsLineBefore}
-use Rattle.theory_onecopy.specs.Lists.{IsOrdered}
+use Rattle.qc_view.specs.Names.{answer_in, events_in}
+use Rattle.theory_onecopy.specs.Names.{IsAnswered, IsLineBefore, IsOrdered}
 use Rattle.qc_front.specs.declared.transaction.Transaction.{Transaction}
-use Rattle.qc_front.specs.Answering.{answer_of, resp_of, view_log}
-use Rattle.qc_front.specs.Holds.{RecordsHold, own_on}
-use Rattle.laws_refinement.specs.Clients.{absent_of, chosen_of}
+use Rattle.qc_front.specs.Names.{RecordsHold, answer_of, own_on, resp_of, view_log}
+use Rattle.laws_refinement.specs.Names.{absent_of, chosen_of}
 
 below_in : (x : Line) (ys : List Line) → IsBelowAll line_cmp x ys → (y : Line) → In y ys → line_cmp x y ≡ Less
 below_in x [] b y among = absurd among

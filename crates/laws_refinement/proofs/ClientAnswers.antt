@@ -1,14 +1,12 @@
 -- A `do`, and whatever comes of a request of its rounds.
 use Rattle.std.proofs.Common.{◌≡◌, ℕ, nat_le, Bool, true, false, cond, inl, inr, List, [], ◌∷◌, filter, length, Option, Some, None, slice_get, refl, sym, ap, ◌∙◌, subst}
 use Rattle.qc_stamp.specs.declared.stamp.TxId.{TxId}
-use Rattle.qc_list.specs.Members.{In}
+use Rattle.qc_list.specs.Names.{In}
 use Rattle.qc_list.proofs.Members.{In-second}
-use Rattle.qc_plan.specs.Round.{RoundState, note, verdict}
+use Rattle.qc_plan.specs.Names.{RoundState, note, verdict}
 use Rattle.qc_plan.specs.declared.standing.Standing.TheVariants as standings
 use Rattle.qc_decl.specs.declared.declaration.Declaration.{Declaration}
-use Rattle.qc_decl.specs.Actors.{is_client}
-use Rattle.qc_decl.specs.Limits.{most_transaction_operations}
-use Rattle.qc_decl.specs.Lookup.{append_need_of, read_need_of}
+use Rattle.qc_decl.specs.Names.{append_need_of, is_client, most_transaction_operations, read_need_of}
 use Rattle.qc_msg.specs.declared.call.Call.{Call}
 use Rattle.qc_msg.specs.declared.message.Answer.{Answer}
 use Rattle.qc_msg.specs.declared.message.Answer.TheVariants as answers
@@ -16,42 +14,30 @@ use Rattle.qc_msg.specs.declared.message.Envelope.{Envelope}
 use Rattle.qc_msg.specs.declared.message.Want.{Want}
 use Rattle.qc_msg.specs.declared.message.Want.TheVariants.{Read}
 use Rattle.qc_msg.specs.declared.reply.Reply.TheVariants as replies
-use Rattle.qc_msg.specs.Calls.{site_called, without_call}
-use Rattle.qc_msg.specs.Turns.{quiet, telling}
+use Rattle.qc_msg.specs.Names.{life_of, quiet, site_called, telling, with_life, without_call}
 use Rattle.theory_onecopy.proofs.Lists.{in_map}
-use Rattle.theory_machine.specs.Acts.{Act, Count, state}
-use Rattle.theory_machine.specs.Guards.{IsRun}
-use Rattle.theory_machine.specs.Site.{Item, Lock, Own}
-use Rattle.theory_machine.specs.State.{Active, State}
+use Rattle.theory_machine.specs.Names.{Act, Active, Count, IsRun, Item, Lock, Own, State, state}
 use Rattle.qc_commit.specs.declared.desk.Voting.{Voting}
 use Rattle.qc_view.specs.declared.view.View.{View}
 use Rattle.qc_front.specs.declared.doing.Doing.{Doing}
 use Rattle.qc_front.specs.declared.doing.Doing.TheVariants.{Idle, Reading, Appending}
 use Rattle.qc_front.specs.declared.front.Front.{Front}
 use Rattle.qc_front.specs.declared.transaction.Transaction.{Transaction}
-use Rattle.qc_front.specs.Answering.{next_own, view_log, with_granted}
-use Rattle.qc_front.specs.Appending.{append_want, own_appended, round_for, weighs}
-use Rattle.qc_front.specs.Conduct.{append_counts, appending_takes, read_counts, reading_takes, takes_in}
-use Rattle.qc_front.specs.Counting.{learns, lived, standing_of}
-use Rattle.qc_front.specs.Front.{moved}
-use Rattle.qc_front.specs.Going.{calls_in}
-use Rattle.qc_front.specs.Holds.{AppendingHolds, BegunHolds, DoingHolds, FrontHolds, IsRound, ReadingHolds, RecordsHold}
-use Rattle.qc_front.specs.Rounds.{append_by, performs, read_by}
+use Rattle.qc_front.specs.Names.{AppendingHolds, BegunHolds, DoingHolds, FrontHolds, IsRound, ReadingHolds, RecordsHold}
+use Rattle.qc_front.specs.Names.{append_by, append_counts, append_want, appending_takes, calls_in, learns, lived, moved}
+use Rattle.qc_front.specs.Names.{next_own, own_appended, performs, read_by, read_counts, reading_takes, round_for}
+use Rattle.qc_front.specs.Names.{standing_of, takes_in, view_log, weighs, with_granted}
 use Rattle.qc_front.proofs.Keeping.{started_round}
 use Rattle.qc_front.proofs.Noting.{note_round}
 use Rattle.qc_front.proofs.Recording.{granted_recorded}
-use Rattle.qc_client.specs.Client.{by_front}
+use Rattle.qc_client.specs.Names.{by_front}
 use Rattle.qc_client.specs.declared.client.Client.{Client}
-use Rattle.laws_refinement.specs.Clients.{AreCounted, BegunMirrors, ClientMirrors, IsAskedBy, IsChosen, IsRoundCounted, OwnMirrors, RunningMirrors, TransactionMirrors, append_of, chosen_of, status_by}
-use Rattle.laws_refinement.specs.Items.{own_item}
-use Rattle.laws_refinement.specs.Lives.{LivesMirror}
-use Rattle.laws_refinement.specs.Messages.{IsGrant, IsMessage}
-use Rattle.laws_refinement.specs.Sites.{IsPlanned}
+use Rattle.laws_refinement.specs.Names.{AreCounted, BegunMirrors, ClientMirrors, FrontStands, IsAskedBy, IsChosen}
+use Rattle.laws_refinement.specs.Names.{IsGrant, IsMessage, IsNamedAt, IsPlanned, IsRoundCounted, LivesMirror, Mirrors}
+use Rattle.laws_refinement.specs.Names.{Net, OwnMirrors, Refines, RunningMirrors, TransactionMirrors, after_client}
+use Rattle.laws_refinement.specs.Names.{append_of, chosen_of, own_item, status_by}
 use Rattle.laws_refinement.proofs.Named.{core_closed, lives_more, named_on, other_site}
-use Rattle.qc_msg.specs.Begun.{life_of, with_life}
 use Rattle.qc_msg.specs.declared.message.Message.TheVariants as messages
-use Rattle.laws_refinement.specs.Mirrors.{FrontStands, Mirrors, Refines}
-use Rattle.laws_refinement.specs.Net.{IsNamedAt, Net, after_client}
 use Rattle.laws_refinement.proofs.Answers.{view_at}
 use Rattle.laws_refinement.proofs.ClientActs.{mid_count}
 use Rattle.laws_refinement.proofs.ClientRounds.{appending, nothing, reading}

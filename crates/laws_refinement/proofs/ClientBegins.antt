@@ -4,17 +4,16 @@ use Rattle.std.specs.Prelude.{replicate}
 use Rattle.std.specs.List.{find}
 use Rattle.std.specs.Option.{option_map_or}
 use Rattle.std.proofs.lemmas.List.{append-nil}
-use Rattle.qc_stamp.specs.Order.{same_tx}
+use Rattle.qc_stamp.specs.Names.{same_tx}
 use Rattle.qc_stamp.specs.declared.stamp.Stamp.{Stamp}
 use Rattle.qc_stamp.specs.declared.stamp.TxId.{TxId}
 use Rattle.qc_stamp.proofs.Orders.{same_tx_is}
-use Rattle.qc_list.specs.Members.{In}
+use Rattle.qc_list.specs.Names.{In}
 use Rattle.qc_entry.specs.declared.line.Line.{Line}
 use Rattle.qc_entry.specs.declared.record.Commit.{Commit as CommitRecord}
-use Rattle.qc_entry.specs.Line.{IsAscending}
+use Rattle.qc_entry.specs.Names.{IsAscending}
 use Rattle.qc_decl.specs.declared.declaration.Declaration.{Declaration}
-use Rattle.qc_decl.specs.Accepted.{IsAccepted}
-use Rattle.qc_decl.specs.Actors.{client_actor, is_client}
+use Rattle.qc_decl.specs.Names.{IsAccepted, client_actor, is_client}
 use Rattle.qc_msg.specs.declared.message.Envelope.{Envelope}
 use Rattle.qc_msg.specs.declared.message.Answer.TheVariants.{Answered}
 use Rattle.qc_msg.specs.declared.message.Message.{Message}
@@ -23,29 +22,26 @@ use Rattle.qc_msg.specs.declared.message.Outcome.TheVariants as outcomes
 use Rattle.qc_msg.specs.declared.reply.Reply.{Reply}
 use Rattle.qc_msg.specs.declared.reply.Reply.TheVariants as replies
 use Rattle.qc_msg.specs.declared.turn.Posting.{Posting}
-use Rattle.qc_msg.specs.Turns.{sending}
-use Rattle.theory_onecopy.specs.Executed.{Executed}
-use Rattle.theory_machine.specs.Acts.{Act, Announce, Begin, state, verdict_of}
-use Rattle.theory_machine.specs.Guards.{IsRun, op_of, own_on}
-use Rattle.theory_machine.specs.State.{Aborted, Active, Committed, NotBegun, State, Status}
+use Rattle.qc_msg.specs.Names.{sending}
+use Rattle.theory_onecopy.specs.Names.{Executed}
+use Rattle.theory_machine.specs.Names.{Aborted, Act, Active, Announce, Begin, Committed, IsRun, NotBegun, State, Status}
+use Rattle.theory_machine.specs.Names.{op_of, own_on, state, verdict_of}
 use Rattle.theory_machine.proofs.Keeps.{laws}
 use Rattle.theory_machine.proofs.LogKeeps.{log_laws}
 use Rattle.theory_machine.proofs.Names.{put_tx_here, tx_test}
 use Rattle.qc_commit.specs.declared.desk.Voting.{Voting}
-use Rattle.qc_commit.specs.Desk.{known_by, record_of}
+use Rattle.qc_commit.specs.Names.{known_by, record_of}
 use Rattle.qc_view.specs.declared.view.View.{View}
-use Rattle.qc_view.specs.View.{empty_view}
+use Rattle.qc_view.specs.Names.{empty_view}
 use Rattle.qc_front.specs.declared.doing.Doing.{Doing}
 use Rattle.qc_front.specs.declared.doing.Doing.TheVariants.{Idle}
 use Rattle.qc_front.specs.declared.front.Front.{Front}
 use Rattle.qc_front.specs.declared.transaction.Transaction.{Transaction}
-use Rattle.qc_front.specs.Front.{aborts, begins, fresh, gives_up, next_tx}
-use Rattle.qc_client.specs.Client.{by_front, is_begun, moved, outcome_by, outcome_of}
+use Rattle.qc_front.specs.Names.{aborts, begins, fresh, gives_up, next_tx}
+use Rattle.qc_client.specs.Names.{by_front, is_begun, moved, outcome_by, outcome_of}
 use Rattle.qc_client.specs.declared.client.Client.{Client}
-use Rattle.laws_refinement.specs.Clients.{AreVotes, ClientMirrors, OwnMirrors, RunningMirrors, name_at, status_by}
-use Rattle.laws_refinement.specs.Messages.{IsMessage, Backed}
-use Rattle.laws_refinement.specs.Mirrors.{Mirrors, Refines}
-use Rattle.laws_refinement.specs.Net.{Net, after_client}
+use Rattle.laws_refinement.specs.Names.{AreVotes, Backed, ClientMirrors, IsMessage, Mirrors, Net, OwnMirrors, Refines}
+use Rattle.laws_refinement.specs.Names.{RunningMirrors, after_client, name_at, status_by}
 use Rattle.laws_refinement.proofs.ClientEnds.{Ending, aborts_it, ending_of, mid_announce, mid_begin}
 use Rattle.laws_refinement.proofs.ClientPosts.{IsAsking}
 use Rattle.laws_refinement.proofs.ClientRounds.{no_asks, no_sends, nothing}

@@ -1,50 +1,40 @@
 -- A commit begins: promises are asked for, or it ends at once.
 use Rattle.std.proofs.Common.{◌≡◌, ◌≤◌, ℕ, suc, ◌==◌, Bool, true, false, cond, inl, inr, List, [], ◌∷◌, map, length, Option, Some, None, refl, sym, ap, ◌∙◌, subst, eqb-true, arith}
-use Rattle.qc_list.specs.Members.{In}
+use Rattle.qc_list.specs.Names.{In}
 use Rattle.qc_entry.specs.declared.record.Commit.{Commit as CommitRecord}
 use Rattle.qc_decl.specs.declared.declaration.Declaration.{Declaration}
-use Rattle.qc_decl.specs.Actors.{client_actor, is_client}
+use Rattle.qc_decl.specs.Names.{client_actor, first_site, is_client}
 use Rattle.qc_msg.specs.declared.begun.Begun.{Begun}
 use Rattle.qc_msg.specs.declared.message.Envelope.{Envelope}
 use Rattle.qc_msg.specs.declared.reply.Reply.TheVariants as replies
 use Rattle.qc_msg.specs.declared.reply.AbortCause.TheVariants as causes
 use Rattle.qc_msg.specs.declared.step.Command.TheVariants as commands
 use Rattle.qc_msg.specs.declared.turn.Posting.{Posting}
-use Rattle.qc_msg.specs.Turns.{quiet, sending}
-use Rattle.theory_machine.specs.Acts.{Act, Prepare, state}
-use Rattle.theory_machine.specs.Guards.{IsLive, IsRun, MayPrepare}
-use Rattle.theory_machine.specs.State.{Active, Granted, NotBegun, State, Voting}
+use Rattle.qc_msg.specs.Names.{has_granted, life_of, quiet, sending}
+use Rattle.theory_machine.specs.Names.{Act, Active, Granted, IsLive, IsRun, MayPrepare, NotBegun, Prepare, State}
+use Rattle.theory_machine.specs.Names.{Voting, state}
 use Rattle.theory_machine.proofs.Keeps.{laws}
 use Rattle.theory_machine.proofs.Names.{put_tx_here}
 use Rattle.qc_commit.specs.declared.desk.Desk.{Desk}
 use Rattle.qc_commit.specs.declared.desk.Voting.{Voting as DeskVoting}
-use Rattle.qc_commit.specs.Conduct.{decides, passed, prepare, with_voting}
-use Rattle.qc_commit.specs.Desk.{DeskMove, moved as desk_moved, record_of}
-use Rattle.qc_commit.specs.Votes.{blank, participants, prepares}
+use Rattle.qc_commit.specs.Names.{DeskMove, blank, decides, moved as desk_moved, participants, passed, prepare}
+use Rattle.qc_commit.specs.Names.{prepares, record_of, with_voting}
 use Rattle.qc_front.specs.declared.doing.Doing.{Doing}
 use Rattle.qc_front.specs.declared.doing.Doing.TheVariants.{Idle}
 use Rattle.qc_front.specs.declared.transaction.Transaction.{Transaction}
 use Rattle.qc_front.specs.Conduct as fronts
-use Rattle.qc_front.specs.Front.{gives_up, moved as front_moved}
-use Rattle.qc_client.specs.Client.{by_desk, by_front}
-use Rattle.qc_client.specs.Conduct.{commits}
+use Rattle.qc_front.specs.Names.{gives_up, moved as front_moved}
+use Rattle.qc_client.specs.Names.{ClientMove, by_desk, by_front, commits}
 use Rattle.qc_client.specs.declared.client.Client.{Client}
-use Rattle.laws_refinement.specs.Clients.{BegunMirrors, IsChosen, OwnMirrors, RunningMirrors, status_by}
-use Rattle.qc_decl.specs.Actors.{first_site}
+use Rattle.laws_refinement.specs.Names.{Backed, BegunMirrors, IsChosen, IsPlanned, LivesMirror, Mirrors, Net}
+use Rattle.laws_refinement.specs.Names.{OwnMirrors, Refines, RunningMirrors, after_client, status_by}
 use Rattle.qc_list.proofs.Members.{In-passes}
-use Rattle.qc_plan.specs.Round.{cyclic}
-use Rattle.qc_msg.specs.Begun.{has_granted, life_of}
-use Rattle.laws_refinement.specs.Lives.{LivesMirror}
-use Rattle.laws_refinement.specs.Sites.{IsPlanned}
-use Rattle.laws_refinement.specs.Messages.{Backed}
-use Rattle.laws_refinement.specs.Mirrors.{Mirrors, Refines}
-use Rattle.laws_refinement.specs.Net.{Net, after_client}
+use Rattle.qc_plan.specs.Names.{cyclic}
 use Rattle.laws_refinement.proofs.Ballots.{blank_in, blank_votes, participates}
 use Rattle.laws_refinement.proofs.ClientBegins.{gives_up_case}
 use Rattle.laws_refinement.proofs.ClientEnds.{Ending, commits_it, ending_of, ends_mine, mid_prepare, own_put, Pends, pends_it}
 use Rattle.qc_front.proofs.Unwritten.{front_called}
 use Rattle.qc_msg.specs.declared.record.Record.{Record}
-use Rattle.qc_client.specs.Client.{ClientMove}
 use Rattle.laws_refinement.proofs.ClientPosts.{IsAsking}
 use Rattle.laws_refinement.proofs.ClientRounds.{nothing}
 use Rattle.laws_refinement.proofs.ClientSteps.{Mid, mid_first, refined, turns}

@@ -1,15 +1,14 @@
 -- How a client's transaction ends: the machine's acts, and what the client is then.
 use Rattle.std.proofs.Common.{◌≡◌, ◌≢◌, ◌≤◌, ◌<◌, ℕ, ◌+◌, max, Bool, true, false, cond, ◌⊎◌, inl, inr, List, [], ◌∷◌, ◌++◌, map, Option, Some, None, refl, sym, ap, ◌∙◌, subst, arith}
 use Rattle.std.specs.List.{find}
-use Rattle.qc_stamp.specs.Order.{same_tx}
+use Rattle.qc_stamp.specs.Names.{same_tx}
 use Rattle.qc_stamp.specs.declared.stamp.TxId.{TxId}
 use Rattle.qc_stamp.proofs.Orders.{same_tx_is}
-use Rattle.qc_list.specs.Members.{In}
+use Rattle.qc_list.specs.Names.{In}
 use Rattle.qc_entry.specs.declared.record.Commit.{Commit as CommitRecord}
 use Rattle.qc_plan.specs.declared.plan.Plan.{Plan}
 use Rattle.qc_decl.specs.declared.declaration.Declaration.{Declaration}
-use Rattle.qc_decl.specs.Actors.{client_actor}
-use Rattle.qc_decl.specs.Lookup.{plan_in}
+use Rattle.qc_decl.specs.Names.{client_actor, plan_in}
 use Rattle.qc_front.specs.declared.front.Front.{Front}
 use Rattle.qc_msg.specs.declared.record.Record.{Record}
 use Rattle.qc_msg.specs.declared.record.Record.TheVariants as records_of
@@ -18,25 +17,21 @@ use Rattle.qc_msg.specs.declared.message.Message.TheVariants as messages
 use Rattle.qc_msg.specs.declared.message.Outcome.{Outcome}
 use Rattle.qc_msg.specs.declared.message.Outcome.TheVariants as outcomes
 use Rattle.qc_msg.specs.declared.turn.Posting.{Posting}
-use Rattle.qc_msg.specs.Begun.{decisions}
+use Rattle.qc_msg.specs.Names.{decisions}
 use Rattle.theory_onecopy.proofs.Lists.{in_split}
-use Rattle.theory_machine.specs.Names.{put, put_tx}
-use Rattle.theory_machine.specs.Acts.{Act, Abort, Announce, Begin, Commit, Prepare, state, verdict_of}
-use Rattle.theory_machine.specs.Guards.{IsLive, MayCommit}
-use Rattle.theory_machine.specs.State.{Aborted, Active, Committed, Granted, NotBegun, Pending, State, Status, Voting}
+use Rattle.theory_machine.specs.Names.{Abort, Aborted, Act, Active, Announce, Begin, Commit, Committed, Granted, IsLive}
+use Rattle.theory_machine.specs.Names.{MayCommit, NotBegun, Pending, Prepare, State, Status, Voting, put, put_tx, state}
+use Rattle.theory_machine.specs.Names.{verdict_of}
 use Rattle.theory_machine.proofs.Names.{put_here, put_tx_here, tx_test}
 use Rattle.qc_commit.specs.declared.desk.Voting.{Voting as DeskVoting}
-use Rattle.qc_commit.specs.Conduct.{commit_of, decides, next_stamp}
-use Rattle.qc_commit.specs.Desk.{record_of}
+use Rattle.qc_commit.specs.Names.{commit_of, decides, next_stamp, record_of}
 use Rattle.qc_front.specs.declared.doing.Doing.TheVariants.{Idle}
 use Rattle.qc_front.specs.declared.transaction.Transaction.{Transaction}
-use Rattle.qc_client.specs.Client.{ClientMove, by_desk, is_begun}
+use Rattle.qc_client.specs.Names.{ClientMove, by_desk, is_begun}
 use Rattle.qc_client.specs.declared.client.Client.{Client}
-use Rattle.laws_refinement.specs.Clients.{BegunMirrors, ClientMirrors, OwnMirrors, RunningMirrors, TransactionMirrors, name_at, status_by}
-use Rattle.laws_refinement.specs.Sites.{IsPlanned}
+use Rattle.laws_refinement.specs.Names.{Backed, BegunMirrors, ClientMirrors, IsPlanned, Net, OwnMirrors, RunningMirrors}
+use Rattle.laws_refinement.specs.Names.{TransactionMirrors, commits_in, name_at, status_by}
 use Rattle.laws_refinement.proofs.Planned.{planned_max}
-use Rattle.laws_refinement.specs.Messages.{Backed}
-use Rattle.laws_refinement.specs.Net.{Net, commits_in}
 use Rattle.laws_refinement.proofs.ClientPosts.{IsAsking}
 use Rattle.laws_refinement.proofs.ClientSteps.{Mid, Turned, elsewhere, mid_more, put_tx_other, turns}
 use Rattle.laws_refinement.proofs.Machine.{put_other}

@@ -3,12 +3,12 @@ use Rattle.std.specs.Prelude.{option_to_list}
 use Rattle.std.proofs.Common.{◌≡◌, ◌≢◌, ℕ, ◌+◌, ◌-◌, ◌==◌, not, Bool, true, false, cond, inl, inr, List, [], ◌∷◌, ◌++◌, Option, Some, None, filter, is_some, length, map, refl, sym, ◌∙◌, subst}
 use Rattle.std.proofs.lemmas.List.{append-nil}
 use Rattle.qc_stamp.specs.declared.stamp.TxId.{TxId}
-use Rattle.qc_stamp.specs.Order.{same_tx}
-use Rattle.qc_list.specs.Members.{In}
+use Rattle.qc_stamp.specs.Names.{same_tx}
+use Rattle.qc_list.specs.Names.{In}
 use Rattle.qc_list.proofs.Members.{In-first, In-second, In-unfiltered}
 use Rattle.qc_entry.specs.declared.record.Commit.{Commit as CommitRecord}
 use Rattle.qc_decl.specs.declared.declaration.Declaration.{Declaration}
-use Rattle.qc_decl.specs.Actors.{is_client}
+use Rattle.qc_decl.specs.Names.{administrator, is_client}
 use Rattle.qc_msg.specs.declared.begun.Begun.{Begun}
 use Rattle.qc_msg.specs.declared.message.Answer.{Answer}
 use Rattle.qc_msg.specs.declared.message.Message.{Message}
@@ -22,29 +22,28 @@ use Rattle.qc_msg.specs.declared.step.Command.TheVariants as commands
 use Rattle.qc_msg.specs.declared.step.Input.{Input}
 use Rattle.qc_msg.specs.declared.step.Input.TheVariants.{Called, Got, Lost}
 use Rattle.qc_msg.specs.declared.turn.Posting.{Posting}
-use Rattle.qc_msg.specs.Calls.{site_called, without_call}
-use Rattle.qc_msg.specs.Turns.{quiet, sending}
+use Rattle.qc_msg.specs.Names.{quiet, sending, site_called, without_call}
 use Rattle.theory_onecopy.proofs.Lists.{in_split}
 use Rattle.theory_machine.specs.Names.{put}
 use Rattle.theory_machine.proofs.Names.{put_here}
 use Rattle.qc_commit.specs.declared.desk.Desk.{Desk}
 use Rattle.qc_commit.specs.declared.desk.Voting.{Voting}
 use Rattle.qc_commit.specs.Conduct as desks
-use Rattle.qc_commit.specs.Desk.{DeskMove, moved as desk_moved, record_of}
-use Rattle.qc_commit.specs.Votes.{are_cast, blank, cast, first_against, participants, prepares, vote_of}
+use Rattle.qc_commit.specs.Names.{DeskMove, are_cast, blank, cast, first_against, moved as desk_moved, participants}
+use Rattle.qc_commit.specs.Names.{prepares, record_of, vote_of}
 use Rattle.qc_commit.proofs.Learned.{learned-commits}
 use Rattle.qc_front.specs.declared.transaction.Transaction.{Transaction}
 use Rattle.qc_front.specs.Conduct as fronts
-use Rattle.qc_front.specs.Front.{FrontMove, ended}
-use Rattle.qc_client.specs.Client.{ClientMove, by_desk, by_front}
-use Rattle.qc_client.specs.Conduct.{answered_by, called, client_takes, commits, heard, sent_one}
+use Rattle.qc_front.specs.Names.{FrontMove, ended}
+use Rattle.qc_client.specs.Names.{ClientMove, answered_by, by_desk, by_front, called, client_takes, commits, heard}
+use Rattle.qc_client.specs.Names.{sent_one}
 use Rattle.qc_client.specs.declared.client.Client.{Client}
-use Rattle.qc_recover.specs.Clients.{Kept, client_rises, kept_by}
-use Rattle.laws_refinement.specs.Clients.{IsClientKeptBy}
-use Rattle.qc_site.specs.Conduct.{site_takes}
-use Rattle.qc_epoch.specs.Conduct.{admin_takes}
-use Rattle.qc_decl.specs.Actors.{administrator}
-use Rattle.laws_refinement.specs.Net.{Net, Reaches, after_client, after_client_rise, commits_in, sent_all}
+use Rattle.qc_recover.specs.Names.{client_rises}
+use Rattle.qc_recover.specs.Clients.{Kept, kept_by}
+use Rattle.laws_refinement.specs.Names.{IsClientKeptBy, Net, Reaches, after_client, after_client_rise, commits_in}
+use Rattle.laws_refinement.specs.Names.{sent_all}
+use Rattle.qc_site.specs.Names.{site_takes}
+use Rattle.qc_epoch.specs.Names.{admin_takes}
 use Rattle.laws_refinement.specs.Net as nets
 use Rattle.laws_refinement.proofs.ClientRecords.{client_kept_more, found_with}
 use Rattle.laws_refinement.proofs.Kepts.{no_client, no_ruling}

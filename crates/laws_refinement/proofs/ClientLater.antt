@@ -1,17 +1,15 @@
 -- Whatever clients do in the machine, sites and the administrator agree with it as before.
 use Rattle.std.proofs.Common.{◌≡◌, ◌≢◌, ℕ, Bool, true, false, inl, inr, List, refl, sym, ap, ◌∙◌, subst}
 use Rattle.qc_stamp.specs.declared.stamp.TxId.{TxId}
-use Rattle.qc_list.specs.Members.{In}
+use Rattle.qc_list.specs.Names.{In}
 use Rattle.qc_list.proofs.Members.{In-second}
 use Rattle.qc_entry.specs.declared.record.Commit.{Commit as CommitRecord}
 use Rattle.qc_decl.specs.declared.declaration.Declaration.{Declaration}
-use Rattle.theory_machine.specs.Names.{put_tx}
-use Rattle.theory_machine.specs.Acts.{Act, Begin, Choose, SendAppend, Execute, ExecuteAbsent, Grant, Count, Prepare}
-use Rattle.theory_machine.specs.Acts.{Vote, PrepareLost, Commit, CommitUnknown, Recover, Abort, RiseClient, Announce}
-use Rattle.theory_machine.specs.Acts.{Learn, Rise, Close, TakeSnapshot, Decide, Install, after_act, recover_status}
-use Rattle.theory_machine.specs.Acts.{verdict_of}
-use Rattle.theory_machine.specs.Guards.{IsAllowed, MayPrepare}
-use Rattle.theory_machine.specs.State.{Aborted, Active, Committed, Granted, NotBegun, Pending, State, Status, Voting}
+use Rattle.theory_machine.specs.Names.{Abort, Aborted, Act, Active, Announce, Begin, Choose, Close, Commit}
+use Rattle.theory_machine.specs.Names.{CommitUnknown, Committed, Count, Decide, Execute, ExecuteAbsent, Grant, Granted}
+use Rattle.theory_machine.specs.Names.{Install, IsAllowed, Learn, MayPrepare, NotBegun, Pending, Prepare, PrepareLost}
+use Rattle.theory_machine.specs.Names.{Recover, Rise, RiseClient, SendAppend, State, Status, TakeSnapshot, Vote, Voting}
+use Rattle.theory_machine.specs.Names.{after_act, put_tx, recover_status, verdict_of}
 use Rattle.theory_machine.proofs.Names.{put_tx_case}
 use Rattle.laws_refinement.proofs.Frames.{Later}
 

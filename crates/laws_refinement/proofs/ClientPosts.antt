@@ -1,12 +1,12 @@
 -- A client's turn is posted: its requests have their numbers, and all of its messages are in the mail.
 use Rattle.std.proofs.Common.{◌≡◌, ◌≢◌, ℕ, ◌==◌, ◌+◌, Bool, true, false, inl, inr, List, [], ◌∷◌, ◌++◌, length, Option, Some, None, slice_get, refl, sym, ap, ◌∙◌, subst, eq-eqb, eqb-true}
 use Rattle.qc_stamp.specs.declared.stamp.TxId.{TxId}
-use Rattle.qc_list.specs.Members.{In}
+use Rattle.qc_list.specs.Names.{In}
 use Rattle.qc_list.proofs.Members.{In-first, In-second}
 use Rattle.qc_entry.specs.declared.record.Commit.{Commit as CommitRecord}
 use Rattle.theory_onecopy.proofs.Lists.{in_split}
 use Rattle.qc_decl.specs.declared.declaration.Declaration.{Declaration}
-use Rattle.qc_decl.specs.Actors.{client_actor, is_client}
+use Rattle.qc_decl.specs.Names.{client_actor, is_client}
 use Rattle.qc_msg.specs.declared.call.Call.{Call}
 use Rattle.qc_msg.specs.declared.message.Envelope.{Envelope}
 use Rattle.qc_msg.specs.declared.message.Message.{Message}
@@ -14,26 +14,20 @@ use Rattle.qc_msg.specs.declared.message.Message.TheVariants as messages
 use Rattle.qc_msg.specs.declared.message.Want.{Want}
 use Rattle.qc_msg.specs.declared.message.Want.TheVariants.{Read, Append, Prepare}
 use Rattle.qc_msg.specs.declared.turn.Posting.{Posting}
-use Rattle.qc_msg.specs.Begun.{life_of}
-use Rattle.qc_msg.specs.Calls.{with_call}
-use Rattle.qc_msg.specs.Deeds.{envelopes}
-use Rattle.theory_machine.specs.State.{Committed, State}
+use Rattle.qc_msg.specs.Names.{envelopes, life_of, with_call}
+use Rattle.theory_machine.specs.Names.{Committed, State}
 use Rattle.qc_commit.specs.declared.desk.Desk.{Desk}
 use Rattle.qc_commit.specs.declared.desk.Voting.{Voting}
-use Rattle.qc_commit.specs.Conduct.{prepared, prepared_in, with_voting}
+use Rattle.qc_commit.specs.Names.{prepared, prepared_in, with_voting}
 use Rattle.qc_front.specs.declared.doing.Doing.{Doing}
 use Rattle.qc_front.specs.declared.doing.Doing.TheVariants.{Idle, Reading, Appending}
 use Rattle.qc_front.specs.declared.transaction.Transaction.{Transaction}
-use Rattle.qc_front.specs.Conduct.{requested, requested_in}
-use Rattle.qc_front.specs.Going.{calls_in}
-use Rattle.qc_front.specs.Requests.{IsFor}
-use Rattle.qc_client.specs.Client.{ClientMove}
-use Rattle.qc_client.specs.Conduct.{sent_one}
+use Rattle.qc_front.specs.Names.{IsFor, calls_in, requested, requested_in}
+use Rattle.qc_client.specs.Names.{ClientMove, sent_one}
 use Rattle.qc_client.specs.declared.client.Client.{Client}
-use Rattle.laws_refinement.specs.Clients.{AreVotes, BegunMirrors, ClientMirrors, IsAskedBy, IsChosen, IsRoundCounted, RunningMirrors, TransactionMirrors, VotesMirror, status_by}
-use Rattle.laws_refinement.specs.Messages.{Backed, IsMessage, IsRequest}
-use Rattle.laws_refinement.specs.Mirrors.{Mirrors}
-use Rattle.laws_refinement.specs.Net.{Net, after_client, commits_in, sent_all}
+use Rattle.laws_refinement.specs.Names.{AreVotes, Backed, BegunMirrors, ClientMirrors, IsAskedBy, IsChosen, IsMessage}
+use Rattle.laws_refinement.specs.Names.{IsRequest, IsRoundCounted, Mirrors, Net, RunningMirrors, TransactionMirrors}
+use Rattle.laws_refinement.specs.Names.{VotesMirror, after_client, commits_in, sent_all, status_by}
 use Rattle.laws_refinement.proofs.Frames.{Keeps, Later, keep_client, keeps_same}
 use Rattle.laws_refinement.proofs.Posts.{AtNumber, at_number}
 use Rattle.std.specs.Prelude.{option_to_list}

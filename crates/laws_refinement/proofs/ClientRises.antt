@@ -3,29 +3,26 @@ use Rattle.std.specs.Prelude.{option_to_list}
 use Rattle.std.proofs.Common.{◌≡◌, ◌≢◌, ◌≤◌, ◌<◌, ℕ, ◌-◌, not, Bool, true, false, ◌⊎◌, inl, inr, List, [], ◌∷◌, ◌++◌, Option, Some, None, filter, refl, sym, ap, ◌∙◌, subst, arith}
 use Rattle.std.proofs.lemmas.List.{append-nil}
 use Rattle.qc_stamp.specs.declared.stamp.TxId.{TxId}
-use Rattle.qc_stamp.specs.Order.{same_tx}
+use Rattle.qc_stamp.specs.Names.{same_tx}
 use Rattle.qc_stamp.proofs.Orders.{same_tx_is}
-use Rattle.qc_list.specs.Members.{In}
+use Rattle.qc_list.specs.Names.{In}
 use Rattle.qc_list.proofs.Members.{In-first, In-second, In-unfiltered}
 use Rattle.qc_entry.specs.declared.record.Commit.{Commit as CommitRecord}
 use Rattle.qc_decl.specs.declared.declaration.Declaration.{Declaration}
-use Rattle.qc_decl.specs.Actors.{client_actor, is_client}
+use Rattle.qc_decl.specs.Names.{client_actor, is_client}
 use Rattle.qc_msg.specs.declared.record.Record.{Record}
 use Rattle.qc_msg.specs.declared.record.Record.TheVariants as records
 use Rattle.theory_onecopy.proofs.Lists.{in_split}
-use Rattle.theory_machine.specs.Names.{put, put_tx}
-use Rattle.theory_machine.specs.Acts.{Abort, Act, Commit, RiseClient, state}
-use Rattle.theory_machine.specs.Guards.{HasRecord, IsLive, IsRun}
-use Rattle.theory_machine.specs.State.{Aborted, Active, Committed, NotBegun, Pending, State, Status, Voting}
+use Rattle.theory_machine.specs.Names.{Abort, Aborted, Act, Active, Commit, Committed, HasRecord, IsLive, IsRun}
+use Rattle.theory_machine.specs.Names.{NotBegun, Pending, RiseClient, State, Status, Voting, put, put_tx, state}
 use Rattle.theory_machine.proofs.Keeps.{laws}
 use Rattle.theory_machine.proofs.Names.{put_here, put_tx_here, tx_test}
-use Rattle.qc_commit.specs.Desk.{record_of}
+use Rattle.qc_commit.specs.Names.{record_of}
 use Rattle.qc_client.specs.declared.client.Client.{Client}
-use Rattle.qc_recover.specs.Clients.{Kept, client_by, client_rises, keeps, kept_by}
-use Rattle.laws_refinement.specs.Clients.{ClientMirrors, FallenMirrors, IsPendingOf}
-use Rattle.laws_refinement.specs.Sites.{IsPlanned}
-use Rattle.laws_refinement.specs.Mirrors.{Refines}
-use Rattle.laws_refinement.specs.Net.{IsGivenBack, Net, after_client_rise, after_vain_rise, commits_in}
+use Rattle.qc_recover.specs.Names.{client_by, client_rises}
+use Rattle.qc_recover.specs.Clients.{Kept, keeps, kept_by}
+use Rattle.laws_refinement.specs.Names.{ClientMirrors, FallenMirrors, IsGivenBack, IsPendingOf, IsPlanned, Net, Refines}
+use Rattle.laws_refinement.specs.Names.{after_client_rise, after_vain_rise, commits_in}
 use Rattle.laws_refinement.proofs.ClientEnds.{mid_abort, mid_commit}
 use Rattle.laws_refinement.proofs.ClientSteps.{Mid, mid_first, mid_more, put_tx_other}
 use Rattle.laws_refinement.proofs.Kepts.{client_place}

@@ -2,32 +2,26 @@
 use Rattle.std.proofs.Common.{◌≡◌, ◌≢◌, ℕ, Bool, true, false, cond, List, ◌∷◌, ◌++◌, Option, Some, None, refl, sym, ap}
 use Rattle.std.proofs.Common.{◌∙◌}
 use Rattle.qc_stamp.specs.declared.stamp.TxId.{TxId}
-use Rattle.qc_stamp.specs.Order.{same_tx}
+use Rattle.qc_stamp.specs.Names.{same_tx}
 use Rattle.qc_stamp.proofs.Orders.{same_tx_is}
-use Rattle.qc_list.specs.Members.{In}
+use Rattle.qc_list.specs.Names.{In}
 use Rattle.qc_decl.specs.declared.declaration.Declaration.{Declaration}
-use Rattle.qc_decl.specs.Actors.{client_actor, is_client}
+use Rattle.qc_decl.specs.Names.{client_actor, is_client}
 use Rattle.qc_msg.specs.declared.call.Call.{Call}
 use Rattle.qc_msg.specs.declared.message.Envelope.{Envelope}
 use Rattle.qc_msg.specs.declared.turn.Posting.{Posting}
-use Rattle.theory_machine.specs.Names.{put_tx}
-use Rattle.theory_machine.specs.Acts.{Act, state}
-use Rattle.theory_machine.specs.Guards.{IsAllowed, IsRun}
-use Rattle.theory_machine.specs.State.{Active, NotBegun, State, Status}
+use Rattle.theory_machine.specs.Names.{Act, Active, IsAllowed, IsRun, NotBegun, State, Status, put_tx, state}
 use Rattle.theory_machine.proofs.Keeps.{laws}
 use Rattle.qc_commit.specs.declared.desk.Voting.{Voting}
 use Rattle.qc_front.specs.declared.doing.Doing.{Doing}
 use Rattle.qc_front.specs.declared.doing.Doing.TheVariants.{Idle}
 use Rattle.qc_front.specs.declared.transaction.Transaction.{Transaction}
-use Rattle.qc_front.specs.Front.{turned}
-use Rattle.qc_front.specs.Going.{calls_in}
-use Rattle.qc_client.specs.Client.{ClientMove}
+use Rattle.qc_front.specs.Names.{calls_in, turned}
+use Rattle.qc_client.specs.Names.{ClientMove}
 use Rattle.qc_client.specs.declared.client.Client.{Client}
-use Rattle.laws_refinement.specs.Clients.{AreVotes, ClientMirrors, IsAskedBy, IsChosen, IsRoundCounted, OwnMirrors}
-use Rattle.laws_refinement.specs.Clients.{TransactionMirrors, status_by}
-use Rattle.laws_refinement.specs.Messages.{Backed}
-use Rattle.laws_refinement.specs.Mirrors.{Mirrors, Refines}
-use Rattle.laws_refinement.specs.Net.{Net, after_client, commits_in}
+use Rattle.laws_refinement.specs.Names.{AreVotes, Backed, ClientMirrors, IsAskedBy, IsChosen, IsRoundCounted, Mirrors}
+use Rattle.laws_refinement.specs.Names.{Net, OwnMirrors, Refines, TransactionMirrors, after_client, commits_in}
+use Rattle.laws_refinement.specs.Names.{status_by}
 use Rattle.laws_refinement.proofs.ClientPosts.{ClientGoes, IsAsking, client_goes}
 use Rattle.laws_refinement.proofs.ClientLater.{IsOfClient, client_later, client_stays}
 use Rattle.laws_refinement.proofs.Frames.{Keeps, Later, keeps_both, keeps_same, later_both, same_state}

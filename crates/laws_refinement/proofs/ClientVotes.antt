@@ -1,38 +1,32 @@
 -- Votes come for a commit: the transaction commits, or aborts, or more votes are waited for.
 use Rattle.std.proofs.Common.{◌≡◌, ◌≤◌, ℕ, max, Bool, true, false, cond, inl, inr, List, [], Option, Some, None, refl, sym, ap, ◌∙◌, subst, arith}
 use Rattle.qc_stamp.specs.declared.stamp.TxId.{TxId}
-use Rattle.qc_list.specs.Members.{In}
+use Rattle.qc_list.specs.Names.{In}
 use Rattle.qc_entry.specs.declared.record.Commit.{Commit as CommitRecord}
 use Rattle.qc_decl.specs.declared.declaration.Declaration.{Declaration}
-use Rattle.qc_decl.specs.Actors.{is_client}
+use Rattle.qc_decl.specs.Names.{is_client}
 use Rattle.qc_msg.specs.declared.begun.Begun.{Begun}
 use Rattle.qc_msg.specs.declared.message.Answer.{Answer}
 use Rattle.qc_msg.specs.declared.message.Answer.TheVariants as answers
 use Rattle.qc_msg.specs.declared.message.Envelope.{Envelope}
 use Rattle.qc_msg.specs.declared.message.Want.TheVariants as wants
 use Rattle.qc_msg.specs.declared.reply.AbortCause.{AbortCause}
-use Rattle.qc_msg.specs.Calls.{site_called, without_call}
-use Rattle.qc_msg.specs.Turns.{quiet}
-use Rattle.theory_machine.specs.Acts.{Act, state}
-use Rattle.theory_machine.specs.Guards.{IsRun}
-use Rattle.theory_machine.specs.State.{Granted, State, Voting, YesVote}
+use Rattle.qc_msg.specs.Names.{quiet, site_called, without_call}
+use Rattle.theory_machine.specs.Names.{Act, Granted, IsRun, State, Voting, YesVote, state}
 use Rattle.qc_commit.specs.declared.ballot.Ballot.{Ballot}
 use Rattle.qc_commit.specs.declared.ballot.Vote.TheVariants.{For}
 use Rattle.qc_commit.specs.declared.desk.Desk.{Desk}
 use Rattle.qc_commit.specs.declared.desk.Voting.{Voting as DeskVoting}
-use Rattle.qc_commit.specs.Conduct.{counted_out, counts, gives_up as desk_gives_up, learns, votes_at, with_voting}
-use Rattle.qc_commit.specs.Desk.{DeskMove, moved as desk_moved, record_of}
-use Rattle.qc_commit.specs.Votes.{are_cast, cast, first_against, vote_of}
+use Rattle.qc_commit.specs.Names.{DeskMove, are_cast, cast, counted_out, counts, first_against}
+use Rattle.qc_commit.specs.Names.{gives_up as desk_gives_up, learns, moved as desk_moved, record_of, vote_of, votes_at}
+use Rattle.qc_commit.specs.Names.{with_voting}
 use Rattle.qc_front.specs.declared.transaction.Transaction.{Transaction}
-use Rattle.qc_client.specs.Client.{by_desk, ClientMove}
+use Rattle.qc_client.specs.Names.{ClientMove, by_desk}
 use Rattle.qc_client.specs.declared.client.Client.{Client}
 use Rattle.qc_msg.specs.declared.record.Record.{Record}
-use Rattle.laws_refinement.specs.Clients.{AreVotes, BegunMirrors, OwnMirrors, RunningMirrors, TransactionMirrors, VotesMirror, status_by}
-use Rattle.laws_refinement.specs.Sites.{IsPlanned}
+use Rattle.laws_refinement.specs.Names.{AreVotes, BegunMirrors, IsPlanned, IsRequest, Mirrors, Net, OwnMirrors, Refines}
+use Rattle.laws_refinement.specs.Names.{RunningMirrors, TransactionMirrors, VotesMirror, after_client, status_by}
 use Rattle.laws_refinement.proofs.Planned.{planned_max}
-use Rattle.laws_refinement.specs.Messages.{IsRequest}
-use Rattle.laws_refinement.specs.Mirrors.{Mirrors, Refines}
-use Rattle.laws_refinement.specs.Net.{Net, after_client}
 use Rattle.laws_refinement.proofs.Ballots.{all_for, cast_each, cast_votes}
 use Rattle.laws_refinement.proofs.OpenRequests.{AnswerBacked, IsCalled, called_in, one_request, still_called}
 use Rattle.laws_refinement.proofs.ClientEnds.{Ending, aborts_it, commits_it, ending_of, Pends, pends_it}

@@ -3,36 +3,29 @@ use Rattle.std.proofs.Common.{◌≡◌, ◌≢◌, ◌≤◌, ℕ, ◌==◌, �
 use Rattle.std.specs.Prelude.{option_map}
 use Rattle.std.specs.Option.{option_map_or}
 use Rattle.qc_stamp.specs.declared.stamp.TxId.{TxId}
-use Rattle.qc_list.specs.Members.{In}
+use Rattle.qc_list.specs.Names.{In}
 use Rattle.qc_entry.specs.declared.line.Line.{Line}
 use Rattle.qc_entry.specs.declared.line.OwnLine.{OwnLine}
 use Rattle.qc_entry.specs.declared.line.ReadLock.{ReadLock}
-use Rattle.qc_entry.specs.Line.{IsAscending}
-use Rattle.qc_entry.specs.Log.{union}
+use Rattle.qc_entry.specs.Names.{IsAscending, union}
 use Rattle.qc_entry.proofs.Union.{ascending-union, in_either, in_first, in_second}
 use Rattle.qc_decl.specs.declared.declaration.Declaration.{Declaration}
 use Rattle.qc_msg.specs.declared.begun.LifeAt.{LifeAt}
 use Rattle.qc_msg.specs.declared.message.Want.{Want}
 use Rattle.qc_msg.specs.declared.message.Want.TheVariants.{Read, Append}
-use Rattle.qc_msg.specs.Begun.{has_granted, with_life}
-use Rattle.theory_machine.specs.Acts.{Count, after_act}
-use Rattle.theory_machine.specs.Guards.{IsShown, Shows, op_of, own_on as machine_own_on}
-use Rattle.qc_front.specs.Holds.{own_on}
-use Rattle.theory_machine.specs.Site.{Item, Lock, site_after}
-use Rattle.theory_machine.specs.State.{Aborted, Granted, NotBegun, State}
+use Rattle.qc_msg.specs.Names.{has_granted, with_life}
+use Rattle.theory_machine.specs.Names.{Aborted, Count, Granted, IsShown, Item, Lock, NotBegun, Shows, State, after_act}
+use Rattle.theory_machine.specs.Names.{op_of, own_on as machine_own_on, site_after}
+use Rattle.qc_front.specs.Names.{lived, own_on, view_log, with_granted, with_view}
 use Rattle.theory_machine.proofs.Names.{put_case}
-use Rattle.qc_commit.specs.Desk.{record_of}
+use Rattle.qc_commit.specs.Names.{record_of}
 use Rattle.qc_view.specs.declared.view.View.{View}
-use Rattle.qc_view.specs.View.{with_log}
+use Rattle.qc_view.specs.Names.{with_log}
 use Rattle.qc_front.specs.declared.transaction.Transaction.{Transaction}
-use Rattle.qc_front.specs.Answering.{view_log, with_granted, with_view}
-use Rattle.qc_front.specs.Counting.{lived}
 use Rattle.qc_front.proofs.Keeping.{view_keeps}
-use Rattle.qc_client.specs.Client.{is_begun}
+use Rattle.qc_client.specs.Names.{is_begun}
 use Rattle.qc_client.specs.declared.client.Client.{Client}
-use Rattle.laws_refinement.specs.Items.{own_items}
-use Rattle.laws_refinement.specs.Lives.{LivesMirror}
-use Rattle.laws_refinement.specs.Messages.{IsGrant}
+use Rattle.laws_refinement.specs.Names.{IsGrant, LivesMirror, own_items}
 use Rattle.laws_refinement.proofs.ClientSteps.{Core}
 use Rattle.laws_refinement.proofs.Recorded.{log_here, log_there, views_keep_own}
 

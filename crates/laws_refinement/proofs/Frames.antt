@@ -1,16 +1,21 @@
 -- What stands behind messages stays there as the machine goes on and more is sent.
 use Rattle.std.proofs.Common.{◌≡◌, ◌≢◌, ℕ, List, ◌++◌, Option, Some, None, map, arith, ◌≤◌, ap, refl, sym, ◌∙◌, subst}
 use Rattle.qc_stamp.specs.declared.stamp.TxId.{TxId}
-use Rattle.qc_list.specs.Members.{In}
-use Rattle.laws_refinement.specs.Clients.{AreCounted, AreVotes, BegunMirrors, ClientMirrors, IsAskedBy, IsChosen, IsRoundCounted, OwnMirrors, RunningMirrors, TransactionMirrors, name_at}
+use Rattle.qc_list.specs.Names.{In}
+use Rattle.laws_refinement.specs.Names.{AdminMirrors, AreCounted, AreSnapshots, AreVotes, Backed, BegunMirrors}
+use Rattle.laws_refinement.specs.Names.{ClientMirrors, DecidedMirrors, DoingMirrors, IsAnswerBacked, IsAskedBy}
+use Rattle.laws_refinement.specs.Names.{IsChosen, IsDecided, IsGrant, IsMessage, IsNumbered, IsRequest, IsRoundCounted}
+use Rattle.laws_refinement.specs.Names.{IsSnapshot, IsTaken, IsVerdictBacked, IsWanted, OwnMirrors, QuestionMirrors}
+use Rattle.laws_refinement.specs.Names.{RunningMirrors, TransactionMirrors, name_at}
 use Rattle.qc_client.specs.declared.client.Client.{Client}
 use Rattle.qc_front.specs.declared.transaction.Transaction.{Transaction}
 use Rattle.qc_front.specs.declared.front.Front.{Front}
 use Rattle.qc_front.specs.declared.doing.Doing.TheVariants.{Idle, Reading, Appending}
 use Rattle.qc_front.specs.declared.doing.Doing.{Doing as FrontDoing}
 use Rattle.qc_commit.specs.declared.desk.Voting.{Voting}
-use Rattle.theory_machine.specs.Site.{Item}
-use Rattle.theory_onecopy.specs.Executed.{Executed}
+use Rattle.theory_machine.specs.Names.{AppendRequest, Decision, Granted, IsShown, Item, MayPrepare, NotBegun, Snapshot}
+use Rattle.theory_machine.specs.Names.{State, Verdict, YesVote, op_of, own_on}
+use Rattle.theory_onecopy.specs.Names.{Executed}
 use Rattle.qc_msg.specs.declared.call.Call.{Call}
 use Rattle.qc_plan.specs.declared.standing.Asked.{Asked}
 use Rattle.qc_entry.specs.declared.line.Line.{Line}
@@ -25,15 +30,10 @@ use Rattle.qc_msg.specs.declared.message.Outcome.{Outcome}
 use Rattle.qc_msg.specs.declared.message.Outcome.TheVariants as outcomes
 use Rattle.qc_msg.specs.declared.message.Want.{Want}
 use Rattle.qc_msg.specs.declared.message.Want.TheVariants.{Read, Append, Prepare}
-use Rattle.qc_decl.specs.Actors.{client_actor}
-use Rattle.theory_machine.specs.Guards.{IsShown, MayPrepare, op_of, own_on}
-use Rattle.qc_msg.specs.Begun.{life_of}
-use Rattle.theory_machine.specs.State.{AppendRequest, Decision, Granted, NotBegun, Snapshot, State, Verdict, YesVote}
-use Rattle.qc_epoch.specs.Admin.{Admin, Decided, Doing, Resting, Asking, Installing, Question, ShutSite}
+use Rattle.qc_decl.specs.Names.{client_actor}
+use Rattle.qc_msg.specs.Names.{life_of}
+use Rattle.qc_epoch.specs.Names.{Admin, Asking, Decided, Doing, Installing, Question, Resting, ShutSite}
 use Rattle.qc_epoch.specs.Admin as admins
-use Rattle.laws_refinement.specs.Admins.{AdminMirrors, AreSnapshots, DecidedMirrors, DoingMirrors, IsNumbered, IsTaken, QuestionMirrors}
-use Rattle.laws_refinement.specs.Sites.{IsDecided}
-use Rattle.laws_refinement.specs.Messages.{Backed, IsAnswerBacked, IsGrant, IsMessage, IsRequest, IsSnapshot, IsVerdictBacked, IsWanted}
 use Rattle.laws_refinement.proofs.Machine.{slice_get-append}
 
 -- all that was sent, granted, voted, announced, told and decided stays so; what was begun stays so, in its epoch; what

@@ -2,42 +2,34 @@
 use Rattle.std.proofs.Common.{◌≡◌, ◌≢◌, ◌≤◌, ℕ, ◌==◌, true, false, IsTrue, ◌⊎◌, inl, inr, List, [], ◌∷◌, ◌++◌, Some}
 use Rattle.std.proofs.Common.{None, refl, sym, ap, ◌∙◌, subst}
 use Rattle.qc_stamp.specs.declared.stamp.TxId.{TxId}
-use Rattle.qc_stamp.specs.Order.{same_tx}
-use Rattle.qc_list.specs.Members.{In}
+use Rattle.qc_stamp.specs.Names.{same_tx}
+use Rattle.qc_list.specs.Names.{In}
 use Rattle.qc_list.proofs.Members.{In-filter, In-first, In-passes, In-second, In-unfiltered}
 use Rattle.qc_entry.specs.declared.line.Line.{Line}
 use Rattle.qc_entry.specs.declared.line.OwnLine.{OwnLine}
 use Rattle.qc_entry.specs.declared.line.ReadLock.{ReadLock}
-use Rattle.qc_entry.specs.Log.{of_object}
+use Rattle.qc_entry.specs.Names.{of_object}
 use Rattle.qc_entry.proofs.Members.{ascending-of_object}
 use Rattle.std.proofs.Common.{eq-eqb, eqb-true}
 use Rattle.qc_decl.specs.declared.declaration.Declaration.{Declaration}
-use Rattle.qc_decl.specs.Accepted.{IsAccepted}
-use Rattle.qc_decl.specs.Actors.{is_site}
-use Rattle.qc_table.specs.Depends.{depends}
+use Rattle.qc_decl.specs.Names.{IsAccepted, is_site}
+use Rattle.qc_table.specs.Names.{depends}
 use Rattle.qc_lock.specs.declared.clash.Clash.{Clash}
-use Rattle.qc_lock.specs.Clash.{append_clash, read_clash}
-use Rattle.qc_lock.specs.Held.{held_of, with_held}
+use Rattle.qc_lock.specs.Names.{append_clash, held_of, read_clash, with_held}
 use Rattle.qc_msg.specs.declared.message.Want.{Want}
 use Rattle.qc_msg.specs.declared.message.Want.TheVariants.{Read, Append, Prepare}
-use Rattle.theory_onecopy.specs.Executed.{depends_at}
+use Rattle.theory_onecopy.specs.Names.{depends_at}
 use Rattle.theory_onecopy.proofs.Lists.{Mapped, in_map, map_in}
-use Rattle.theory_machine.specs.Acts.{Act, Grant, state}
-use Rattle.theory_machine.specs.Guards.{Conflict, IsRun}
-use Rattle.theory_machine.specs.Site.{Item, Lock, Own, Deed, Grants, Site, each_held, items_of, site_after}
-use Rattle.theory_machine.specs.State.{NotBegun}
+use Rattle.theory_machine.specs.Names.{Act, Conflict, Deed, Grant, Grants, IsRun, Item, Lock, NotBegun, Own, Site}
+use Rattle.theory_machine.specs.Names.{each_held, items_of, site_after, state}
 use Rattle.theory_machine.proofs.Holdings.{held_lines_are_one_an_operation}
 use Rattle.theory_machine.proofs.Names.{put_here}
 use Rattle.theory_machine.proofs.SiteLists.{items_of-append, items_of-each_held}
-use Rattle.qc_site.specs.Requests.{appends, clashing, grants, reads, relation_at}
-use Rattle.qc_site.specs.Site.{SiteMove, known, moved}
+use Rattle.qc_site.specs.Names.{SiteMove, appends, clashing, grants, known, moved, reads, relation_at}
 use Rattle.qc_site.proofs.Cases.{append_cases, read_cases}
-use Rattle.laws_refinement.specs.Items.{own_item, own_items}
+use Rattle.laws_refinement.specs.Names.{Continues, IsHeld, IsMessage, IsWanted, Mirrors, Net, SiteMirrors, after_site}
+use Rattle.laws_refinement.specs.Names.{own_item, own_items}
 use Rattle.qc_msg.specs.declared.message.Message.TheVariants as messages
-use Rattle.laws_refinement.specs.Messages.{IsMessage, IsWanted}
-use Rattle.laws_refinement.specs.Mirrors.{Continues, Mirrors}
-use Rattle.laws_refinement.specs.Net.{Net, after_site}
-use Rattle.laws_refinement.specs.Sites.{IsHeld, SiteMirrors}
 use Rattle.laws_refinement.proofs.Held.{append_holder, append_is_free, given_back, given_held, given_keeps}
 use Rattle.laws_refinement.proofs.Held.{lock_given_here, own_given_here, read_holder, read_is_free}
 use Rattle.laws_refinement.proofs.Known.{known_ascends, learned_ascends, learned_from, learned_in}

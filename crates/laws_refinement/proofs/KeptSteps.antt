@@ -2,27 +2,26 @@
 use Rattle.std.proofs.Common.{◌≡◌, ◌≢◌, ◌≤◌, ℕ, suc, max, not, Bool, true, false, ◌⊎◌, inl, inr, List, [], ◌∷◌, ◌++◌, Option, Some, None, is_some, refl, sym, ap, ◌∙◌, subst, arith}
 use Rattle.std.specs.Option.{option_map_or}
 use Rattle.qc_stamp.specs.declared.stamp.TxId.{TxId}
-use Rattle.qc_stamp.specs.Order.{same_tx}
+use Rattle.qc_stamp.specs.Names.{same_tx}
 use Rattle.qc_stamp.proofs.Orders.{same_tx_is}
-use Rattle.qc_list.specs.Members.{In}
+use Rattle.qc_list.specs.Names.{In}
 use Rattle.qc_list.proofs.Members.{In-first, In-second, In-unfiltered}
 use Rattle.qc_decl.specs.declared.declaration.Declaration.{Declaration}
 use Rattle.qc_entry.specs.declared.line.Line.{Line}
 use Rattle.qc_entry.specs.declared.record.Prepared.{Prepared}
-use Rattle.qc_entry.specs.Log.{union, without}
-use Rattle.qc_entry.specs.Line.{IsAscending}
+use Rattle.qc_entry.specs.Names.{IsAscending, union, without}
 use Rattle.qc_entry.proofs.Union.{ascending-union}
 use Rattle.qc_msg.specs.declared.record.Record.TheVariants as records
 use Rattle.theory_onecopy.proofs.Lists.{in_split}
-use Rattle.theory_machine.specs.Site.{Promise, Deed, DoneRecord, Grants, Prepares, LearnsCommit, LearnsAbort, Closes, Installs, Rises, Site, after_commit, after_deed, after_prepare, done_record, done_records, empty_site, epoch_from, items_of, promise_of, shut_from, site_after, site_from, without_promise}
-use Rattle.theory_machine.specs.State.{NotBegun, Status}
+use Rattle.theory_machine.specs.Names.{Closes, Deed, DoneRecord, Grants, Installs, LearnsAbort, LearnsCommit, NotBegun}
+use Rattle.theory_machine.specs.Names.{Prepares, Promise, Rises, Site, Status, after_commit, after_deed, after_prepare}
+use Rattle.theory_machine.specs.Names.{done_record, done_records, empty_site, epoch_from, items_of, promise_of}
+use Rattle.theory_machine.specs.Names.{shut_from, site_after, site_from, without_promise}
 use Rattle.theory_machine.proofs.Order.{site_laws}
-use Rattle.qc_site.specs.Conduct.{latest}
-use Rattle.qc_site.specs.Promise.{lines_of, prepared_of, without_prepared}
-use Rattle.qc_site.specs.Site.{SiteState, new_site}
+use Rattle.qc_site.specs.Names.{SiteState, latest, lines_of, new_site, prepared_of, without_prepared}
 use Rattle.qc_site.proofs.Votes.{prepared-without, prepared-without_other}
-use Rattle.qc_recover.specs.Sites.{Kept, done_lines, done_stamp, keeps, with_promise}
-use Rattle.laws_refinement.specs.Sites.{AreSingle, IsClosing, IsPlanned, IsPromiseOf, KeptMirrors, kept_lines}
+use Rattle.qc_recover.specs.Names.{Kept, done_lines, done_stamp, keeps, with_promise}
+use Rattle.laws_refinement.specs.Names.{AreSingle, IsClosing, IsPlanned, IsPromiseOf, KeptMirrors, kept_lines}
 use Rattle.laws_refinement.proofs.Known.{known_from, known_in, learned_in, more_from, more_in}
 use Rattle.laws_refinement.proofs.Machine.{LeavesEpoch, done_last, epoch_after, epoch_stays, install_old, shut_after, shut_stays, single_from, singles_dropped, site_more}
 use Rattle.laws_refinement.proofs.Apart.{apart_more, aparts_dropped}

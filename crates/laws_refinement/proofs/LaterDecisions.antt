@@ -1,11 +1,9 @@
 -- What may be decided may be decided later too, and what is backed stays so.
 use Rattle.std.proofs.Common.{inl, inr}
-use Rattle.qc_list.specs.Members.{In}
+use Rattle.qc_list.specs.Names.{In}
 use Rattle.qc_entry.specs.declared.line.Line.{Line}
 use Rattle.qc_decl.specs.declared.declaration.Declaration.{Declaration}
-use Rattle.theory_machine.specs.Guards.{IsMerged, IsResolved, MayDecide}
-use Rattle.theory_machine.specs.Site.{Promise}
-use Rattle.theory_machine.specs.State.{Decision, Snapshot, State, Verdict}
+use Rattle.theory_machine.specs.Names.{Decision, IsMerged, IsResolved, MayDecide, Promise, Snapshot, State, Verdict}
 
 pub decisions_may_wait : (decl : Declaration) (w v : State) (d : Decision)
     → ((s : Snapshot) → In s w.snapshots → In s v.snapshots) → ((x : Verdict) → In x w.verdicts → In x v.verdicts)

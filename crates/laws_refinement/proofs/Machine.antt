@@ -3,20 +3,19 @@ use Rattle.std.proofs.Common.{◌≡◌, ◌≢◌, ℕ, ◌==◌, Bool, true, f
 use Rattle.std.proofs.Common.{Some, None, refl, sym, subst, eqb-true, zero, suc, slice_get, eq-eqb}
 use Rattle.qc_stamp.specs.declared.stamp.TxId.{TxId}
 use Rattle.qc_stamp.specs.declared.stamp.Stamp.{Stamp}
-use Rattle.qc_stamp.specs.Order.{same_tx}
+use Rattle.qc_stamp.specs.Names.{same_tx}
 use Rattle.qc_stamp.proofs.Orders.{other_tx_sym}
 use Rattle.qc_entry.specs.declared.line.Line.{Line}
-use Rattle.qc_list.specs.Members.{In}
+use Rattle.qc_list.specs.Names.{In}
 use Rattle.qc_list.proofs.Members.{In-first, In-second}
 use Rattle.theory_onecopy.proofs.Lists.{in_split}
-use Rattle.theory_machine.specs.Names.{put}
-use Rattle.theory_machine.specs.Site.{Promise, Deed, Grants, Prepares, LearnsCommit, LearnsAbort, Closes, Installs}
-use Rattle.theory_machine.specs.Site.{Rises, Site, promise_of, after_deed, DoneRecord, done_record, done_records}
-use Rattle.theory_machine.specs.Site.{empty_site, site_after, epoch_from, shut_from, without_promise, after_prepare}
-use Rattle.theory_machine.specs.Site.{after_commit}
+use Rattle.theory_machine.specs.Names.{Closes, Deed, DoneRecord, Grants, Installs, LearnsAbort, LearnsCommit, Prepares}
+use Rattle.theory_machine.specs.Names.{Promise, Rises, Site, after_commit, after_deed, after_prepare, done_record}
+use Rattle.theory_machine.specs.Names.{done_records, empty_site, epoch_from, promise_of, put, shut_from, site_after}
+use Rattle.theory_machine.specs.Names.{without_promise}
 use Rattle.theory_machine.proofs.Names.{tx_test}
 use Rattle.theory_machine.proofs.SiteOrder.{after_append}
-use Rattle.laws_refinement.specs.Sites.{AreSingle, IsSingle}
+use Rattle.laws_refinement.specs.Names.{AreSingle, IsSingle}
 
 pub slice_get-append : {X : Type 0} (xs ys : List X) (n : ℕ) (x : X) → slice_get xs n ≡ Some x
     → slice_get (xs ++ ys) n ≡ Some x

@@ -1,33 +1,27 @@
 -- One actor moves, falls or rises: all else of the net agrees as it did.
 use Rattle.std.proofs.Common.{◌≡◌, ◌≢◌, ℕ, ◌==◌, ◌-◌, Bool, true, false, ◌⊎◌, inl, inr, List, ◌++◌, Option, length, slice_get, Some, refl, sym, ap, ◌∙◌, subst, eqb-true, eq-eqb}
 use Rattle.qc_stamp.specs.declared.stamp.TxId.{TxId}
-use Rattle.qc_list.specs.Members.{In}
+use Rattle.qc_list.specs.Names.{In}
 use Rattle.qc_entry.specs.declared.record.Commit.{Commit as CommitRecord}
 use Rattle.qc_decl.specs.declared.declaration.Declaration.{Declaration}
-use Rattle.qc_decl.specs.Actors.{administrator, client_actor, is_client, is_site}
-use Rattle.qc_lock.specs.Held.{is_held}
+use Rattle.qc_decl.specs.Names.{administrator, client_actor, is_client, is_site}
+use Rattle.qc_lock.specs.Names.{is_held}
 use Rattle.qc_msg.specs.declared.message.Envelope.{Envelope}
 use Rattle.qc_msg.specs.declared.record.Record.{Record}
 use Rattle.qc_msg.specs.declared.turn.Posting.{Posting}
-use Rattle.qc_msg.specs.Deeds.{envelopes}
-use Rattle.theory_machine.specs.Site.{Deed}
-use Rattle.theory_machine.specs.State.{Committed, Granted, NotBegun, State}
+use Rattle.qc_msg.specs.Names.{envelopes}
+use Rattle.theory_machine.specs.Names.{Committed, Deed, Granted, NotBegun, State, put}
 use Rattle.qc_client.specs.declared.client.Client.{Client}
-use Rattle.qc_site.specs.Site.{SiteMove, SiteState}
-use Rattle.qc_epoch.specs.Admin.{Admin}
+use Rattle.qc_site.specs.Names.{SiteMove, SiteState}
+use Rattle.qc_epoch.specs.Names.{Admin}
 use Rattle.qc_recover.specs.Admins as admins
 use Rattle.qc_recover.specs.Clients as clients
-use Rattle.laws_refinement.specs.Admins.{AdminMirrors, IsPendingRule, RulesMirror}
-use Rattle.qc_recover.specs.Sites.{kept_by}
-use Rattle.laws_refinement.specs.Clients.{ClientMirrors, FallenMirrors}
-use Rattle.laws_refinement.specs.Messages.{Backed}
-use Rattle.laws_refinement.specs.Mirrors.{Mirrors}
+use Rattle.laws_refinement.specs.Names.{AdminMirrors, Backed, ClientMirrors, FallenMirrors, IsKeptBy, IsPendingAt}
+use Rattle.laws_refinement.specs.Names.{IsPendingRule, KeptMirrors, Mirrors, Net, RulesMirror, SiteMirrors, after_site}
+use Rattle.qc_recover.specs.Names.{kept_by}
 use Rattle.std.specs.Prelude.{option_to_list}
-use Rattle.theory_machine.specs.Names.{put}
 use Rattle.theory_machine.proofs.Names.{put_here}
 use Rattle.laws_refinement.proofs.Machine.{put_other}
-use Rattle.laws_refinement.specs.Net.{Net, after_site}
-use Rattle.laws_refinement.specs.Sites.{IsKeptBy, IsPendingAt, KeptMirrors, SiteMirrors}
 use Rattle.laws_refinement.proofs.Frames.{Keeps, Later, admin_later, keep_client}
 use Rattle.laws_refinement.proofs.Kepts.{client_place, fallen_keeps, kept_later, no_client, no_ruler, no_ruling, pends_later, rules_later, ruling_later}
 use Rattle.laws_refinement.proofs.Posts.{more_mail, more_numbered}

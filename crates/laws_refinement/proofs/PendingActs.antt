@@ -1,21 +1,17 @@
 -- A record that was being written as its site fell, and stays: what the machine does for it as the site rises.
 use Rattle.std.proofs.Common.{◌≡◌, ◌<◌, ℕ, suc, arith, true, List, [], ◌∷◌, ◌++◌, Option, Some, None, refl, sym, ◌∙◌, subst}
 use Rattle.qc_stamp.specs.declared.stamp.TxId.{TxId}
-use Rattle.qc_list.specs.Members.{In}
+use Rattle.qc_list.specs.Names.{In}
 use Rattle.qc_entry.specs.declared.record.Prepared.{Prepared}
 use Rattle.qc_decl.specs.declared.declaration.Declaration.{Declaration}
-use Rattle.qc_decl.specs.Actors.{is_site}
+use Rattle.qc_decl.specs.Names.{is_site}
 use Rattle.qc_msg.specs.declared.record.Record.{Record}
 use Rattle.qc_msg.specs.declared.record.Record.TheVariants as records
-use Rattle.theory_machine.specs.Names.{put}
-use Rattle.theory_machine.specs.Acts.{Act, Close, Install, Learn, PrepareLost, Rise, state}
-use Rattle.theory_machine.specs.Guards.{IsRun, MayPrepare}
-use Rattle.theory_machine.specs.Site.{Closes, Deed, Installs, LearnsCommit, epoch_from, Prepares, Rises}
-use Rattle.theory_machine.specs.State.{Granted, State}
+use Rattle.theory_machine.specs.Names.{Act, Close, Closes, Deed, Granted, Install, Installs, IsRun, Learn, LearnsCommit}
+use Rattle.theory_machine.specs.Names.{MayPrepare, PrepareLost, Prepares, Rise, Rises, State, epoch_from, put, state}
 use Rattle.theory_machine.proofs.Names.{put_here}
-use Rattle.qc_recover.specs.Sites.{Kept, done_stamp, keeps}
-use Rattle.laws_refinement.specs.Net.{commits_in}
-use Rattle.laws_refinement.specs.Sites.{IsClosing, IsDecided, IsPendingAt, KeptMirrors}
+use Rattle.qc_recover.specs.Names.{Kept, done_stamp, keeps}
+use Rattle.laws_refinement.specs.Names.{IsClosing, IsDecided, IsPendingAt, KeptMirrors, commits_in}
 use Rattle.qc_entry.specs.declared.line.Line.{Line}
 use Rattle.laws_refinement.proofs.BothPromises.{deed_is}
 use Rattle.laws_refinement.proofs.Frames.{keeps_both, keeps_same, later_both, same_state}

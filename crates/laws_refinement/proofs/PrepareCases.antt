@@ -3,35 +3,28 @@
 use Rattle.std.proofs.Common.{◌≡◌, ◌≤◌, inl, inr, ℕ, ◌∙◌, Bool, true, false, List, [], ◌∷◌, ◌++◌, Option, Some, None}
 use Rattle.std.proofs.Common.{is_some, refl, ap, subst, ◌≢◌, sym}
 use Rattle.qc_stamp.specs.declared.stamp.TxId.{TxId}
-use Rattle.qc_stamp.specs.Order.{same_tx}
-use Rattle.qc_list.specs.Members.{In}
+use Rattle.qc_stamp.specs.Names.{same_tx}
+use Rattle.qc_list.specs.Names.{In}
 use Rattle.qc_entry.specs.declared.record.Prepared.{Prepared}
 use Rattle.qc_entry.specs.declared.line.Line.{Line}
-use Rattle.qc_entry.specs.Log.{union}
+use Rattle.qc_entry.specs.Names.{union}
 use Rattle.theory_onecopy.proofs.Lists.{in_split}
 use Rattle.qc_decl.specs.declared.declaration.Declaration.{Declaration}
-use Rattle.qc_decl.specs.Accepted.{IsAccepted}
-use Rattle.qc_decl.specs.Actors.{is_site}
-use Rattle.qc_lock.specs.Held.{held_of}
+use Rattle.qc_decl.specs.Names.{IsAccepted, is_site}
+use Rattle.qc_lock.specs.Names.{held_of}
 use Rattle.qc_msg.specs.declared.message.Want.TheVariants.{Prepare}
-use Rattle.theory_machine.specs.Acts.{Act, state}
-use Rattle.theory_machine.specs.Guards.{IsRun, MayPrepare}
-use Rattle.theory_machine.specs.Site.{Item, Lock, Own, Promise, Site, after_prepare, items_of, promise_of, site_after}
-use Rattle.theory_machine.specs.Site.{Prepares}
-use Rattle.theory_machine.specs.State.{Granted, NotBegun}
-use Rattle.qc_site.specs.Promise.{dropped, is_prepared, joins, lines_of, prepared_of, prepares, promised, votes}
-use Rattle.qc_site.specs.Promise.{without_prepared}
-use Rattle.qc_site.specs.Site.{SiteMove, answers as answers_with, known, moved}
+use Rattle.theory_machine.specs.Names.{Act, Granted, IsRun, Item, Lock, MayPrepare, NotBegun, Own, Prepares, Promise}
+use Rattle.theory_machine.specs.Names.{Site, after_prepare, items_of, promise_of, site_after, state}
+use Rattle.qc_site.specs.Names.{SiteMove, answers as answers_with, dropped, is_prepared, joins, known, lines_of, moved}
+use Rattle.qc_site.specs.Names.{prepared_of, prepares, promised, votes, without_prepared}
 use Rattle.qc_site.proofs.Cases.{prepare_cases}
-use Rattle.laws_refinement.specs.Messages.{IsRequest}
-use Rattle.laws_refinement.specs.Mirrors.{Continues, Mirrors}
-use Rattle.laws_refinement.specs.Net.{Net, after_site}
-use Rattle.laws_refinement.specs.Sites.{AreLined, IsHeld, IsPromiseOf, IsPromised, SiteMirrors, IsKeptBy, KeptMirrors}
+use Rattle.laws_refinement.specs.Names.{AreLined, Continues, IsHeld, IsKeptBy, IsPromiseOf, IsPromised, IsRequest}
+use Rattle.laws_refinement.specs.Names.{KeptMirrors, Mirrors, Net, SiteMirrors, after_site}
 use Rattle.laws_refinement.proofs.Apart.{apart_more}
 use Rattle.laws_refinement.proofs.Promises.{more_promise, found_last, found_other}
 use Rattle.laws_refinement.proofs.SiteActs.{says, votes_it}
 use Rattle.std.proofs.lemmas.List.{append-nil}
-use Rattle.qc_recover.specs.Sites.{Kept, kept_by, with_promise}
+use Rattle.qc_recover.specs.Names.{Kept, kept_by, with_promise}
 use Rattle.qc_msg.specs.declared.record.Record.{Record}
 use Rattle.qc_site.proofs.Sorted.{ascending-without}
 use Rattle.laws_refinement.proofs.KeptLists.{kept_more}

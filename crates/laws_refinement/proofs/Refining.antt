@@ -2,27 +2,21 @@
 use Rattle.std.proofs.Common.{◌≡◌, ◌<◌, ◌≤◌, ◌∷◌, ◌++◌, length, slice_get, ℕ, ◌+◌, ◌-◌, ◌&&◌, Bool, true, false, List, [], Option, Some, None, refl, sym, ◌∙◌, subst, arith, ap, inl, inr}
 use Rattle.qc_decl.proofs.Clients.{client_past}
 use Rattle.qc_decl.specs.declared.declaration.Declaration.{Declaration}
-use Rattle.qc_decl.specs.Accepted.{IsAccepted}
-use Rattle.qc_decl.specs.Actors.{administrator, is_client}
+use Rattle.qc_decl.specs.Names.{IsAccepted, administrator, is_client}
 use Rattle.qc_plan.specs.declared.plan.Plan.{Plan}
 use Rattle.qc_msg.specs.declared.message.Answer.{Answer}
 use Rattle.qc_msg.specs.declared.message.Message.{Message}
 use Rattle.qc_msg.specs.declared.step.Input.{Input}
 use Rattle.qc_msg.specs.declared.step.Input.TheVariants.{Called, Got, Lost}
-use Rattle.qc_msg.specs.Calls.{site_called}
-use Rattle.qc_msg.specs.Turns.{quiet}
-use Rattle.theory_machine.specs.Acts.{Act, state}
-use Rattle.theory_machine.specs.Guards.{IsRun}
+use Rattle.qc_msg.specs.Names.{quiet, site_called}
+use Rattle.theory_machine.specs.Names.{Act, IsRun, state}
 use Rattle.qc_commit.specs.declared.desk.Voting.{Voting}
-use Rattle.qc_commit.specs.Conduct.{votes_in}
-use Rattle.qc_client.specs.Client.{by_desk, by_front, moved, ClientMove}
-use Rattle.qc_client.specs.Conduct.{answered_by, client_takes, heard}
+use Rattle.qc_commit.specs.Names.{record_of, votes_in}
+use Rattle.qc_client.specs.Names.{ClientMove, answered_by, by_desk, by_front, client_takes, heard, moved}
 use Rattle.laws_refinement.proofs.AdminFalls.{admin_falls, admin_rises_in_vain, admin_rises_up}
-use Rattle.laws_refinement.specs.Messages.{Backed}
-use Rattle.laws_refinement.specs.Mirrors.{Continues, FrontStands, Mirrors, Refines}
-use Rattle.laws_refinement.specs.Sites.{IsPlanned}
+use Rattle.laws_refinement.specs.Names.{Backed, Continues, FrontStands, IsClientKeptBy, IsPlanned, MayCome, MayCommand}
+use Rattle.laws_refinement.specs.Names.{Mirrors, Net, Reaches, Refines, after_client, after_fall, first_net}
 use Rattle.laws_refinement.proofs.AdminCases.{admin_case}
-use Rattle.laws_refinement.specs.Net.{MayCome, MayCommand, Net, Reaches, after_client, first_net, after_fall}
 use Rattle.laws_refinement.proofs.ClientAnswers.{do_case, takes_case}
 use Rattle.laws_refinement.proofs.OpenRequests.{AnswerBacked}
 use Rattle.laws_refinement.proofs.ClientBegins.{abort_case, ask_case, begin_case, inquiry_case}
@@ -32,15 +26,13 @@ use Rattle.laws_refinement.proofs.ClientRounds.{nothing}
 use Rattle.laws_refinement.proofs.SiteCases.{serve_case}
 use Rattle.laws_refinement.proofs.Standing.{front_ends_stand}
 use Rattle.qc_stamp.specs.declared.stamp.TxId.{TxId}
-use Rattle.qc_list.specs.Members.{In}
+use Rattle.qc_list.specs.Names.{In}
 use Rattle.qc_entry.specs.declared.record.Commit.{Commit as CommitRecord}
 use Rattle.qc_msg.specs.declared.record.Record.{Record}
 use Rattle.qc_msg.specs.declared.turn.Posting.{Posting}
-use Rattle.qc_commit.specs.Desk.{record_of}
 use Rattle.qc_front.specs.declared.front.Front.{Front}
-use Rattle.qc_front.specs.Front.{FrontMove}
+use Rattle.qc_front.specs.Names.{FrontMove}
 use Rattle.qc_recover.specs.Clients.{kept_by}
-use Rattle.laws_refinement.specs.Clients.{IsClientKeptBy}
 use Rattle.laws_refinement.proofs.ClientEnds.{Pends}
 use Rattle.laws_refinement.proofs.ClientFalls.{client_falls, client_fails}
 use Rattle.laws_refinement.proofs.ClientRises.{client_rises_in_vain, client_rises_up}

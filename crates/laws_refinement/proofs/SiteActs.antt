@@ -1,17 +1,17 @@
 -- What a site does for a message, as an act of the machine: it grants, votes, learns a verdict, or nothing happens.
 use Rattle.std.proofs.Common.{◌≡◌, ◌≢◌, ◌≤◌, ℕ, Bool, true, false, ◌⊎◌, inl, inr, List, [], ◌∷◌, ◌++◌, Option, Some, None, unwrap_or, refl, sym, ◌∙◌, subst, arith}
 use Rattle.qc_stamp.specs.declared.stamp.TxId.{TxId}
-use Rattle.qc_stamp.specs.Order.{same_tx}
+use Rattle.qc_stamp.specs.Names.{same_tx}
 use Rattle.qc_stamp.proofs.Orders.{other_tx_sym, same_tx_is}
-use Rattle.qc_list.specs.Members.{In}
+use Rattle.qc_list.specs.Names.{In}
 use Rattle.qc_entry.specs.declared.line.Line.{Line}
 use Rattle.qc_entry.specs.declared.line.OwnLine.{OwnLine}
 use Rattle.qc_entry.specs.declared.record.Prepared.{Prepared}
-use Rattle.qc_entry.specs.Line.{IsAscending}
+use Rattle.qc_entry.specs.Names.{IsAscending}
 use Rattle.qc_decl.specs.declared.declaration.Declaration.{Declaration}
-use Rattle.qc_decl.specs.Actors.{is_site}
+use Rattle.qc_decl.specs.Names.{is_site}
 use Rattle.qc_lock.specs.declared.held.Held.{Held}
-use Rattle.qc_lock.specs.Held.{entry_of, held_of, is_held, without_held}
+use Rattle.qc_lock.specs.Names.{entry_of, held_of, is_held, without_held}
 use Rattle.qc_lock.proofs.Entries.{entry-without, held-without_other}
 use Rattle.qc_msg.specs.declared.message.Answer.{Answer}
 use Rattle.qc_msg.specs.declared.message.Answer.TheVariants as answers
@@ -19,25 +19,21 @@ use Rattle.qc_msg.specs.declared.message.Message.TheVariants as messages
 use Rattle.qc_msg.specs.declared.message.Want.{Want}
 use Rattle.qc_msg.specs.declared.message.Want.TheVariants.{Read, Prepare}
 use Rattle.qc_msg.specs.declared.turn.Posting.{Posting}
-use Rattle.theory_machine.specs.Acts.{Act, Grant, Learn, Vote, after_act, deed_of, state}
-use Rattle.theory_machine.specs.Guards.{IsRun, MayPrepare}
-use Rattle.theory_machine.specs.Site.{Item, Own, Promise, Deed, DoneRecord, Grants, Prepares, Site, after_deed, after_prepare, items_of, promise_of, site_after, without_tx}
+use Rattle.theory_machine.specs.Names.{Act, Deed, DoneRecord, Grant, Granted, Grants, IsRun, Item, Learn, MayPrepare}
+use Rattle.theory_machine.specs.Names.{NotBegun, Own, Prepares, Promise, Site, State, Verdict, Vote, after_act}
+use Rattle.theory_machine.specs.Names.{after_deed, after_prepare, deed_of, items_of, promise_of, site_after, state}
+use Rattle.theory_machine.specs.Names.{without_tx}
 use Rattle.theory_machine.specs.Site as machine
-use Rattle.theory_machine.specs.State.{Granted, NotBegun, State, Verdict}
 use Rattle.theory_machine.proofs.Names.{put_here}
 use Rattle.theory_machine.proofs.SiteLists.{items_of-dropped, items_of-kept}
-use Rattle.qc_site.specs.Brought.{view_in}
-use Rattle.qc_site.specs.Promise.{prepared_of}
-use Rattle.qc_site.specs.Site.{SiteMove, SiteState, answers as answers_with, known, moved}
-use Rattle.laws_refinement.specs.Items.{items_wanted}
-use Rattle.laws_refinement.specs.Messages.{Backed, IsGrantable, IsMessage, IsRequest}
-use Rattle.laws_refinement.specs.Mirrors.{Continues, Mirrors}
-use Rattle.laws_refinement.specs.Net.{Net, after_site}
-use Rattle.laws_refinement.specs.Sites.{AreApart, AreLined, IsHeld, IsKeptBy, IsPromiseOf, KeptMirrors, SiteMirrors}
+use Rattle.qc_site.specs.Names.{SiteMove, SiteState, answers as answers_with, known, moved, prepared_of, view_in}
+use Rattle.laws_refinement.specs.Names.{AreApart, AreLined, Backed, Continues, IsGrantable, IsHeld, IsKeptBy, IsMessage}
+use Rattle.laws_refinement.specs.Names.{IsPromiseOf, IsRequest, KeptMirrors, Mirrors, Net, SiteMirrors, after_site}
+use Rattle.laws_refinement.specs.Names.{items_wanted}
 use Rattle.std.specs.Prelude.{option_to_list}
 use Rattle.std.proofs.lemmas.List.{append-nil}
 use Rattle.qc_msg.specs.declared.record.Record.{Record}
-use Rattle.qc_recover.specs.Sites.{kept_by}
+use Rattle.qc_recover.specs.Names.{kept_by}
 use Rattle.laws_refinement.proofs.KeptSteps.{kept_same, leaves_epoch}
 use Rattle.laws_refinement.proofs.Frames.{keeps_same, same_state}
 use Rattle.laws_refinement.proofs.Held.{dropped_held}

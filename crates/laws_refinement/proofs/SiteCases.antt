@@ -2,16 +2,15 @@
 use Rattle.std.proofs.Common.{◌≡◌, ◌≤◌, ◌⊎◌, inl, inr, ℕ, ◌==◌, ◌∙◌, max, nat_lt, ltb-false, eqb-true, Bool, true, false, cond, List, [], ◌∷◌, ◌++◌, Option, Some, None, not, refl, ap, subst, arith, ◌<◌, sym}
 use Rattle.qc_stamp.specs.declared.stamp.Stamp.{Stamp}
 use Rattle.qc_stamp.specs.declared.stamp.TxId.{TxId}
-use Rattle.qc_stamp.specs.Order.{same_tx}
-use Rattle.qc_list.specs.Members.{In}
+use Rattle.qc_stamp.specs.Names.{same_tx}
+use Rattle.qc_list.specs.Names.{In}
 use Rattle.qc_entry.specs.declared.record.Prepared.{Prepared}
 use Rattle.qc_entry.specs.declared.line.Line.{Line}
-use Rattle.qc_entry.specs.Log.{union, without}
+use Rattle.qc_entry.specs.Names.{union, without}
 use Rattle.qc_list.proofs.Members.{In-unfiltered}
 use Rattle.qc_decl.specs.declared.declaration.Declaration.{Declaration}
-use Rattle.qc_decl.specs.Accepted.{IsAccepted}
-use Rattle.qc_decl.specs.Actors.{is_site}
-use Rattle.qc_lock.specs.Held.{without_held}
+use Rattle.qc_decl.specs.Names.{IsAccepted, is_site}
+use Rattle.qc_lock.specs.Names.{without_held}
 use Rattle.qc_msg.specs.declared.message.Answer.{Answer}
 use Rattle.qc_msg.specs.declared.message.Envelope.{Envelope}
 use Rattle.qc_msg.specs.declared.message.Message.{Message}
@@ -20,20 +19,16 @@ use Rattle.qc_msg.specs.declared.message.Want.{Want}
 use Rattle.qc_msg.specs.declared.message.Want.TheVariants.{Read, Append, Prepare}
 use Rattle.qc_msg.specs.declared.step.Input.{Input}
 use Rattle.qc_msg.specs.declared.step.Input.TheVariants.{Called, Got, Lost}
-use Rattle.qc_msg.specs.Turns.{quiet}
-use Rattle.theory_machine.specs.Acts.{Act, state}
-use Rattle.theory_machine.specs.Guards.{IsRun, HasRecord}
-use Rattle.theory_machine.specs.Site.{Promise, DoneRecord, Site, after_commit, promise_of, site_after, without_tx, Deed, LearnsAbort, LearnsCommit, done_record}
-use Rattle.theory_machine.specs.State.{Aborted, Active, Committed, NotBegun, Pending, Status, Voting}
-use Rattle.qc_site.specs.Conduct.{clock_after, latest, passed, site_on, site_takes}
-use Rattle.qc_site.specs.Promise.{dropped, joins, lines_of, prepared_of, without_prepared}
-use Rattle.qc_site.specs.Requests.{closed_fault, fault_of, grants}
-use Rattle.qc_site.specs.Site.{SiteMove, SiteState, known, moved}
+use Rattle.qc_msg.specs.Names.{quiet}
+use Rattle.theory_machine.specs.Names.{Aborted, Act, Active, Committed, Deed, DoneRecord, HasRecord, IsOutcome, IsRun}
+use Rattle.theory_machine.specs.Names.{LearnsAbort, LearnsCommit, NotBegun, Pending, Promise, Site, Status, Voting}
+use Rattle.theory_machine.specs.Names.{after_commit, done_record, promise_of, site_after, state, without_tx}
+use Rattle.qc_site.specs.Names.{SiteMove, SiteState, clock_after, closed_fault, dropped, fault_of, grants, joins, known}
+use Rattle.qc_site.specs.Names.{latest, lines_of, moved, passed, prepared_of, site_on, site_takes, without_prepared}
 use Rattle.qc_site.proofs.Cases.{request_cases}
-use Rattle.laws_refinement.specs.Messages.{Backed, IsMessage, IsVerdictBacked}
-use Rattle.laws_refinement.specs.Mirrors.{Continues, Mirrors}
-use Rattle.laws_refinement.specs.Net.{MayCome, Net, after_site}
-use Rattle.laws_refinement.specs.Sites.{AreApart, AreLined, IsClosing, IsPromiseOf, IsPlanned, IsKeptBy, KeptMirrors}
+use Rattle.laws_refinement.specs.Names.{AreApart, AreLined, Backed, Continues, IsClosing, IsKeptBy, IsMessage}
+use Rattle.laws_refinement.specs.Names.{IsPlanned, IsPromiseOf, IsVerdictBacked, KeptMirrors, MayCome, Mirrors, Net}
+use Rattle.laws_refinement.specs.Names.{after_site}
 use Rattle.laws_refinement.proofs.Apart.{aparts_dropped}
 use Rattle.laws_refinement.proofs.Closing.{close_case}
 use Rattle.laws_refinement.proofs.InstallCases.{install_case}
@@ -45,9 +40,8 @@ use Rattle.laws_refinement.proofs.GrantCases.{append_case, read_case}
 use Rattle.std.specs.Prelude.{option_to_list}
 use Rattle.std.specs.Option.{option_map_or}
 use Rattle.std.proofs.lemmas.List.{append-nil}
-use Rattle.qc_recover.specs.Sites.{Kept, done_stamp, keeps, kept_by}
+use Rattle.qc_recover.specs.Names.{Kept, done_stamp, keeps, kept_by}
 use Rattle.qc_msg.specs.declared.record.Record.{Record}
-use Rattle.theory_machine.specs.StateLaws.{IsOutcome}
 use Rattle.theory_machine.proofs.Keeps.{laws}
 use Rattle.laws_refinement.proofs.KeptLists.{kept_more, still_promised, undropped_site}
 use Rattle.laws_refinement.proofs.KeptSteps.{leaves_epoch, kept_finishes, kept_same}

@@ -3,12 +3,12 @@ use Rattle.std.proofs.Common.{◌≡◌, inl, inr, ℕ, suc, ◌+◌, ◌<◌, �
 use Rattle.std.proofs.Common.{true, false, List, [], ◌∷◌, Option, Some, None, is_some, refl, sym, ap, ◌∙◌, subst}
 use Rattle.qc_stamp.specs.declared.stamp.Stamp.{Stamp}
 use Rattle.qc_stamp.specs.declared.stamp.TxId.{TxId}
-use Rattle.qc_list.specs.Members.{In}
+use Rattle.qc_list.specs.Names.{In}
 use Rattle.qc_entry.specs.declared.line.Line.{Line}
 use Rattle.qc_entry.specs.declared.record.Prepared.{Prepared}
 use Rattle.qc_decl.specs.declared.declaration.Declaration.{Declaration}
-use Rattle.qc_decl.specs.Actors.{is_site}
-use Rattle.qc_lock.specs.Held.{held_of}
+use Rattle.qc_decl.specs.Names.{is_site}
+use Rattle.qc_lock.specs.Names.{held_of}
 use Rattle.qc_msg.specs.declared.message.Envelope.{Envelope}
 use Rattle.qc_msg.specs.declared.message.Message.{Message}
 use Rattle.qc_msg.specs.declared.message.Message.TheVariants as messages
@@ -21,26 +21,18 @@ use Rattle.qc_msg.specs.declared.record.Record.TheVariants as records
 use Rattle.qc_msg.specs.declared.step.Input.{Input}
 use Rattle.qc_msg.specs.declared.step.Input.TheVariants.{Called, Got, Lost}
 use Rattle.qc_msg.specs.declared.turn.Posting.{Posting}
-use Rattle.theory_machine.specs.Acts.{Act, state}
-use Rattle.theory_machine.specs.Guards.{HasRecord, IsRun, MayPrepare}
-use Rattle.theory_machine.specs.Site.{Item, Lock, Own, Promise, promise_of, site_after}
-use Rattle.theory_machine.specs.State.{Aborted, Active, Committed, NotBegun, Pending, Status, Voting}
-use Rattle.theory_machine.specs.StateLaws.{IsOutcome}
+use Rattle.theory_machine.specs.Names.{Aborted, Act, Active, Committed, HasRecord, IsOutcome, IsRun, Item, Lock}
+use Rattle.theory_machine.specs.Names.{MayPrepare, NotBegun, Own, Pending, Promise, Status, Voting, promise_of}
+use Rattle.theory_machine.specs.Names.{site_after, state}
 use Rattle.theory_machine.proofs.Keeps.{laws}
-use Rattle.qc_site.specs.Conduct.{latest, passed, site_on, site_takes}
-use Rattle.qc_site.specs.Promise.{is_prepared, joins, prepared_of, prepares}
+use Rattle.qc_site.specs.Names.{SiteMove, answering, closes, grants, installs, is_prepared, joins, latest, passed}
+use Rattle.qc_site.specs.Names.{prepared_of, prepares, site_on, site_takes}
 use Rattle.qc_site.specs.Promise as sites
-use Rattle.qc_site.specs.Requests.{grants}
-use Rattle.qc_site.specs.Site.{SiteMove, answering}
 use Rattle.qc_site.proofs.Cases.{append_cases, close_cases, install_cases, prepare_cases, read_cases, request_cases}
 use Rattle.qc_msg.specs.declared.message.Answer.TheVariants as answers
-use Rattle.qc_site.specs.Epochs.{closes, installs}
-use Rattle.qc_recover.specs.Sites.{done_stamp, kept_by}
-use Rattle.laws_refinement.specs.Messages.{Backed, IsVerdictBacked}
-use Rattle.laws_refinement.specs.Mirrors.{Mirrors}
-use Rattle.laws_refinement.specs.Net.{MayCome, Net}
-use Rattle.laws_refinement.specs.Sites.{IsDecided, IsPlanned, IsFinishing, IsHeld, IsPendingAt, IsPreparing}
-use Rattle.laws_refinement.specs.Sites.{IsPromiseOf, IsPromised}
+use Rattle.qc_recover.specs.Names.{done_stamp, kept_by}
+use Rattle.laws_refinement.specs.Names.{Backed, IsDecided, IsFinishing, IsHeld, IsPendingAt, IsPlanned, IsPreparing}
+use Rattle.laws_refinement.specs.Names.{IsPromiseOf, IsPromised, IsVerdictBacked, MayCome, Mirrors, Net}
 use Rattle.qc_site.proofs.Sorted.{ascending-without}
 use Rattle.laws_refinement.proofs.Known.{promised_known, unrecorded}
 

@@ -3,13 +3,12 @@ use Rattle.std.specs.Prelude.{option_to_list}
 use Rattle.std.proofs.Common.{◌≡◌, ℕ, inl, inr, true, map, take, List, [], ◌∷◌, ◌++◌, Option, Some, length, refl, sym}
 use Rattle.std.proofs.Common.{◌∙◌, subst}
 use Rattle.std.proofs.lemmas.List.{append-nil}
-use Rattle.qc_list.specs.Members.{In}
+use Rattle.qc_list.specs.Names.{In}
 use Rattle.qc_list.proofs.Members.{In-first, In-second}
 use Rattle.qc_entry.specs.declared.record.Prepared.{Prepared}
 use Rattle.theory_onecopy.proofs.Lists.{in_split}
-use Rattle.qc_decl.specs.Accepted.{IsAccepted}
+use Rattle.qc_decl.specs.Names.{IsAccepted, administrator, is_site}
 use Rattle.qc_decl.specs.declared.declaration.Declaration.{Declaration}
-use Rattle.qc_decl.specs.Actors.{is_site}
 use Rattle.qc_msg.specs.declared.message.Answer.TheVariants as answers
 use Rattle.qc_msg.specs.declared.message.Envelope.{Envelope}
 use Rattle.qc_msg.specs.declared.message.Message.TheVariants as messages
@@ -18,21 +17,15 @@ use Rattle.qc_msg.specs.declared.record.Record.TheVariants as records
 use Rattle.qc_msg.specs.declared.step.Input.{Input}
 use Rattle.qc_msg.specs.declared.step.Input.TheVariants.{Called, Got, Lost}
 use Rattle.qc_msg.specs.declared.turn.Posting.{Posting}
-use Rattle.qc_msg.specs.Deeds.{envelopes}
+use Rattle.qc_msg.specs.Names.{envelopes}
 use Rattle.theory_machine.specs.Names.{put}
 use Rattle.theory_machine.proofs.Names.{put_here}
-use Rattle.qc_client.specs.Conduct.{client_takes}
-use Rattle.qc_decl.specs.Actors.{administrator}
-use Rattle.qc_epoch.specs.Conduct.{admin_takes}
-use Rattle.qc_site.specs.Conduct.{site_takes}
-use Rattle.qc_site.specs.Promise.{prepared_of}
-use Rattle.qc_site.specs.Site.{SiteMove}
-use Rattle.qc_site.specs.Epochs.{in_order}
-use Rattle.qc_recover.specs.Sites.{kept_by, most_inquiries, site_rises}
-use Rattle.laws_refinement.specs.Mirrors.{Refines}
-use Rattle.laws_refinement.specs.Net.{Net, Reaches}
+use Rattle.qc_client.specs.Names.{client_takes}
+use Rattle.qc_epoch.specs.Names.{admin_takes}
+use Rattle.qc_site.specs.Names.{SiteMove, in_order, prepared_of, site_takes}
+use Rattle.qc_recover.specs.Names.{kept_by, most_inquiries, site_rises}
+use Rattle.laws_refinement.specs.Names.{IsRecorded, Net, Reaches, Refines}
 use Rattle.laws_refinement.specs.Net as nets
-use Rattle.laws_refinement.specs.Votes.{IsRecorded}
 use Rattle.laws_refinement.proofs.Kepts.{no_client, no_ruler}
 use Rattle.laws_refinement.proofs.Machine.{put_other}
 use Rattle.laws_refinement.proofs.Nets.{place}

@@ -4,13 +4,12 @@ use Rattle.std.proofs.Common.{◌≡◌, ◌⊎◌, ℕ, ◌==◌, nat_lt, ◌�
 use Rattle.std.proofs.lemmas.List.{append-nil}
 use Rattle.std.proofs.lemmas.List.Sums.{fold-append}
 use Rattle.qc_stamp.specs.declared.stamp.TxId.{TxId}
-use Rattle.qc_list.specs.Members.{In}
+use Rattle.qc_list.specs.Names.{In}
 use Rattle.qc_list.proofs.Members.{In-first}
 use Rattle.qc_entry.specs.declared.record.Prepared.{Prepared}
 use Rattle.theory_onecopy.proofs.Lists.{in_split}
-use Rattle.qc_decl.specs.Accepted.{IsAccepted}
+use Rattle.qc_decl.specs.Names.{IsAccepted, administrator, is_site}
 use Rattle.qc_decl.specs.declared.declaration.Declaration.{Declaration}
-use Rattle.qc_decl.specs.Actors.{is_site}
 use Rattle.qc_msg.specs.declared.message.Answer.TheVariants as answers
 use Rattle.qc_msg.specs.declared.message.Envelope.{Envelope}
 use Rattle.qc_msg.specs.declared.message.Message.{Message}
@@ -21,20 +20,15 @@ use Rattle.qc_msg.specs.declared.record.Record.TheVariants as records
 use Rattle.qc_msg.specs.declared.step.Input.{Input}
 use Rattle.qc_msg.specs.declared.step.Input.TheVariants.{Called, Got, Lost}
 use Rattle.qc_msg.specs.declared.turn.Posting.{Posting}
-use Rattle.qc_msg.specs.Deeds.{envelopes}
+use Rattle.qc_msg.specs.Names.{envelopes}
 use Rattle.theory_machine.specs.Names.{put}
 use Rattle.theory_machine.proofs.Names.{put_here}
-use Rattle.qc_client.specs.Conduct.{client_takes}
-use Rattle.qc_site.specs.Conduct.{passed, site_on, site_takes}
-use Rattle.qc_decl.specs.Actors.{administrator}
-use Rattle.qc_epoch.specs.Conduct.{admin_takes}
-use Rattle.qc_site.specs.Requests.{closed_fault, fault_of}
-use Rattle.qc_site.specs.Site.{SiteMove, SiteState}
+use Rattle.qc_client.specs.Names.{client_takes}
+use Rattle.qc_site.specs.Names.{SiteMove, SiteState, closed_fault, fault_of, in_order, passed, site_on, site_takes}
+use Rattle.qc_epoch.specs.Names.{admin_takes}
 use Rattle.qc_site.proofs.Cases.{request_cases}
-use Rattle.qc_site.specs.Epochs.{in_order}
-use Rattle.qc_recover.specs.Sites.{keeps, Kept, kept_by, most_inquiries, nothing_kept, site_rises}
-use Rattle.laws_refinement.specs.Mirrors.{Refines}
-use Rattle.laws_refinement.specs.Net.{Net, Reaches}
+use Rattle.qc_recover.specs.Names.{Kept, keeps, kept_by, most_inquiries, nothing_kept, site_rises}
+use Rattle.laws_refinement.specs.Names.{IsLater, IsNamedLater, Net, Reaches, Refines, Step}
 use Rattle.laws_refinement.specs.Net as nets
 use Rattle.laws_refinement.proofs.Kepts.{no_client, no_ruler}
 use Rattle.laws_refinement.proofs.Machine.{put_other}
@@ -42,7 +36,6 @@ use Rattle.laws_refinement.proofs.Nets.{place}
 use Rattle.laws_refinement.proofs.Posts.{Place, placed}
 use Rattle.laws_refinement.proofs.Refining.{nets_refine}
 use Rattle.laws_refinement.proofs.SiteVotes.{Voted, message_votes, no_fault, no_inquiry, one_answer, take_silent}
-use Rattle.laws_refinement.specs.Steps.{IsLater, IsNamedLater, Step}
 use Rattle.laws_refinement.specs.Steps as steps
 
 -- lives only grow

@@ -1,8 +1,8 @@
 -- A net and a later one: each step, and any number of them.
 use Rattle.std.specs.Prelude.{◌≡◌, ◌⊎◌, ◌≤◌, ℕ, true, false, List, [], Option, Some, None}
-use Rattle.qc_list.specs.Members.{In}
+use Rattle.qc_list.specs.Names.{In}
 use Rattle.qc_stamp.specs.declared.stamp.TxId.{TxId}
-use Rattle.qc_decl.specs.Actors.{administrator, is_client, is_site}
+use Rattle.qc_decl.specs.Names.{administrator, is_client, is_site}
 use Rattle.qc_decl.specs.declared.declaration.Declaration.{Declaration}
 use Rattle.qc_msg.specs.declared.message.Envelope.{Envelope}
 use Rattle.qc_msg.specs.declared.message.Message.TheVariants.{Request}
@@ -10,10 +10,10 @@ use Rattle.qc_msg.specs.declared.message.Want.TheVariants as wants
 use Rattle.qc_msg.specs.declared.record.Record.{Record}
 use Rattle.qc_msg.specs.declared.step.Input.{Input}
 use Rattle.qc_msg.specs.declared.turn.Posting.{Posting}
-use Rattle.qc_epoch.specs.Conduct.{admin_takes}
-use Rattle.qc_client.specs.Conduct.{client_takes}
-use Rattle.qc_site.specs.Conduct.{site_takes}
-use Rattle.qc_recover.specs.Sites.{kept_by}
+use Rattle.qc_epoch.specs.Names.{admin_takes}
+use Rattle.qc_client.specs.Names.{client_takes}
+use Rattle.qc_site.specs.Names.{site_takes}
+use Rattle.qc_recover.specs.Names.{kept_by}
 use Rattle.laws_refinement.specs.Net.{AreFailedSends, IsGivenBack, MayAdminister, MayCome, MayCommand, Net}
 use Rattle.laws_refinement.specs.Net.{after_admin, after_admin_rise, after_client, after_client_rise, after_fall}
 use Rattle.laws_refinement.specs.Net.{after_site, after_site_rise, after_vain_rise}

@@ -6,8 +6,7 @@ use Rattle.std.specs.List.{cons_option, fold}
 use Rattle.std.specs.Option.{option_map_or}
 use Rattle.std.proofs.lemmas.List.{append-nil}
 use Rattle.qc_decl.specs.declared.declaration.Declaration.{Declaration}
-use Rattle.qc_link.specs.Cuts.{with_cut, without_cut}
-use Rattle.qc_link.specs.Fate.{fate}
+use Rattle.qc_link.specs.Names.{fate, with_cut, without_cut}
 use Rattle.qc_link.specs.declared.rule.Fate.{Fate}
 use Rattle.qc_link.specs.declared.rule.Fate.TheVariants.{Pass, Drop, Twice, Late, Again}
 use Rattle.qc_msg.specs.declared.message.Envelope.{Envelope}
@@ -20,15 +19,17 @@ use Rattle.qc_msg.specs.declared.step.Input.TheVariants as inputs
 use Rattle.qc_msg.specs.declared.step.Step.{Step}
 use Rattle.qc_msg.specs.declared.step.Step.TheVariants as steps
 use Rattle.qc_msg.specs.declared.turn.Turn.{Turn}
-use Rattle.qc_msg.specs.Deeds.{Deed, WasSentTo, envelope_of, mail}
-use Rattle.qc_msg.specs.Steps.{Entry, marked}
+use Rattle.qc_msg.specs.Names.{Deed, Entry, WasSentTo, envelope_of, mail, marked}
 use Rattle.qc_script.specs.declared.script.PhaseLines.{PhaseLines}
 use Rattle.qc_script.specs.declared.script.Script.{Script}
 use Rattle.qc_msg.specs.declared.step.Fall.{Fall}
-use Rattle.qc_script.specs.Requests.{has_request, requests_to, requests_to_others, with_lost}
-use Rattle.qc_script.specs.Inbox.{Inbox, acting, actor_fell, emptied, fell_by, if_up, is_by_line, is_up, wrote_record, answers_by, comes, comes_at_once, comes_with, command_called, commands_for, control_acted, copies_at_once, copy_taken, count_of, empty_inbox, goes, goes_with, inbox, inbox_at, is_request, late_copies, loss_taken, one_more, opened, opened_by, phase_begun, reply_told, request_answered, request_sent, with_copies}
-use Rattle.qc_script.specs.Ready.{after_controls, command_in, first_command, first_copy, first_lost, ready, ready_in, takes_commands}
-use Rattle.qc_script.specs.Runs.{Runs}
+use Rattle.qc_script.specs.Names.{Inbox, Runs, acting, actor_fell, after_controls, answers_by, comes, comes_at_once}
+use Rattle.qc_script.specs.Names.{comes_with, command_called, command_in, commands_for, control_acted, copies_at_once}
+use Rattle.qc_script.specs.Names.{copy_taken, count_of, emptied, empty_inbox, fell_by, first_command, first_copy}
+use Rattle.qc_script.specs.Names.{first_lost, goes, goes_with, has_request, if_up, inbox, inbox_at, is_by_line}
+use Rattle.qc_script.specs.Names.{is_request, is_up, late_copies, loss_taken, one_more, opened, opened_by, phase_begun}
+use Rattle.qc_script.specs.Names.{ready, ready_in, reply_told, request_answered, request_sent, requests_to}
+use Rattle.qc_script.specs.Names.{requests_to_others, takes_commands, with_copies, with_lost, wrote_record}
 use Rattle.laws_turns.proofs.Numbered.{AreNumbered, run_numbered}
 use Rattle.laws_turns.proofs.Places.{slice_get-last, slice_get-more}
 

@@ -3,17 +3,14 @@ use Rattle.std.proofs.Common.{◌≡◌, ℕ, ◌+◌, ◌<◌, ◌≤◌, ◌�
 use Rattle.std.specs.Prelude.{is_none, slice_get}
 use Rattle.std.specs.Ordering.{nat_cmp}
 use Rattle.std.proofs.lemmas.List.{length-map}
-use Rattle.qc_list.specs.Members.{In}
-use Rattle.qc_list.specs.Order.{Ascends}
+use Rattle.qc_list.specs.Names.{Ascends, In}
 use Rattle.qc_list.proofs.Members.{In-second, every-In, every-from_In}
 use Rattle.qc_decl.specs.declared.declaration.Declaration.{Declaration}
-use Rattle.qc_decl.specs.Accepted.{IsAccepted}
-use Rattle.qc_decl.specs.Limits.{most_transaction_operations}
-use Rattle.qc_decl.specs.Lookup.{append_need_of, read_need_of}
+use Rattle.qc_decl.specs.Names.{IsAccepted, append_need_of, most_transaction_operations, read_need_of}
 use Rattle.qc_plan.specs.declared.standing.Asked.{Asked}
 use Rattle.qc_plan.specs.declared.standing.Verdict.{Verdict}
 use Rattle.qc_plan.specs.declared.standing.Verdict.TheVariants as verdicts
-use Rattle.qc_plan.specs.Round.{RoundState, asking_all, note, verdict, wanted}
+use Rattle.qc_plan.specs.Names.{RoundState, asking_all, note, verdict, wanted}
 use Rattle.qc_msg.specs.declared.begun.Begun.{Begun}
 use Rattle.qc_msg.specs.declared.call.Call.{Call}
 use Rattle.qc_msg.specs.declared.message.Answer.{Answer}
@@ -27,27 +24,22 @@ use Rattle.qc_msg.specs.declared.reply.AbortCause.TheVariants as causes
 use Rattle.qc_msg.specs.declared.step.Command.{Command}
 use Rattle.qc_msg.specs.declared.step.Command.TheVariants as commands
 use Rattle.qc_msg.specs.declared.turn.Turn.{Turn}
-use Rattle.qc_msg.specs.Begun.{with_site}
-use Rattle.qc_msg.specs.Calls.{site_called, without_call}
-use Rattle.qc_msg.specs.Turns.{quiet, telling}
+use Rattle.qc_msg.specs.Names.{quiet, site_called, telling, with_site, without_call}
 use Rattle.qc_view.specs.declared.view.View.{View}
-use Rattle.qc_view.specs.View.{with_log, with_own}
+use Rattle.qc_view.specs.Names.{with_log, with_own}
 use Rattle.qc_front.specs.declared.doing.Doing.{Doing}
 use Rattle.qc_front.specs.declared.doing.Doing.TheVariants.{Idle, Reading, Appending}
 use Rattle.qc_front.specs.declared.front.Front.{Front}
 use Rattle.qc_front.specs.declared.transaction.Transaction.{Transaction}
-use Rattle.qc_front.specs.Answering.{answer_of, next_own, resp_of, with_event}
-use Rattle.qc_front.specs.Appending.{append_want, read_want, request_of, round_for}
-use Rattle.qc_front.specs.Conduct.{appending_takes, awaited, called, commits, reading_takes, takes, takes_in}
-use Rattle.qc_front.specs.Counting.{appended_with, learns, lived, read_with, standing_of}
-use Rattle.qc_front.specs.Fits.{AsksFew, FrontFits}
-use Rattle.qc_front.specs.Front.{FrontMove, aborts, begins, fresh, gives_up, moved, next_tx}
-use Rattle.qc_front.specs.Holds.{FrontHolds, sites_of}
-use Rattle.qc_front.specs.Rounds.{answered, append_by, performs, read_by, reads}
+use Rattle.qc_front.specs.Names.{AsksFew, FrontFits, FrontHolds, FrontMove, aborts, answer_of, answered, append_by}
+use Rattle.qc_front.specs.Names.{append_want, appended_with, appending_takes, awaited, begins, called, commits, fresh}
+use Rattle.qc_front.specs.Names.{gives_up, learns, lived, moved, next_own, next_tx, performs, read_by, read_want}
+use Rattle.qc_front.specs.Names.{read_with, reading_takes, reads, request_of, resp_of, round_for, sites_of, standing_of}
+use Rattle.qc_front.specs.Names.{takes, takes_in, with_event}
 use Rattle.qc_front.proofs.Awaited.{asking_awaits}
 use Rattle.qc_front.proofs.Fitting.{fits}
 use Rattle.qc_front.proofs.Keeping.{appended_is, called_holds, takes_holds, view_keeps}
-use Rattle.laws_turns.specs.RecordsAsked.{AreSites, AskedSites}
+use Rattle.laws_turns.specs.Names.{AreSites, AskedSites}
 use Rattle.laws_turns.proofs.Asked.{InRound, doing_below, few_sites, in_joined, joined-ascends}
 
 -- what a move asks: nobody else than those asked before, and those of the round; and it sends no more messages

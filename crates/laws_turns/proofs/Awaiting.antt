@@ -1,10 +1,9 @@
 -- A request that is awaited stays so, whatever comes: until its actor takes an answer to it, or that it is lost.
 use Rattle.std.proofs.Common.{◌≡◌, ℕ, ◌+◌, ◌-◌, ◌==◌, ◌&&◌, nat_lt, not, Bool, true, false, if◌then◌else◌, inl, inr, List, [], ◌∷◌, ◌++◌, drop, Option, Some, None, slice_get, refl, sym, ap, subst, eqb-true}
 use Rattle.std.specs.Option.{option_map_or}
-use Rattle.qc_list.specs.Members.{In}
+use Rattle.qc_list.specs.Names.{In}
 use Rattle.qc_list.proofs.Members.{In-filter, In-first, In-last, In-second}
-use Rattle.qc_link.specs.Cuts.{with_cut, without_cut}
-use Rattle.qc_link.specs.Fate.{fate}
+use Rattle.qc_link.specs.Names.{fate, with_cut, without_cut}
 use Rattle.qc_link.specs.declared.rule.Fate.{Fate}
 use Rattle.qc_link.specs.declared.rule.Fate.TheVariants.{Pass, Drop, Twice, Late, Again}
 use Rattle.qc_msg.specs.declared.message.Answer.{Answer}
@@ -16,11 +15,14 @@ use Rattle.qc_msg.specs.declared.step.Step.{Step}
 use Rattle.qc_msg.specs.declared.step.Step.TheVariants as steps
 use Rattle.qc_script.specs.declared.script.PhaseLines.{PhaseLines}
 use Rattle.qc_script.specs.declared.script.Script.{Script}
-use Rattle.qc_script.specs.Requests.{SentRequest, has_request, request_numbers, with_number, without_number, without_request}
+use Rattle.qc_script.specs.Names.{Inbox, SentRequest, acting, answers_by, comes, comes_at_once, comes_with}
+use Rattle.qc_script.specs.Names.{command_called, commands_for, copies_at_once, copy_taken, count_of, everybody, goes}
+use Rattle.qc_script.specs.Names.{goes_with, has_request, if_up, inbox_at, is_request, is_up, loss_taken, one_more}
+use Rattle.qc_script.specs.Names.{opened, opened_by, phase_begun, reply_told, request_answered, request_numbers}
+use Rattle.qc_script.specs.Names.{request_sent, with_copies, with_number, without_number, without_request}
 use Rattle.qc_script.proofs.AllUp.{is_up-everybody, wrote_up}
 use Rattle.qc_script.proofs.Requests.{added-number, without-numbers}
-use Rattle.qc_script.specs.Inbox.{Inbox, acting, everybody, if_up, is_up, answers_by, comes, comes_at_once, comes_with, command_called, commands_for, copies_at_once, copy_taken, count_of, goes, goes_with, inbox_at, is_request, loss_taken, one_more, opened, opened_by, phase_begun, reply_told, request_answered, request_sent, with_copies}
-use Rattle.laws_turns.specs.Calls.{HasAnswer, IsAnswerTo, IsAwaited}
+use Rattle.laws_turns.specs.Names.{HasAnswer, IsAnswerTo, IsAwaited}
 
 -- numbers
 

@@ -6,7 +6,7 @@ use Rattle.std.proofs.lemmas.List.{append-nil}
 use Rattle.std.proofs.lemmas.List.Sums.{fold-append}
 use Rattle.qc_list.proofs.Members.{every-append, every-at}
 use Rattle.qc_decl.specs.declared.declaration.Declaration.{Declaration}
-use Rattle.qc_decl.specs.Actors.{is_client, is_site}
+use Rattle.qc_decl.specs.Names.{is_client, is_site}
 use Rattle.qc_msg.specs.declared.message.Envelope.{Envelope}
 use Rattle.qc_msg.specs.declared.record.Record.{Record}
 use Rattle.qc_msg.specs.declared.reply.Reply.{Reply}
@@ -15,21 +15,17 @@ use Rattle.qc_msg.specs.declared.step.Input.TheVariants as inputs
 use Rattle.qc_msg.specs.declared.step.Step.{Step}
 use Rattle.qc_msg.specs.declared.turn.Posting.{Posting}
 use Rattle.qc_msg.specs.declared.turn.Turn.{Turn}
-use Rattle.qc_msg.specs.Deeds.{Deed, Takes, Writes, Sends, Tells, Falls, Rises, WasSentTo, deed_at, deeds, envelopes}
-use Rattle.qc_msg.specs.Deeds.{mail, sends_of, tells_of, turn_deeds, writes_of}
-use Rattle.qc_msg.specs.Steps.{Entry, by, marked, posted, step_of}
-use Rattle.qc_msg.specs.Turns.{quiet}
+use Rattle.qc_msg.specs.Names.{Deed, Entry, Falls, Rises, Sends, Takes, Tells, WasSentTo, Writes, by, deed_at, deeds}
+use Rattle.qc_msg.specs.Names.{envelopes, mail, marked, posted, quiet, sends_of, step_of, tells_of, turn_deeds}
+use Rattle.qc_msg.specs.Names.{writes_of}
 use Rattle.qc_msg.proofs.GrownMail.{length-mail, mail-append, mail-posted, mail-taken}
 use Rattle.qc_msg.proofs.Growth.{deeds-append, deeds-other, deeds-posted, deeds-taken}
-use Rattle.qc_client.specs.Client.{ClientMove, moved as client_moved, new_client}
-use Rattle.qc_client.specs.Conduct.{client_after, client_does}
-use Rattle.qc_core.specs.Conduct.{IsLawful}
-use Rattle.qc_site.specs.Conduct.{site_after, site_does, site_takes}
-use Rattle.qc_site.specs.Site.{SiteMove, moved as site_moved, new_site}
-use Rattle.laws_turns.specs.Bounds.{IsBounded}
+use Rattle.qc_client.specs.Names.{ClientMove, client_after, client_does, moved as client_moved, new_client}
+use Rattle.qc_core.specs.Names.{IsLawful}
+use Rattle.qc_site.specs.Names.{SiteMove, moved as site_moved, new_site, site_after, site_does, site_takes}
+use Rattle.laws_turns.specs.Names.{ClientMoveWithin, GivenWithin, IsBounded, MailWithin, MessageWithin, SendsWithin}
+use Rattle.laws_turns.specs.Names.{SiteMoveWithin}
 use Rattle.laws_turns.proofs.Events.{Events, IsControl, begins, controls, posts, takes}
-use Rattle.laws_turns.specs.Within.{ClientMoveWithin, GivenWithin, MailWithin, MessageWithin, SendsWithin}
-use Rattle.laws_turns.specs.Within.{SiteMoveWithin}
 use Rattle.laws_turns.proofs.ClientsWithin.{IsPost, all_posts-within, client_move-le, client_takes_within}
 use Rattle.laws_turns.proofs.Greater.{mail_le}
 use Rattle.laws_turns.proofs.SitesWithin.{site_move-le, site_takes_within}

@@ -5,24 +5,19 @@ use Rattle.std.proofs.Common.{is_some, slice_get, refl, sym, ap, ◌∙◌, subs
 use Rattle.std.specs.List.{AllByRecursion as Every}
 use Rattle.std.proofs.lemmas.Bool.{le-ltb, leb-true}
 use Rattle.qc_decl.proofs.Clients.{client_past}
-use Rattle.qc_core.specs.Acts.{Acts, MayTake, is_running, posts, runs_given, starts, takes}
-use Rattle.qc_core.specs.Conduct.{IsLawful}
+use Rattle.qc_core.specs.Names.{Acts, IsLawful, MayTake, is_running, posts, runs_given, starts, takes}
 use Rattle.qc_decl.specs.declared.declaration.Declaration.{Declaration}
-use Rattle.qc_decl.specs.Actors.{actors, is_client, is_site}
+use Rattle.qc_decl.specs.Names.{actors, is_client, is_site}
 use Rattle.qc_msg.specs.declared.step.Command.{Command}
 use Rattle.qc_msg.specs.declared.step.Command.TheVariants as commands
 use Rattle.qc_msg.specs.declared.step.Input.{Input}
 use Rattle.qc_msg.specs.declared.step.Input.TheVariants as inputs
 use Rattle.qc_msg.specs.declared.turn.Turn.{Turn}
-use Rattle.qc_msg.specs.Deeds.{Deed, Takes, deeds, turn_deeds}
-use Rattle.qc_msg.specs.Steps.{Entry}
-use Rattle.qc_client.specs.Client.{ClientMove}
-use Rattle.qc_client.specs.Conduct.{client_after, client_takes}
-use Rattle.qc_script.specs.Runs.{Runs}
+use Rattle.qc_msg.specs.Names.{Deed, Entry, Takes, deeds, turn_deeds}
+use Rattle.qc_client.specs.Names.{ClientMove, client_after, client_takes}
+use Rattle.qc_script.specs.Names.{Runs}
 use Rattle.qc_script.specs.declared.script.Script.{Script}
-use Rattle.laws_turns.specs.Asked.{AsksDeclared, IsAskable}
-use Rattle.laws_turns.specs.Calls.{is_waiting}
-use Rattle.laws_turns.specs.Turns.{ActsIn}
+use Rattle.laws_turns.specs.Names.{ActsIn, AsksDeclared, IsAskable, is_waiting}
 use Rattle.laws_turns.proofs.Acted.{run_acts}
 use Rattle.laws_turns.proofs.Proper.{IsAskableDeed, IsAskableGiven, front_part, run_askable}
 use Rattle.laws_turns.proofs.Replying.{after_posted, after_taken, lawful_client, running_more, running_turn}

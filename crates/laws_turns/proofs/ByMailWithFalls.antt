@@ -1,20 +1,20 @@
 -- In each run with falls messages reach those whom they were sent to, and each actor goes by turns.
 use Rattle.std.proofs.Common.{◌≡◌, ℕ, ◌+◌, ◌<◌, ◌≤◌, Bool, true, List, [], ◌∷◌, ◌++◌, length, Some, None, slice_get}
 use Rattle.std.proofs.Common.{refl, subst, arith}
-use Rattle.qc_core.specs.Conduct.{IsLawfulWithFalls}
+use Rattle.qc_core.specs.Names.{IsLawfulWithFalls}
 use Rattle.qc_core.proofs.Answers.{answers_rising, answers_taken}
 use Rattle.qc_core.proofs.OpenedInputs.{Opened, opened}
 use Rattle.qc_core.proofs.ByTurns.{by_turns}
 use Rattle.qc_decl.specs.declared.declaration.Declaration.{Declaration}
-use Rattle.qc_decl.specs.Actors.{actors, controller, is_site}
-use Rattle.qc_inbox.specs.Kept.{AreNumbered}
+use Rattle.qc_decl.specs.Names.{actors, controller, is_site}
+use Rattle.qc_inbox.specs.Names.{AreNumbered}
 use Rattle.qc_inbox.proofs.FallMail.{ready_sent, run_numbered}
 use Rattle.qc_inbox.proofs.Keeping.{same_mail}
 use Rattle.laws_turns.proofs.ByMail.{ready_lost}
 use Rattle.laws_turns.proofs.Commanded.{ready_called, uncommanded}
 use Rattle.laws_turns.proofs.Delivered.{Delivered, posts_delivered, rises_delivered, step_delivered, takes_delivered}
 use Rattle.laws_turns.proofs.Places.{slice_get-within}
-use Rattle.qc_link.specs.Limits.{most_actors}
+use Rattle.qc_link.specs.Names.{most_actors}
 use Rattle.qc_msg.specs.declared.record.Record.{Record}
 use Rattle.qc_msg.specs.declared.step.Control.{Control}
 use Rattle.qc_msg.specs.declared.step.Control.TheVariants as controls
@@ -22,15 +22,12 @@ use Rattle.qc_msg.specs.declared.step.Fall.TheVariants as causes
 use Rattle.qc_msg.specs.declared.step.Step.{Step}
 use Rattle.qc_msg.specs.declared.step.Step.TheVariants as steps
 use Rattle.qc_msg.specs.declared.turn.Turn.{Turn}
-use Rattle.qc_msg.specs.Deeds.{Deed, deeds, mail}
-use Rattle.qc_msg.specs.Steps.{Entry, by, marked, posted_as}
-use Rattle.qc_promise.specs.Mail.{IsMailed}
-use Rattle.qc_promise.specs.Turns.{AreByTurns}
-use Rattle.qc_script.specs.Ready.{controller_step, phase_of}
-use Rattle.qc_script.specs.RunsWithFalls.{RunsWithFalls, begins, takes, posts, phase, control, falls, rises, damaged}
-use Rattle.qc_script.specs.RunsWithFalls.{unopened}
+use Rattle.qc_msg.specs.Names.{Deed, Entry, by, deeds, mail, marked, posted_as}
+use Rattle.qc_promise.specs.Names.{AreByTurns, IsMailed}
+use Rattle.qc_script.specs.Names.{RunsWithFalls, begins, control, controller_step, damaged, falls, phase, phase_of}
+use Rattle.qc_script.specs.Names.{posts, rises, takes, unopened}
 use Rattle.qc_script.specs.declared.script.Script.{Script}
-use Rattle.laws_turns.specs.LivesIn.{LivesIn}
+use Rattle.laws_turns.specs.Names.{LivesIn}
 use Rattle.laws_turns.proofs.Lived.{deeds-rise, run_lives, run_long}
 
 module _ (decl : Declaration) (script : Script) (fits : ℕ → List Record → Type 0)

@@ -6,11 +6,10 @@ use Rattle.std.specs.Option.{option_map_or}
 use Rattle.std.proofs.lemmas.List.{append-nil}
 use Rattle.std.proofs.lemmas.List.Elements.{filter_map-append}
 use Rattle.std.proofs.lemmas.List.Sums.{fold-append}
-use Rattle.qc_core.specs.Conduct.{IsLawful}
+use Rattle.qc_core.specs.Names.{IsLawful}
 use Rattle.qc_decl.specs.declared.declaration.Declaration.{Declaration}
-use Rattle.qc_decl.specs.Actors.{controller}
-use Rattle.qc_link.specs.Cuts.{with_cut, without_cut}
-use Rattle.qc_link.specs.Fate.{fate}
+use Rattle.qc_decl.specs.Names.{controller}
+use Rattle.qc_link.specs.Names.{fate, with_cut, without_cut}
 use Rattle.qc_link.specs.declared.rule.Fate.{Fate}
 use Rattle.qc_msg.specs.declared.message.Envelope.{Envelope}
 use Rattle.qc_msg.specs.declared.message.Message.{Message}
@@ -26,17 +25,19 @@ use Rattle.qc_msg.specs.declared.step.Step.{Step}
 use Rattle.qc_msg.specs.declared.step.Step.TheVariants as steps
 use Rattle.qc_msg.specs.declared.turn.Posting.{Posting}
 use Rattle.qc_msg.specs.declared.turn.Turn.{Turn}
-use Rattle.qc_msg.specs.Deeds.{Deed, Takes, deeds, mail, sends_of, tells_of, turn_deeds, writes_of}
-use Rattle.qc_msg.specs.Steps.{Entry, by, marked, posted, sents, step_of, told, wrote}
+use Rattle.qc_msg.specs.Names.{Deed, Entry, Takes, by, deeds, mail, marked, posted, sends_of, sents, step_of, tells_of}
+use Rattle.qc_msg.specs.Names.{told, turn_deeds, writes_of, wrote}
 use Rattle.qc_msg.proofs.Growth.{deeds-other, deeds-posted, deeds-taken}
 use Rattle.qc_script.specs.declared.script.PhaseLines.{PhaseLines}
 use Rattle.qc_script.specs.declared.script.Script.{Script}
 use Rattle.std.specs.Prelude.{set}
-use Rattle.qc_script.specs.Requests.{has_request}
-use Rattle.qc_script.specs.Inbox.{Inbox, acting, is_up, wrote_record, answers_by, comes, comes_at_once, command_called, commands_for, copy_taken, count_of, empty_inbox, goes, goes_with, inbox, inbox_at, is_request, loss_taken, opened, opened_by, phase_begun, reply_told, with_copies}
-use Rattle.qc_script.specs.Ready.{after_controls, command_in, first_command, first_copy, first_lost, phase_at, phase_of, ready, ready_in, step_of_control, takes_commands}
-use Rattle.qc_script.specs.Runs.{Runs, begins, takes, posts, phase, control}
-use Rattle.laws_turns.specs.Whole.{asked_in_all, asked_until, call_in, calls_of}
+use Rattle.qc_script.specs.Names.{Inbox, Runs, acting, after_controls, answers_by, comes, comes_at_once, command_called}
+use Rattle.qc_script.specs.Names.{command_in, commands_for, copy_taken, count_of, empty_inbox, first_command}
+use Rattle.qc_script.specs.Names.{first_copy, first_lost, goes, goes_with, has_request, inbox, inbox_at, is_request}
+use Rattle.qc_script.specs.Names.{is_up, loss_taken, opened, opened_by, phase_at, phase_begun, phase_of, ready}
+use Rattle.qc_script.specs.Names.{ready_in, reply_told, step_of_control, takes_commands, with_copies, wrote_record}
+use Rattle.qc_script.specs.Runs.{begins, takes, posts, phase, control}
+use Rattle.laws_turns.specs.Names.{asked_in_all, asked_until, call_in, calls_of}
 use Rattle.laws_turns.proofs.Acted.{deeds-silent}
 use Rattle.laws_turns.proofs.Arrivals.{what_is_ready_was_sent}
 use Rattle.laws_turns.proofs.Numbered.{control_silent, phase_silent}

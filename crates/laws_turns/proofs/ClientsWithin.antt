@@ -13,22 +13,21 @@ use Rattle.qc_msg.specs.declared.step.Command.{Command}
 use Rattle.qc_msg.specs.declared.step.Command.TheVariants as commands
 use Rattle.qc_msg.specs.declared.step.Input.{Input}
 use Rattle.qc_msg.specs.declared.step.Input.TheVariants as inputs
-use Rattle.qc_msg.specs.Deeds.{Deed, Takes, Writes, Sends, Tells, Falls, Rises}
-use Rattle.qc_msg.specs.Turns.{quiet}
+use Rattle.qc_msg.specs.Names.{Deed, Falls, Rises, Sends, Takes, Tells, Writes, quiet}
 use Rattle.qc_commit.specs.declared.desk.Known.{Known}
 use Rattle.qc_commit.specs.declared.desk.Known.TheVariants as knowns
 use Rattle.qc_commit.specs.declared.desk.Voting.{Voting}
 use Rattle.qc_commit.specs.Conduct as desks
-use Rattle.qc_commit.specs.Desk.{DeskMove, known}
+use Rattle.qc_commit.specs.Names.{DeskMove, known}
 use Rattle.qc_front.specs.declared.transaction.Transaction.{Transaction}
 use Rattle.qc_front.specs.Conduct as fronts
-use Rattle.qc_front.specs.Front.{FrontMove, ended}
+use Rattle.qc_front.specs.Names.{FrontMove, ended}
 use Rattle.qc_client.specs.declared.client.Client.{Client}
-use Rattle.qc_client.specs.Client.{ClientMove, by_desk, by_front, is_begun, moved, outcome_by, outcome_of}
-use Rattle.qc_client.specs.Conduct.{answered, answered_by, called, client_does, client_takes, commits, heard, requested}
-use Rattle.qc_client.specs.Conduct.{sent_one}
-use Rattle.laws_turns.specs.Within.{ClientMoveWithin, ClientWithin, DeskWithin, FrontWithin, GivenWithin, MessageWithin}
-use Rattle.laws_turns.specs.Within.{OutcomeWithin}
+use Rattle.qc_client.specs.Names.{ClientMove, answered, answered_by, by_desk, by_front, called, client_does}
+use Rattle.qc_client.specs.Names.{client_takes, commits, heard, is_begun, moved, outcome_by, outcome_of, requested}
+use Rattle.qc_client.specs.Names.{sent_one}
+use Rattle.laws_turns.specs.Names.{ClientMoveWithin, ClientWithin, DeskWithin, FrontWithin, GivenWithin, MessageWithin}
+use Rattle.laws_turns.specs.Names.{OutcomeWithin}
 use Rattle.laws_turns.proofs.DesksWithin.{CameWithin, DeskGoes, desk-le, known-within, prepare-within, vote_within}
 use Rattle.laws_turns.proofs.FrontsWithin.{FrontGoes, called-goes, ended_within, front-le, takes-goes}
 use Rattle.laws_turns.proofs.Greater.{answer-le, sends-le}

@@ -4,9 +4,9 @@ use Rattle.std.proofs.Common.{◌∷◌, ◌++◌, Option, Some, None, option_to
 use Rattle.std.proofs.Common.{eqb-true}
 use Rattle.std.specs.List.{AllByRecursion as Every}
 use Rattle.std.proofs.lemmas.Bool.{leb-true, ltb-true}
-use Rattle.qc_core.specs.Lives.{AreUncommanded, IsUncommanded}
+use Rattle.qc_core.specs.Names.{AreUncommanded, IsUncommanded}
 use Rattle.qc_decl.specs.declared.declaration.Declaration.{Declaration}
-use Rattle.qc_decl.specs.Actors.{administrator, is_client, is_site}
+use Rattle.qc_decl.specs.Names.{administrator, is_client, is_site}
 use Rattle.qc_list.proofs.Members.{every-append}
 use Rattle.qc_msg.specs.declared.message.Envelope.{Envelope}
 use Rattle.qc_msg.specs.declared.record.Record.{Record}
@@ -21,11 +21,10 @@ use Rattle.qc_msg.specs.declared.turn.Appended.{Appended}
 use Rattle.qc_msg.specs.declared.turn.Appended.TheVariants.{Done, Failed, Stopped}
 use Rattle.qc_msg.specs.declared.turn.Posting.{Posting}
 use Rattle.qc_msg.specs.declared.turn.Turn.{Turn}
-use Rattle.qc_msg.specs.Deeds.{deed_at, deeds, envelope_of, heard}
-use Rattle.qc_msg.specs.Steps.{Entry, by, fell, posted_as, sents, step_of, told, wrote}
-use Rattle.qc_script.specs.Inbox.{Inbox, inbox}
+use Rattle.qc_msg.specs.Names.{Entry, by, deed_at, deeds, envelope_of, fell, heard, posted_as, sents, step_of, told}
+use Rattle.qc_msg.specs.Names.{wrote}
+use Rattle.qc_script.specs.Names.{Inbox, inbox, ready_in, takes_commands}
 use Rattle.qc_script.specs.Ready as ready
-use Rattle.qc_script.specs.Ready.{ready_in, takes_commands}
 
 -- who calls commands
 

@@ -2,13 +2,12 @@
 use Rattle.std.proofs.Common.{◌≡◌, ℕ, ◌+◌, ◌-◌, ◌==◌, ◌&&◌, ◌⊎◌, not, Bool, true, false, cond, if◌then◌else◌, inl, inr, List, [], ◌∷◌, ◌++◌, drop, length, Option, Some, None, refl, sym, ap, ◌∙◌, subst, eqb-true, eq-eqb}
 use Rattle.std.specs.List.{fold}
 use Rattle.std.proofs.lemmas.List.Sums.{fold-append}
-use Rattle.qc_list.specs.Members.{In}
-use Rattle.qc_core.specs.Conduct.{IsLawful}
+use Rattle.qc_list.specs.Names.{In}
+use Rattle.qc_core.specs.Names.{IsLawful}
 use Rattle.qc_decl.specs.declared.declaration.Declaration.{Declaration}
-use Rattle.qc_decl.specs.Actors.{controller}
+use Rattle.qc_decl.specs.Names.{controller}
 use Rattle.qc_client.specs.declared.client.Client.{Client}
-use Rattle.qc_client.specs.Client.{ClientMove, moved, new_client}
-use Rattle.qc_client.specs.Conduct.{client_after, client_does, client_takes, sent_one}
+use Rattle.qc_client.specs.Names.{ClientMove, client_after, client_does, client_takes, moved, new_client, sent_one}
 use Rattle.qc_msg.specs.declared.call.Call.{Call}
 use Rattle.qc_msg.specs.declared.message.Envelope.{Envelope}
 use Rattle.qc_msg.specs.declared.record.Record.{Record}
@@ -22,16 +21,16 @@ use Rattle.qc_msg.specs.declared.step.Step.{Step}
 use Rattle.qc_msg.specs.declared.step.Step.TheVariants as steps
 use Rattle.qc_msg.specs.declared.turn.Posting.{Posting}
 use Rattle.qc_msg.specs.declared.turn.Turn.{Turn}
-use Rattle.qc_msg.specs.Deeds.{Deed, Takes, Sends, deeds, mail, sends_of, tells_of, turn_deeds, writes_of}
-use Rattle.qc_msg.specs.Turns.{quiet}
-use Rattle.qc_msg.specs.Steps.{Entry, by, marked, posted, sents, step_of, told, wrote}
+use Rattle.qc_msg.specs.Names.{Deed, Entry, Sends, Takes, by, deeds, mail, marked, posted, quiet, sends_of, sents}
+use Rattle.qc_msg.specs.Names.{step_of, tells_of, told, turn_deeds, writes_of, wrote}
 use Rattle.qc_msg.proofs.Growth.{deeds-other, deeds-posted, deeds-taken}
 use Rattle.qc_script.specs.declared.script.Script.{Script}
 use Rattle.qc_script.proofs.AllUp.{Stays, step_up}
-use Rattle.qc_script.specs.Inbox.{Inbox, everybody, copy_taken, empty_inbox, inbox, inbox_at, loss_taken}
-use Rattle.qc_script.specs.Ready.{after_controls, command_in, first_command, first_copy, first_lost, phase_of, ready, ready_in, step_of_control, takes_commands}
-use Rattle.qc_script.specs.Runs.{Runs, begins, takes, posts, phase, control}
-use Rattle.laws_turns.specs.Calls.{IsAwaited, open_calls}
+use Rattle.qc_script.specs.Names.{Inbox, Runs, after_controls, command_in, copy_taken, empty_inbox, everybody}
+use Rattle.qc_script.specs.Names.{first_command, first_copy, first_lost, inbox, inbox_at, loss_taken, phase_of, ready}
+use Rattle.qc_script.specs.Names.{ready_in, step_of_control, takes_commands}
+use Rattle.qc_script.specs.Runs.{begins, takes, posts, phase, control}
+use Rattle.laws_turns.specs.Names.{IsAwaited, open_calls}
 use Rattle.laws_turns.proofs.Acted.{deeds-silent}
 use Rattle.laws_turns.proofs.Arrivals.{what_is_ready_was_sent}
 use Rattle.laws_turns.proofs.Awaiting.{Spares, awaited_got, awaited_lost, awaited_request, awaited_step}

@@ -2,11 +2,11 @@
 use Rattle.std.proofs.Common.{◌≡◌, ◌≤◌, ◌<◌, ℕ, zero, suc, ◌+◌, get_or, length, Bool, true, false, cond, ◌⊎◌, inl, inr, List, [], ◌∷◌, ◌++◌, Option, Some, None, option_map, refl, sym, ap, ◌∙◌, subst, arith}
 use Rattle.std.specs.List.{AllPairs}
 use Rattle.std.proofs.lemmas.List.{append-nil}
-use Rattle.qc_list.specs.Members.{In}
+use Rattle.qc_list.specs.Names.{In}
 use Rattle.qc_list.proofs.Members.{In-first, In-last, In-more, In-second}
 use Rattle.qc_stamp.specs.declared.stamp.Stamp.{Stamp}
 use Rattle.qc_stamp.specs.declared.stamp.TxId.{TxId}
-use Rattle.qc_stamp.specs.Order.{same_tx}
+use Rattle.qc_stamp.specs.Names.{same_tx}
 use Rattle.qc_stamp.proofs.Orders.{same_tx_is, same_tx_itself}
 use Rattle.qc_entry.specs.declared.line.Op.{Op}
 use Rattle.qc_entry.specs.declared.record.Commit.{Commit}
@@ -15,9 +15,9 @@ use Rattle.qc_msg.specs.declared.reply.Reply.{Reply}
 use Rattle.qc_msg.specs.declared.reply.Reply.TheVariants as replies
 use Rattle.qc_msg.specs.declared.step.Command.{Command}
 use Rattle.qc_msg.specs.declared.step.Command.TheVariants as commands
-use Rattle.qc_front.specs.Answering.{op_of}
-use Rattle.laws_turns.specs.Books.{Book}
-use Rattle.qc_promise.specs.Deals.{Dealing, dealt, ended, is_begun, operation}
+use Rattle.qc_front.specs.Names.{op_of}
+use Rattle.laws_turns.specs.Names.{Book}
+use Rattle.qc_promise.specs.Names.{Dealing, dealt, ended, is_begun, operation}
 
 -- the name of the next transaction, or of the last one
 abbrev pub tx_at : Book → ℕ → TxId

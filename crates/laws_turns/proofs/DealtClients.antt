@@ -19,24 +19,21 @@ use Rattle.qc_msg.specs.declared.step.Input.{Input}
 use Rattle.qc_msg.specs.declared.step.Input.TheVariants as inputs
 use Rattle.qc_msg.specs.declared.turn.Posting.{Posting}
 use Rattle.qc_msg.specs.declared.turn.Turn.{Turn}
-use Rattle.qc_msg.specs.Counts.{commit_of as commit_of_record}
-use Rattle.qc_msg.specs.Deeds.{Deed, Takes, Writes, Sends, Tells, Falls, Rises, sends_of, tells_of, turn_deeds, writes_of}
-use Rattle.qc_msg.specs.Turns.{quiet}
+use Rattle.qc_msg.specs.Names.{Deed, Falls, Rises, Sends, Takes, Tells, Writes, commit_of as commit_of_record, quiet}
+use Rattle.qc_msg.specs.Names.{sends_of, tells_of, turn_deeds, writes_of}
 use Rattle.qc_commit.specs.declared.desk.Voting.{Voting}
 use Rattle.qc_commit.specs.Conduct as desks
-use Rattle.qc_commit.specs.Conduct.{abort_turn, commit_of, commit_turn}
-use Rattle.qc_commit.specs.Desk.{DeskMove}
+use Rattle.qc_commit.specs.Names.{DeskMove, abort_turn, commit_of, commit_turn}
 use Rattle.qc_front.specs.declared.doing.Doing.{Doing}
 use Rattle.qc_front.specs.declared.doing.Doing.TheVariants.{Idle, Reading, Appending}
 use Rattle.qc_front.specs.declared.transaction.Transaction.{Transaction}
 use Rattle.qc_front.specs.Conduct as fronts
-use Rattle.qc_front.specs.Front.{FrontMove, ended as front_ended}
+use Rattle.qc_front.specs.Names.{FrontMove, ended as front_ended}
 use Rattle.qc_client.specs.declared.client.Client.{Client}
-use Rattle.qc_client.specs.Client.{ClientMove, by_desk, by_front, moved}
-use Rattle.qc_client.specs.Conduct.{answered, answered_by, called, client_does, client_takes, commits, heard, sent_one}
-use Rattle.qc_client.specs.Inputs.{IsFree, IsReady}
-use Rattle.laws_turns.specs.Books.{begun_in, book_of, book_with}
-use Rattle.qc_promise.specs.Deals.{Dealing, deal, deal_taken, deal_told, ended}
+use Rattle.qc_client.specs.Names.{ClientMove, IsFree, IsReady, answered, answered_by, by_desk, by_front, called}
+use Rattle.qc_client.specs.Names.{client_does, client_takes, commits, heard, moved, sent_one}
+use Rattle.laws_turns.specs.Names.{begun_in, book_of, book_with}
+use Rattle.qc_promise.specs.Names.{Dealing, deal, deal_taken, deal_told, ended}
 use Rattle.laws_turns.proofs.ClientsWithin.{IsPost}
 use Rattle.laws_turns.proofs.BooksKept.{committed_book, free_book, later_book}
 use Rattle.laws_turns.proofs.Dealing.{IsBook, IsDealing, as_asked, committed_one, gave_up}

@@ -6,8 +6,7 @@ use Rattle.qc_stamp.specs.declared.stamp.TxId.{TxId}
 use Rattle.qc_entry.specs.declared.line.Op.{Op}
 use Rattle.qc_entry.specs.declared.record.Commit.{Commit}
 use Rattle.qc_decl.specs.declared.declaration.Declaration.{Declaration}
-use Rattle.qc_decl.specs.Limits.{most_transaction_operations}
-use Rattle.qc_decl.specs.Lookup.{append_need_of, read_need_of}
+use Rattle.qc_decl.specs.Names.{append_need_of, most_transaction_operations, read_need_of}
 use Rattle.qc_msg.specs.declared.begun.Begun.{Begun}
 use Rattle.qc_msg.specs.declared.call.Call.{Call}
 use Rattle.qc_msg.specs.declared.message.Answer.{Answer}
@@ -19,26 +18,23 @@ use Rattle.qc_msg.specs.declared.reply.AbortCause.TheVariants as causes
 use Rattle.qc_msg.specs.declared.step.Command.{Command}
 use Rattle.qc_msg.specs.declared.step.Command.TheVariants as commands
 use Rattle.qc_msg.specs.declared.turn.Turn.{Turn}
-use Rattle.qc_msg.specs.Calls.{site_called, without_call}
-use Rattle.qc_msg.specs.Turns.{quiet, telling}
-use Rattle.qc_plan.specs.Round.{RoundState, note, verdict}
+use Rattle.qc_msg.specs.Names.{quiet, site_called, telling, without_call}
+use Rattle.qc_plan.specs.Names.{RoundState, note, verdict}
 use Rattle.qc_plan.specs.declared.standing.Verdict.{Verdict}
 use Rattle.qc_plan.specs.declared.standing.Verdict.TheVariants as verdicts
 use Rattle.qc_view.specs.declared.view.View.{View}
-use Rattle.qc_view.specs.View.{with_log, with_own}
+use Rattle.qc_view.specs.Names.{with_log, with_own}
 use Rattle.qc_front.specs.declared.doing.Doing.{Doing}
 use Rattle.qc_front.specs.declared.doing.Doing.TheVariants.{Idle, Reading, Appending}
 use Rattle.qc_front.specs.declared.front.Front.{Front}
 use Rattle.qc_front.specs.declared.transaction.Transaction.{Transaction}
-use Rattle.qc_front.specs.Answering.{answer_of, next_own, op_of, resp_of, with_event}
-use Rattle.qc_front.specs.Appending.{round_for}
-use Rattle.qc_front.specs.Conduct.{appending_takes, called, commits, reading_takes, takes, takes_in}
-use Rattle.qc_front.specs.Counting.{appended_with, learns, lived, read_with, standing_of}
-use Rattle.qc_front.specs.Front.{FrontMove, aborts, begins, fresh, gives_up, moved, next_tx, turned}
-use Rattle.qc_front.specs.Rounds.{answered, append_by, performs, read_by, reads}
+use Rattle.qc_front.specs.Names.{FrontMove, aborts, answer_of, answered, append_by, appended_with, appending_takes}
+use Rattle.qc_front.specs.Names.{begins, called, commits, fresh, gives_up, learns, lived, moved, next_own, next_tx}
+use Rattle.qc_front.specs.Names.{op_of, performs, read_by, read_with, reading_takes, reads, resp_of, round_for}
+use Rattle.qc_front.specs.Names.{standing_of, takes, takes_in, turned, with_event}
 use Rattle.qc_front.proofs.Keeping.{appended_is, view_keeps}
-use Rattle.laws_turns.specs.Books.{Book, begun_in, book_with}
-use Rattle.qc_promise.specs.Deals.{Dealing, deal_told, dealt, ended}
+use Rattle.laws_turns.specs.Names.{Book, begun_in, book_with}
+use Rattle.qc_promise.specs.Names.{Dealing, deal_told, dealt, ended}
 use Rattle.laws_turns.proofs.BooksKept.{began_book, free_book}
 use Rattle.laws_turns.proofs.Dealing.{IsBook, IsDealing, as_begun, began_one, begun_book, gave_up, told_op}
 

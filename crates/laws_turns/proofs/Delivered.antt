@@ -4,9 +4,8 @@ use Rattle.std.specs.List.{AllByRecursion as Every, cons_option}
 use Rattle.std.proofs.lemmas.List.{append-nil}
 use Rattle.qc_core.proofs.Written.{IsAnswerTo, IsAnsweredTo, NoAnswer}
 use Rattle.qc_decl.specs.declared.declaration.Declaration.{Declaration}
-use Rattle.qc_inbox.specs.Kept.{AreNumbered}
-use Rattle.qc_inbox.specs.Owned.{IsOwnRequest}
-use Rattle.qc_list.specs.Members.{In}
+use Rattle.qc_inbox.specs.Names.{AreNumbered, IsOwnRequest}
+use Rattle.qc_list.specs.Names.{In}
 use Rattle.qc_list.proofs.Members.{every-append, every-at, every-weaker}
 use Rattle.qc_msg.specs.declared.message.Envelope.{Envelope}
 use Rattle.qc_msg.specs.declared.message.Message.{Message}
@@ -21,14 +20,13 @@ use Rattle.qc_msg.specs.declared.turn.Appended.{Appended}
 use Rattle.qc_msg.specs.declared.turn.Appended.TheVariants.{Done, Failed, Stopped}
 use Rattle.qc_msg.specs.declared.turn.Posting.{Posting}
 use Rattle.qc_msg.specs.declared.turn.Turn.{Turn}
-use Rattle.qc_msg.specs.Deeds.{Deed, WasSentTo, Takes, Writes, Sends, Tells, Falls, Rises, deed_at, deeds, envelope_of, envelopes, heard, mail}
-use Rattle.qc_msg.specs.InputReadings.{heard_in}
-use Rattle.qc_msg.specs.Readings.{Answered, answer_in}
-use Rattle.qc_msg.specs.Steps.{Entry, by, fell, marked, posted_as, sends_as, sents, step_of, told, wrote}
+use Rattle.qc_msg.specs.Names.{Answered, Deed, Entry, Falls, Rises, Sends, Takes, Tells, WasSentTo, Writes, answer_in}
+use Rattle.qc_msg.specs.Names.{by, deed_at, deeds, envelope_of, envelopes, fell, heard, heard_in, mail, marked}
+use Rattle.qc_msg.specs.Names.{posted_as, sends_as, sents, step_of, told, wrote}
 use Rattle.qc_msg.proofs.GrownMail.{mail-append, mail-taken}
 use Rattle.qc_msg.proofs.Growth.{mail-posted_as}
-use Rattle.qc_promise.specs.Mail.{IsAnswerOf, IsMailStep, IsMailed, IsReceived, IsRequestOf, IsRequestTo, asks_answer}
-use Rattle.qc_script.specs.Inbox.{is_request}
+use Rattle.qc_promise.specs.Names.{IsAnswerOf, IsMailStep, IsMailed, IsReceived, IsRequestOf, IsRequestTo, asks_answer}
+use Rattle.qc_script.specs.Names.{is_request}
 use Rattle.laws_turns.proofs.Commanded.{CallsAt, IsCalled, IsOwnCall, input_called, post_called}
 use Rattle.laws_turns.proofs.Places.{slice_get-more}
 

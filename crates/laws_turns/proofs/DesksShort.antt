@@ -2,7 +2,7 @@
 use Rattle.std.proofs.Common.{◌≡◌, ℕ, ◌≤◌, ◌==◌, Bool, true, false, cond, List, [], length, map, Option, Some, None}
 use Rattle.std.proofs.Common.{arith}
 use Rattle.std.proofs.lemmas.List.{length-map}
-use Rattle.qc_decl.specs.Accepted.{IsAccepted}
+use Rattle.qc_decl.specs.Names.{IsAccepted}
 use Rattle.qc_decl.specs.declared.declaration.Declaration.{Declaration}
 use Rattle.qc_msg.specs.declared.begun.Begun.{Begun}
 use Rattle.qc_msg.specs.declared.call.Call.{Call}
@@ -11,20 +11,15 @@ use Rattle.qc_msg.specs.declared.message.Message.TheVariants as messages
 use Rattle.qc_msg.specs.declared.message.Outcome.{Outcome}
 use Rattle.qc_msg.specs.declared.message.Outcome.TheVariants.{Aborted, Committed}
 use Rattle.qc_msg.specs.declared.reply.AbortCause.{AbortCause}
-use Rattle.qc_msg.specs.Begun.{decisions}
-use Rattle.qc_msg.specs.Calls.{site_called, without_call}
-use Rattle.qc_msg.specs.Turns.{quiet, sending}
+use Rattle.qc_msg.specs.Names.{decisions, quiet, sending, site_called, without_call}
 use Rattle.qc_commit.specs.declared.ballot.Ballot.{Ballot}
 use Rattle.qc_commit.specs.declared.desk.Desk.{Desk}
 use Rattle.qc_commit.specs.declared.desk.Voting.{Voting}
-use Rattle.qc_commit.specs.Calls.{Prepares}
-use Rattle.qc_commit.specs.Conduct.{counted_out, counts, decides, learns, next_stamp, passed, prepare, vote, votes_at}
-use Rattle.qc_commit.specs.Conduct.{votes_in}
-use Rattle.qc_commit.specs.Desk.{DeskMove, moved}
-use Rattle.qc_commit.specs.Fits.{AsksFew}
-use Rattle.qc_commit.specs.Votes.{are_cast, blank, cast, first_against, participants, prepares, vote_of}
+use Rattle.qc_commit.specs.Names.{AsksFew, DeskMove, Prepares, are_cast, blank, cast, counted_out, counts, decides}
+use Rattle.qc_commit.specs.Names.{first_against, learns, moved, next_stamp, participants, passed, prepare, prepares}
+use Rattle.qc_commit.specs.Names.{vote, vote_of, votes_at, votes_in}
 use Rattle.qc_commit.proofs.Aside.{few-after}
-use Rattle.laws_turns.specs.RecordsAsked.{AreSites, VotedSites}
+use Rattle.laws_turns.specs.Names.{AreSites, VotedSites}
 use Rattle.laws_turns.proofs.Asked.{few_sites}
 
 pub record IsDeskShort (decl : Declaration) (m : DeskMove) : Type 0 where

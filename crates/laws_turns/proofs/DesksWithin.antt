@@ -5,7 +5,7 @@ use Rattle.std.specs.List.{AllByRecursion as Every}
 use Rattle.qc_list.proofs.Members.{every-append, every-weaker}
 use Rattle.qc_stamp.specs.declared.stamp.Stamp.{Stamp}
 use Rattle.qc_stamp.specs.declared.stamp.TxId.{TxId}
-use Rattle.qc_stamp.specs.Order.{same_tx}
+use Rattle.qc_stamp.specs.Names.{same_tx}
 use Rattle.qc_entry.specs.declared.record.Commit.{Commit}
 use Rattle.qc_decl.specs.declared.declaration.Declaration.{Declaration}
 use Rattle.qc_msg.specs.declared.begun.Begun.{Begun}
@@ -16,20 +16,17 @@ use Rattle.qc_msg.specs.declared.message.Message.TheVariants as messages
 use Rattle.qc_msg.specs.declared.message.Outcome.{Outcome}
 use Rattle.qc_msg.specs.declared.message.Outcome.TheVariants.{Aborted, Committed}
 use Rattle.qc_msg.specs.declared.reply.AbortCause.{AbortCause}
-use Rattle.qc_msg.specs.Calls.{site_called, without_call}
-use Rattle.qc_msg.specs.Turns.{quiet, sending}
+use Rattle.qc_msg.specs.Names.{quiet, sending, site_called, without_call}
 use Rattle.qc_commit.specs.declared.ballot.Ballot.{Ballot}
 use Rattle.qc_commit.specs.declared.desk.Desk.{Desk}
 use Rattle.qc_commit.specs.declared.desk.Known.{Known}
 use Rattle.qc_commit.specs.declared.desk.Known.TheVariants as knowns
 use Rattle.qc_commit.specs.declared.desk.Voting.{Voting}
-use Rattle.qc_commit.specs.Conduct.{commit_of, counted_out, counts, decides, learns, next_stamp, passed, prepare, vote}
-use Rattle.qc_commit.specs.Conduct.{votes_at, votes_in}
-use Rattle.qc_commit.specs.Desk.{DeskMove, known_by, moved, record_of}
-use Rattle.qc_commit.specs.Learning.{promised}
-use Rattle.qc_commit.specs.Votes.{are_cast, blank, cast, first_against, participants, prepares, vote_of}
+use Rattle.qc_commit.specs.Names.{DeskMove, are_cast, blank, cast, commit_of, counted_out, counts, decides}
+use Rattle.qc_commit.specs.Names.{first_against, known_by, learns, moved, next_stamp, participants, passed, prepare}
+use Rattle.qc_commit.specs.Names.{prepares, promised, record_of, vote, vote_of, votes_at, votes_in}
 use Rattle.qc_commit.proofs.Learned.{learned-clock, learned-commits}
-use Rattle.laws_turns.specs.Within.{AnswerWithin, DeskWithin, OutcomeWithin, SendsWithin}
+use Rattle.laws_turns.specs.Names.{AnswerWithin, DeskWithin, OutcomeWithin, SendsWithin}
 
 pub desk-le : (low high : ℕ) (desk : Desk) → low ≤ high → DeskWithin low desk → DeskWithin high desk
 desk-le low high desk le w = record {

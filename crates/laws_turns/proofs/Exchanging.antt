@@ -4,14 +4,11 @@ use Rattle.std.proofs.Common.{◌∙◌}
 use Rattle.std.specs.Prelude.{fold, option_to_list}
 use Rattle.std.specs.List.{filter_map}
 use Rattle.std.proofs.lemmas.List.Sums.{fold-append}
-use Rattle.qc_core.specs.Acts.{is_running, runs_at}
+use Rattle.qc_core.specs.Names.{AreSteady, is_running, runs_at}
 use Rattle.qc_msg.specs.declared.step.Command.{Command}
 use Rattle.qc_msg.specs.declared.step.Input.TheVariants as inputs
-use Rattle.qc_msg.specs.Deeds.{Deed, Takes, Writes, Sends, Tells, Falls, Rises}
-use Rattle.laws_turns.specs.Exchanges.{AreAnswered, exchanges, exchanges_from}
-use Rattle.laws_turns.specs.Order.{AreInOrder}
-use Rattle.laws_turns.specs.Whole.{call_in}
-use Rattle.qc_core.specs.Lives.{AreSteady}
+use Rattle.qc_msg.specs.Names.{Deed, Falls, Rises, Sends, Takes, Tells, Writes}
+use Rattle.laws_turns.specs.Names.{AreAnswered, AreInOrder, call_in, exchanges, exchanges_from}
 
 one_more : (before : List Deed) (d : Deed) (running : Bool) → is_running before ≡ running
     → is_running (before ++ d ∷ []) ≡ runs_at running d

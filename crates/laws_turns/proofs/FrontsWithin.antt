@@ -7,8 +7,7 @@ use Rattle.qc_list.proofs.Members.{every-at, every-from_In, every-weaker}
 use Rattle.qc_entry.specs.declared.line.Line.{Line}
 use Rattle.qc_entry.proofs.Union.{every-union}
 use Rattle.qc_decl.specs.declared.declaration.Declaration.{Declaration}
-use Rattle.qc_decl.specs.Limits.{most_transaction_operations}
-use Rattle.qc_decl.specs.Lookup.{append_need_of, read_need_of}
+use Rattle.qc_decl.specs.Names.{append_need_of, most_transaction_operations, read_need_of}
 use Rattle.qc_msg.specs.declared.call.Call.{Call}
 use Rattle.qc_msg.specs.declared.message.Answer.{Answer}
 use Rattle.qc_msg.specs.declared.message.Answer.TheVariants as answers
@@ -20,26 +19,23 @@ use Rattle.qc_msg.specs.declared.reply.AbortCause.TheVariants as causes
 use Rattle.qc_msg.specs.declared.step.Command.{Command}
 use Rattle.qc_msg.specs.declared.step.Command.TheVariants as commands
 use Rattle.qc_msg.specs.declared.turn.Posting.{Posting}
-use Rattle.qc_msg.specs.Calls.{site_called, without_call}
-use Rattle.qc_msg.specs.Turns.{quiet, telling}
-use Rattle.qc_plan.specs.Round.{RoundState, note, verdict}
+use Rattle.qc_msg.specs.Names.{quiet, site_called, telling, without_call}
+use Rattle.qc_plan.specs.Names.{RoundState, note, verdict}
 use Rattle.qc_plan.specs.declared.standing.Verdict.{Verdict}
 use Rattle.qc_plan.specs.declared.standing.Verdict.TheVariants as verdicts
 use Rattle.qc_view.specs.declared.view.View.{View}
-use Rattle.qc_view.specs.View.{empty_view, with_log, with_own}
+use Rattle.qc_view.specs.Names.{empty_view, with_log, with_own}
 use Rattle.qc_front.specs.declared.doing.Doing.{Doing}
 use Rattle.qc_front.specs.declared.doing.Doing.TheVariants.{Idle, Reading, Appending}
 use Rattle.qc_front.specs.declared.front.Front.{Front}
 use Rattle.qc_front.specs.declared.transaction.Transaction.{Transaction}
-use Rattle.qc_front.specs.Answering.{answer_of, next_own, resp_of, view_log, with_event, with_view}
-use Rattle.qc_front.specs.Appending.{round_for}
-use Rattle.qc_front.specs.Conduct.{appending_takes, called, commits, reading_takes, takes, takes_in}
-use Rattle.qc_front.specs.Counting.{appended_with, learns, lived, read_with, standing_of}
-use Rattle.qc_front.specs.Front.{FrontMove, aborts, begins, ended, gives_up, moved}
-use Rattle.qc_front.specs.Requests.{AreSent, IsFor, IsSent}
-use Rattle.qc_front.specs.Rounds.{answered, append_by, performs, read_by, reads}
+use Rattle.qc_front.specs.Names.{AreSent, FrontMove, IsFor, IsSent, aborts, answer_of, answered, append_by}
+use Rattle.qc_front.specs.Names.{appended_with, appending_takes, begins, called, commits, ended, gives_up, learns}
+use Rattle.qc_front.specs.Names.{lived, moved, next_own, performs, read_by, read_with, reading_takes, reads, resp_of}
+use Rattle.qc_front.specs.Names.{round_for, standing_of, takes, takes_in, view_log, with_event, with_view}
 use Rattle.qc_front.proofs.Sending.{called_sent, takes_sent}
-use Rattle.laws_turns.specs.Within.{FrontWithin, LinesWithin, MessageWithin, OutcomeWithin, SendsWithin, TransactionWithin, ViewsWithin, WantWithin}
+use Rattle.laws_turns.specs.Names.{FrontWithin, LinesWithin, MessageWithin, OutcomeWithin, SendsWithin}
+use Rattle.laws_turns.specs.Names.{TransactionWithin, ViewsWithin, WantWithin}
 use Rattle.laws_turns.proofs.DesksWithin.{CameWithin}
 use Rattle.laws_turns.proofs.Greater.{lines-le}
 

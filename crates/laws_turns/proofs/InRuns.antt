@@ -5,10 +5,9 @@ use Rattle.std.proofs.Common.{eqb-true}
 use Rattle.std.specs.Prelude.{replicate, slice_set}
 use Rattle.std.proofs.lemmas.Bool.{leb-true, ltb-true}
 use Rattle.std.proofs.lemmas.List.Sums.{fold-append}
-use Rattle.qc_decl.specs.Accepted.{IsAccepted}
+use Rattle.qc_decl.specs.Names.{IsAccepted, actors, controller, is_client, is_site}
 pub use Rattle.qc_decl.proofs.Clients.{client_no_site, client_within as client_low}
 use Rattle.qc_decl.proofs.Clients.{client_past}
-use Rattle.qc_decl.specs.Actors.{actors, controller, is_client, is_site}
 use Rattle.qc_decl.specs.declared.declaration.Declaration.{Declaration}
 use Rattle.qc_stamp.specs.declared.stamp.TxId.{TxId}
 use Rattle.qc_entry.specs.declared.record.Commit.{Commit}
@@ -16,31 +15,24 @@ use Rattle.qc_msg.specs.declared.step.Input.{Input}
 use Rattle.qc_msg.specs.declared.step.Input.TheVariants as inputs
 use Rattle.qc_msg.specs.declared.step.Step.{Step}
 use Rattle.qc_msg.specs.declared.turn.Turn.{Turn}
-use Rattle.qc_msg.specs.Deeds.{Deed, Takes, deeds, turn_deeds}
-use Rattle.qc_msg.specs.Steps.{Entry}
-use Rattle.qc_msg.specs.Turns.{quiet}
-use Rattle.qc_script.specs.Ready.{phase_of}
-use Rattle.qc_script.specs.Runs.{Runs}
+use Rattle.qc_msg.specs.Names.{Deed, Entry, Takes, deeds, quiet, turn_deeds}
+use Rattle.qc_script.specs.Names.{Runs, phase_of}
 use Rattle.qc_script.specs.Runs as runs
 use Rattle.qc_script.specs.declared.script.Script.{Script}
 use Rattle.qc_client.specs.declared.client.Client.{Client}
-use Rattle.qc_client.specs.Client.{ClientMove, moved, new_client}
-use Rattle.qc_client.specs.Conduct.{client_after, client_does, client_takes}
-use Rattle.qc_client.specs.Inputs.{IsReady}
-use Rattle.qc_core.specs.Acts.{Acts, MayTake, is_running}
+use Rattle.qc_client.specs.Names.{ClientMove, IsReady, client_after, client_does, client_takes, moved, new_client}
+use Rattle.qc_core.specs.Names.{Acts, IsLawful, MayTake, is_running}
 use Rattle.qc_core.specs.Acts as acts
-use Rattle.qc_core.specs.Conduct.{IsLawful}
 use Rattle.qc_core.proofs.ActorSent.{known}
 use Rattle.qc_core.proofs.ClientStands.{Stands}
-use Rattle.laws_turns.specs.Turns.{ActsIn}
+use Rattle.laws_turns.specs.Names.{ActsIn, written_in}
 use Rattle.laws_turns.proofs.Acted.{run_acts}
 use Rattle.laws_turns.proofs.Arrivals.{what_is_ready_was_sent}
 use Rattle.laws_turns.proofs.Numbered.{IsSilent, control_silent, phase_silent}
 use Rattle.laws_turns.proofs.Places.{slice_get-set_other, slice_get-set_same}
-use Rattle.qc_promise.specs.Deals.{Dealing, deal, deal_taken, dealing_in, no_dealing}
+use Rattle.qc_promise.specs.Names.{Dealing, deal, deal_taken, dealing_in, no_dealing}
 use Rattle.laws_turns.proofs.Events.{Events, IsControl}
 use Rattle.laws_turns.proofs.Events as events
-use Rattle.laws_turns.specs.Written.{written_in}
 use Rattle.laws_turns.proofs.Bounding.{lawful_turn, turn-posts}
 use Rattle.laws_turns.proofs.DealtClients.{IsAfter, Keeps, at_rest, commits_of, input-keeps, posts-keep, taken-keeps}
 use Rattle.laws_turns.proofs.DealtClients.{turn_told}

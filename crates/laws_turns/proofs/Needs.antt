@@ -1,34 +1,27 @@
 -- What the calls of a client ask of clocks and counts, from the bounds of a history.
 use Rattle.std.proofs.Common.{◌≡◌, ℕ, ◌+◌, ◌-◌, ◌^◌, ◌<◌, ◌≤◌, Bool, true, false, List, [], length, Some, slice_get}
 use Rattle.std.proofs.Common.{arith}
-use Rattle.qc_list.specs.Members.{In}
+use Rattle.qc_list.specs.Names.{In}
 use Rattle.qc_list.proofs.Members.{every-In}
-use Rattle.qc_decl.specs.Accepted.{IsAccepted}
-use Rattle.qc_decl.specs.Actors.{is_client}
-use Rattle.qc_decl.specs.Limits.{most_steps}
+use Rattle.qc_decl.specs.Names.{IsAccepted, is_client, most_steps}
 use Rattle.qc_decl.specs.declared.declaration.Declaration.{Declaration}
-use Rattle.qc_client.specs.Conduct.{client_after}
-use Rattle.qc_client.specs.Fits.{ClientFits, promise_in}
+use Rattle.qc_client.specs.Names.{ClientFits, client_after, promise_in}
 use Rattle.qc_msg.specs.declared.message.Envelope.{Envelope}
 use Rattle.qc_msg.specs.declared.message.Message.{Message}
 use Rattle.qc_msg.specs.declared.message.Message.TheVariants as messages
 use Rattle.qc_msg.specs.declared.turn.Turn.{Turn}
-use Rattle.qc_msg.specs.Deeds.{Deed, deeds, mail}
+use Rattle.qc_msg.specs.Names.{Deed, Entry, deeds, mail}
 use Rattle.qc_msg.proofs.GrownMail.{length-mail}
 use Rattle.qc_front.proofs.Fitting.{fits}
-use Rattle.qc_script.specs.Runs.{Runs}
+use Rattle.qc_script.specs.Names.{Runs}
 use Rattle.qc_script.specs.declared.script.Script.{Script}
-use Rattle.qc_site.specs.Conduct.{site_after}
-use Rattle.qc_core.specs.Acts.{Acts, is_running}
-use Rattle.qc_core.specs.Conduct.{IsLawful}
+use Rattle.qc_site.specs.Names.{site_after}
+use Rattle.qc_core.specs.Names.{Acts, IsLawful, is_running}
 use Rattle.qc_core.proofs.ActorSent.{known}
 use Rattle.qc_core.proofs.ClientStands.{Stands}
-use Rattle.laws_turns.specs.Turns.{ActsIn}
+use Rattle.laws_turns.specs.Names.{ActsIn, ClockBounds, IsBounded, MessageWithin}
 use Rattle.laws_turns.proofs.Acted.{run_acts}
-use Rattle.qc_msg.specs.Steps.{Entry}
-use Rattle.laws_turns.specs.Bounds.{ClockBounds, IsBounded}
 use Rattle.laws_turns.proofs.Events.{Events}
-use Rattle.laws_turns.specs.Within.{MessageWithin}
 use Rattle.laws_turns.proofs.Bounding.{all_bounded, lawful_turn}
 use Rattle.laws_turns.proofs.InRuns.{client_no_site, run_events}
 use Rattle.laws_turns.proofs.Short.{IsClientShort, IsReadyFor, clients_short, sites_short}

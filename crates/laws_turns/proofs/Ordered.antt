@@ -3,17 +3,13 @@
 use Rattle.std.proofs.Common.{◌≡◌, ℕ, ◌+◌, nat_lt, Bool, true, false, List, [], length, Some, slice_get, refl, sym}
 use Rattle.std.proofs.Common.{subst}
 use Rattle.std.proofs.lemmas.Bool.{ltb-false, ltb-true}
-use Rattle.qc_core.specs.Acts.{is_running}
-use Rattle.qc_core.specs.Conduct.{IsLawful}
+use Rattle.qc_core.specs.Names.{IsLawful, is_running}
 use Rattle.qc_decl.specs.declared.declaration.Declaration.{Declaration}
-use Rattle.qc_decl.specs.Actors.{actors}
-use Rattle.qc_msg.specs.Deeds.{Deed, deeds}
-use Rattle.qc_msg.specs.Steps.{Entry}
-use Rattle.qc_script.specs.Runs.{Runs}
+use Rattle.qc_decl.specs.Names.{actors}
+use Rattle.qc_msg.specs.Names.{Deed, Entry, deeds}
+use Rattle.qc_script.specs.Names.{Runs}
 use Rattle.qc_script.specs.declared.script.Script.{Script}
-use Rattle.laws_turns.specs.Order.{AreInOrder}
-use Rattle.laws_turns.specs.Turns.{ActsIn}
-use Rattle.laws_turns.specs.Whole.{calls_of, replies_of}
+use Rattle.laws_turns.specs.Names.{ActsIn, AreInOrder, calls_of, replies_of}
 use Rattle.laws_turns.proofs.Acted.{has_entry, others_do_nothing, run_acts}
 use Rattle.laws_turns.proofs.Replying.{acts_ordered, all_counted, open_commands}
 use Rattle.laws_turns.proofs.Up.{run_up}

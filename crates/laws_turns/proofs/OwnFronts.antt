@@ -2,17 +2,16 @@
 use Rattle.std.proofs.Common.{◌≡◌, ℕ, nat_le, Bool, true, false, if◌then◌else◌, List, [], ◌∷◌, ◌++◌, length, Option}
 use Rattle.std.proofs.Common.{Some, None, option_map, inl, inr, refl, sym, ap, ◌∙◌, slice_get, subst}
 use Rattle.std.specs.List.{AllByRecursion as Every}
-use Rattle.qc_core.specs.Sites.{IsOwnStamp, IsStamped}
-use Rattle.qc_list.specs.Members.{In}
+use Rattle.qc_core.specs.Names.{IsOwnStamp, IsStamped}
+use Rattle.qc_list.specs.Names.{In}
 use Rattle.qc_decl.specs.declared.declaration.Declaration.{Declaration}
-use Rattle.qc_decl.specs.Limits.{most_transaction_operations}
-use Rattle.qc_decl.specs.Lookup.{append_need_of, read_need_of}
-use Rattle.qc_plan.specs.Round.{RoundState, note, verdict}
+use Rattle.qc_decl.specs.Names.{append_need_of, most_transaction_operations, read_need_of}
+use Rattle.qc_plan.specs.Names.{RoundState, note, verdict}
 use Rattle.qc_plan.specs.declared.standing.Verdict.{Verdict}
 use Rattle.qc_plan.specs.declared.standing.Verdict.TheVariants as verdicts
 use Rattle.qc_stamp.specs.declared.stamp.TxId.{TxId}
 use Rattle.qc_view.specs.declared.view.View.{View}
-use Rattle.qc_view.specs.View.{with_log, with_own}
+use Rattle.qc_view.specs.Names.{with_log, with_own}
 use Rattle.qc_msg.specs.declared.begun.Begun.{Begun}
 use Rattle.qc_msg.specs.declared.call.Call.{Call}
 use Rattle.qc_msg.specs.declared.message.Answer.{Answer}
@@ -25,19 +24,15 @@ use Rattle.qc_msg.specs.declared.reply.AbortCause.TheVariants as causes
 use Rattle.qc_msg.specs.declared.step.Command.{Command}
 use Rattle.qc_msg.specs.declared.step.Command.TheVariants as commands
 use Rattle.qc_msg.specs.declared.turn.Posting.{Posting}
-use Rattle.qc_msg.specs.Calls.{site_called, without_call}
-use Rattle.qc_msg.specs.Turns.{quiet, telling}
+use Rattle.qc_msg.specs.Names.{quiet, site_called, telling, without_call}
 use Rattle.qc_front.specs.declared.doing.Doing.{Doing}
 use Rattle.qc_front.specs.declared.doing.Doing.TheVariants.{Idle, Reading, Appending}
 use Rattle.qc_front.specs.declared.front.Front.{Front}
 use Rattle.qc_front.specs.declared.transaction.Transaction.{Transaction}
-use Rattle.qc_front.specs.Answering.{answer_of, next_own, resp_of, with_event}
-use Rattle.qc_front.specs.Appending.{round_for}
-use Rattle.qc_front.specs.Conduct.{appending_takes, called, commits, reading_takes, takes, takes_in}
-use Rattle.qc_front.specs.Counting.{appended_with, learns, lived, read_with, standing_of}
-use Rattle.qc_front.specs.Front.{FrontMove, aborts, begins, gives_up, moved}
-use Rattle.qc_front.specs.Requests.{AreSent, IsSent}
-use Rattle.qc_front.specs.Rounds.{answered, append_by, performs, read_by, reads}
+use Rattle.qc_front.specs.Names.{AreSent, FrontMove, IsSent, aborts, answer_of, answered, append_by, appended_with}
+use Rattle.qc_front.specs.Names.{appending_takes, begins, called, commits, gives_up, learns, lived, moved, next_own}
+use Rattle.qc_front.specs.Names.{performs, read_by, read_with, reading_takes, reads, resp_of, round_for, standing_of}
+use Rattle.qc_front.specs.Names.{takes, takes_in, with_event}
 use Rattle.qc_front.proofs.Keeping.{view_keeps}
 use Rattle.qc_front.proofs.Sending.{called_sent, takes_sent}
 

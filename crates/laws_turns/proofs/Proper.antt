@@ -3,11 +3,10 @@
 use Rattle.std.proofs.Common.{◌≡◌, ℕ, zero, suc, ◌+◌, ◌-◌, ◌%◌, ◌<◌, ◌≤◌, ◌==◌, ◌&&◌, nat_le, nat_lt, Bool, true, false, cond, if◌then◌else◌, List, [], ◌∷◌, ◌++◌, map, length, take, Option, Some, None, is_some, refl, sym, ap, ◌∙◌, subst, arith, eqb-true}
 use Rattle.std.specs.List.{AllByRecursion as Every, filter, filter_map, fold}
 use Rattle.std.proofs.lemmas.Bool.{lt-ltb, ltb-true, leb-true}
-use Rattle.qc_core.specs.Conduct.{IsLawful}
+use Rattle.qc_core.specs.Names.{IsLawful}
 use Rattle.qc_decl.specs.declared.declaration.Declaration.{Declaration}
-use Rattle.qc_decl.specs.Accepted.{IsAccepted}
+use Rattle.qc_decl.specs.Names.{IsAccepted, administrator, controller, first_site, is_client, is_site}
 use Rattle.qc_decl.proofs.Clients.{client_below, client_past}
-use Rattle.qc_decl.specs.Actors.{administrator, controller, first_site, is_client, is_site}
 use Rattle.qc_msg.specs.declared.begun.Begun.{Begun}
 use Rattle.qc_msg.specs.declared.message.Answer.{Answer}
 use Rattle.qc_msg.specs.declared.message.Envelope.{Envelope}
@@ -24,35 +23,29 @@ use Rattle.qc_msg.specs.declared.step.Input.TheVariants as inputs
 use Rattle.qc_msg.specs.declared.step.Step.TheVariants as steps
 use Rattle.qc_msg.specs.declared.turn.Posting.{Posting}
 use Rattle.qc_msg.specs.declared.turn.Turn.{Turn}
-use Rattle.qc_msg.specs.Begun.{has_granted}
-use Rattle.qc_msg.specs.Calls.{site_called}
-use Rattle.qc_plan.specs.Round.{cyclic}
-use Rattle.qc_msg.specs.Deeds.{Deed, Takes, Writes, Sends, Tells, Falls, Rises, deeds, envelopes, mail}
-use Rattle.qc_msg.specs.Steps.{Entry, by, posted}
-use Rattle.qc_msg.specs.Turns.{quiet}
+use Rattle.qc_msg.specs.Names.{Deed, Entry, Falls, Rises, Sends, Takes, Tells, Writes, by, deeds, envelopes}
+use Rattle.qc_msg.specs.Names.{has_granted, mail, posted, quiet, site_called}
+use Rattle.qc_plan.specs.Names.{cyclic}
 use Rattle.qc_msg.proofs.GrownMail.{mail-append, mail-posted, mail-taken}
 use Rattle.qc_commit.specs.declared.desk.Desk.{Desk}
 use Rattle.qc_commit.specs.declared.desk.Voting.{Voting}
 use Rattle.qc_commit.specs.Conduct as desks
-use Rattle.qc_commit.specs.Desk.{DeskMove}
-use Rattle.qc_commit.specs.Votes.{are_cast, cast, first_against, participants, prepares, vote_of}
+use Rattle.qc_commit.specs.Names.{DeskMove, are_cast, cast, first_against, participants, prepares, vote_of}
 use Rattle.qc_front.specs.declared.transaction.Transaction.{Transaction}
 use Rattle.qc_front.specs.Conduct as fronts
-use Rattle.qc_front.specs.Front.{FrontMove, ended}
+use Rattle.qc_front.specs.Names.{FrontMove, ended}
 use Rattle.qc_client.specs.declared.client.Client.{Client}
-use Rattle.qc_client.specs.Client.{ClientMove, by_desk, by_front, moved, new_client}
-use Rattle.qc_client.specs.Conduct.{answered, answered_by, called, client_after, client_does, client_takes, commits, heard, requested, sent_one}
+use Rattle.qc_client.specs.Names.{ClientMove, answered, answered_by, by_desk, by_front, called, client_after}
+use Rattle.qc_client.specs.Names.{client_does, client_takes, commits, heard, moved, new_client, requested, sent_one}
 use Rattle.qc_front.specs.declared.doing.Doing.{Doing}
 use Rattle.qc_front.specs.declared.doing.Doing.TheVariants.{Idle, Reading, Appending}
-use Rattle.qc_script.specs.Inbox.{commands_for, inbox}
-use Rattle.qc_script.specs.Ready.{phase_of}
-use Rattle.qc_script.specs.Runs.{Runs, begins, takes, posts, phase, control}
+use Rattle.qc_script.specs.Names.{Runs, commands_for, inbox, phase_of}
+use Rattle.qc_script.specs.Runs.{begins, takes, posts, phase, control}
 use Rattle.qc_script.specs.declared.script.CommandLine.{CommandLine}
 use Rattle.qc_script.specs.declared.script.PhaseLines.{PhaseLines}
 use Rattle.qc_script.specs.declared.script.Script.{Script}
-use Rattle.qc_site.specs.Conduct.{site_after}
-use Rattle.laws_turns.specs.Asked.{AreAskable, AsksDeclared, IsAskable}
-use Rattle.laws_turns.specs.Whole.{asked_in_all, call_in, calls_of}
+use Rattle.qc_site.specs.Names.{site_after}
+use Rattle.laws_turns.specs.Names.{AreAskable, AsksDeclared, IsAskable, asked_in_all, call_in, calls_of}
 use Rattle.laws_turns.proofs.Calling.{run_asked}
 use Rattle.laws_turns.proofs.DeclaredSites.{AreSites, sites_cyclic, sites_filter}
 use Rattle.laws_turns.proofs.Mailed.{both_all}

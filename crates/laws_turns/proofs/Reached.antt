@@ -4,13 +4,12 @@ use Rattle.std.specs.Prelude.{slice_set}
 use Rattle.std.specs.List.{AllByRecursion as Every}
 use Rattle.std.proofs.lemmas.Bool.{lt-ltb}
 use Rattle.std.proofs.lemmas.List.Sums.{fold-append}
-use Rattle.qc_list.specs.Members.{In}
+use Rattle.qc_list.specs.Names.{In}
 use Rattle.qc_list.proofs.Members.{every-In}
-use Rattle.qc_core.specs.Conduct.{IsLawful}
+use Rattle.qc_core.specs.Names.{IsLawful}
 use Rattle.qc_decl.specs.declared.declaration.Declaration.{Declaration}
-use Rattle.qc_decl.specs.Accepted.{IsAccepted}
-use Rattle.qc_decl.specs.Actors.{controller}
-use Rattle.qc_link.specs.Cuts.{with_cut, without_cut}
+use Rattle.qc_decl.specs.Names.{IsAccepted, controller}
+use Rattle.qc_link.specs.Names.{most_actors, with_cut, without_cut}
 use Rattle.qc_msg.specs.declared.message.Envelope.{Envelope}
 use Rattle.qc_msg.specs.declared.message.Message.{Message}
 use Rattle.qc_msg.specs.declared.message.Message.TheVariants as messages
@@ -21,21 +20,16 @@ use Rattle.qc_msg.specs.declared.step.Input.TheVariants as inputs
 use Rattle.qc_msg.specs.declared.step.Step.{Step}
 use Rattle.qc_msg.specs.declared.step.Step.TheVariants as steps
 use Rattle.qc_msg.specs.declared.turn.Turn.{Turn}
-use Rattle.qc_msg.specs.Deeds.{Deed, Takes, deeds, envelopes, mail}
-use Rattle.qc_msg.specs.Steps.{Entry, by, marked, posted, step_of}
-use Rattle.qc_msg.specs.Turns.{quiet}
+use Rattle.qc_msg.specs.Names.{Deed, Entry, Takes, by, deeds, envelopes, mail, marked, posted, quiet, step_of}
 use Rattle.qc_msg.proofs.GrownMail.{mail-append, mail-posted, mail-taken}
 use Rattle.qc_msg.proofs.Growth.{deeds-other, deeds-taken}
 use Rattle.qc_script.specs.declared.script.Script.{Script}
-use Rattle.qc_script.specs.Requests.{SentRequest, request_numbers}
+use Rattle.qc_script.specs.Names.{Inbox, Runs, SentRequest, command_called, copy_taken, empty_inbox, everybody, inbox}
+use Rattle.qc_script.specs.Names.{inbox_at, is_request, loss_taken, phase_of, request_numbers, step_of_control}
 use Rattle.qc_script.proofs.AllUp.{run_up}
-use Rattle.qc_script.specs.Inbox.{Inbox, everybody, command_called, copy_taken, empty_inbox, inbox, inbox_at, is_request, loss_taken}
-use Rattle.qc_script.specs.Ready.{phase_of, step_of_control}
-use Rattle.qc_script.specs.Runs.{Runs, begins, takes, posts, phase, control}
-use Rattle.qc_site.specs.Conduct.{passed, site_after, site_at, site_does}
-use Rattle.qc_site.specs.Site.{SiteMove, SiteState, moved, new_site}
-use Rattle.laws_turns.specs.Asked.{AsksDeclared}
-use Rattle.laws_turns.specs.Waits.{IsAtReceiver, IsTaken}
+use Rattle.qc_script.specs.Runs.{begins, takes, posts, phase, control}
+use Rattle.qc_site.specs.Names.{SiteMove, SiteState, moved, new_site, passed, site_after, site_at, site_does}
+use Rattle.laws_turns.specs.Names.{AsksDeclared, IsAtReceiver, IsTaken}
 use Rattle.laws_turns.proofs.Acted.{deeds-silent}
 use Rattle.laws_turns.proofs.Answering.{cuts_copies, cuts_unanswered, phase_copies, phase_unanswered}
 use Rattle.laws_turns.proofs.Arrivals.{what_is_ready_was_sent}
@@ -46,7 +40,6 @@ use Rattle.laws_turns.proofs.Places.{slice_get-set_other, slice_get-set_same}
 use Rattle.laws_turns.proofs.Proper.{run_proper}
 use Rattle.laws_turns.proofs.Served.{lawful_site}
 use Rattle.laws_turns.proofs.SiteReplies.{IsMailProper, IsProperFrom, IsReply, request_reply}
-use Rattle.qc_link.specs.Limits.{most_actors}
 
 -- what a site's turn for a request begins with
 

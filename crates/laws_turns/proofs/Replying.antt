@@ -5,10 +5,10 @@ use Rattle.std.specs.List.{filter_map, fold}
 use Rattle.std.proofs.lemmas.List.{append-nil}
 use Rattle.std.proofs.lemmas.List.Elements.{filter_map-append}
 use Rattle.std.proofs.lemmas.List.Sums.{fold-append}
-use Rattle.qc_core.specs.Acts.{Acts, MayTake, is_running, posts, runs_at, runs_given, starts, takes}
-use Rattle.qc_core.specs.Conduct.{IsLawful}
+use Rattle.qc_core.specs.Names.{Acts, AreSteady, IsLawful, IsSteady, MayTake, is_running, posts, runs_at, runs_given}
+use Rattle.qc_core.specs.Names.{starts, takes}
 use Rattle.qc_decl.specs.declared.declaration.Declaration.{Declaration}
-use Rattle.qc_decl.specs.Actors.{is_client, is_site}
+use Rattle.qc_decl.specs.Names.{is_client, is_site}
 use Rattle.qc_msg.specs.declared.record.Record.{Record}
 use Rattle.qc_msg.specs.declared.reply.Reply.{Reply}
 use Rattle.qc_msg.specs.declared.step.Command.{Command}
@@ -17,17 +17,13 @@ use Rattle.qc_msg.specs.declared.step.Input.{Input}
 use Rattle.qc_msg.specs.declared.step.Input.TheVariants as inputs
 use Rattle.qc_msg.specs.declared.turn.Posting.{Posting}
 use Rattle.qc_msg.specs.declared.turn.Turn.{Turn}
-use Rattle.qc_msg.specs.Deeds.{Deed, Takes, Writes, Sends, Tells, Falls, Rises, sends_of, tells_of, turn_deeds, writes_of}
-use Rattle.qc_msg.specs.Turns.{quiet}
-use Rattle.qc_client.specs.Client.{ClientMove, moved, new_client}
-use Rattle.qc_client.specs.Conduct.{client_after, client_does, client_takes}
-use Rattle.qc_site.specs.Conduct.{site_after}
-use Rattle.laws_turns.specs.Calls.{is_waiting}
-use Rattle.laws_turns.specs.Order.{AreInOrder, IsInOrder}
-use Rattle.laws_turns.specs.Whole.{call_in, reply_in}
+use Rattle.qc_msg.specs.Names.{Deed, Falls, Rises, Sends, Takes, Tells, Writes, quiet, sends_of, tells_of, turn_deeds}
+use Rattle.qc_msg.specs.Names.{writes_of}
+use Rattle.qc_client.specs.Names.{ClientMove, client_after, client_does, client_takes, moved, new_client}
+use Rattle.qc_site.specs.Names.{site_after}
+use Rattle.laws_turns.specs.Names.{AreInOrder, IsInOrder, call_in, is_waiting, reply_in}
 use Rattle.laws_turns.proofs.Stamped.{site_answering}
 use Rattle.laws_turns.proofs.Waiting.{Ends, IsNoCall, Rests, called_ends, epoch_rests, sent_waits, takes_ends, takes_rests}
-use Rattle.qc_core.specs.Lives.{AreSteady, IsSteady}
 
 -- whether a command runs, as deeds go on
 

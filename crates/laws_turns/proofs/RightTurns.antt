@@ -4,7 +4,7 @@ use Rattle.std.specs.List.{AllByRecursion as Every}
 use Rattle.qc_list.proofs.Members.{every-weaker}
 use Rattle.qc_stamp.specs.declared.stamp.Stamp.{Stamp}
 use Rattle.qc_stamp.specs.declared.stamp.TxId.{TxId}
-use Rattle.qc_stamp.specs.Order.{same_tx}
+use Rattle.qc_stamp.specs.Names.{same_tx}
 use Rattle.qc_stamp.proofs.Orders.{same_tx_is}
 use Rattle.qc_entry.specs.declared.record.Commit.{Commit}
 use Rattle.qc_msg.specs.declared.begun.Begun.{Begun as BegunTransaction}
@@ -18,9 +18,9 @@ use Rattle.qc_msg.specs.declared.reply.Reply.{Reply}
 use Rattle.qc_msg.specs.declared.reply.Reply.TheVariants as replies
 use Rattle.qc_msg.specs.declared.turn.Posting.{Posting}
 use Rattle.qc_msg.specs.declared.turn.Turn.{Turn}
-use Rattle.qc_msg.specs.Deeds.{Deed, Sends, Tells, sends_of, tells_of, turn_deeds, writes_of}
-use Rattle.qc_promise.specs.Status.{AreRightFrom, IsRightVerdict, Status, given_up, status_at, status_told}
-use Rattle.qc_promise.specs.Status.{Unborn, Begun, Committed, Dead}
+use Rattle.qc_msg.specs.Names.{Deed, Sends, Tells, sends_of, tells_of, turn_deeds, writes_of}
+use Rattle.qc_promise.specs.Names.{AreRightFrom, Begun, Committed, Dead, IsRightVerdict, Status, Unborn, given_up}
+use Rattle.qc_promise.specs.Names.{status_at, status_told}
 use Rattle.laws_turns.proofs.Dealing.{IsAbort}
 use Rattle.laws_turns.proofs.FrontKinds.{IsRequestFor, ToldNeutral}
 use Rattle.laws_turns.proofs.Statuses.{IsStatus, Page, began, commits_one, gave_up}

@@ -6,12 +6,10 @@ use Rattle.std.specs.List.{AllByRecursion as Every}
 use Rattle.std.specs.Option.{option_map_or}
 use Rattle.std.proofs.lemmas.Bool.{lt-ltb}
 use Rattle.qc_decl.specs.declared.declaration.Declaration.{Declaration}
-use Rattle.qc_decl.specs.Accepted.{IsAccepted}
-use Rattle.qc_decl.specs.Actors.{first_site}
-use Rattle.qc_decl.specs.Limits.{most_transaction_operations}
-use Rattle.qc_decl.specs.Lookup.{append_need_of, kind_at, plan_in, read_need_of}
+use Rattle.qc_decl.specs.Names.{IsAccepted, append_need_of, first_site, kind_at, most_transaction_operations, plan_in}
+use Rattle.qc_decl.specs.Names.{read_need_of}
 use Rattle.qc_plan.specs.declared.plan.Plan.{Plan}
-use Rattle.qc_plan.specs.Round.{RoundState, cyclic, note, verdict, wanted}
+use Rattle.qc_plan.specs.Names.{RoundState, cyclic, note, verdict, wanted}
 use Rattle.qc_plan.specs.declared.standing.Verdict.{Verdict}
 use Rattle.qc_plan.specs.declared.standing.Verdict.TheVariants as verdicts
 use Rattle.qc_stamp.specs.declared.stamp.TxId.{TxId}
@@ -29,23 +27,19 @@ use Rattle.qc_msg.specs.declared.reply.AbortCause.TheVariants as causes
 use Rattle.qc_msg.specs.declared.step.Command.{Command}
 use Rattle.qc_msg.specs.declared.step.Command.TheVariants as commands
 use Rattle.qc_msg.specs.declared.turn.Posting.{Posting}
-use Rattle.qc_msg.specs.Begun.{decisions}
-use Rattle.qc_msg.specs.Calls.{site_called, without_call}
-use Rattle.qc_msg.specs.Turns.{quiet, telling}
+use Rattle.qc_msg.specs.Names.{decisions, quiet, site_called, telling, without_call}
 use Rattle.qc_front.specs.declared.doing.Doing.{Doing}
 use Rattle.qc_front.specs.declared.doing.Doing.TheVariants.{Idle, Reading, Appending}
 use Rattle.qc_front.specs.declared.front.Front.{Front}
 use Rattle.qc_front.specs.declared.transaction.Transaction.{Transaction}
-use Rattle.qc_front.specs.Answering.{answer_of}
-use Rattle.qc_front.specs.Appending.{append_want, read_want, request_of, round_for, weights_of}
+use Rattle.qc_front.specs.Names.{FrontMove, aborts, answer_of, answered, append_by, append_want, appended_with, begins}
+use Rattle.qc_front.specs.Names.{gives_up, learns, moved as front_moved, performs, read_by, read_want, read_with, reads}
+use Rattle.qc_front.specs.Names.{request_of, round_for, standing_of, weights_of}
 use Rattle.qc_front.specs.Conduct as fronts
-use Rattle.qc_front.specs.Counting.{appended_with, learns, read_with, standing_of}
-use Rattle.qc_front.specs.Front.{FrontMove, aborts, begins, gives_up, moved as front_moved}
-use Rattle.qc_front.specs.Rounds.{answered, append_by, performs, read_by, reads}
-use Rattle.qc_site.specs.Requests.{names_declared}
+use Rattle.qc_site.specs.Names.{names_declared}
 use Rattle.laws_turns.proofs.DeclaredSites.{AreSites, asking_rest, sites_cyclic, sites_filter, wanted_sites}
 use Rattle.laws_turns.proofs.OwnFronts.{IsOwnTransaction, OwnFront, appended_name, read_name}
-use Rattle.laws_turns.specs.Asked.{IsAskable}
+use Rattle.laws_turns.specs.Names.{IsAskable}
 
 pub of_either : {A : Type 0} (P : A → Type 0) (t : Bool) (x y : A) → P x → P y → P (if t then x else y)
 of_either P true x y here there = here

@@ -5,10 +5,9 @@ use Rattle.std.specs.Prelude.{drop, option_to_list, set}
 use Rattle.std.specs.List.{fold}
 use Rattle.std.specs.Option.{option_map_or}
 use Rattle.std.proofs.lemmas.List.Sums.{fold-append}
-use Rattle.qc_core.specs.Acts.{MayTake, is_running, runs_at}
+use Rattle.qc_core.specs.Names.{AreSteady, IsSteady, MayTake, is_running, runs_at}
 use Rattle.qc_decl.specs.declared.declaration.Declaration.{Declaration}
-use Rattle.qc_link.specs.Cuts.{with_cut, without_cut}
-use Rattle.qc_link.specs.Fate.{fate}
+use Rattle.qc_link.specs.Names.{fate, with_cut, without_cut}
 use Rattle.qc_link.specs.declared.rule.Fate.{Fate}
 use Rattle.qc_msg.specs.declared.message.Envelope.{Envelope}
 use Rattle.qc_msg.specs.declared.message.Message.{Message}
@@ -19,20 +18,17 @@ use Rattle.qc_msg.specs.declared.step.Input.{Input}
 use Rattle.qc_msg.specs.declared.step.Input.TheVariants as inputs
 use Rattle.qc_msg.specs.declared.step.Step.{Step}
 use Rattle.qc_msg.specs.declared.step.Step.TheVariants as steps
-use Rattle.qc_msg.specs.Deeds.{Deed, deed_at, deeds, envelope_of, heard}
-use Rattle.qc_msg.specs.Steps.{Entry}
+use Rattle.qc_msg.specs.Names.{Deed, Entry, deed_at, deeds, envelope_of, heard}
 use Rattle.qc_script.specs.declared.script.PhaseLines.{PhaseLines}
 use Rattle.qc_script.specs.declared.script.Script.{Script}
 use Rattle.qc_msg.specs.declared.step.Fall.{Fall}
-use Rattle.qc_script.specs.Requests.{has_request, requests_to, requests_to_others, with_lost}
-use Rattle.qc_script.specs.Inbox.{Inbox, acting, actor_fell, control_acted, emptied, fell_by, is_by_line, is_up}
-use Rattle.qc_script.specs.Inbox.{wrote_record, answers_by, comes, comes_at_once, command_called, commands_for}
-use Rattle.qc_script.specs.Inbox.{copy_taken, count_of, empty_inbox, goes, goes_with, inbox, inbox_at, is_request}
-use Rattle.qc_script.specs.Inbox.{loss_taken, opened, opened_by, phase_begun, reply_told, with_copies}
-use Rattle.qc_script.specs.Ready.{after_controls, command_in, first_command, first_copy, first_lost, ready, ready_in}
-use Rattle.qc_script.specs.Ready.{takes_commands}
+use Rattle.qc_script.specs.Names.{Inbox, acting, actor_fell, after_controls, answers_by, comes, comes_at_once}
+use Rattle.qc_script.specs.Names.{command_called, command_in, commands_for, control_acted, copy_taken, count_of}
+use Rattle.qc_script.specs.Names.{emptied, empty_inbox, fell_by, first_command, first_copy, first_lost, goes, goes_with}
+use Rattle.qc_script.specs.Names.{has_request, inbox, inbox_at, is_by_line, is_request, is_up, loss_taken, opened}
+use Rattle.qc_script.specs.Names.{opened_by, phase_begun, ready, ready_in, reply_told, requests_to, requests_to_others}
+use Rattle.qc_script.specs.Names.{takes_commands, with_copies, with_lost, wrote_record}
 use Rattle.laws_turns.proofs.Up.{first_up, rest_up}
-use Rattle.qc_core.specs.Lives.{AreSteady, IsSteady}
 
 busy_if : (t : Bool) (i j : Inbox) (b : Bool) → i.busy ≡ b → j.busy ≡ b → (if t then i else j).busy ≡ b
 busy_if true i j b here there = here

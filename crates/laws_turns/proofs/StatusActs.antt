@@ -2,12 +2,11 @@
 use Rattle.std.proofs.Common.{◌≡◌, ◌≢◌, ℕ, ◌+◌, ◌-◌, inl, inr, Bool, true, false, cond, List, [], ◌∷◌, ◌++◌, fold, Option, Some, None, is_some, refl, sym, ap, ◌∙◌, subst}
 use Rattle.std.specs.List.{AllByRecursion as Every}
 use Rattle.std.proofs.lemmas.List.Sums.{fold-append}
-use Rattle.qc_list.specs.Members.{In}
+use Rattle.qc_list.specs.Names.{In}
 use Rattle.qc_stamp.specs.declared.stamp.TxId.{TxId}
-use Rattle.qc_stamp.specs.Order.{same_tx}
+use Rattle.qc_stamp.specs.Names.{same_tx}
 use Rattle.qc_stamp.proofs.Orders.{same_tx_is, same_tx_itself}
-use Rattle.qc_decl.specs.Accepted.{IsAccepted}
-use Rattle.qc_decl.specs.Actors.{is_client, is_site}
+use Rattle.qc_decl.specs.Names.{IsAccepted, is_client, is_site}
 use Rattle.qc_decl.specs.declared.declaration.Declaration.{Declaration}
 use Rattle.qc_entry.specs.declared.record.Commit.{Commit}
 use Rattle.qc_msg.specs.declared.begun.Begun.{Begun as BegunTransaction}
@@ -23,22 +22,20 @@ use Rattle.qc_msg.specs.declared.step.Input.{Input}
 use Rattle.qc_msg.specs.declared.step.Input.TheVariants as inputs
 use Rattle.qc_msg.specs.declared.turn.Posting.{Posting}
 use Rattle.qc_msg.specs.declared.turn.Turn.{Turn}
-use Rattle.qc_msg.specs.Deeds.{Deed, Takes, Writes, Sends, Tells, Falls, Rises, turn_deeds}
-use Rattle.qc_msg.specs.Turns.{quiet}
+use Rattle.qc_msg.specs.Names.{Deed, Falls, Rises, Sends, Takes, Tells, Writes, quiet, turn_deeds}
 use Rattle.qc_commit.specs.declared.desk.Voting.{Voting}
 use Rattle.qc_commit.specs.Conduct as desks
-use Rattle.qc_commit.specs.Conduct.{commit_of}
-use Rattle.qc_commit.specs.Desk.{DeskMove, known_by, record_of}
+use Rattle.qc_commit.specs.Names.{DeskMove, commit_of, known_by, record_of}
 use Rattle.qc_front.specs.declared.transaction.Transaction.{Transaction}
 use Rattle.qc_front.specs.Conduct as fronts
-use Rattle.qc_front.specs.Front.{FrontMove, ended, next_tx}
+use Rattle.qc_front.specs.Names.{FrontMove, ended, next_tx}
 use Rattle.qc_client.specs.declared.client.Client.{Client}
-use Rattle.qc_client.specs.Client.{ClientMove, by_desk, by_front, is_begun, moved, new_client, outcome_by, outcome_of}
-use Rattle.qc_client.specs.Conduct.{answered, answered_by, called, client_after, client_does, client_takes, commits, heard, sent_one}
-use Rattle.qc_core.specs.Acts.{Acts, posts, starts, takes}
-use Rattle.laws_turns.specs.Books.{begun_in}
-use Rattle.qc_promise.specs.Status.{AreRight, AreRightFrom, Status, status, status_at}
-use Rattle.qc_promise.specs.Status.{Unborn, Begun, Committed, Dead}
+use Rattle.qc_client.specs.Names.{ClientMove, answered, answered_by, by_desk, by_front, called, client_after}
+use Rattle.qc_client.specs.Names.{client_does, client_takes, commits, heard, is_begun, moved, new_client, outcome_by}
+use Rattle.qc_client.specs.Names.{outcome_of, sent_one}
+use Rattle.qc_core.specs.Names.{Acts, posts, starts, takes}
+use Rattle.laws_turns.specs.Names.{begun_in, written_in}
+use Rattle.qc_promise.specs.Names.{AreRight, AreRightFrom, Begun, Committed, Dead, Status, Unborn, status, status_at}
 use Rattle.laws_turns.proofs.Bounding.{lawful_turn, turn-posts}
 use Rattle.laws_turns.proofs.ClientsWithin.{IsPost}
 use Rattle.laws_turns.proofs.Dealing.{HasRecord, begun_tx}
@@ -46,7 +43,6 @@ use Rattle.laws_turns.proofs.DealtClients.{IsInHand}
 use Rattle.laws_turns.proofs.HandMoves.{IsHandMove, prepare-it, vote-it}
 use Rattle.laws_turns.proofs.FrontKinds.{FrontKind, IsRequestFor, ToldNeutral, called-kind, name_in, takes-kind}
 use Rattle.laws_turns.proofs.InRuns.{IsResting, KeptBy, deals_acts}
-use Rattle.laws_turns.specs.Written.{written_in}
 use Rattle.laws_turns.proofs.WrittenDeeds.{written-more}
 use Rattle.laws_turns.proofs.RightTurns.{IsExact, TurnRight, begins_right, commits_right, gives_right, goes_right, verdict_right}
 use Rattle.laws_turns.proofs.Statuses.{IsStatus, Page, new_status}

@@ -3,21 +3,19 @@
 use Rattle.std.proofs.Common.{◌≡◌, ◌≤◌, ◌⊎◌, ◌+◌, ℕ, Bool, true, List, [], ◌∷◌, ◌++◌, inl, inr, length, Some, slice_get}
 use Rattle.std.proofs.Common.{refl, sym, ap, ◌∙◌, subst, arith}
 use Rattle.std.proofs.lemmas.List.{append-nil}
-use Rattle.qc_core.specs.Conduct.{IsLawfulWithFalls}
-use Rattle.qc_decl.specs.Accepted.{IsAccepted}
-use Rattle.qc_decl.specs.Actors.{controller, is_site}
+use Rattle.qc_core.specs.Names.{IsLawfulWithFalls}
+use Rattle.qc_decl.specs.Names.{IsAccepted, controller, is_site}
 use Rattle.qc_decl.specs.declared.declaration.Declaration.{Declaration}
-use Rattle.laws_votes.specs.Votes.{IsCastSince, life_at}
+use Rattle.laws_votes.specs.Names.{IsCastSince, life_at}
 use Rattle.laws_votes.proofs.SiteLives.{life_grows}
 use Rattle.laws_votes.proofs.Voting.{IsCast, post_casts, rise_casts}
 use Rattle.laws_turns.proofs.Numbered.{mail-silent, phase_silent}
-use Rattle.qc_list.specs.Members.{In}
+use Rattle.qc_list.specs.Names.{In}
 use Rattle.qc_list.proofs.Members.{In-first}
 use Rattle.laws_turns.proofs.Lived.{line_silent}
 use Rattle.qc_msg.proofs.GrownMail.{mail-append, mail-taken}
 use Rattle.qc_msg.proofs.Growth.{mail-posted_as}
-use Rattle.qc_msg.specs.Deeds.{deeds, envelopes, mail}
-use Rattle.qc_msg.specs.Steps.{Entry, by, marked, posted_as, sends_as, step_of}
+use Rattle.qc_msg.specs.Names.{Entry, by, deeds, envelopes, mail, marked, posted_as, sends_as, step_of}
 use Rattle.qc_msg.specs.declared.message.Answer.TheVariants as answers
 use Rattle.qc_msg.specs.declared.message.Envelope.{Envelope}
 use Rattle.qc_msg.specs.declared.message.Message.TheVariants as messages
@@ -26,13 +24,11 @@ use Rattle.qc_msg.specs.declared.step.Step.TheVariants as steps
 use Rattle.qc_msg.specs.declared.turn.Turn.{Turn}
 use Rattle.laws_refinement.proofs.Posts.{Place, placed}
 use Rattle.theory_onecopy.proofs.Lists.{in_split}
-use Rattle.qc_promise.specs.Kept.{Kept}
+use Rattle.qc_promise.specs.Names.{Kept}
 use Rattle.laws_reach.proofs.RunsStand.{kept_of_first, runs_stand}
 use Rattle.laws_reach.proofs.Stood.{Stood}
-use Rattle.qc_script.specs.Ready.{phase_of}
-use Rattle.qc_script.specs.RunsWithFalls.{RunsWithFalls, begins, takes, posts, phase, control, falls, rises, damaged}
-use Rattle.qc_script.specs.RunsWithFalls.{unopened}
-use Rattle.qc_script.specs.Sound.{IsScriptFor}
+use Rattle.qc_script.specs.Names.{IsScriptFor, RunsWithFalls, begins, control, damaged, falls, phase, phase_of, posts}
+use Rattle.qc_script.specs.Names.{rises, takes, unopened}
 use Rattle.qc_script.specs.declared.script.Script.{Script}
 
 -- of two beginnings of one list, one is a beginning of the other

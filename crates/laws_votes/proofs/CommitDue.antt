@@ -4,12 +4,12 @@ use Rattle.std.proofs.Common.{◌≡◌, ◌≢◌, ◌<◌, ◌≤◌, ◌+◌,
 use Rattle.std.specs.Prelude.{option_and_then}
 use Rattle.std.specs.List.{find, list_all, range_with_len}
 use Rattle.std.specs.Option.{option_or}
-use Rattle.qc_decl.specs.Actors.{first_site}
+use Rattle.qc_decl.specs.Names.{first_site}
 use Rattle.qc_decl.specs.declared.declaration.Declaration.{Declaration}
 use Rattle.laws_guarantees.proofs.DueStamps.{do_stamp, none_some, stamp_of}
-use Rattle.qc_list.specs.Members.{In}
+use Rattle.qc_list.specs.Names.{In}
 use Rattle.qc_list.proofs.Members.{In-filter, In-first, In-second, every-In}
-use Rattle.qc_msg.specs.Begun.{has_granted, life_of}
+use Rattle.qc_msg.specs.Names.{has_granted, life_of}
 use Rattle.qc_msg.specs.declared.message.Answer.{Answer}
 use Rattle.qc_msg.specs.declared.message.Answer.TheVariants as answers
 use Rattle.qc_msg.specs.declared.message.Message.{Message}
@@ -23,16 +23,16 @@ use Rattle.qc_msg.specs.declared.step.Command.{Command}
 use Rattle.qc_msg.specs.declared.step.Command.TheVariants as commands
 use Rattle.qc_msg.specs.declared.step.Input.{Input}
 use Rattle.qc_msg.specs.declared.step.Input.TheVariants as inputs
-use Rattle.laws_due.specs.Ties.{IsPrepare, NoneRuns, Ties, appends, reads, rests, votes}
+use Rattle.laws_due.specs.Names.{IsPrepare, NoneRuns, Ties, appends, reads, rests, votes}
 use Rattle.qc_client.specs.declared.client.Client.{Client}
 use Rattle.laws_refinement.proofs.Nets.{place}
 use Rattle.laws_guarantees.proofs.Accounts.{told_requests}
 use Rattle.theory_onecopy.proofs.Lists.{Mapped, map_in}
-use Rattle.qc_plan.specs.Round.{cyclic}
-use Rattle.qc_promise.specs.Account.{Account, ClientRequest, Current, is_prepare, requests_for}
-use Rattle.qc_promise.specs.Accounting.{account_heard, account_taken, counted, counted_for, granted, is_open, promised, taken_for, told_by}
-use Rattle.qc_promise.specs.Rounds.{against, are_votes_in, first_against, participants}
-use Rattle.qc_promise.specs.Rows.{commit_row, row_of, running_row, vote_row}
+use Rattle.qc_plan.specs.Names.{cyclic}
+use Rattle.qc_promise.specs.Names.{Account, ClientRequest, Current, account_heard, account_taken, against, are_votes_in}
+use Rattle.qc_promise.specs.Names.{commit_row, counted, counted_for, first_against, granted, is_open, is_prepare}
+use Rattle.qc_promise.specs.Names.{participants, promised, requests_for, row_of, running_row, taken_for, told_by}
+use Rattle.qc_promise.specs.Names.{vote_row}
 use Rattle.qc_stamp.specs.declared.stamp.Stamp.{Stamp}
 
 -- a vote that isn't against, and is in, is for

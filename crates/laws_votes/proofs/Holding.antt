@@ -1,57 +1,45 @@
 -- What a site granted to a transaction that its client runs, in the life and the epoch in which the site is, it holds:
 -- through falls.
 use Rattle.std.proofs.Common.{◌≡◌, ◌⊎◌, ◌<◌, ◌≤◌, ◌-◌, ℕ, Bool, true, false, List, [], ◌∷◌, ◌++◌, inl, inr, Option, Some, None, is_some, unwrap_or, slice_get, refl, sym, ap, ◌∙◌, subst, arith}
-use Rattle.qc_core.specs.Conduct.{IsLawfulWithFalls}
-use Rattle.qc_core.specs.Lives.{is_up}
-use Rattle.qc_core.specs.Sites.{IsShown}
-use Rattle.qc_decl.specs.Accepted.{IsAccepted}
-use Rattle.qc_decl.specs.Actors.{is_client, is_site}
+use Rattle.qc_core.specs.Names.{IsLawfulWithFalls, IsShown, is_up}
+use Rattle.qc_decl.specs.Names.{IsAccepted, is_client, is_site}
 use Rattle.qc_decl.specs.declared.declaration.Declaration.{Declaration}
 use Rattle.laws_guarantees.proofs.Mailed.{sent_as, sent_mail, taken_mail}
 use Rattle.laws_guarantees.proofs.SiteMoves.{IsFull}
 use Rattle.laws_votes.proofs.Nets.{at_number, backed, net, now, one_request, reached, refined}
 use Rattle.laws_votes.proofs.SiteClocks.{mirrors, shown}
-use Rattle.qc_list.specs.Members.{In}
+use Rattle.qc_list.specs.Names.{In}
 use Rattle.qc_list.proofs.Members.{In-first, In-second}
-use Rattle.qc_lock.specs.Held.{entry_of, held_of, is_held}
+use Rattle.qc_lock.specs.Names.{entry_of, held_of, is_held}
 use Rattle.qc_lock.specs.declared.held.Held.{Held}
-use Rattle.qc_msg.specs.Begun.{has_granted, life_of}
-use Rattle.qc_msg.specs.Deeds.{deeds, mail}
-use Rattle.qc_msg.specs.Steps.{Entry}
+use Rattle.qc_msg.specs.Names.{Entry, deeds, has_granted, life_of, mail}
 use Rattle.qc_msg.specs.declared.message.Answer.TheVariants as answers
 use Rattle.qc_msg.specs.declared.message.Envelope.{Envelope}
 use Rattle.qc_msg.specs.declared.message.Message.TheVariants as messages
 use Rattle.qc_msg.specs.declared.message.Want.{Want}
 use Rattle.qc_msg.specs.declared.message.Want.TheVariants.{Append, Prepare, Read}
 use Rattle.qc_msg.specs.declared.record.Record.{Record}
-use Rattle.laws_refinement.specs.Items.{items_wanted}
-use Rattle.laws_refinement.specs.Messages.{IsGrantTo, IsGrantable, IsRequest}
-use Rattle.laws_refinement.specs.Sites.{IsHeld, SiteMirrors}
+use Rattle.laws_refinement.specs.Names.{IsGrantTo, IsGrantable, IsHeld, IsRequest, SiteMirrors, items_wanted}
 use Rattle.laws_guarantees.proofs.Live.{no_outcome}
 use Rattle.laws_votes.proofs.Live.{epoch_named, live}
-use Rattle.qc_promise.specs.Account.{Current}
-use Rattle.qc_promise.specs.Accounting.{account}
-use Rattle.qc_promise.specs.Kept.{Kept}
-use Rattle.qc_promise.specs.SiteHeld.{held_shown}
-use Rattle.qc_promise.specs.SiteRecords.{epoch_shown, life_shown}
+use Rattle.qc_promise.specs.Names.{ClientRequest, Current, Kept, account, epoch_shown, held_shown, life_shown}
 use Rattle.theory_machine.proofs.Epochs.{epoch-append, rising-right, upward}
 use Rattle.theory_machine.proofs.Keeps.{laws}
 use Rattle.theory_machine.proofs.Order.{between}
 use Rattle.theory_machine.proofs.SiteLists.{items_of-append, items_of-each_held, items_of-kept}
 use Rattle.theory_machine.proofs.SiteOrder.{after_append}
-use Rattle.theory_machine.specs.Site.{Closes, Deed, Grants, Installs, Item, LearnsAbort, LearnsCommit, Lock, Own, Prepares, Promise, Rises, Site, after_commit, after_deed, after_prepare, each_held, empty_site, epoch_from, items_of, promise_of, site_after, site_from}
-use Rattle.theory_machine.specs.SiteLaws.{HaveNoInstall}
-use Rattle.theory_machine.specs.State.{Active, Granted, State, Voting}
-use Rattle.theory_machine.specs.StateLaws.{GrantedLaw, HasRisingEpochs, KeepsLife, StateLaws}
-use Rattle.qc_script.specs.RunsWithFalls.{RunsWithFalls}
-use Rattle.qc_script.specs.Sound.{IsScriptFor}
+use Rattle.theory_machine.specs.Names.{Active, Closes, Deed, Granted, GrantedLaw, Grants, HasRisingEpochs}
+use Rattle.theory_machine.specs.Names.{HaveNoInstall, Installs, Item, KeepsLife, LearnsAbort, LearnsCommit, Lock, Own}
+use Rattle.theory_machine.specs.Names.{Prepares, Promise, Rises, Site, State, StateLaws, Voting, after_commit}
+use Rattle.theory_machine.specs.Names.{after_deed, after_prepare, each_held, empty_site, epoch_from, items_of}
+use Rattle.theory_machine.specs.Names.{promise_of, site_after, site_from}
+use Rattle.qc_script.specs.Names.{IsScriptFor, RunsWithFalls}
 use Rattle.qc_script.specs.declared.script.Script.{Script}
 use Rattle.qc_stamp.proofs.Orders.{same_tx_is}
-use Rattle.qc_stamp.specs.Order.{same_tx}
+use Rattle.qc_stamp.specs.Names.{same_tx}
 use Rattle.qc_stamp.specs.declared.stamp.Stamp.{Stamp}
 use Rattle.qc_stamp.specs.declared.stamp.TxId.{TxId}
-use Rattle.laws_guarantees.specs.Votes.{IsOpenVote}
-use Rattle.qc_promise.specs.Account.{ClientRequest}
+use Rattle.laws_guarantees.specs.Names.{IsOpenVote}
 use Rattle.laws_votes.proofs.LifeGrounds.{has_life_grounds}
 use Rattle.laws_votes.proofs.LivesTold.{HasParticipant, IsToldLife}
 

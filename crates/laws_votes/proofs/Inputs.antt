@@ -5,18 +5,18 @@ use Rattle.std.proofs.Common.{slice_get, refl, sym, ap, ◌∙◌, subst, append
 use Rattle.std.specs.List.{AllByRecursion as Every}
 use Rattle.std.proofs.lemmas.List.{append-nil}
 use Rattle.laws_bounds.proofs.ActorsWithin.{IsOfPost, deeds_post}
-use Rattle.qc_core.specs.Conduct.{IsLawfulWithFalls}
-use Rattle.qc_decl.specs.Actors.{controller}
+use Rattle.qc_core.specs.Names.{IsLawfulWithFalls}
+use Rattle.qc_decl.specs.Names.{controller}
 use Rattle.qc_decl.specs.declared.declaration.Declaration.{Declaration}
 use Rattle.qc_inbox.proofs.FallMail.{ready_sent}
 use Rattle.laws_turns.proofs.Acted.{deeds-silent}
 use Rattle.laws_turns.proofs.Numbered.{IsSilent, phase_silent}
-use Rattle.qc_list.specs.Members.{In}
+use Rattle.qc_list.specs.Names.{In}
 use Rattle.qc_list.proofs.Members.{In-second, every-In}
 use Rattle.laws_turns.proofs.Lived.{deeds-fall, deeds-rise, line_silent}
 use Rattle.qc_msg.proofs.Growth.{deeds-other, deeds-posted_as, deeds-taken}
-use Rattle.qc_msg.specs.Deeds.{Deed, Falls, Rises, Takes, WasSentTo, deeds, deeds_as, mail}
-use Rattle.qc_msg.specs.Steps.{Entry, by, marked, posted_as, step_of}
+use Rattle.qc_msg.specs.Names.{Deed, Entry, Falls, Rises, Takes, WasSentTo, by, deeds, deeds_as, mail, marked}
+use Rattle.qc_msg.specs.Names.{posted_as, step_of}
 use Rattle.qc_msg.specs.declared.record.Record.{Record}
 use Rattle.qc_msg.specs.declared.step.Fall.{Fall}
 use Rattle.qc_msg.specs.declared.step.Fall.TheVariants as causes
@@ -26,9 +26,8 @@ use Rattle.qc_msg.specs.declared.step.Step.TheVariants as steps
 use Rattle.qc_msg.specs.declared.turn.Appended.{Appended}
 use Rattle.qc_msg.specs.declared.turn.Turn.{Turn}
 use Rattle.laws_guarantees.proofs.Moments.{First, Second, split}
-use Rattle.qc_script.specs.Ready.{phase_of, ready}
-use Rattle.qc_script.specs.RunsWithFalls.{RunsWithFalls, begins, takes, posts, phase, control, falls, rises, damaged}
-use Rattle.qc_script.specs.RunsWithFalls.{unopened}
+use Rattle.qc_script.specs.Names.{RunsWithFalls, begins, control, damaged, falls, phase, phase_of, posts, ready, rises}
+use Rattle.qc_script.specs.Names.{takes, unopened}
 use Rattle.qc_script.specs.declared.script.Script.{Script}
 
 -- deeds among which nothing is taken

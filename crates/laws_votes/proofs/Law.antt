@@ -5,9 +5,8 @@
 use Rattle.std.proofs.Common.{◌≡◌, ◌≢◌, ◌⊎◌, ◌≤◌, ◌+◌, ◌==◌, ℕ, Bool, true, false, List, [], ◌∷◌, ◌++◌, inl, inr, fold}
 use Rattle.std.proofs.Common.{refl, sym, ap, ◌∙◌, subst, arith, append_assoc}
 use Rattle.std.proofs.lemmas.List.{append-nil}
-use Rattle.qc_core.specs.Conduct.{IsLawfulWithFalls}
-use Rattle.qc_core.specs.Lives.{AreSteady}
-use Rattle.qc_decl.specs.Accepted.{IsAccepted}
+use Rattle.qc_core.specs.Names.{AreSteady, IsLawfulWithFalls}
+use Rattle.qc_decl.specs.Names.{IsAccepted}
 use Rattle.qc_decl.specs.declared.declaration.Declaration.{Declaration}
 use Rattle.qc_entry.specs.declared.line.Line.{Line}
 use Rattle.qc_entry.specs.declared.line.Op.{Op}
@@ -16,17 +15,16 @@ use Rattle.laws_votes.proofs.Nets.{refined}
 use Rattle.laws_votes.proofs.Promising.{IsRecording, its_client, its_moment, now_recording}
 use Rattle.laws_votes.proofs.Recording.{IsKnown, Moment}
 use Rattle.laws_votes.proofs.Stamps.{steady_clocks}
-use Rattle.qc_list.specs.Members.{In}
-use Rattle.qc_msg.specs.Deeds.{Deed, deeds, mail, own}
-use Rattle.qc_msg.specs.Steps.{Entry, by, marked}
+use Rattle.qc_list.specs.Names.{In}
+use Rattle.qc_msg.specs.Names.{Deed, Entry, by, deeds, mail, marked, own}
 use Rattle.qc_msg.specs.declared.record.Record.{Record}
 use Rattle.qc_msg.specs.declared.step.Step.{Step}
-use Rattle.theory_onecopy.specs.Logged.{IsOperation}
+use Rattle.theory_onecopy.specs.Names.{IsOperation}
 use Rattle.laws_guarantees.proofs.Committed.{both_live}
 use Rattle.laws_guarantees.proofs.FirstGrants.{same_lives}
 use Rattle.laws_guarantees.proofs.Settled.{IsSafe}
 use Rattle.laws_guarantees.proofs.Moments.{First, Second, split}
-use Rattle.laws_guarantees.specs.Ordered.{IsOrdered}
+use Rattle.laws_guarantees.specs.Names.{IsOrdered}
 use Rattle.laws_votes.proofs.Known.{IsWriting, known_since}
 use Rattle.laws_votes.proofs.Live.{live}
 use Rattle.laws_votes.proofs.Moments.{WroteAt}
@@ -36,14 +34,10 @@ use Rattle.laws_votes.proofs.Reader.{IsFalling, IsPosted, IsReading, account_the
 use Rattle.laws_votes.proofs.Reader.{m as writes_then, mid_due, posted_at, r as due_then, reads_before, reads_between}
 use Rattle.laws_votes.proofs.Reader.{safe_early, says, steady}
 use Rattle.laws_votes.proofs.Safe.{safe}
-use Rattle.laws_votes.specs.Ordered.{DependsOn, IsToldBy}
-use Rattle.qc_promise.specs.Account.{Account, Current, view_of}
-use Rattle.qc_promise.specs.Accounting.{account, account_at}
-use Rattle.qc_promise.specs.Committed.{committed}
-use Rattle.qc_promise.specs.Kept.{Kept, journal_of}
-use Rattle.laws_reach.specs.Standing.{IsOfClient, records_of}
-use Rattle.qc_script.specs.RunsWithFalls.{RunsWithFalls}
-use Rattle.qc_script.specs.Sound.{IsScriptFor}
+use Rattle.laws_votes.specs.Names.{DependsOn, IsToldBy}
+use Rattle.qc_promise.specs.Names.{Account, Current, Kept, account, account_at, committed, journal_of, view_of}
+use Rattle.laws_reach.specs.Names.{IsOfClient, records_of}
+use Rattle.qc_script.specs.Names.{IsScriptFor, RunsWithFalls}
 use Rattle.qc_script.specs.declared.script.Script.{Script}
 use Rattle.qc_stamp.specs.declared.stamp.Stamp.{Stamp}
 

@@ -8,20 +8,15 @@ use Rattle.laws_votes.proofs.Fitting.{promise_fits, seen_before, seen_free, take
 use Rattle.laws_votes.proofs.Told.{never_told}
 use Rattle.laws_votes.proofs.Unforgotten.{AreAll, post_remembers}
 use Rattle.laws_votes.proofs.Counted.{votes_remember}
-use Rattle.laws_votes.specs.Operations.{committed_operations}
-use Rattle.qc_core.specs.Conduct.{IsLawfulWithFalls}
-use Rattle.qc_core.specs.Lives.{is_up}
-use Rattle.qc_decl.specs.Accepted.{IsAccepted}
-use Rattle.qc_decl.specs.Actors.{is_client, is_site}
-use Rattle.qc_decl.specs.Limits.{most_committed_operations}
+use Rattle.laws_votes.specs.Names.{committed_operations}
+use Rattle.qc_core.specs.Names.{IsLawfulWithFalls, is_up}
+use Rattle.qc_decl.specs.Names.{IsAccepted, is_client, is_site, most_committed_operations}
 use Rattle.qc_decl.specs.declared.declaration.Declaration.{Declaration}
 use Rattle.laws_guarantees.proofs.ForgettingAnswers.{Forgets}
-use Rattle.laws_guarantees.specs.Votes.{IsOpenVote, IsRemembered}
+use Rattle.laws_guarantees.specs.Names.{IsOpenVote, IsRemembered}
 use Rattle.laws_votes.proofs.Nets.{listed, net}
-use Rattle.qc_list.specs.Members.{In}
-use Rattle.qc_msg.specs.Counts.{operations_of}
-use Rattle.qc_msg.specs.Deeds.{Deed, Takes, Tells, deeds}
-use Rattle.qc_msg.specs.Steps.{Entry, sends_as}
+use Rattle.qc_list.specs.Names.{In}
+use Rattle.qc_msg.specs.Names.{Deed, Entry, Takes, Tells, deeds, operations_of, sends_as}
 use Rattle.qc_msg.specs.declared.message.Answer.{Answer}
 use Rattle.qc_msg.specs.declared.message.Message.TheVariants as messages
 use Rattle.qc_msg.specs.declared.message.Want.TheVariants.{Prepare}
@@ -32,15 +27,10 @@ use Rattle.qc_msg.specs.declared.step.Input.{Input}
 use Rattle.qc_msg.specs.declared.turn.Posting.{Posting}
 use Rattle.qc_msg.specs.declared.turn.Turn.{Turn}
 use Rattle.laws_votes.proofs.Splits.{snoc_same}
-use Rattle.qc_promise.specs.Account.{ClientRequest, Current}
-use Rattle.qc_promise.specs.Accounting.{account}
-use Rattle.qc_promise.specs.Committed.{committed}
-use Rattle.qc_promise.specs.Kept.{Kept}
-use Rattle.qc_promise.specs.SiteDue.{fits_record, promise_due}
-use Rattle.qc_promise.specs.SiteRecords.{epoch_shown, life_shown}
-use Rattle.laws_reach.specs.Reached.{HasTaken}
-use Rattle.qc_script.specs.RunsWithFalls.{RunsWithFalls}
-use Rattle.qc_script.specs.Sound.{IsScriptFor}
+use Rattle.qc_promise.specs.Names.{ClientRequest, Current, Kept, account, committed, epoch_shown, fits_record}
+use Rattle.qc_promise.specs.Names.{life_shown, promise_due}
+use Rattle.laws_reach.specs.Names.{HasTaken}
+use Rattle.qc_script.specs.Names.{IsScriptFor, RunsWithFalls}
 use Rattle.qc_script.specs.declared.script.Script.{Script}
 use Rattle.laws_votes.proofs.Holding.{asked_sites_hold_through_falls, granted}
 use Rattle.laws_votes.proofs.LifeGrounds.{has_life_grounds}

@@ -5,9 +5,9 @@ use Rattle.std.specs.Prelude.{fold, is_none}
 use Rattle.std.specs.List.{find}
 use Rattle.std.specs.Option.{option_map_or}
 use Rattle.std.proofs.lemmas.List.{append-nil}
-use Rattle.qc_stamp.specs.Order.{same_tx}
+use Rattle.qc_stamp.specs.Names.{same_tx}
 use Rattle.qc_stamp.specs.declared.stamp.TxId.{TxId}
-use Rattle.qc_list.specs.Members.{In}
+use Rattle.qc_list.specs.Names.{In}
 use Rattle.qc_list.proofs.Members.{In-last, In-more}
 use Rattle.qc_decl.specs.declared.declaration.Declaration.{Declaration}
 use Rattle.qc_msg.specs.declared.begun.LifeAt.{LifeAt}
@@ -21,35 +21,27 @@ use Rattle.qc_msg.specs.declared.step.Command.{Command}
 use Rattle.qc_msg.specs.declared.step.Command.TheVariants as commands
 use Rattle.qc_msg.specs.declared.step.Input.{Input}
 use Rattle.qc_msg.specs.declared.step.Input.TheVariants as inputs
-use Rattle.qc_msg.specs.Begun.{has_granted}
-use Rattle.qc_msg.specs.Deeds.{Deed, Takes, Writes, Sends, Tells, Falls, Rises}
-use Rattle.qc_promise.specs.Account.{Account, ClientRequest, Current, new_account}
-use Rattle.qc_promise.specs.Accounting.{account_at, account_heard, account_sent, account_taken, account_written, counted, counted_for, taken_for}
-use Rattle.qc_promise.specs.Asked.{command_asks, is_asked_for, is_of}
-use Rattle.qc_promise.specs.Rounds.{answer_of}
+use Rattle.qc_msg.specs.Names.{Deed, Falls, Rises, Sends, Takes, Tells, Writes, has_granted, life_of}
+use Rattle.qc_promise.specs.Names.{Account, ClientRequest, Current, account_at, account_heard, account_sent}
+use Rattle.qc_promise.specs.Names.{account_taken, account_written, answer_of, carries, command_asks, counted}
+use Rattle.qc_promise.specs.Names.{counted_for, is_asked_for, is_of, is_open, is_prepare, is_this, new_account}
+use Rattle.qc_promise.specs.Names.{next_own, own_appended, participants, requests_for, same_line, same_own, taken_for}
+use Rattle.qc_promise.specs.Names.{told_by, weighs}
 use Rattle.std.proofs.Common.{◌<◌, eqb-true, filter, length, slice_get}
 use Rattle.qc_list.proofs.Members.{In-passes, every-at, every-from_In}
-use Rattle.qc_decl.specs.Actors.{first_site}
-use Rattle.qc_plan.specs.Round.{cyclic}
-use Rattle.qc_promise.specs.Asked.{is_this}
-use Rattle.qc_promise.specs.Rounds.{participants}
-use Rattle.qc_promise.specs.Account.{is_prepare, requests_for}
+use Rattle.qc_decl.specs.Names.{first_site}
+use Rattle.qc_plan.specs.Names.{cyclic}
 use Rattle.qc_entry.specs.declared.line.OwnLine.{OwnLine}
 use Rattle.std.proofs.lemmas.List.Sums.{fold-append}
 use Rattle.qc_entry.specs.declared.line.Line.{Line}
 use Rattle.qc_msg.specs.declared.message.Answer.TheVariants as answers
 use Rattle.qc_msg.specs.declared.message.Envelope.{Envelope}
 use Rattle.qc_msg.specs.declared.message.Want.TheVariants.{Append, Prepare, Read}
-use Rattle.qc_promise.specs.Accounting.{told_by}
 use Rattle.laws_guarantees.proofs.Accounts.{HasGrounds, WasSent, WasTaken, after_taken, and_first, and_second, found_in, sent_more, told_requests}
 use Rattle.laws_guarantees.proofs.Grounds.{has_grounds}
 use Rattle.laws_guarantees.proofs.SiteMoves.{IsFull}
 use Rattle.std.specs.Cmp.Lexicographic.{pointwise}
-use Rattle.qc_promise.specs.Rounds.{next_own}
-use Rattle.qc_msg.specs.Begun.{life_of}
 use Rattle.laws_guarantees.proofs.FirstGrants.{life_added}
-use Rattle.qc_promise.specs.Accounting.{is_open}
-use Rattle.qc_promise.specs.Asked.{carries, command_asks, is_of, own_appended, same_line, same_own, weighs}
 use Rattle.laws_votes.proofs.LivesTold.{told_alike, IsToldLife, HasParticipant, HasLifeGrounds, told_more, same_now, same_told, same_grounds, bare_grounds, not_yet, HasOneMore, IsChangedBy, told_changed, told_forward}
 
 -- something is taken, and counts

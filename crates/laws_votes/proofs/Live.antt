@@ -4,47 +4,36 @@ use Rattle.std.proofs.Common.{◌≡◌, ◌⊎◌, ◌<◌, ◌≤◌, ◌+◌,
 use Rattle.std.proofs.Common.{Option, Some, None, slice_get, refl, sym, ap, ◌∙◌, subst, arith}
 use Rattle.std.proofs.lemmas.List.Sums.{fold-append}
 use Rattle.laws_due.proofs.Standing.{IsAtInput, IsAtRest, Stands, account_is, account_more}
-use Rattle.laws_due.specs.Ties.{Ties}
+use Rattle.laws_due.specs.Names.{Ties}
 use Rattle.qc_client.specs.declared.client.Client.{Client}
 use Rattle.qc_commit.specs.declared.desk.Voting.{Voting}
-use Rattle.qc_core.specs.Actors.{actor_after}
-use Rattle.qc_core.specs.Conduct.{IsLawfulWithFalls}
-use Rattle.qc_core.specs.Lives.{is_up, up_at}
+use Rattle.qc_core.specs.Names.{IsLawfulWithFalls, actor_after, is_up, up_at}
 use Rattle.qc_core.specs.declared.actor.Actor.TheVariants as actor
-use Rattle.qc_decl.specs.Accepted.{IsAccepted}
-use Rattle.qc_decl.specs.Actors.{is_client}
+use Rattle.qc_decl.specs.Names.{IsAccepted, is_client}
 use Rattle.qc_decl.specs.declared.declaration.Declaration.{Declaration}
 use Rattle.qc_front.specs.declared.transaction.Transaction.{Transaction}
 use Rattle.laws_guarantees.proofs.ClockLaw.{take_clock}
 use Rattle.laws_votes.proofs.Clients.{client_at, slot_of}
 use Rattle.laws_votes.proofs.Nets.{net, now, reached, refined}
 use Rattle.laws_votes.proofs.Stamps.{client_due}
-use Rattle.qc_list.specs.Members.{In}
-use Rattle.qc_msg.specs.Begun.{has_granted, life_of}
-use Rattle.qc_msg.specs.Deeds.{Deed, Takes, deeds}
-use Rattle.qc_msg.specs.Steps.{Entry}
+use Rattle.qc_list.specs.Names.{In}
+use Rattle.qc_msg.specs.Names.{Deed, Entry, Takes, deeds, has_granted, life_of}
 use Rattle.qc_msg.specs.declared.begun.LifeAt.{LifeAt}
 use Rattle.qc_msg.specs.declared.record.Record.{Record}
-use Rattle.laws_refinement.specs.Clients.{BegunMirrors, ClientMirrors, RunningMirrors, TransactionMirrors, status_by}
+use Rattle.laws_refinement.specs.Names.{BegunMirrors, ClientMirrors, RunningMirrors, TransactionMirrors, status_by}
 use Rattle.laws_guarantees.proofs.Begun.{IsKept, WasBegun, logged, taken_kept, tied_kept}
 use Rattle.laws_guarantees.proofs.FirstGrants.{same_lives}
 use Rattle.laws_guarantees.proofs.Live.{Live}
 use Rattle.laws_guarantees.proofs.Persists.{IsNumbered}
 use Rattle.laws_refinement.proofs.ClientKeeps.{clients_kept}
-use Rattle.laws_reach.specs.Standing.{records_of}
+use Rattle.laws_reach.specs.Names.{HasTaken, records_of}
 use Rattle.laws_votes.proofs.SameLife.{life_of as life_of_records}
 use Rattle.laws_votes.proofs.Counts.{Counts, counts_all}
-use Rattle.qc_promise.specs.Account.{Account, Current}
-use Rattle.qc_promise.specs.Accounting.{account, account_taken}
-use Rattle.qc_promise.specs.Kept.{Kept}
-use Rattle.qc_promise.specs.Replies.{AreRepliesDue}
-use Rattle.theory_machine.specs.Guards.{IsShown, op_of}
-use Rattle.theory_machine.specs.State.{Active, Granted, State, Status}
+use Rattle.qc_promise.specs.Names.{Account, AreRepliesDue, Current, Kept, account, account_taken}
+use Rattle.theory_machine.specs.Names.{Active, Granted, IsShown, State, Status, op_of}
 use Rattle.theory_machine.specs.State as machine
-use Rattle.laws_reach.specs.Reached.{HasTaken}
 use Rattle.laws_reach.proofs.Stood.{in_client}
-use Rattle.qc_script.specs.RunsWithFalls.{RunsWithFalls}
-use Rattle.qc_script.specs.Sound.{IsScriptFor}
+use Rattle.qc_script.specs.Names.{IsScriptFor, RunsWithFalls}
 use Rattle.qc_script.specs.declared.script.Script.{Script}
 use Rattle.qc_stamp.specs.declared.stamp.TxId.{TxId}
 use Rattle.std.proofs.lemmas.List.{append-nil}

@@ -3,18 +3,18 @@ use Rattle.std.proofs.Common.{◌≡◌, ◌⊎◌, ℕ, ◌==◌, Bool, true, f
 use Rattle.std.specs.List.{find}
 use Rattle.std.specs.Option.{option_map_or}
 use Rattle.qc_stamp.specs.declared.stamp.TxId.{TxId}
-use Rattle.qc_list.specs.Members.{In}
+use Rattle.qc_list.specs.Names.{In}
 use Rattle.qc_msg.specs.declared.begun.LifeAt.{LifeAt}
 use Rattle.qc_msg.specs.declared.message.Answer.{Answer}
 use Rattle.qc_msg.specs.declared.message.Want.{Want}
-use Rattle.qc_msg.specs.Begun.{has_granted, life_of, with_life}
-use Rattle.qc_msg.specs.Deeds.{Deed}
-use Rattle.qc_promise.specs.Account.{Account, ClientRequest, Current, new_current}
+use Rattle.qc_msg.specs.Names.{Deed, has_granted, life_of, with_life}
+use Rattle.qc_promise.specs.Names.{Account, ClientRequest, Current, account_told_in, answer_of, found_absent, granted}
+use Rattle.qc_promise.specs.Names.{lived, new_current, promised, refused, responded, short_of, told_by, with_read}
+use Rattle.qc_promise.specs.Names.{with_response}
 use Rattle.laws_guarantees.proofs.FirstGrants.{KeepsLives, same_lives, life_added}
 use Rattle.qc_entry.specs.declared.line.Line.{Line}
 use Rattle.qc_msg.specs.declared.message.Answer.TheVariants as answers
 use Rattle.qc_msg.specs.declared.message.Want.TheVariants.{Append, Prepare, Read}
-use Rattle.qc_promise.specs.Accounting.{told_by, granted, lived, promised, with_read, account_told_in, refused, responded, found_absent, short_of, with_response}
 use Rattle.laws_guarantees.proofs.Accounts.{WasSent, WasTaken, sent_more, taken_more}
 use Rattle.laws_guarantees.proofs.SiteMoves.{IsFull}
 use Rattle.qc_decl.specs.declared.declaration.Declaration.{Declaration}
@@ -24,7 +24,6 @@ use Rattle.qc_msg.specs.declared.reply.Reply.{Reply}
 use Rattle.qc_msg.specs.declared.reply.Reply.TheVariants as replies
 use Rattle.qc_msg.specs.declared.step.Command.{Command}
 use Rattle.qc_msg.specs.declared.step.Command.TheVariants as commands
-use Rattle.qc_promise.specs.Rounds.{answer_of}
 
 -- a grant told this life of the site, for a request of the transaction that it had been sent
 pub record IsToldLife (ds : List Deed) (tx : TxId) (site life : ℕ) : Type 0 where

@@ -1,9 +1,8 @@
 -- The steps that write a record: no other record is in them, its client knows it from then on, and it is written once.
 use Rattle.std.proofs.Common.{◌≡◌, ◌⊎◌, ◌+◌, ◌-◌, ◌==◌, ℕ, Bool, true, cond, List, [], ◌∷◌, ◌++◌, inl, inr, Some, refl}
 use Rattle.std.proofs.Common.{sym, ap, ◌∙◌, subst, append_assoc, arith, eq-eqb}
-use Rattle.qc_core.specs.Conduct.{IsLawfulWithFalls}
-use Rattle.qc_core.specs.Lives.{AreSteady}
-use Rattle.qc_decl.specs.Accepted.{IsAccepted}
+use Rattle.qc_core.specs.Names.{AreSteady, IsLawfulWithFalls}
+use Rattle.qc_decl.specs.Names.{IsAccepted}
 use Rattle.qc_decl.specs.declared.declaration.Declaration.{Declaration}
 use Rattle.qc_entry.specs.declared.line.Op.{Op}
 use Rattle.qc_entry.specs.declared.record.Commit.{Commit as CommitRecord}
@@ -11,11 +10,10 @@ use Rattle.laws_votes.proofs.Clients.{IsNumbered, numbered}
 use Rattle.laws_votes.proofs.Promising.{IsRecording, its_client, its_moment, now_recording}
 use Rattle.laws_votes.proofs.Recording.{IsKnown, Moment}
 use Rattle.laws_votes.proofs.SiteLives.{journal_next, record_stays}
-use Rattle.laws_votes.specs.Recorded.{AreWriting}
-use Rattle.qc_list.specs.Members.{In}
+use Rattle.laws_votes.specs.Names.{AreWriting, IsToldBy}
+use Rattle.qc_list.specs.Names.{In}
 use Rattle.qc_list.proofs.Members.{In-last}
-use Rattle.qc_msg.specs.Deeds.{Falls, Tells, deeds, mail, own}
-use Rattle.qc_msg.specs.Steps.{Entry, by, marked}
+use Rattle.qc_msg.specs.Names.{Entry, Falls, Tells, by, deeds, mail, marked, own}
 use Rattle.qc_msg.specs.declared.message.Envelope.{Envelope}
 use Rattle.qc_msg.specs.declared.record.Record.{Record}
 use Rattle.qc_msg.specs.declared.record.Record.TheVariants as records
@@ -30,13 +28,10 @@ use Rattle.laws_votes.proofs.Reader.{IsFalling, IsPosted, behind, due_at, m as w
 use Rattle.laws_votes.proofs.Reader.{says}
 use Rattle.laws_votes.proofs.Since.{stays_steady}
 use Rattle.laws_votes.proofs.Splits.{snoc_same}
-use Rattle.laws_votes.specs.Ordered.{IsToldBy}
-use Rattle.qc_promise.specs.Account.{Current}
-use Rattle.qc_promise.specs.Kept.{Journal, Kept, journal_of}
+use Rattle.qc_promise.specs.Names.{Current, Journal, Kept, journal_of}
 use Rattle.laws_reach.proofs.RunsStand.{kept_of_first}
-use Rattle.laws_reach.specs.Standing.{IsOfClient, records_of}
-use Rattle.qc_script.specs.RunsWithFalls.{RunsWithFalls}
-use Rattle.qc_script.specs.Sound.{IsScriptFor}
+use Rattle.laws_reach.specs.Names.{IsOfClient, records_of}
+use Rattle.qc_script.specs.Names.{IsScriptFor, RunsWithFalls}
 use Rattle.qc_script.specs.declared.script.Script.{Script}
 use Rattle.qc_stamp.specs.declared.stamp.TxId.{TxId}
 

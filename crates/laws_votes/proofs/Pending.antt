@@ -4,11 +4,8 @@
 use Rattle.std.proofs.Common.{◌≡◌, ◌≢◌, ◌⊎◌, ◌≤◌, ◌+◌, ◌-◌, ℕ, Bool, true, false, IsTrue, List, [], ◌∷◌, inl, inr, Some}
 use Rattle.std.proofs.Common.{None, slice_get, refl, sym, ap, ◌∙◌, subst, arith}
 use Rattle.qc_core.proofs.LivesLaws.{clear, journal}
-use Rattle.qc_core.specs.Conduct.{IsLawfulWithFalls}
-use Rattle.qc_core.specs.Journals.{journal_after}
-use Rattle.qc_core.specs.Lives.{is_up}
-use Rattle.qc_decl.specs.Accepted.{IsAccepted}
-use Rattle.qc_decl.specs.Actors.{actors, is_client}
+use Rattle.qc_core.specs.Names.{IsLawfulWithFalls, is_up, journal_after}
+use Rattle.qc_decl.specs.Names.{IsAccepted, actors, is_client}
 use Rattle.qc_decl.specs.declared.declaration.Declaration.{Declaration}
 use Rattle.qc_entry.specs.declared.line.Line.{Line}
 use Rattle.qc_entry.specs.declared.line.Op.{Op}
@@ -16,31 +13,24 @@ use Rattle.qc_entry.specs.declared.record.Commit.{Commit as CommitRecord}
 use Rattle.laws_votes.proofs.Clients.{IsNumbered, numbered, slot_of}
 use Rattle.laws_votes.proofs.Nets.{net, now, reached, refined}
 use Rattle.laws_votes.proofs.Recording.{IsKnown}
-use Rattle.qc_link.specs.Limits.{most_actors}
-use Rattle.qc_list.specs.Members.{In}
-use Rattle.laws_turns.specs.LivesIn.{LivesIn}
+use Rattle.qc_link.specs.Names.{most_actors}
+use Rattle.qc_list.specs.Names.{In}
+use Rattle.laws_turns.specs.Names.{LivesIn}
 use Rattle.laws_turns.proofs.Lived.{run_lives}
-use Rattle.qc_msg.specs.Deeds.{deeds, own}
-use Rattle.qc_msg.specs.Steps.{Entry}
+use Rattle.qc_msg.specs.Names.{Entry, deeds, own}
 use Rattle.qc_msg.specs.declared.record.Record.{Record}
 use Rattle.qc_msg.specs.declared.record.Record.TheVariants as records
-use Rattle.laws_refinement.specs.Clients.{IsPendingBy}
-use Rattle.theory_onecopy.specs.Executed.{depends_at}
-use Rattle.theory_onecopy.specs.Logged.{IsOperation}
+use Rattle.laws_refinement.specs.Names.{IsPendingBy}
+use Rattle.theory_onecopy.specs.Names.{IsOperation, depends_at}
 use Rattle.laws_guarantees.proofs.Committed.{reader_sees, writer_passes}
 use Rattle.laws_guarantees.proofs.Live.{Live}
 use Rattle.laws_guarantees.proofs.Settled.{IsSafe}
 use Rattle.laws_votes.proofs.Live.{client_named, is_up_now, live}
-use Rattle.qc_promise.specs.Account.{Current, view_of}
-use Rattle.qc_promise.specs.Accounting.{account}
-use Rattle.qc_promise.specs.Kept.{Journal, Kept, journal_of}
-use Rattle.theory_machine.specs.Acts.{Act, Commit, state}
-use Rattle.theory_machine.specs.Guards.{IsRun, MayCommit}
-use Rattle.theory_machine.specs.State.{Active, Committed, Status, Voting}
+use Rattle.qc_promise.specs.Names.{Current, Journal, Kept, account, journal_of, view_of}
+use Rattle.theory_machine.specs.Names.{Act, Active, Commit, Committed, IsRun, MayCommit, Status, Voting, state}
 use Rattle.theory_machine.proofs.Names.{put_case, put_tx_case}
 use Rattle.laws_reach.proofs.Written.{Agree, written_are}
-use Rattle.qc_script.specs.RunsWithFalls.{RunsWithFalls}
-use Rattle.qc_script.specs.Sound.{IsScriptFor}
+use Rattle.qc_script.specs.Names.{IsScriptFor, RunsWithFalls}
 use Rattle.qc_script.specs.declared.script.Script.{Script}
 
 -- a run of the machine in which the transaction is live and safe, and the record stands

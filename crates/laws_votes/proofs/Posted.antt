@@ -7,23 +7,20 @@ use Rattle.laws_votes.proofs.Inputs.{TookAt, taken_at}
 use Rattle.qc_core.proofs.Answers.{answers_rising, answers_taken}
 use Rattle.qc_core.proofs.OpenedInputs.{Opened, opened}
 use Rattle.qc_core.proofs.Written.{IsAnswerTo, IsAnsweredTo, NoAnswer}
-use Rattle.qc_core.specs.Conduct.{IsLawfulWithFalls}
-use Rattle.qc_core.specs.Lives.{MayReach, is_up, up_at}
-use Rattle.qc_decl.specs.Actors.{actors}
+use Rattle.qc_core.specs.Names.{IsLawfulWithFalls, MayReach, is_up, up_at}
+use Rattle.qc_decl.specs.Names.{actors}
 use Rattle.qc_decl.specs.declared.declaration.Declaration.{Declaration}
 use Rattle.qc_entry.specs.declared.record.Prepared.{Prepared}
 use Rattle.laws_guarantees.proofs.ForgettingAnswers.{Forgets, same_answer}
 use Rattle.laws_turns.proofs.Places.{slice_get-more}
-use Rattle.qc_link.specs.Limits.{most_actors}
-use Rattle.qc_list.specs.Members.{In}
+use Rattle.qc_link.specs.Names.{most_actors}
+use Rattle.qc_list.specs.Names.{In}
 use Rattle.qc_list.proofs.Members.{every-In}
 use Rattle.laws_turns.proofs.Lived.{deeds-rise, run_lives}
-use Rattle.laws_turns.specs.LivesIn.{LivesIn}
+use Rattle.laws_turns.specs.Names.{LivesIn}
 use Rattle.qc_msg.proofs.GrownMail.{mail-append}
-use Rattle.qc_msg.specs.Deeds.{Deed, Takes, WasSentTo, deeds, mail}
-use Rattle.qc_msg.specs.InputReadings.{heard_in}
-use Rattle.qc_msg.specs.Readings.{Answered, answer_in}
-use Rattle.qc_msg.specs.Steps.{Entry, marked, sends_as}
+use Rattle.qc_msg.specs.Names.{Answered, Deed, Entry, Takes, WasSentTo, answer_in, deeds, heard_in, mail, marked}
+use Rattle.qc_msg.specs.Names.{sends_as}
 use Rattle.qc_msg.specs.declared.message.Answer.{Answer}
 use Rattle.qc_msg.specs.declared.message.Answer.TheVariants as answers
 use Rattle.qc_msg.specs.declared.message.Envelope.{Envelope}
@@ -39,13 +36,11 @@ use Rattle.qc_msg.specs.declared.step.Input.TheVariants as given
 use Rattle.qc_msg.specs.declared.step.Step.TheVariants as steps
 use Rattle.qc_msg.specs.declared.turn.Posting.{Posting}
 use Rattle.qc_msg.specs.declared.turn.Turn.{Turn}
-use Rattle.qc_script.specs.RunsWithFalls.{RunsWithFalls}
+use Rattle.qc_script.specs.Names.{RunsWithFalls}
 use Rattle.qc_script.specs.declared.script.Script.{Script}
 use Rattle.qc_site.proofs.Cases.{append_cases, close_cases, install_cases, prepare_cases, read_cases, request_cases}
-use Rattle.qc_site.specs.Conduct.{passed, site_at, site_takes}
-use Rattle.qc_site.specs.Promise.{finishes, joins, prepared_of}
-use Rattle.qc_site.specs.Requests.{grants}
-use Rattle.qc_site.specs.Site.{SiteMove, SiteState, answering}
+use Rattle.qc_site.specs.Names.{SiteMove, SiteState, answering, finishes, grants, joins, passed, prepared_of, site_at}
+use Rattle.qc_site.specs.Names.{site_takes}
 use Rattle.qc_stamp.specs.declared.stamp.Stamp.{Stamp}
 use Rattle.qc_stamp.specs.declared.stamp.TxId.{TxId}
 

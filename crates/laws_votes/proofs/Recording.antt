@@ -2,24 +2,22 @@
 -- where it was due.
 use Rattle.std.proofs.Common.{◌≡◌, ◌⊎◌, ◌+◌, ◌==◌, ℕ, Bool, true, false, List, [], ◌∷◌, ◌++◌, inl, inr, length, Option, Some, None, option_to_list, slice_get, refl, sym, ap, ◌∙◌, subst, append_assoc, eqb-true}
 use Rattle.laws_due.proofs.Standing.{actor_more, turn_is}
-use Rattle.qc_client.specs.Conduct.{client_takes}
-use Rattle.qc_core.specs.Actors.{ActorMove, actor_after, actor_takes}
+use Rattle.qc_client.specs.Names.{client_takes}
+use Rattle.qc_core.specs.Names.{ActorMove, IsLawfulWithFalls, actor_after, actor_takes, journal_after, journal_at}
+use Rattle.qc_core.specs.Names.{with_record}
 use Rattle.qc_core.proofs.ByNumber.{client_risen}
-use Rattle.qc_core.specs.Conduct.{IsLawfulWithFalls, with_record}
-use Rattle.qc_core.specs.Journals.{journal_after, journal_at}
 use Rattle.qc_core.proofs.LivesLaws.{journal}
 use Rattle.qc_core.proofs.LivesLaws as actor_laws
-use Rattle.qc_decl.specs.Accepted.{IsAccepted}
-use Rattle.qc_decl.specs.Actors.{controller, is_client}
+use Rattle.qc_decl.specs.Names.{IsAccepted, controller, is_client}
 use Rattle.qc_decl.specs.declared.declaration.Declaration.{Declaration}
 use Rattle.qc_entry.specs.declared.record.Commit.{Commit as CommitRecord}
-use Rattle.laws_votes.specs.Recorded.{AreWriting}
+use Rattle.laws_votes.specs.Names.{AreWriting}
 use Rattle.laws_votes.proofs.Clients.{IsCommitting, client_at, committing}
 use Rattle.laws_votes.proofs.SiteLives.{journal_next}
-use Rattle.qc_list.specs.Members.{In}
+use Rattle.qc_list.specs.Names.{In}
 use Rattle.qc_msg.proofs.Growth.{deeds-append, deeds-other, deeds-posted_as, deeds-rose}
-use Rattle.qc_msg.specs.Deeds.{Deed, Rises, Takes, deeds, deeds_as, mail, own}
-use Rattle.qc_msg.specs.Steps.{Entry, by, marked, posted_as, step_of, sents, told}
+use Rattle.qc_msg.specs.Names.{Deed, Entry, Rises, Takes, by, deeds, deeds_as, mail, marked, own, posted_as, sents}
+use Rattle.qc_msg.specs.Names.{step_of, told}
 use Rattle.qc_msg.specs.Steps as post
 use Rattle.qc_msg.specs.declared.record.Record.{Record}
 use Rattle.qc_msg.specs.declared.record.Record.TheVariants.{Commit, Life}
@@ -35,12 +33,11 @@ use Rattle.qc_msg.specs.declared.turn.Appended.{Appended}
 use Rattle.qc_msg.specs.declared.turn.Appended.TheVariants as ends
 use Rattle.qc_msg.specs.declared.turn.Turn.{Turn}
 use Rattle.theory_onecopy.proofs.Lists.{in_split}
-use Rattle.qc_promise.specs.Kept.{IsGivenBack, Journal, Kept, journal_of, journal_with, no_journal}
+use Rattle.qc_promise.specs.Names.{IsGivenBack, Journal, Kept, journal_of, journal_with, no_journal}
 use Rattle.laws_reach.proofs.Growing.{ended_journal, journal_posted}
 use Rattle.laws_reach.proofs.RunsStand.{kept_of_first}
-use Rattle.qc_script.specs.Ready.{controller_step, phase_of}
-use Rattle.qc_script.specs.RunsWithFalls.{RunsWithFalls, begins, takes, posts, phase, control, falls, rises, damaged, unopened}
-use Rattle.qc_script.specs.Sound.{IsScriptFor}
+use Rattle.qc_script.specs.Names.{IsScriptFor, RunsWithFalls, begins, control, controller_step, damaged, falls, phase}
+use Rattle.qc_script.specs.Names.{phase_of, posts, rises, takes, unopened}
 use Rattle.qc_script.specs.declared.script.Script.{Script}
 use Rattle.std.proofs.lemmas.List.Sums.{fold-append}
 

@@ -3,28 +3,20 @@
 use Rattle.std.proofs.Common.{◌≡◌, ◌-◌, ℕ, Bool, true, List, [], ◌++◌, fold, Some, sym, ap, ◌∙◌, subst, arith}
 use Rattle.std.proofs.lemmas.List.Sums.{fold-append}
 use Rattle.qc_core.proofs.LivesLaws.{journal}
-use Rattle.qc_core.specs.Conduct.{IsLawfulWithFalls}
-use Rattle.qc_core.specs.Journals.{journal_after, journal_at}
-use Rattle.qc_core.specs.Lives.{AreSteady, is_up, up_at}
-use Rattle.qc_decl.specs.Accepted.{IsAccepted}
-use Rattle.qc_decl.specs.Actors.{is_client}
+use Rattle.qc_core.specs.Names.{AreGivenBack, AreSteady, IsLawfulWithFalls, is_up, journal_after, journal_at, up_at}
+use Rattle.qc_decl.specs.Names.{IsAccepted, is_client}
 use Rattle.qc_decl.specs.declared.declaration.Declaration.{Declaration}
 use Rattle.laws_votes.proofs.Stamps.{client_due, due_behind}
 use Rattle.qc_msg.proofs.Growth.{deeds-append}
-use Rattle.qc_msg.specs.Deeds.{Deed, deeds, mail, own}
-use Rattle.qc_msg.specs.Steps.{Entry}
+use Rattle.qc_msg.specs.Names.{Deed, Entry, deeds, mail, own}
 use Rattle.qc_msg.specs.declared.record.Record.{Record}
 use Rattle.laws_votes.proofs.Live.{is_up_now, life_named}
 use Rattle.laws_votes.proofs.SameLife.{back_behind, life_of, steady_life}
-use Rattle.qc_promise.specs.Account.{Current, new_account}
-use Rattle.qc_promise.specs.Accounting.{account, account_at}
-use Rattle.qc_promise.specs.Kept.{Journal, Kept, journal_of, no_journal}
-use Rattle.qc_promise.specs.Replies.{AreDeedsDue, AreRepliesDue}
-use Rattle.qc_script.specs.RunsWithFalls.{RunsWithFalls}
-use Rattle.qc_script.specs.Sound.{IsScriptFor}
+use Rattle.qc_promise.specs.Names.{AreDeedsDue, AreRepliesDue, Current, Journal, Kept, account, account_at, journal_of}
+use Rattle.qc_promise.specs.Names.{new_account, no_journal}
+use Rattle.qc_script.specs.Names.{IsScriptFor, RunsWithFalls}
 use Rattle.qc_script.specs.declared.script.Script.{Script}
 use Rattle.qc_stamp.specs.declared.stamp.TxId.{TxId}
-use Rattle.qc_core.specs.GivenBack.{AreGivenBack}
 use Rattle.qc_core.proofs.KeptBack.{kept_given_back}
 
 module _ (fits : ℕ → List Record → Type 0) (decl : Declaration) (script : Script) (h : List Entry)

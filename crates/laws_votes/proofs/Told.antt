@@ -8,11 +8,8 @@ use Rattle.laws_votes.proofs.Unforgotten.{AreAll}
 use Rattle.laws_votes.proofs.Counted.{votes_remember}
 use Rattle.qc_core.proofs.AdminOver.{IsAdminMove, admin_over}
 use Rattle.qc_core.proofs.AdminWrites.{IsAdminReply, SaysAsAdmin}
-use Rattle.qc_core.specs.Actors.{actor_after}
-use Rattle.qc_core.specs.Conduct.{IsLawfulWithFalls, with_record}
-use Rattle.qc_decl.specs.Accepted.{IsAccepted}
-use Rattle.qc_decl.specs.Actors.{actors, controller, is_client, is_site}
-use Rattle.qc_decl.specs.Limits.{most_committed_operations}
+use Rattle.qc_core.specs.Names.{IsLawfulWithFalls, actor_after, with_record}
+use Rattle.qc_decl.specs.Names.{IsAccepted, actors, controller, is_client, is_site, most_committed_operations}
 use Rattle.qc_decl.specs.declared.declaration.Declaration.{Declaration}
 use Rattle.qc_entry.specs.declared.record.Commit.{Commit as CommitRecord}
 use Rattle.laws_guarantees.proofs.Against.{IsForgottenVote, due_why}
@@ -21,14 +18,13 @@ use Rattle.qc_inbox.proofs.FallMail.{ready_sent}
 use Rattle.laws_turns.proofs.Acted.{deeds-silent}
 use Rattle.laws_turns.proofs.Downs.{due as lawful_due}
 use Rattle.laws_turns.proofs.Numbered.{IsSilent, phase_silent}
-use Rattle.qc_link.specs.Limits.{most_actors}
-use Rattle.qc_list.specs.Members.{In}
+use Rattle.qc_link.specs.Names.{most_actors}
+use Rattle.qc_list.specs.Names.{In}
 use Rattle.laws_turns.proofs.ByMailWithFalls.{run_by_turns}
 use Rattle.laws_turns.proofs.Lived.{deeds-fall, line_silent}
 use Rattle.qc_msg.proofs.Growth.{deeds-other, deeds-posted_as, deeds-taken}
-use Rattle.qc_msg.specs.Counts.{answered}
-use Rattle.qc_msg.specs.Deeds.{Deed, Falls, Rises, Takes, Tells, deeds, deeds_as, mail, sends_of, tells_of, writes_of}
-use Rattle.qc_msg.specs.Steps.{Entry, by, marked, posted_as, step_of}
+use Rattle.qc_msg.specs.Names.{Deed, Entry, Falls, Rises, Takes, Tells, answered, by, deeds, deeds_as, mail, marked}
+use Rattle.qc_msg.specs.Names.{posted_as, sends_of, step_of, tells_of, writes_of}
 use Rattle.qc_msg.specs.declared.record.Record.{Record}
 use Rattle.qc_msg.specs.declared.reply.Reply.{Reply}
 use Rattle.qc_msg.specs.declared.reply.Reply.TheVariants as replies
@@ -44,20 +40,15 @@ use Rattle.qc_msg.specs.declared.turn.Appended.TheVariants as ends
 use Rattle.qc_msg.specs.declared.turn.Posting.{Posting}
 use Rattle.qc_msg.specs.declared.turn.Turn.{Turn}
 use Rattle.theory_onecopy.proofs.Lists.{in_split}
-use Rattle.qc_promise.specs.Account.{Account, Current, is_prepare, new_account, requests_for}
-use Rattle.qc_promise.specs.Accounting.{account_of}
-use Rattle.qc_promise.specs.Kept.{Kept}
-use Rattle.qc_promise.specs.Posts.{pending_next}
-use Rattle.qc_promise.specs.Replies.{AreDeedsDue, AreRepliesDue}
-use Rattle.qc_promise.specs.Rounds.{are_votes_in, first_against}
-use Rattle.qc_promise.specs.Rows.{commit_row, due, is_declared_for, reply_to, row_of, running_row, vote_row}
-use Rattle.qc_promise.specs.Turns.{AreByTurns, Place, goes_on, place_after}
+use Rattle.qc_promise.specs.Names.{Account, AreByTurns, AreDeedsDue, AreRepliesDue, Current, Kept, Place, account_of}
+use Rattle.qc_promise.specs.Names.{are_votes_in, commit_row, due, first_against, goes_on, is_declared_for, is_prepare}
+use Rattle.qc_promise.specs.Names.{new_account, pending_next, place_after, reply_to, requests_for, row_of, running_row}
+use Rattle.qc_promise.specs.Names.{vote_row}
 use Rattle.qc_promise.specs.Turns as turns
 use Rattle.laws_reach.proofs.Posting.{takes_inputs}
-use Rattle.laws_reach.specs.Reached.{TakesInputs}
-use Rattle.qc_script.specs.Ready.{phase_of}
-use Rattle.qc_script.specs.RunsWithFalls.{RunsWithFalls, begins, takes, posts, phase, control, falls, rises, damaged, unopened}
-use Rattle.qc_script.specs.Sound.{IsScriptFor}
+use Rattle.laws_reach.specs.Names.{TakesInputs}
+use Rattle.qc_script.specs.Names.{IsScriptFor, RunsWithFalls, begins, control, damaged, falls, phase, phase_of, posts}
+use Rattle.qc_script.specs.Names.{rises, takes, unopened}
 use Rattle.qc_script.specs.declared.script.Script.{Script}
 
 -- where an element stands

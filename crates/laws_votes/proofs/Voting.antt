@@ -2,27 +2,24 @@
 -- one; and no other event votes.
 use Rattle.std.proofs.Common.{◌≡◌, ◌≤◌, ◌⊎◌, ℕ, not, Bool, true, false, List, [], ◌∷◌, ◌++◌, inl, inr, length, map, take, Some, option_to_list, slice_get, refl, sym, ap, ◌∙◌, subst, arith}
 use Rattle.qc_core.specs.declared.actor.Actor.{Actor}
-use Rattle.qc_core.specs.Actors.{ActorMove, actor_after, actor_takes}
+use Rattle.qc_core.specs.Names.{ActorMove, IsLawfulWithFalls, actor_after, actor_takes, is_up, journal_after}
+use Rattle.qc_core.specs.Names.{with_record}
 use Rattle.qc_core.proofs.ByNumber.{site_risen}
-use Rattle.qc_core.specs.Conduct.{IsLawfulWithFalls, with_record}
-use Rattle.qc_core.specs.Journals.{journal_after}
-use Rattle.qc_core.specs.Lives.{is_up}
 use Rattle.qc_core.proofs.LivesLaws.{journal}
 use Rattle.qc_core.proofs.LivesLaws as actor_laws
-use Rattle.qc_decl.specs.Accepted.{IsAccepted}
-use Rattle.qc_decl.specs.Actors.{is_site}
+use Rattle.qc_decl.specs.Names.{IsAccepted, is_site}
 use Rattle.qc_decl.specs.declared.declaration.Declaration.{Declaration}
-use Rattle.laws_votes.specs.Votes.{life_at}
+use Rattle.laws_votes.specs.Names.{life_at}
 use Rattle.laws_votes.proofs.SiteLives.{life_of}
-use Rattle.qc_inbox.specs.Downs.{is_down}
-use Rattle.qc_list.specs.Members.{In}
+use Rattle.qc_inbox.specs.Names.{is_down}
+use Rattle.qc_list.specs.Names.{In}
 use Rattle.qc_list.proofs.Members.{In-second}
 use Rattle.qc_entry.specs.declared.record.Prepared.{Prepared}
 use Rattle.qc_msg.specs.declared.step.Step.TheVariants as steps
 use Rattle.laws_turns.proofs.Downs.{due, tells, up_is}
 use Rattle.qc_msg.proofs.Growth.{deeds-append, deeds-posted_as, deeds-rose}
-use Rattle.qc_msg.specs.Deeds.{Deed, WasSentTo, deeds, envelopes, mail}
-use Rattle.qc_msg.specs.Steps.{Entry, HasRecord, MayEnd, by, posted_as, sends_as}
+use Rattle.qc_msg.specs.Names.{Deed, Entry, HasRecord, MayEnd, WasSentTo, by, deeds, envelopes, mail, posted_as}
+use Rattle.qc_msg.specs.Names.{sends_as}
 use Rattle.qc_msg.specs.declared.message.Answer.TheVariants as answers
 use Rattle.qc_msg.specs.declared.message.Envelope.{Envelope}
 use Rattle.qc_msg.specs.declared.message.Message.{Message}
@@ -38,28 +35,22 @@ use Rattle.qc_msg.specs.declared.turn.Appended.{Appended}
 use Rattle.qc_msg.specs.declared.turn.Appended.TheVariants.{Done, Failed, Stopped}
 use Rattle.qc_msg.specs.declared.turn.Posting.{Posting}
 use Rattle.qc_msg.specs.declared.turn.Turn.{Turn}
-use Rattle.laws_refinement.specs.Mirrors.{Refines}
-use Rattle.laws_refinement.specs.Net.{MayCome, Net, after_site}
+use Rattle.laws_refinement.specs.Names.{IsNamedLater, MayCome, Net, Refines, after_site}
 use Rattle.laws_refinement.specs.Net as nets
-use Rattle.laws_refinement.specs.Steps.{IsNamedLater}
 use Rattle.laws_refinement.specs.Steps as later_nets
 use Rattle.laws_refinement.proofs.Refining.{nets_refine}
 use Rattle.laws_refinement.proofs.SiteVotes.{no_inquiry, take_silent}
 use Rattle.laws_refinement.proofs.VotesLater.{later_votes_name_later_lives}
-use Rattle.qc_promise.specs.Kept.{Journal}
+use Rattle.qc_promise.specs.Names.{Journal}
 use Rattle.theory_machine.proofs.Names.{put_here}
 use Rattle.laws_reach.proofs.Growing.{journal_posted}
 use Rattle.laws_reach.proofs.Posting.{never_up}
 use Rattle.laws_reach.proofs.Stood.{Stands, Stood, in_site}
-use Rattle.laws_reach.specs.Reached.{HasTaken}
-use Rattle.qc_recover.specs.Sites.{kept_by, most_inquiries, site_rises}
-use Rattle.qc_site.specs.Epochs.{closed, in_order, shut_answer}
+use Rattle.laws_reach.specs.Names.{HasTaken}
+use Rattle.qc_recover.specs.Names.{kept_by, most_inquiries, site_rises}
+use Rattle.qc_site.specs.Names.{SiteMove, SiteState, closed, closes_in, finishes, grants, in_order, passed, prepares}
+use Rattle.qc_site.specs.Names.{shut_answer, site_at, site_takes}
 use Rattle.qc_site.proofs.Cases.{append_cases, close_cases, install_cases, join_cases, prepare_cases, read_cases, request_cases, state_cases}
-use Rattle.qc_site.specs.Conduct.{passed, site_at, site_takes}
-use Rattle.qc_site.specs.Promise.{finishes, prepares}
-use Rattle.qc_site.specs.Requests.{grants}
-use Rattle.qc_site.specs.Told.{closes_in}
-use Rattle.qc_site.specs.Site.{SiteMove, SiteState}
 use Rattle.qc_stamp.specs.declared.stamp.TxId.{TxId}
 use Rattle.laws_atomic.proofs.Stood.{may_come}
 

@@ -1,21 +1,18 @@
 -- A client that falls as it writes a commit record has committed it just where it rises with it.
 use Rattle.std.proofs.Common.{◌≡◌, ℕ, Bool, true, List, [], ◌∷◌, ◌++◌, if◌then◌else◌, inl, inr, refl, sym, ap, subst}
 use Rattle.std.specs.Prelude.{sum_by}
-use Rattle.laws_votes.specs.Operations.{committed_operations}
-use Rattle.qc_decl.specs.Actors.{is_client}
+use Rattle.laws_votes.specs.Names.{committed_operations}
+use Rattle.qc_decl.specs.Names.{is_client}
 use Rattle.qc_decl.specs.declared.declaration.Declaration.{Declaration}
 use Rattle.qc_entry.specs.declared.record.Commit.{Commit as CommitRecord}
-use Rattle.qc_msg.specs.Counts.{answered}
-use Rattle.qc_msg.specs.Fallen.{commit, risen}
-use Rattle.qc_msg.specs.Deeds.{own}
-use Rattle.qc_msg.specs.Steps.{Entry, marked}
+use Rattle.qc_msg.specs.Names.{Entry, answered, commit, marked, own, risen}
 use Rattle.qc_msg.specs.declared.record.Record.{Record}
 use Rattle.qc_msg.specs.declared.record.Record.TheVariants.{Commit}
 use Rattle.qc_msg.specs.declared.step.Fall.TheVariants.{Stop}
 use Rattle.qc_msg.specs.declared.step.Step.TheVariants.{Fell, Rose}
 use Rattle.std.proofs.Common.{Some}
-use Rattle.theory_onecopy.specs.Committed.{sorted}
-use Rattle.qc_promise.specs.Kept.{IsGivenBack, IsKeptAt, Kept}
+use Rattle.theory_onecopy.specs.Names.{sorted}
+use Rattle.qc_promise.specs.Names.{IsGivenBack, IsKeptAt, Kept}
 
 -- with the record, or without it, it is given back what disks are trusted with
 

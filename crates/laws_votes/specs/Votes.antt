@@ -1,13 +1,12 @@
 -- In which life of its site a vote was cast: a site begins a life with each record of a rise.
 use Rattle.std.specs.Prelude.{◌≡◌, ◌≤◌, ◌⊎◌, ℕ, List}
-use Rattle.qc_list.specs.Members.{In}
-use Rattle.qc_msg.specs.Deeds.{mail}
-use Rattle.qc_msg.specs.Steps.{Entry}
+use Rattle.qc_list.specs.Names.{In}
+use Rattle.qc_msg.specs.Names.{Entry, mail}
 use Rattle.qc_msg.specs.declared.message.Envelope.{Envelope}
 use Rattle.qc_msg.specs.declared.message.Message.TheVariants.{Request}
 use Rattle.qc_msg.specs.declared.message.Want.TheVariants.{Prepare}
-use Rattle.laws_reach.specs.Standing.{records_of}
-use Rattle.qc_recover.specs.Sites.{kept_by}
+use Rattle.laws_reach.specs.Names.{records_of}
+use Rattle.qc_recover.specs.Names.{kept_by}
 use Rattle.qc_stamp.specs.declared.stamp.TxId.{TxId}
 
 -- the life that a site's records give it after a history

@@ -15,28 +15,21 @@ use Rattle.qc_plan.proofs.Faultless as plan_proofs
 use Rattle.qc_plan.specs.Faults as plan
 use Rattle.qc_plan.specs.declared.fault.PlanFault.{PlanFault}
 use Rattle.qc_plan.specs.declared.plan.Plan.{Plan}
-use Rattle.qc_table.specs.Rules.{events_of}
-use Rattle.qc_table.specs.Sound.{IsSound}
+use Rattle.qc_table.specs.Names.{IsSound, events_of}
 use Rattle.qc_table.specs.declared.kind.Kind.{Kind}
 use Rattle.qc_decl.specs.declared.declaration.Declaration.{Declaration}
 use Rattle.qc_decl.specs.declared.declaration.KindNames.{KindNames}
-use Rattle.qc_decl.specs.Limits.{most_clients, most_events, most_objects, most_sites, most_types}
+use Rattle.qc_decl.specs.Names.{AreNames, AreThresholds, HasNames, HasThresholds, IsAccepted, IsGood, IsNamed, IsRight}
+use Rattle.qc_decl.specs.Names.{kind_at, most_clients, most_events, most_objects, most_sites, most_types}
 use Rattle.qc_accept.specs.declared.fault.DeclFault.TheVariants as decl
-use Rattle.qc_accept.specs.Accept.{DraftOf, AreOfStates, AreChecked, ArePlanned, IsShaped, accepted, admitted}
-use Rattle.qc_accept.specs.Accept.{all_admitted, all_certified, all_names, cert_names, certified, declared, document_of}
-use Rattle.qc_accept.specs.Accept.{draft, draft_of, keys, kind_names, plan_names}
+use Rattle.qc_accept.specs.Names.{Answer, AreChecked, AreFew, AreOfStates, ArePlanned, DraftOf, IsFit, IsShaped}
+use Rattle.qc_accept.specs.Names.{ObjectsOf, TypeOf, TypesOf, accepted, admitted, all_admitted, all_certified}
+use Rattle.qc_accept.specs.Names.{all_names, cert_names, certified, declared, document_of, draft, draft_of, keys}
+use Rattle.qc_accept.specs.Names.{kind_names, kind_of, no_others, number, objects_of, places, plan_names, plans_of}
+use Rattle.qc_accept.specs.Names.{types_of}
 use Rattle.qc_decl.proofs.AcceptedNames.{few_names}
-use Rattle.qc_decl.specs.Accepted.{AreThresholds, HasNames, HasThresholds, IsAccepted, IsRight, IsGood}
-use Rattle.qc_decl.specs.Lookup.{kind_at}
-use Rattle.qc_decl.specs.Names.{AreNames}
-use Rattle.qc_accept.specs.Answers.{Answer}
 use Rattle.qc_accept.specs.declared.epochs.Side.{Side}
 use Rattle.qc_accept.specs.declared.epochs.Side.TheVariants.{Initial, Final}
-use Rattle.qc_accept.specs.Epochs.{IsFit, places, plans_of}
-use Rattle.qc_accept.specs.Fields.{number, no_others}
-use Rattle.qc_decl.specs.Named.{IsNamed}
-use Rattle.qc_accept.specs.Objects.{ObjectsOf, kind_of, objects_of}
-use Rattle.qc_accept.specs.Types.{AreFew, TypeOf, TypesOf, types_of}
 use Rattle.qc_accept.proofs.Answered.{came, found, mapped, same_ok}
 use Rattle.qc_accept.proofs.Kept.{IsTypeKept, AreTypesKept, types_kept}
 use Rattle.qc_accept.proofs.Drafted.{all_at, all_of, number_is, AreObjectsKept, objects_kept, AreLists, IsPlanOf}

@@ -6,8 +6,8 @@ use Rattle.std.specs.Str.{bytes_eq}
 use Rattle.std.proofs.lemmas.List.{length_push}
 use Rattle.std.proofs.lemmas.Option.{cond_some}
 use Rattle.toml.specs.Data.{Data, as_str}
-use Rattle.qc_accept.specs.Fields.{item_table, keys_path, name_among, no_others, required, told, with_name, with_text}
-use Rattle.qc_accept.specs.Objects.{ObjectsOf, object_keys, with_object}
+use Rattle.qc_accept.specs.Names.{ObjectsOf, item_table, keys_path, name_among, no_others, object_keys, required, told}
+use Rattle.qc_accept.specs.Names.{with_name, with_object, with_text}
 use Rattle.qc_decl.specs.Names.{is_name}
 use Rattle.qc_accept.proofs.Answered.{came, found, same_ok, told_some}
 

@@ -6,16 +6,12 @@ use Rattle.qc_cert.specs.declared.triple.Triple.{Triple}
 use Rattle.qc_decl.specs.declared.declaration.KindNames.{KindNames}
 use Rattle.qc_plan.specs.declared.plan.Plan.{Plan}
 use Rattle.qc_table.specs.declared.kind.Kind.{Kind}
-use Rattle.qc_decl.specs.Limits.{most_clients, most_sites, most_types}
+use Rattle.qc_decl.specs.Names.{most_clients, most_sites, most_types}
 use Rattle.qc_accept.specs.declared.fault.DeclFault.{DeclFault}
 use Rattle.qc_accept.specs.declared.fault.DeclFault.TheVariants.{OutOfMemory}
-use Rattle.qc_accept.specs.Accept.{DraftOf, all_names, draft, draft_of, keys, lists_of}
-use Rattle.qc_list.specs.Results.{◌>>=◌}
-use Rattle.qc_accept.specs.Answers.{Answer, IsAnswer}
-use Rattle.qc_accept.specs.Epochs.{IsFit, plans_of}
-use Rattle.qc_accept.specs.Fields.{number, no_others}
-use Rattle.qc_accept.specs.Objects.{ObjectsOf, objects_of}
-use Rattle.qc_accept.specs.Types.{TypeOf, TypesOf, types_of}
+use Rattle.qc_accept.specs.Names.{Answer, DraftOf, IsAnswer, IsFit, ObjectsOf, TypeOf, TypesOf, all_names, draft}
+use Rattle.qc_accept.specs.Names.{draft_of, keys, lists_of, no_others, number, objects_of, plans_of, types_of}
+use Rattle.qc_list.specs.Names.{◌>>=◌}
 use Rattle.qc_accept.proofs.Accepting.{store_fits}
 use Rattle.qc_accept.proofs.Drafted.{objects_kept}
 use Rattle.qc_accept.proofs.Kept.{AreTypesKept, types_kept}

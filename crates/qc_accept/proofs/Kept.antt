@@ -10,20 +10,18 @@ use Rattle.std.proofs.lemmas.List.Quantifiers.{position-Some}
 use Rattle.std.proofs.lemmas.Option.{cond_some}
 use Rattle.toml.specs.Data.{Data, Members, as_str}
 use Rattle.qc_cert.specs.declared.triple.Triple.{Triple}
-use Rattle.qc_table.specs.Faults.{fault_of, ranked, is_unknown, first_repeat}
-use Rattle.qc_table.specs.Rules.{Rules, rules_of, events_of}
-use Rattle.qc_table.specs.Sound.{IsSound}
+use Rattle.qc_table.specs.Names.{IsSound, Rules, events_of, fault_of, first_repeat, is_unknown, ranked, rules_of}
 use Rattle.qc_table.specs.declared.fault.TableFault.{TableFault}
 use Rattle.qc_table.specs.declared.row.Event.{Event}
 use Rattle.qc_table.specs.declared.row.Row.{Row}
-use Rattle.qc_decl.specs.Limits.{most_events, most_invocations, most_responses, most_states, most_triples, most_types}
-use Rattle.qc_accept.specs.Accept.{AreOfStates}
-use Rattle.qc_accept.specs.Answers.{read_each}
-use Rattle.qc_accept.specs.Fields.{told, required, items, names, name_among, with_name, with_text, no_others, item_table, keys_path, optional}
-use Rattle.qc_accept.specs.Types.{WordsOf, AreFew, AreSome, TypeOf, TypesOf, words, rows, ruled, table_of, relation, triple_in, triples, triples_in, are_few_alike, with_read, out_in, type_of, type_keys, with_type, types_of, name_at}
-use Rattle.qc_decl.specs.Names.{AreNames, is_name}
+use Rattle.qc_decl.specs.Names.{AreNames, is_name, most_events, most_invocations, most_responses, most_states}
+use Rattle.qc_decl.specs.Names.{most_triples, most_types}
+use Rattle.qc_accept.specs.Names.{AreFew, AreOfStates, AreSome, TypeOf, TypesOf, WordsOf, are_few_alike, item_table}
+use Rattle.qc_accept.specs.Names.{items, keys_path, name_among, name_at, names, no_others, number_of, optional, out_in}
+use Rattle.qc_accept.specs.Names.{read_each, relation, required, rows, ruled, table_of, three, told, triple_in, triples}
+use Rattle.qc_accept.specs.Names.{triples_in, type_keys, type_of, types_of, with_name, with_read, with_text, with_type}
+use Rattle.qc_accept.specs.Names.{words}
 use Rattle.qc_accept.proofs.Naming.{names_are, names_more, no_names}
-use Rattle.qc_accept.specs.Words.{number_of, three}
 use Rattle.qc_accept.proofs.Answered.{Came, came, Found, found, mapped, told_some, same_ok, each_keeps, read_each_keeps, so_many, one_more}
 
 -- a name more

@@ -10,8 +10,7 @@ use Rattle.std.proofs.lemmas.Option.{cond_some}
 use Rattle.std.proofs.lemmas.Slice.Eq.{bytes_eq-Decides}
 use Rattle.toml.specs.Data.{Data, Members, as_str}
 use Rattle.qc_decl.specs.Names.{AreNames, is_name}
-use Rattle.qc_accept.specs.Answers.{read_each}
-use Rattle.qc_accept.specs.Fields.{items, names, told, with_name, with_text}
+use Rattle.qc_accept.specs.Names.{items, names, read_each, told, with_name, with_text}
 use Rattle.qc_accept.proofs.Answered.{both, came, found, read_each_keeps, told_some}
 
 -- none yet

@@ -12,7 +12,7 @@ use Rattle.std.specs.Str.{bytes_eq}
 use Rattle.toml.specs.Data.{Data, Items, as_array}
 use Rattle.toml.specs.View.{view, items_view, members_view}
 use Rattle.toml.specs.declared.value.Value.{Value}
-use Rattle.qc_accept.specs.Fields.{listed, items_between, first_other}
+use Rattle.qc_accept.specs.Names.{first_other, items_between, listed}
 use Rattle.qc_decl.specs.Names.{is_between}
 
 -- an array's items, as a list

@@ -4,17 +4,15 @@ use Rattle.std.proofs.Common.{arith}
 use Rattle.std.specs.Prelude.{codes}
 use Rattle.toml.specs.Data.{Data, Members}
 use Rattle.qc_cert.specs.declared.triple.Triple.{Triple}
-use Rattle.qc_table.specs.Rules.{Rules, events_of}
+use Rattle.qc_table.specs.Names.{Rules, events_of}
 use Rattle.qc_table.specs.declared.row.Event.{Event}
 use Rattle.qc_table.specs.declared.row.Row.{Row}
-use Rattle.qc_decl.specs.Limits.{most_events, most_rows}
+use Rattle.qc_decl.specs.Names.{most_events, most_rows}
 use Rattle.qc_accept.specs.declared.fault.DeclFault.{DeclFault}
 use Rattle.qc_accept.specs.declared.fault.DeclFault.TheVariants.{OutOfMemory}
-use Rattle.qc_list.specs.Results.{◌>>=◌}
-use Rattle.qc_accept.specs.Answers.{Answer}
-use Rattle.qc_accept.specs.Fields.{told, items, no_others}
-use Rattle.qc_accept.specs.Types.{WordsOf, TypeOf, words, row_in, rows_in, rows, with_read, table_of, relation, triples}
-use Rattle.qc_accept.specs.Types.{type_of, type_keys}
+use Rattle.qc_list.specs.Names.{◌>>=◌}
+use Rattle.qc_accept.specs.Names.{Answer, TypeOf, WordsOf, items, no_others, relation, row_in, rows, rows_in, table_of}
+use Rattle.qc_accept.specs.Names.{told, triples, type_keys, type_of, with_read, words}
 use Rattle.qc_accept.proofs.Answered.{came, read_each_keeps, told_some, so_many}
 use Rattle.qc_accept.proofs.Kept.{IsTable, few_events, read_long, table_is, words_are}
 use Rattle.qc_accept.proofs.Told.{then_ok, then_err}

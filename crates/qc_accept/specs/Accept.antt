@@ -17,19 +17,18 @@ use Rattle.qc_plan.specs.Faults as plan
 use Rattle.qc_plan.specs.declared.fault.PlanFault.{PlanFault}
 use Rattle.qc_plan.specs.declared.fault.PlanFault.TheVariants.{NoWeight, TooHeavy, CanMiss}
 use Rattle.qc_plan.specs.declared.plan.Plan.{Plan}
-use Rattle.qc_table.specs.Rules.{Rules, events_of}
+use Rattle.qc_table.specs.Names.{Rules, events_of}
 use Rattle.qc_table.specs.declared.kind.Kind.{Kind}
 use Rattle.qc_table.specs.declared.row.Event.{Event}
 use Rattle.qc_decl.specs.declared.declaration.Declaration.{Declaration}
 use Rattle.qc_decl.specs.declared.declaration.KindNames.{KindNames}
-use Rattle.qc_decl.specs.Limits.{most_clients, most_epochs, most_objects, most_sites, most_triples, most_types}
+use Rattle.qc_decl.specs.Names.{kind_at, most_clients, most_epochs, most_objects, most_sites, most_triples, most_types}
+use Rattle.qc_decl.specs.Names.{names_of}
 use Rattle.qc_accept.specs.declared.fault.DeclFault.TheVariants as decl
-use Rattle.qc_list.specs.Results.{◌>>=◌}
+use Rattle.qc_list.specs.Names.{◌>>=◌}
 use Rattle.qc_accept.specs.Answers.{Answer}
 use Rattle.qc_accept.specs.Epochs.{plans_of}
 use Rattle.qc_accept.specs.Fields.{number, no_others}
-use Rattle.qc_decl.specs.Lookup.{kind_at}
-use Rattle.qc_decl.specs.Named.{names_of}
 use Rattle.qc_accept.specs.Objects.{ObjectsOf, objects_of}
 use Rattle.qc_accept.specs.Types.{TypeOf, TypesOf, WordsOf, types_of, name_at}
 

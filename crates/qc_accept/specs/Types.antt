@@ -6,23 +6,19 @@ use Rattle.std.specs.List.{list_all, slice_split}
 use Rattle.std.specs.Str.{bytes_eq}
 use Rattle.toml.specs.Data.{Data, Members, as_str}
 use Rattle.qc_cert.specs.declared.triple.Triple.{Triple}
-use Rattle.qc_table.specs.Depends.{relation_of}
-use Rattle.qc_table.specs.Faults.{fault_of}
-use Rattle.qc_table.specs.Rules.{Rules, rules_of, events_of}
-use Rattle.qc_table.specs.Sets.{has, with_member}
+use Rattle.qc_table.specs.Names.{Rules, events_of, fault_of, has, relation_of, rules_of, with_member}
 use Rattle.qc_table.specs.declared.fault.TableFault.{TableFault}
 use Rattle.qc_table.specs.declared.kind.Kind.{Kind}
 use Rattle.qc_table.specs.declared.relation.Pair.{Pair}
 use Rattle.qc_table.specs.declared.row.Event.{Event}
 use Rattle.qc_table.specs.declared.row.Row.{Row}
-use Rattle.qc_decl.specs.Limits.{most_alike_triples, most_invocations, most_responses, most_rows, most_states}
-use Rattle.qc_decl.specs.Limits.{most_triples, most_types}
+use Rattle.qc_decl.specs.Names.{is_name, most_alike_triples, most_invocations, most_responses, most_rows, most_states}
+use Rattle.qc_decl.specs.Names.{most_triples, most_types}
 use Rattle.qc_accept.specs.declared.fault.DeclFault.TheVariants.{Table}
-use Rattle.qc_list.specs.Results.{◌>>=◌}
+use Rattle.qc_list.specs.Names.{◌>>=◌}
 use Rattle.qc_accept.specs.Answers.{Answer, each, read_each}
 use Rattle.qc_accept.specs.Fields.{told, required, items, optional, names, name_among, with_name, no_others, item_table}
 use Rattle.qc_accept.specs.Fields.{keys_path}
-use Rattle.qc_decl.specs.Names.{is_name}
 use Rattle.qc_accept.specs.Words.{two, three, four, number_of, event_in}
 
 -- the words of a type: its states with the number of the one at the beginning, its invocations and its responses

@@ -3,13 +3,11 @@ use Rattle.std.proofs.Common.{◌≡◌, ℕ, zero, suc, ◌+◌, Bool, true, fa
 use Rattle.std.proofs.Common.{None, option_map, refl, ap}
 use Rattle.std.specs.List.{AllByRecursion as Every}
 use Rattle.qc_stamp.specs.declared.stamp.TxId.{TxId}
-use Rattle.qc_stamp.specs.Order.{same_tx}
+use Rattle.qc_stamp.specs.Names.{same_tx}
 use Rattle.qc_decl.specs.declared.declaration.Declaration.{Declaration}
-use Rattle.qc_epoch.specs.Admin.{Question}
-use Rattle.qc_epoch.specs.Conduct.{ask_of}
-use Rattle.qc_epoch.specs.Deciding.{clock_in, first_doubt, is_settled, stamp_in, stamp_of}
+use Rattle.qc_epoch.specs.Names.{Question, ask_of, clock_in, first_doubt, is_settled, stamp_in, stamp_of}
 use Rattle.qc_admin.specs.declared.questions.Query.{Query}
-use Rattle.qc_admin.specs.Queries.{ask_about, asked_from, in_doubt, latest_of, number_at, question_of, shown, unasked}
+use Rattle.qc_admin.specs.Names.{ask_about, asked_from, in_doubt, latest_of, number_at, question_of, shown, unasked}
 
 -- the first doubt
 

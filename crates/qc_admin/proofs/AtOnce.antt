@@ -5,9 +5,7 @@ use Rattle.std.specs.Prelude.{nat_le}
 use Rattle.std.specs.Option.{option_map_or}
 use Rattle.std.proofs.Math.Nat.{zero-mod}
 use Rattle.qc_decl.specs.declared.declaration.Declaration.{Declaration}
-use Rattle.qc_decl.specs.Accepted.{IsAccepted}
-use Rattle.qc_decl.specs.Limits.{most_record_bytes}
-use Rattle.qc_decl.specs.Lookup.{plan_in}
+use Rattle.qc_decl.specs.Names.{IsAccepted, most_record_bytes, plan_in}
 use Rattle.qc_msg.specs.declared.call.Call.{Call}
 use Rattle.qc_msg.specs.declared.message.Answer.{Answer}
 use Rattle.qc_msg.specs.declared.message.Message.{Message}
@@ -18,24 +16,20 @@ use Rattle.qc_msg.specs.declared.step.Command.TheVariants as commands
 use Rattle.qc_msg.specs.declared.step.Input.{Input}
 use Rattle.qc_msg.specs.declared.step.Input.TheVariants as inputs
 use Rattle.qc_msg.specs.declared.turn.Turn.{Turn}
-use Rattle.qc_msg.specs.Calls.{site_called, without_call}
-use Rattle.qc_msg.specs.Turns.{quiet, sending}
+use Rattle.qc_msg.specs.Names.{epoch_length, quiet, sending, site_called, without_call}
 use Rattle.qc_plan.specs.declared.plan.Plan.{Plan}
 use Rattle.qc_plan.specs.declared.standing.Verdict.{Verdict}
 use Rattle.qc_plan.specs.declared.standing.Verdict.TheVariants as verdicts
-use Rattle.qc_plan.specs.Round.{RoundState, note, start, verdict}
-use Rattle.qc_front.specs.Appending.{weights_of}
-use Rattle.qc_front.specs.Conduct.{awaited}
-use Rattle.qc_front.specs.Holds.{IsRound}
-use Rattle.qc_epoch.specs.Admin.{Admin, Decided, Doing, Question, Resting, Closing, Asking, Installing, ShutSite, moved}
-use Rattle.qc_epoch.specs.Answers.{outcome_in, standing_of, taken_for, with_installed, with_shut_of}
-use Rattle.qc_epoch.specs.Conduct.{admin_takes, again, answered_in, ask_of, asks, called, close_need, close_round}
-use Rattle.qc_epoch.specs.Conduct.{close_round_by, closes, closes_by, closing_takes, decide_turn, decides, doing}
-use Rattle.qc_epoch.specs.Conduct.{goes_on, heard, install_sends, installing, installing_takes, moves_to, replies_with}
-use Rattle.qc_epoch.specs.Conduct.{settles, settles_by, site_set}
-use Rattle.qc_epoch.specs.Deciding.{all_taken, decision, first_doubt, in_asked_order, most_asks, questions_of}
-use Rattle.qc_msg.specs.Lengths.{epoch_length}
-use Rattle.qc_admin.specs.Holds.{AdminHolds, DoingHolds, IsNumberedAtOnce}
+use Rattle.qc_plan.specs.Names.{RoundState, note, start, verdict}
+use Rattle.qc_front.specs.Names.{IsRound, awaited, weights_of}
+use Rattle.qc_epoch.specs.Names.{Admin, Asking, Closing, Decided, Doing, Installing, Question, Resting, ShutSite}
+use Rattle.qc_epoch.specs.Names.{admin_takes, again, all_taken, answered_in, ask_of, asks, called, close_need}
+use Rattle.qc_epoch.specs.Names.{close_round, close_round_by, closes, closes_by, closing_takes, decide_turn, decides}
+use Rattle.qc_epoch.specs.Names.{decision, doing, first_doubt, goes_on, heard, in_asked_order, install_sends}
+use Rattle.qc_epoch.specs.Names.{installing, installing_takes, most_asks, moved, moves_to, outcome_in, questions_of}
+use Rattle.qc_epoch.specs.Names.{replies_with, settles, settles_by, site_set, standing_of, taken_for, with_installed}
+use Rattle.qc_epoch.specs.Names.{with_shut_of}
+use Rattle.qc_admin.specs.Names.{AdminHolds, DoingHolds, IsNumberedAtOnce}
 use Rattle.qc_admin.proofs.Numbered.{all_unasked, asking_new, asks_new, asks_on, installs_new, taken_asked, unsent}
 
 -- moves

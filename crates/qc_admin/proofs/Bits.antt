@@ -7,9 +7,9 @@ use Rattle.std.proofs.Math.Nat.{pow-le-pow_right}
 use Rattle.std.proofs.lemmas.Bool.{ltb-false, ltb-true}
 use Rattle.std.proofs.lemmas.List.Sums.{sum_by-append, sum_by-cons, sum_by-drop_more}
 use Rattle.qc_msg.specs.declared.call.Call.{Call}
-use Rattle.qc_msg.specs.Calls.{site_called, without_call}
-use Rattle.qc_front.specs.Holds.{sites_called}
-use Rattle.qc_epoch.specs.Conduct.{site_set}
+use Rattle.qc_msg.specs.Names.{site_called, without_call}
+use Rattle.qc_front.specs.Names.{sites_called}
+use Rattle.qc_epoch.specs.Names.{site_set}
 
 -- one site more, first or last
 

@@ -3,8 +3,7 @@ use Rattle.std.proofs.Common.{◌≡◌, ℕ, ◌+◌, ◌^◌, ◌≤◌, ◌<�
 use Rattle.std.proofs.Common.{take, Option, Some, None, refl, sym, subst, eqb-true, arith}
 use Rattle.std.specs.Prelude.{nat_le}
 use Rattle.qc_decl.specs.declared.declaration.Declaration.{Declaration}
-use Rattle.qc_decl.specs.Accepted.{IsAccepted}
-use Rattle.qc_decl.specs.Limits.{most_record_bytes}
+use Rattle.qc_decl.specs.Names.{IsAccepted, most_record_bytes}
 use Rattle.qc_msg.specs.declared.call.Call.{Call}
 use Rattle.qc_msg.specs.declared.message.Answer.{Answer}
 use Rattle.qc_msg.specs.declared.message.Answer.TheVariants as answers
@@ -15,23 +14,20 @@ use Rattle.qc_msg.specs.declared.step.Command.TheVariants as commands
 use Rattle.qc_msg.specs.declared.step.Input.{Input}
 use Rattle.qc_msg.specs.declared.step.Input.TheVariants as inputs
 use Rattle.qc_msg.specs.declared.reply.Reply.TheVariants as replies
-use Rattle.qc_msg.specs.Calls.{calls_from, site_called, without_call}
-use Rattle.qc_msg.specs.Turns.{quiet, sending}
+use Rattle.qc_msg.specs.Names.{calls_from, epoch_length, quiet, sending, site_called, without_call}
 use Rattle.qc_plan.specs.declared.standing.Verdict.{Verdict}
 use Rattle.qc_plan.specs.declared.standing.Verdict.TheVariants as verdicts
-use Rattle.qc_plan.specs.Round.{RoundState, note, verdict}
-use Rattle.qc_front.specs.Holds.{sites_called}
+use Rattle.qc_plan.specs.Names.{RoundState, note, verdict}
+use Rattle.qc_front.specs.Names.{sites_called}
 use Rattle.qc_front.proofs.Awaited.{sites_stay}
-use Rattle.qc_epoch.specs.Admin.{Admin, Decided, Doing, Question, Resting, Closing, Asking, Installing, ShutSite, moved}
-use Rattle.qc_epoch.specs.Answers.{outcome_in, standing_of, taken_for, with_installed, with_shut_of}
-use Rattle.qc_epoch.specs.Conduct.{again, all_sites, answered_in, ask_of, asking_takes, asks, called, close_round}
-use Rattle.qc_epoch.specs.Conduct.{closes, closes_by, closing_takes, decide_turn, decides, doing, heard, installing}
-use Rattle.qc_epoch.specs.Conduct.{installing_takes, moves_to, replies_with, settles, settles_by, site_set, admin_takes}
-use Rattle.qc_epoch.specs.Deciding.{all_taken, decision, first_doubt, in_asked_order, most_asks, questions_of}
-use Rattle.qc_msg.specs.Lengths.{epoch_length}
-use Rattle.qc_admin.specs.Fits.{AdminFits, AnswerFits, AreSites, DoingFits, GivenFits, InstallsFit, MessageFits}
-use Rattle.qc_admin.specs.Fits.{ShutsFit, sites_in}
-use Rattle.qc_admin.specs.Sent.{numbered, sent}
+use Rattle.qc_epoch.specs.Names.{Admin, Asking, Closing, Decided, Doing, Installing, Question, Resting, ShutSite}
+use Rattle.qc_epoch.specs.Names.{admin_takes, again, all_sites, all_taken, answered_in, ask_of, asking_takes, asks}
+use Rattle.qc_epoch.specs.Names.{called, close_round, closes, closes_by, closing_takes, decide_turn, decides, decision}
+use Rattle.qc_epoch.specs.Names.{doing, first_doubt, heard, in_asked_order, installing, installing_takes, most_asks}
+use Rattle.qc_epoch.specs.Names.{moved, moves_to, outcome_in, questions_of, replies_with, settles, settles_by, site_set}
+use Rattle.qc_epoch.specs.Names.{standing_of, taken_for, with_installed, with_shut_of}
+use Rattle.qc_admin.specs.Names.{AdminFits, AnswerFits, AreSites, DoingFits, GivenFits, InstallsFit, MessageFits}
+use Rattle.qc_admin.specs.Names.{ShutsFit, numbered, sent, sites_in}
 use Rattle.qc_admin.proofs.Bits.{last_bit, taken_bit}
 use Rattle.qc_admin.proofs.Moves.{last_fits, shut_last}
 use Rattle.qc_admin.proofs.Numbered.{from_sites}

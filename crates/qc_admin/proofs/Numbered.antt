@@ -4,31 +4,28 @@ use Rattle.std.specs.Ordering.{nat_cmp}
 use Rattle.std.proofs.lemmas.Bool.{ne_eqb}
 use Rattle.std.proofs.lemmas.List.{append-nil}
 use Rattle.std.proofs.lemmas.List.FromFn.{length-range_with_len}
-use Rattle.qc_list.specs.Members.{In}
-use Rattle.qc_list.specs.Order.{Ascends}
+use Rattle.qc_list.specs.Names.{Ascends, In}
 use Rattle.qc_entry.specs.declared.record.Prepared.{Prepared}
 use Rattle.qc_decl.specs.declared.declaration.Declaration.{Declaration}
-use Rattle.qc_decl.specs.Accepted.{IsAccepted}
+use Rattle.qc_decl.specs.Names.{IsAccepted}
 use Rattle.qc_msg.specs.declared.call.Call.{Call}
 use Rattle.qc_msg.specs.declared.turn.Turn.{Turn}
-use Rattle.qc_msg.specs.Calls.{calls_from, numbered_from, site_called, with_call, without_call}
-use Rattle.qc_msg.specs.Turns.{sending}
+use Rattle.qc_msg.specs.Names.{calls_from, numbered_from, sending, site_called, with_call, without_call}
 use Rattle.qc_plan.specs.declared.standing.Standing.{Standing}
 use Rattle.qc_plan.specs.declared.standing.Verdict.TheVariants as verdicts
-use Rattle.qc_plan.specs.Round.{RoundState, all_noted, asking_all, note, verdict, wanted}
-use Rattle.qc_front.specs.Conduct.{awaited}
-use Rattle.qc_front.specs.Holds.{IsAwaiting, IsRound, sites_called, sites_of}
+use Rattle.qc_plan.specs.Names.{RoundState, all_noted, asking_all, note, verdict, wanted}
+use Rattle.qc_front.specs.Names.{IsAwaiting, IsRound, awaited, sites_called, sites_of}
 use Rattle.qc_front.proofs.Apart.{AreApart}
 use Rattle.qc_front.proofs.Awaited.{asking_awaits, asking_round, asking_waits}
 use Rattle.qc_front.proofs.Noting.{awaits_some, no_calls, note_numbered, note_open, note_round, note_wants, noted_awaits, round_apart}
 use Rattle.qc_front.proofs.Recording.{below_one}
-use Rattle.qc_epoch.specs.Admin.{Admin, Decided, Doing, Question, Resting, Closing, Asking, Installing, ShutSite, moved}
-use Rattle.qc_epoch.specs.Answers.{is_number, taken_for}
-use Rattle.qc_epoch.specs.Conduct.{all_sites, ask_of, called, close_of, doing, goes_on, install_of, install_sends, installing, numbered_first}
-use Rattle.qc_epoch.specs.Deciding.{is_questioned, most_asks, with_question, with_questions}
+use Rattle.qc_epoch.specs.Names.{Admin, Asking, Closing, Decided, Doing, Installing, Question, Resting, ShutSite}
+use Rattle.qc_epoch.specs.Names.{all_sites, ask_of, called, close_of, doing, goes_on, install_of, install_sends}
+use Rattle.qc_epoch.specs.Names.{installing, is_number, is_questioned, most_asks, moved, numbered_first, taken_for}
+use Rattle.qc_epoch.specs.Names.{with_question, with_questions}
 use Rattle.qc_msg.specs.declared.message.Outcome.{Outcome}
-use Rattle.qc_admin.specs.Holds.{AdminHolds, ClosingHolds, DoingHolds, IsNumberedAtOnce}
-use Rattle.qc_admin.specs.Sent.{is_unasked, numbered, numbered_all, sent_each}
+use Rattle.qc_admin.specs.Names.{AdminHolds, ClosingHolds, DoingHolds, IsNumberedAtOnce, is_unasked, numbered}
+use Rattle.qc_admin.specs.Names.{numbered_all, sent_each}
 
 -- calls with consecutive numbers
 

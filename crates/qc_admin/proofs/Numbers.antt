@@ -4,12 +4,9 @@ use Rattle.std.proofs.Common.{length, take, Option, Some, None, is_none, refl, s
 use Rattle.std.specs.List.{AllByRecursion as Every}
 use Rattle.std.specs.Prelude.{nat_lt}
 use Rattle.std.proofs.lemmas.Bool.{le-ltb, lt-ltb}
-use Rattle.qc_epoch.specs.Admin.{Question}
-use Rattle.qc_epoch.specs.Conduct.{numbered_first}
-use Rattle.qc_epoch.specs.Deciding.{most_asks}
+use Rattle.qc_epoch.specs.Names.{Question, most_asks, numbered_first}
 use Rattle.qc_admin.specs.declared.questions.Query.{Query}
-use Rattle.qc_admin.specs.Queries.{asked_from, number_at, question_of, unasked}
-use Rattle.qc_admin.specs.Sent.{is_unasked, numbered_all, with_numbers}
+use Rattle.qc_admin.specs.Names.{asked_from, is_unasked, number_at, numbered_all, question_of, unasked, with_numbers}
 
 -- all of these have numbers
 abbrev AreNumbered : List Question → Type 0

@@ -5,20 +5,16 @@ use Rattle.std.specs.Prelude.{is_some, ◌==◌, option_and_then}
 use Rattle.std.specs.Option.{option_or}
 use Rattle.std.proofs.lemmas.Bool.{eqb-true, eq-eqb, true≢false}
 use Rattle.std.proofs.lemmas.Option.{slice_get_within}
-use Rattle.qc_list.specs.Search.{first_below}
+use Rattle.qc_list.specs.Names.{first_below}
 use Rattle.qc_list.proofs.Search.{none_parts, none_from, none_below, below_none}
-use Rattle.qc_table.specs.Rules.{event, events_of}
-use Rattle.qc_table.specs.Run.{step_of}
-use Rattle.qc_table.specs.Sets.{with_member}
-use Rattle.qc_table.specs.Sound.{IsSound}
+use Rattle.qc_table.specs.Names.{IsSound, event, events_of, step_of, with_member}
 use Rattle.qc_table.specs.declared.kind.Kind.{Kind}
 use Rattle.qc_table.proofs.Named.{allowed_within}
 use Rattle.qc_cert.proofs.Computed.{free_true, true_free, covered_true, true_covered}
 use Rattle.qc_cert.proofs.Walk.{IsStep, step_is}
-use Rattle.qc_cert.specs.Faults.{is_covered, is_free, unless_covered, left_out_fault, unequal_fault, taken_fault}
-use Rattle.qc_cert.specs.Faults.{inv_fault, triple_fault, triples_fault, fault_of}
-use Rattle.qc_cert.specs.Inductive.{triple, IsCovered, IsFree, is_allowed, IsInductive}
-use Rattle.qc_cert.specs.Views.{inv_of}
+use Rattle.qc_cert.specs.Names.{IsCovered, IsFree, IsInductive, fault_of, inv_fault, inv_of, is_allowed, is_covered}
+use Rattle.qc_cert.specs.Names.{is_free, left_out_fault, taken_fault, triple, triple_fault, triples_fault}
+use Rattle.qc_cert.specs.Names.{unequal_fault, unless_covered}
 use Rattle.qc_cert.specs.declared.fault.CertFault.{CertFault}
 use Rattle.qc_cert.specs.declared.fault.CertFault.TheVariants.{NoStart, Uncovered, Unequal}
 use Rattle.qc_cert.specs.declared.triple.Triple.{Triple}

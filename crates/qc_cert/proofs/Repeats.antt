@@ -9,16 +9,13 @@ use Rattle.std.proofs.lemmas.List.{take_more, drop_more, drop_all}
 use Rattle.std.proofs.lemmas.Grind.{common_steps}
 use Rattle.std.proofs.lemmas.List.Elements.{All-from_recursion, recursion_from_All}
 use Rattle.std.proofs.lemmas.List.Folds.{list_any-append}
-use Rattle.qc_list.specs.Search.{first_below}
+use Rattle.qc_list.specs.Names.{first_below}
 use Rattle.qc_list.proofs.Search.{none_parts, none_from, none_below, below_none}
-use Rattle.qc_table.specs.Rules.{events_of}
-use Rattle.qc_table.specs.Run.{step_of}
-use Rattle.qc_table.specs.Sets.{with_member}
+use Rattle.qc_table.specs.Names.{events_of, step_of, with_member}
 use Rattle.qc_table.specs.declared.kind.Kind.{Kind}
-use Rattle.qc_cert.specs.Faults.{covers, is_covered, is_free, unless_covered, left_out_fault, unequal_fault, taken_fault, inv_fault, triple_fault, triples_fault}
-use Rattle.qc_cert.specs.Firsts.{is_same, is_among, firsts_after, firsts, marked, distinct, marked_fault}
-use Rattle.qc_cert.specs.Inductive.{triple, is_allowed}
-use Rattle.qc_cert.specs.Views.{inv_of}
+use Rattle.qc_cert.specs.Names.{covers, distinct, firsts, firsts_after, inv_fault, inv_of, is_allowed, is_among}
+use Rattle.qc_cert.specs.Names.{is_covered, is_free, is_same, left_out_fault, marked, marked_fault, taken_fault, triple}
+use Rattle.qc_cert.specs.Names.{triple_fault, triples_fault, unequal_fault, unless_covered}
 use Rattle.qc_cert.specs.declared.fault.CertFault.{CertFault}
 use Rattle.qc_cert.specs.declared.fault.CertFault.TheVariants.{Uncovered, Unequal}
 use Rattle.qc_cert.specs.declared.triple.Triple.{Triple}

@@ -12,11 +12,10 @@ use Rattle.std.proofs.lemmas.Option.{get_or_from_slice_get, slice_get_within, sl
 use Rattle.std.proofs.Math.Nat.{mod-lt}
 use Rattle.qc_cert.proofs.Computed.{true_within, within_true}
 use Rattle.qc_cert.proofs.Shared.{below_64, lowest_has, none_left, or_none, or_true}
-use Rattle.qc_cert.specs.Groups.{any_within}
-use Rattle.qc_cert.specs.Tables.{AreLeft, AreRows, IsLeft, IsRow, IsWord, agrees, keeps, no_row, piece}
+use Rattle.qc_cert.specs.Names.{AreLeft, AreRows, IsLeft, IsRow, IsWord, agrees, any_within, keeps, no_row, piece}
 use Rattle.qc_cert.specs.declared.blocks.Row.{Row}
 use Rattle.qc_table.proofs.Related.{has_with}
-use Rattle.qc_table.specs.Sets.{IsWithin, has, is_within, with_member}
+use Rattle.qc_table.specs.Names.{IsWithin, has, is_within, with_member}
 
 -- ---- pieces
 -- a number shifted, and its lowest bits

@@ -7,15 +7,11 @@ use Rattle.std.proofs.lemmas.Nat.Bits.{bit_at-zero}
 use Rattle.std.proofs.lemmas.Bool.{eqb-true, false_from_ne_true, true≢false}
 use Rattle.qc_table.proofs.Related.{has_with}
 use Rattle.qc_table.proofs.Runs.{reached_none}
-use Rattle.qc_table.specs.Depends.{depends}
-use Rattle.qc_table.specs.Rules.{event, events_of}
-use Rattle.qc_table.specs.Run.{next_in, step_of, reached}
-use Rattle.qc_table.specs.Sets.{has, with_member}
+use Rattle.qc_table.specs.Names.{depends, event, events_of, has, next_in, reached, step_of, with_member}
 use Rattle.qc_table.specs.declared.kind.Kind.{Kind}
 use Rattle.qc_table.specs.declared.row.Event.{Event}
-use Rattle.qc_cert.specs.Covered.{StandsOutside, IsAccountedFor}
-use Rattle.qc_cert.specs.Inductive.{triple, IsCovered, IsFree, is_allowed, IsInductive}
-use Rattle.qc_cert.specs.Views.{inv_of, state_after, IsLegalFor, IsClosed, picked, IsExact}
+use Rattle.qc_cert.specs.Names.{IsAccountedFor, IsClosed, IsCovered, IsExact, IsFree, IsInductive, IsLegalFor}
+use Rattle.qc_cert.specs.Names.{StandsOutside, inv_of, is_allowed, picked, state_after, triple}
 use Rattle.qc_cert.specs.declared.triple.Triple.{Triple}
 
 some_of : {A : Type 0} (o : Option A) → IsSome o → (x : A) × (o ≡ Some x)

@@ -9,11 +9,8 @@ use Rattle.qc_cert.specs.Views.{inv_of}
 use Rattle.qc_cert.specs.declared.fault.CertFault.{CertFault}
 use Rattle.qc_cert.specs.declared.fault.CertFault.TheVariants.{NoStart, Uncovered, Unequal, OutOfMemory}
 use Rattle.qc_cert.specs.declared.triple.Triple.{Triple}
-use Rattle.qc_table.specs.Depends.{depended}
-use Rattle.qc_list.specs.Search.{first_below}
-use Rattle.qc_table.specs.Rules.{events_of}
-use Rattle.qc_table.specs.Run.{step_of}
-use Rattle.qc_table.specs.Sets.{with_member, is_within, are_apart}
+use Rattle.qc_table.specs.Names.{are_apart, depended, events_of, is_within, step_of, with_member}
+use Rattle.qc_list.specs.Names.{first_below}
 use Rattle.qc_table.specs.declared.kind.Kind.{Kind}
 
 -- whether the first covers the second

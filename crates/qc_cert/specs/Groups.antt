@@ -4,9 +4,8 @@ use Rattle.std.specs.Prelude.{true, slice_index_or, if◌then◌else◌}
 use Rattle.std.specs.List.{list_any}
 use Rattle.qc_cert.specs.Firsts.{firsts, distinct}
 use Rattle.qc_cert.specs.declared.triple.Triple.{Triple}
-use Rattle.qc_table.specs.Limits.{most_states}
+use Rattle.qc_table.specs.Names.{has, is_within, most_states}
 use Rattle.qc_cert.specs.Tables.{most_sets}
-use Rattle.qc_table.specs.Sets.{has, is_within}
 
 -- both states are below the most states
 abbrev pub AreStates : Triple → Type 0

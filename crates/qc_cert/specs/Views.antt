@@ -4,9 +4,7 @@
 use Rattle.std.specs.Prelude.{◌≡◌, ℕ, suc, ◌<◌, Bool, IsTrue, List, [], ◌∷◌, Option, Some, is_some}
 use Rattle.std.specs.Prelude.{if◌then◌else◌, slice_get, option_and_then}
 use Rattle.std.specs.Option.{option_map_or}
-use Rattle.qc_table.specs.Depends.{depends}
-use Rattle.qc_table.specs.Rules.{event, events_of}
-use Rattle.qc_table.specs.Run.{next_in, step_of, after, IsLegal}
+use Rattle.qc_table.specs.Names.{IsLegal, after, depends, event, events_of, next_in, step_of}
 use Rattle.qc_table.specs.declared.kind.Kind.{Kind}
 use Rattle.qc_table.specs.declared.row.Event.{Event}
 

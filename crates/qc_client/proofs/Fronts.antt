@@ -3,14 +3,13 @@ use Rattle.std.proofs.Common.{◌≡◌, ℕ, ◌+◌, ◌≤◌, ◌⊎◌, ◌
 use Rattle.std.specs.List.{AllByRecursion as Every, slice_get}
 use Rattle.std.specs.Prelude.{nat_le}
 use Rattle.qc_decl.specs.declared.declaration.Declaration.{Declaration}
-use Rattle.qc_decl.specs.Limits.{most_transaction_operations}
-use Rattle.qc_decl.specs.Lookup.{append_need_of, read_need_of}
-use Rattle.qc_plan.specs.Round.{RoundState, asking_all, note, verdict, wanted}
+use Rattle.qc_decl.specs.Names.{append_need_of, most_transaction_operations, read_need_of}
+use Rattle.qc_plan.specs.Names.{RoundState, asking_all, note, verdict, wanted}
 use Rattle.qc_plan.specs.declared.standing.Verdict.{Verdict}
 use Rattle.qc_plan.specs.declared.standing.Verdict.TheVariants as verdicts
 use Rattle.qc_stamp.specs.declared.stamp.TxId.{TxId}
 use Rattle.qc_view.specs.declared.view.View.{View}
-use Rattle.qc_view.specs.View.{with_log, with_own}
+use Rattle.qc_view.specs.Names.{with_log, with_own}
 use Rattle.qc_entry.specs.declared.line.Line.{Line}
 use Rattle.qc_msg.specs.declared.begun.Begun.{Begun}
 use Rattle.qc_msg.specs.declared.call.Call.{Call}
@@ -30,20 +29,17 @@ use Rattle.qc_msg.specs.declared.step.Command.{Command}
 use Rattle.qc_msg.specs.declared.step.Command.TheVariants as commands
 use Rattle.qc_msg.specs.declared.turn.Posting.{Posting}
 use Rattle.qc_msg.specs.declared.turn.Turn.{Turn}
-use Rattle.qc_msg.specs.Begun.{decisions}
-use Rattle.qc_msg.specs.Calls.{site_called, without_call}
-use Rattle.qc_msg.specs.Turns.{quiet, sending, telling}
+use Rattle.qc_msg.specs.Names.{decisions, quiet, sending, site_called, telling, without_call}
 use Rattle.qc_front.specs.declared.doing.Doing.{Doing}
 use Rattle.qc_front.specs.declared.doing.Doing.TheVariants.{Idle, Reading, Appending}
 use Rattle.qc_front.specs.declared.front.Front.{Front}
 use Rattle.qc_front.specs.declared.transaction.Transaction.{Transaction}
-use Rattle.qc_front.specs.Answering.{answer_of, next_own, op_of, resp_of, with_event, with_granted, with_op, with_view}
-use Rattle.qc_front.specs.Appending.{append_want, read_want, request_of, round_for}
-use Rattle.qc_front.specs.Conduct.{appending_takes, called, commits, reading_takes, takes, takes_in}
-use Rattle.qc_front.specs.Counting.{appended_with, learns, lived, read_with, standing_of}
-use Rattle.qc_front.specs.Front.{FrontMove, aborts, begins, gives_up, moved, next_tx, turned}
-use Rattle.qc_client.specs.Inputs.{name_of}
-use Rattle.qc_front.specs.Rounds.{answered, append_by, doomed, performs, read_by, reads, with_asked}
+use Rattle.qc_front.specs.Names.{FrontMove, aborts, answer_of, answered, append_by, append_want, appended_with}
+use Rattle.qc_front.specs.Names.{appending_takes, begins, called, commits, doomed, gives_up, learns, lived, moved}
+use Rattle.qc_front.specs.Names.{next_own, next_tx, op_of, performs, read_by, read_want, read_with, reading_takes}
+use Rattle.qc_front.specs.Names.{reads, request_of, resp_of, round_for, standing_of, takes, takes_in, turned}
+use Rattle.qc_front.specs.Names.{with_asked, with_event, with_granted, with_op, with_view}
+use Rattle.qc_client.specs.Names.{name_of}
 
 -- what a front end sends: requests of its rounds, or that the transaction that was begun aborted, which has ended
 

@@ -10,10 +10,8 @@ use Rattle.qc_commit.specs.declared.desk.Desk.{Desk}
 use Rattle.qc_commit.specs.declared.desk.Known.{Known}
 use Rattle.qc_commit.specs.declared.desk.Known.TheVariants as knowns
 use Rattle.qc_commit.specs.declared.desk.Voting.{Voting}
-use Rattle.qc_commit.specs.Calls.{Prepares, Votes, Numbers}
+use Rattle.qc_commit.specs.Names.{DeskMove, IsCommitted, Numbers, Prepares, Votes, known, known_by, record_of}
 use Rattle.qc_commit.specs.Conduct as desks
-use Rattle.qc_commit.specs.Course.{IsCommitted}
-use Rattle.qc_commit.specs.Desk.{DeskMove, known, known_by, record_of}
 use Rattle.qc_entry.specs.declared.record.Commit.{Commit}
 use Rattle.qc_commit.proofs.Moves.{Aborts, Commits, IsMove, IsPrepare, IsPromiseWanted, Waits, prepare-moves, tx_of}
 use Rattle.qc_commit.proofs.Moves.{vote-moves}
@@ -21,7 +19,7 @@ use Rattle.qc_commit.proofs.Rising.{known-call, known-new}
 use Rattle.qc_front.specs.declared.front.Front.{Front}
 use Rattle.qc_front.specs.declared.transaction.Transaction.{Transaction}
 use Rattle.qc_front.specs.Conduct as fronts
-use Rattle.qc_front.specs.Front.{FrontMove, ended}
+use Rattle.qc_front.specs.Names.{FrontMove, ended}
 use Rattle.qc_msg.specs.declared.begun.Begun.{Begun}
 use Rattle.qc_msg.specs.declared.message.Answer.{Answer}
 use Rattle.qc_msg.specs.declared.message.Message.{Message}
@@ -35,9 +33,9 @@ use Rattle.qc_msg.specs.declared.step.Input.TheVariants as given
 use Rattle.qc_msg.specs.declared.turn.Posting.{Posting}
 use Rattle.qc_msg.specs.declared.turn.Turn.{Turn}
 use Rattle.qc_client.specs.declared.client.Client.{Client}
-use Rattle.qc_client.specs.Client.{ClientMove, by_desk, by_front, is_begun, outcome_by, outcome_of}
-use Rattle.qc_client.specs.Conduct.{answered, answered_by, called, client_takes, commits, heard, sent, sent_by}
-use Rattle.qc_client.specs.Inputs.{NumberedInput, IsReady, TellsOutcome, after_input, after_inputs, name_of}
+use Rattle.qc_client.specs.Names.{ClientMove, IsReady, NumberedInput, TellsOutcome, after_input, after_inputs, answered}
+use Rattle.qc_client.specs.Names.{answered_by, by_desk, by_front, called, client_takes, commits, heard, is_begun}
+use Rattle.qc_client.specs.Names.{name_of, outcome_by, outcome_of, sent, sent_by}
 use Rattle.qc_client.proofs.Fronts.{IsFrontMove, IsSending, IsVerdict, called-goes, takes-goes}
 use Rattle.qc_client.proofs.Names.{IsWell}
 

@@ -5,25 +5,21 @@ use Rattle.std.specs.List.{find, range_with_len}
 use Rattle.std.proofs.lemmas.List.{length-append, length-map}
 use Rattle.std.proofs.lemmas.List.FromFn.{length-range_with_len}
 use Rattle.qc_decl.specs.declared.declaration.Declaration.{Declaration}
-use Rattle.qc_decl.specs.Limits.{most_sites}
-use Rattle.qc_plan.specs.Round.{cyclic}
+use Rattle.qc_decl.specs.Names.{most_sites}
+use Rattle.qc_plan.specs.Names.{cyclic}
 use Rattle.qc_msg.specs.declared.begun.Begun.{Begun}
 use Rattle.qc_msg.specs.declared.call.Call.{Call}
 use Rattle.qc_msg.specs.declared.message.Answer.{Answer}
 use Rattle.qc_msg.specs.declared.reply.AbortCause.{AbortCause}
-use Rattle.qc_msg.specs.Begun.{has_granted}
-use Rattle.qc_msg.specs.Calls.{site_called, without_call}
-use Rattle.qc_msg.specs.Turns.{quiet, sending}
+use Rattle.qc_msg.specs.Names.{has_granted, quiet, sending, site_called, without_call}
 use Rattle.qc_commit.specs.declared.ballot.Ballot.{Ballot}
 use Rattle.qc_commit.specs.declared.ballot.Vote.{Vote}
 use Rattle.qc_commit.specs.declared.desk.Desk.{Desk}
 use Rattle.qc_commit.specs.declared.desk.Voting.{Voting}
-use Rattle.qc_commit.specs.Calls.{HasFew, DeskCall, Prepares, Votes, Numbers, Sends, after_call}
-use Rattle.qc_commit.specs.Conduct.{counted_out, counts, decides, learns, passed, prepare, prepared_in, sent_in, vote}
-use Rattle.qc_commit.specs.Conduct.{votes_at, votes_in}
-use Rattle.qc_commit.specs.Desk.{DeskMove, moved}
-use Rattle.qc_commit.specs.Fits.{AsksFew}
-use Rattle.qc_commit.specs.Votes.{are_cast, blank, cast, first_against, participants, prepares, vote_of}
+use Rattle.qc_commit.specs.Names.{AsksFew, DeskCall, DeskMove, HasFew, Numbers, Prepares, Sends, Votes, after_call}
+use Rattle.qc_commit.specs.Names.{are_cast, blank, cast, counted_out, counts, decides, first_against, learns, moved}
+use Rattle.qc_commit.specs.Names.{participants, passed, prepare, prepared_in, prepares, sent_in, vote, vote_of}
+use Rattle.qc_commit.specs.Names.{votes_at, votes_in}
 
 -- a request that something was taken for isn't open any more
 

@@ -10,11 +10,10 @@ use Rattle.qc_commit.specs.declared.ballot.Ballot.{Ballot}
 use Rattle.qc_commit.specs.declared.ballot.Vote.{Vote}
 use Rattle.qc_commit.specs.declared.ballot.Vote.TheVariants.{For, Against}
 use Rattle.qc_commit.specs.declared.desk.Desk.{Desk}
-use Rattle.qc_commit.specs.Conduct.{commit_of, commit_turn, decides, gives_up, learns, passed, prepare, vote}
-use Rattle.qc_commit.specs.Course.{AreFor, IsAborted, IsCommitted, IsRefused, Taken, course_ballots, course_clock}
-use Rattle.qc_commit.specs.Course.{course_desk, stamp_after}
-use Rattle.qc_commit.specs.Votes.{are_cast, first_against, participants, prepares}
-use Rattle.qc_msg.specs.Turns.{sending}
+use Rattle.qc_commit.specs.Names.{AreFor, IsAborted, IsCommitted, IsRefused, Taken, are_cast, commit_of, commit_turn}
+use Rattle.qc_commit.specs.Names.{course_ballots, course_clock, course_desk, decides, first_against, gives_up, learns}
+use Rattle.qc_commit.specs.Names.{participants, passed, prepare, prepares, stamp_after, vote}
+use Rattle.qc_msg.specs.Names.{sending}
 use Rattle.qc_commit.proofs.Going.{Waits, ends-by, ends-clock, for-cast, for-none, refused-why, waits-on}
 use Rattle.qc_commit.proofs.Learned.{learned-client, learned-commits}
 

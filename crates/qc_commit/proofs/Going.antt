@@ -8,17 +8,14 @@ use Rattle.qc_msg.specs.declared.begun.Begun.{Begun}
 use Rattle.qc_msg.specs.declared.call.Call.{Call}
 use Rattle.qc_msg.specs.declared.message.Answer.{Answer}
 use Rattle.qc_msg.specs.declared.reply.AbortCause.{AbortCause}
-use Rattle.qc_msg.specs.Calls.{calls_from, site_called}
-use Rattle.qc_msg.specs.Turns.{quiet}
+use Rattle.qc_msg.specs.Names.{calls_from, quiet, site_called}
 use Rattle.qc_commit.specs.declared.ballot.Ballot.{Ballot}
 use Rattle.qc_commit.specs.declared.ballot.Vote.TheVariants.{Against}
 use Rattle.qc_commit.specs.declared.desk.Desk.{Desk}
-use Rattle.qc_commit.specs.Conduct.{awaited, counted_out, counts, learns, prepare, sent, vote, votes_at, votes_in}
-use Rattle.qc_commit.specs.Course.{AreFor, IsWaiting, Taken, after_all, ballots_by, course_ballots, course_clock}
-use Rattle.qc_commit.specs.Course.{course_desk, first_taken, greatest_promised, open_calls}
-use Rattle.qc_commit.specs.Desk.{DeskMove, moved}
-use Rattle.qc_commit.specs.Learning.{promised}
-use Rattle.qc_commit.specs.Votes.{are_cast, blank, first_against, participants, vote_of}
+use Rattle.qc_commit.specs.Names.{AreFor, DeskMove, IsWaiting, Taken, after_all, are_cast, awaited, ballots_by, blank}
+use Rattle.qc_commit.specs.Names.{counted_out, counts, course_ballots, course_clock, course_desk, first_against}
+use Rattle.qc_commit.specs.Names.{first_taken, greatest_promised, learns, moved, open_calls, participants, prepare}
+use Rattle.qc_commit.specs.Names.{promised, sent, vote, vote_of, votes_at, votes_in}
 use Rattle.qc_commit.proofs.Asking.{participants-once}
 use Rattle.qc_commit.proofs.Counting.{IsCounted, IsUncounted, counted, taken-stays, uncounted}
 use Rattle.qc_commit.proofs.Learned.{learned-client, learned-clock, learned-commits}

@@ -15,15 +15,13 @@ use Rattle.qc_msg.specs.declared.message.Want.{Want}
 use Rattle.qc_msg.specs.declared.message.Want.TheVariants.{Read, Append, Prepare}
 use Rattle.qc_msg.specs.declared.reply.AbortCause.{AbortCause}
 use Rattle.qc_msg.specs.declared.turn.Posting.{Posting}
-use Rattle.qc_msg.specs.Calls.{site_called, without_call}
-use Rattle.qc_msg.specs.Turns.{quiet, sending}
+use Rattle.qc_msg.specs.Names.{quiet, sending, site_called, without_call}
 use Rattle.qc_commit.specs.declared.ballot.Ballot.{Ballot}
 use Rattle.qc_commit.specs.declared.desk.Desk.{Desk}
 use Rattle.qc_commit.specs.declared.desk.Voting.{Voting}
-use Rattle.qc_commit.specs.Conduct.{abort_turn, commit_of, commit_turn, counted_out, counts, decides, learns}
-use Rattle.qc_commit.specs.Conduct.{next_stamp, passed, prepare, vote, votes_at, votes_in}
-use Rattle.qc_commit.specs.Desk.{DeskMove, moved}
-use Rattle.qc_commit.specs.Votes.{are_cast, blank, cast, first_against, participants, prepares, vote_of}
+use Rattle.qc_commit.specs.Names.{DeskMove, abort_turn, are_cast, blank, cast, commit_of, commit_turn, counted_out}
+use Rattle.qc_commit.specs.Names.{counts, decides, first_against, learns, moved, next_stamp, participants, passed}
+use Rattle.qc_commit.specs.Names.{prepare, prepares, vote, vote_of, votes_at, votes_in}
 use Rattle.qc_commit.proofs.Learned.{learned-above, learned-client, learned-commits}
 
 -- the transaction that a commit waits for

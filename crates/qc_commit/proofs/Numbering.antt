@@ -7,17 +7,16 @@ use Rattle.std.proofs.lemmas.Bool.{ne_eqb}
 use Rattle.qc_decl.specs.declared.declaration.Declaration.{Declaration}
 use Rattle.qc_msg.specs.declared.begun.Begun.{Begun}
 use Rattle.qc_msg.specs.declared.call.Call.{Call}
-use Rattle.qc_msg.specs.Calls.{calls_from}
+use Rattle.qc_msg.specs.Names.{calls_from}
 use Rattle.qc_commit.specs.declared.ballot.Ballot.{Ballot}
 use Rattle.qc_commit.specs.declared.ballot.Vote.{Vote}
 use Rattle.qc_commit.specs.declared.desk.Desk.{Desk}
 use Rattle.qc_commit.specs.declared.desk.Voting.{Voting}
-use Rattle.qc_commit.specs.Conduct.{awaited, counted_out, learns, passed, prepare, sent, sent_in, vote, with_voting}
-use Rattle.qc_commit.specs.Course.{Taken, ballots_by, course_ballots, course_desk, open_calls, sent_each}
-use Rattle.qc_commit.specs.Votes.{are_cast, blank, first_against, participants}
+use Rattle.qc_commit.specs.Names.{DeskMove, Taken, are_cast, awaited, ballots_by, blank, counted_out, course_ballots}
+use Rattle.qc_commit.specs.Names.{course_desk, first_against, learns, open_calls, participants, passed, prepare, sent}
+use Rattle.qc_commit.specs.Names.{sent_each, sent_in, vote, with_voting}
 use Rattle.qc_msg.specs.declared.message.Answer.{Answer}
 use Rattle.qc_msg.specs.declared.reply.AbortCause.{AbortCause}
-use Rattle.qc_commit.specs.Desk.{DeskMove}
 use Rattle.qc_commit.proofs.Aside.{unvoted}
 use Rattle.qc_commit.proofs.Asking.{participants-once}
 use Rattle.qc_commit.proofs.Ends.{commits-at-once}

@@ -5,9 +5,8 @@ use Rattle.qc_stamp.specs.declared.stamp.TxId.{TxId}
 use Rattle.qc_msg.specs.declared.begun.Begun.{Begun}
 use Rattle.qc_commit.specs.declared.desk.Desk.{Desk}
 use Rattle.qc_commit.specs.declared.desk.Voting.{Voting}
-use Rattle.qc_commit.specs.Calls.{DeskCall, Prepares, Votes, Numbers, Sends, after_call}
-use Rattle.qc_commit.specs.Conduct.{commit_of, prepare, prepared_in, sent_in, vote}
-use Rattle.qc_commit.specs.Desk.{DeskMove}
+use Rattle.qc_commit.specs.Names.{DeskCall, DeskMove, Numbers, Prepares, Sends, Votes, after_call, commit_of, prepare}
+use Rattle.qc_commit.specs.Names.{prepared_in, sent_in, vote}
 use Rattle.qc_commit.proofs.Moves.{IsMove, prepare-moves, tx_of, vote-moves}
 
 -- the transaction that a call may end

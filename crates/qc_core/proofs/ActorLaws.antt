@@ -4,23 +4,18 @@ use Rattle.std.proofs.Common.{fold, Some, None, refl, ap, sym, ◌∙◌, arith}
 use Rattle.std.proofs.lemmas.Bool.Decides.{nat_tests}
 use Rattle.std.proofs.lemmas.List.Sums.{fold-append}
 use Rattle.qc_decl.specs.declared.declaration.Declaration.{Declaration}
-use Rattle.qc_decl.specs.Actors.{administrator, is_client, is_site}
-use Rattle.qc_client.specs.Client.{ClientMove, new_client, moved as client_moved}
-use Rattle.qc_client.specs.Conduct.{client_after, client_does}
+use Rattle.qc_decl.specs.Names.{administrator, is_client, is_site}
+use Rattle.qc_client.specs.Names.{ClientMove, client_after, client_does, moved as client_moved, new_client}
 use Rattle.qc_msg.specs.declared.message.Envelope.{Envelope}
 use Rattle.qc_msg.specs.declared.step.Input.{Input}
 use Rattle.qc_msg.specs.declared.step.Input.TheVariants as inputs
-use Rattle.qc_msg.specs.Deeds.{Deed, Takes, Writes, Sends, Tells, Falls, Rises}
-use Rattle.qc_msg.specs.Turns.{quiet}
-use Rattle.qc_site.specs.Conduct.{site_after, site_does}
-use Rattle.qc_site.specs.Site.{SiteMove, new_site, moved as site_moved}
+use Rattle.qc_msg.specs.Names.{Deed, Falls, Rises, Sends, Takes, Tells, Writes, quiet}
+use Rattle.qc_site.specs.Names.{SiteMove, moved as site_moved, new_site, site_after, site_does}
 use Rattle.qc_core.specs.declared.actor.Actor.{Actor}
-use Rattle.qc_epoch.specs.Admin.{new_admin}
+use Rattle.qc_epoch.specs.Names.{new_admin}
 use Rattle.qc_core.specs.declared.actor.Actor.TheVariants.{Site, Client, Admin, Down}
-use Rattle.qc_core.specs.Actors.{ActorMove, actor_after, actor_does, actor_hears, actor_takes, by_client, by_site}
-use Rattle.qc_core.specs.Actors.{moved}
-use Rattle.qc_core.specs.Conduct.{turn_after}
-use Rattle.qc_core.specs.Lives.{AreSteady, IsSteady}
+use Rattle.qc_core.specs.Names.{ActorMove, AreSteady, IsSteady, actor_after, actor_does, actor_hears, actor_takes}
+use Rattle.qc_core.specs.Names.{by_client, by_site, moved, turn_after}
 
 -- one more input
 

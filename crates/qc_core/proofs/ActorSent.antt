@@ -3,29 +3,22 @@ use Rattle.std.proofs.Common.{◌≡◌, ℕ, ◌+◌, ◌-◌, ◌<◌, ◌≤�
 use Rattle.std.proofs.Common.{Some, None, refl, sym, ap, ◌∙◌, subst}
 use Rattle.std.proofs.lemmas.List.Sums.{fold-append}
 use Rattle.qc_decl.specs.declared.declaration.Declaration.{Declaration}
-use Rattle.qc_decl.specs.Actors.{administrator, is_client, is_site}
-use Rattle.qc_decl.specs.Limits.{most_sites}
+use Rattle.qc_decl.specs.Names.{administrator, is_client, is_site, most_sites}
 use Rattle.qc_msg.specs.declared.record.Record.{Record}
 use Rattle.qc_msg.specs.declared.reply.Reply.{Reply}
 use Rattle.qc_msg.specs.declared.step.Input.{Input}
 use Rattle.qc_msg.specs.declared.turn.Posting.{Posting}
 use Rattle.qc_msg.specs.declared.turn.Turn.{Turn}
-use Rattle.qc_msg.specs.Deeds.{Deed, Takes, sends_of, tells_of, turn_deeds, writes_of}
-use Rattle.qc_msg.specs.Turns.{quiet}
+use Rattle.qc_msg.specs.Names.{Deed, Takes, quiet, sends_of, tells_of, turn_deeds, writes_of}
 use Rattle.qc_client.specs.declared.client.Client.{Client}
-use Rattle.qc_client.specs.Client.{ClientMove}
-use Rattle.qc_client.specs.Conduct.{client_after, client_does, client_takes, sent, sent_one}
-use Rattle.qc_site.specs.Conduct.{site_after}
-use Rattle.qc_site.specs.Conduct.{site_does, site_takes}
-use Rattle.qc_site.specs.Site.{SiteMove}
-use Rattle.qc_core.specs.Actors.{ActorMove, actor_after, actor_sent, actor_takes, by_client, by_site}
+use Rattle.qc_client.specs.Names.{ClientMove, client_after, client_does, client_takes, sent, sent_one}
+use Rattle.qc_site.specs.Names.{SiteMove, site_after, site_does, site_takes}
+use Rattle.qc_core.specs.Names.{ActorMove, Acts, AreSteady, IsLawful, MayTake, actor_after, actor_sent, actor_takes}
+use Rattle.qc_core.specs.Names.{by_client, by_site, is_running, posts, runs_at, runs_given, starts, takes}
 use Rattle.qc_core.proofs.ActorLaws.{at_client, at_site, other_client}
-use Rattle.qc_core.specs.Acts.{Acts, MayTake, is_running, runs_at, runs_given, starts, takes, posts}
-use Rattle.qc_core.specs.Conduct.{IsLawful}
 use Rattle.qc_core.proofs.ClientLands.{lands}
 use Rattle.qc_core.proofs.ClientStands.{Stands, new_stands, runs_told, sends_all}
 use Rattle.qc_core.proofs.Steady.{acts_steady, event_steady}
-use Rattle.qc_core.specs.Lives.{AreSteady}
 
 -- a client over the deeds of a turn
 

@@ -2,21 +2,19 @@
 -- for a record; and he answers nothing.
 use Rattle.std.proofs.Common.{◌≡◌, ℕ, ◌+◌, ◌==◌, ◌⊎◌, inl, inr, nat_le, Bool, true, false, cond, List, [], ◌∷◌, length, map, take, Option, Some, None, refl}
 use Rattle.std.specs.List.{AllByRecursion as Every}
-use Rattle.qc_decl.specs.Limits.{most_record_bytes}
+use Rattle.qc_decl.specs.Names.{most_record_bytes}
 use Rattle.qc_decl.specs.declared.declaration.Declaration.{Declaration}
 use Rattle.qc_core.proofs.FrontWrites.{NoAnswer, says_neither, tells_neither}
 use Rattle.qc_core.proofs.SiteWrites.{writes_no_life}
-use Rattle.qc_epoch.specs.Admin.{Admin, Decided, Doing, Question, ShutSite, Resting, Closing, Asking, Installing, moved as admins_moved}
-use Rattle.qc_epoch.specs.Answers.{taken_for, outcome_in, standing_of, with_installed, with_shut_of}
+use Rattle.qc_epoch.specs.Names.{Admin, Asking, Closing, Decided, Doing, Installing, Question, Resting, ShutSite}
+use Rattle.qc_epoch.specs.Names.{all_taken, decision, first_doubt, in_asked_order, most_asks, moved as admins_moved}
+use Rattle.qc_epoch.specs.Names.{outcome_in, questions_of, standing_of, taken_for, with_installed, with_shut_of}
 use Rattle.qc_epoch.specs.Conduct as admins
-use Rattle.qc_epoch.specs.Deciding.{all_taken, decision, first_doubt, in_asked_order, most_asks, questions_of}
-use Rattle.qc_msg.specs.Calls.{site_called, without_call}
-use Rattle.qc_msg.specs.Lengths.{epoch_length}
+use Rattle.qc_msg.specs.Names.{answer_in, epoch_length, quiet, sending, site_called, telling, without_call}
 use Rattle.qc_msg.specs.declared.call.Call.{Call}
 use Rattle.qc_msg.specs.declared.message.Answer.{Answer}
 use Rattle.qc_msg.specs.declared.message.Message.{Message}
 use Rattle.qc_msg.specs.declared.message.Message.TheVariants as messages
-use Rattle.qc_msg.specs.Readings.{answer_in}
 use Rattle.qc_msg.specs.declared.record.Record.{Record}
 use Rattle.qc_msg.specs.declared.record.Record.TheVariants as records
 use Rattle.qc_msg.specs.declared.reply.Half.TheVariants as halves
@@ -29,9 +27,8 @@ use Rattle.qc_msg.specs.declared.step.Input.TheVariants as inputs
 use Rattle.qc_msg.specs.declared.turn.Appended.TheVariants.{Done}
 use Rattle.qc_msg.specs.declared.turn.Posting.{Posting}
 use Rattle.qc_msg.specs.declared.turn.Turn.{Turn}
-use Rattle.qc_msg.specs.Turns.{quiet, sending, telling}
-use Rattle.qc_promise.specs.Turns.{saying_of}
-use Rattle.qc_plan.specs.Round.{RoundState, note, verdict, wanted}
+use Rattle.qc_promise.specs.Names.{saying_of}
+use Rattle.qc_plan.specs.Names.{RoundState, note, verdict, wanted}
 use Rattle.qc_plan.specs.declared.standing.Verdict.{Verdict}
 use Rattle.qc_plan.specs.declared.standing.Verdict.TheVariants as verdicts
 

@@ -3,9 +3,8 @@ use Rattle.std.proofs.Common.{◌≡◌, ℕ, ◌+◌, ◌-◌, ◌<◌, Bool, t
 use Rattle.std.proofs.Common.{Option, Some, None, is_some, refl, sym, ap, ◌∙◌, subst, ◌⊎◌, inl, inr}
 use Rattle.std.proofs.lemmas.List.Sums.{fold-append}
 use Rattle.qc_decl.specs.declared.declaration.Declaration.{Declaration}
-use Rattle.qc_decl.specs.Actors.{administrator, is_administrator, is_client, is_site}
-use Rattle.qc_client.specs.Client.{new_client}
-use Rattle.qc_client.specs.Conduct.{client_takes}
+use Rattle.qc_decl.specs.Names.{administrator, is_administrator, is_client, is_site}
+use Rattle.qc_client.specs.Names.{client_takes, new_client}
 use Rattle.qc_msg.specs.declared.record.Record.{Record}
 use Rattle.qc_msg.specs.declared.record.Record.TheVariants as records
 use Rattle.qc_msg.specs.declared.reply.Reply.{Reply}
@@ -18,28 +17,21 @@ use Rattle.qc_msg.specs.declared.turn.Appended.{Appended}
 use Rattle.qc_msg.specs.declared.turn.Appended.TheVariants.{Done, Failed, Stopped}
 use Rattle.qc_msg.specs.declared.turn.Posting.{Posting}
 use Rattle.qc_msg.specs.declared.turn.Turn.{Turn}
-use Rattle.qc_msg.specs.Deeds.{Deed, Takes, Writes, Sends, Tells, Falls, Rises, deeds_as, sends_of, tells_of, writes_of}
-use Rattle.qc_msg.specs.InputReadings.{command_in}
-use Rattle.qc_msg.specs.Readings.{is_life}
-use Rattle.qc_msg.specs.Steps.{HasRecord, MayEnd, IsByDisk}
-use Rattle.qc_msg.specs.Turns.{quiet, telling}
+use Rattle.qc_msg.specs.Names.{Deed, Falls, HasRecord, IsByDisk, MayEnd, Rises, Sends, Takes, Tells, Writes, command_in}
+use Rattle.qc_msg.specs.Names.{deeds_as, is_life, quiet, sends_of, telling, tells_of, writes_of}
 use Rattle.qc_msg.specs.declared.step.Command.{Command}
 use Rattle.std.specs.List.{AllByRecursion as Every}
-use Rattle.qc_promise.specs.Turns.{AreByTurns, told_first, told_last, Place, Idle, Open, Rising, Sending, Written}
-use Rattle.qc_promise.specs.Turns.{Failing, Faulted, Fallen, Called, Saying, SaysDown, SaysUnwritten, SaysFault}
-use Rattle.qc_promise.specs.Turns.{SaysNeither, fallen_with, goes_on, other, place_after, saying_of}
-use Rattle.qc_epoch.specs.Admin.{new_admin}
-use Rattle.qc_recover.specs.Admins.{admin_rises}
-use Rattle.qc_recover.specs.Clients.{client_rises}
-use Rattle.qc_recover.specs.Sites.{rising, site_rises}
-use Rattle.qc_site.specs.Conduct.{site_takes}
-use Rattle.qc_site.specs.Site.{new_site}
+use Rattle.qc_promise.specs.Names.{AreByTurns, Called, Failing, Fallen, Faulted, Idle, Open, Place, Rising, Saying}
+use Rattle.qc_promise.specs.Names.{SaysDown, SaysFault, SaysNeither, SaysUnwritten, Sending, Written, fallen_with}
+use Rattle.qc_promise.specs.Names.{goes_on, other, place_after, saying_of, told_first, told_last}
+use Rattle.qc_epoch.specs.Names.{new_admin}
+use Rattle.qc_recover.specs.Names.{admin_rises, client_rises, rising, site_rises}
+use Rattle.qc_site.specs.Names.{new_site, site_takes}
 use Rattle.qc_core.specs.declared.actor.Actor.{Actor}
 use Rattle.qc_core.specs.declared.actor.Actor.TheVariants as actor
-use Rattle.qc_core.specs.Actors.{ActorMove, actor_after, actor_does, actor_rises, actor_sends, actor_takes, by_admin}
-use Rattle.qc_core.specs.Actors.{by_client, by_site, down_takes, moved}
-use Rattle.qc_core.specs.Conduct.{IsLawfulWithFalls, with_record}
-use Rattle.qc_core.specs.Lives.{AreUncommanded, IsUncommanded, Lives, MayReach, is_up, up_at}
+use Rattle.qc_core.specs.Names.{ActorMove, AreUncommanded, IsLawfulWithFalls, IsUncommanded, Lives, MayReach}
+use Rattle.qc_core.specs.Names.{actor_after, actor_does, actor_rises, actor_sends, actor_takes, by_admin, by_client}
+use Rattle.qc_core.specs.Names.{by_site, down_takes, is_up, moved, up_at, with_record}
 use Rattle.qc_core.specs.Lives as lives
 use Rattle.qc_core.proofs.AdminWrites.{FaultsAlone, IsAdminTurn, TellsNone, admin_written, no_life}
 use Rattle.qc_core.proofs.LivesLaws.{down, rises, turn_by, up}

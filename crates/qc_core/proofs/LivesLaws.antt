@@ -3,8 +3,8 @@
 use Rattle.std.proofs.Common.{◌≡◌, ℕ, ◌+◌, ◌-◌, ◌==◌, ◌<◌, ◌&&◌, nat_le, nat_lt, arith, ltb-true, Bool, true, false, cond, not, List, [], ◌∷◌, ◌++◌, fold, length, filter, map, Option, Some, None, option_to_list, slice_get, append_assoc, refl, sym, ap, ◌∙◌, subst}
 use Rattle.std.proofs.lemmas.List.Sums.{fold-append}
 use Rattle.qc_decl.specs.declared.declaration.Declaration.{Declaration}
-use Rattle.qc_decl.specs.Actors.{administrator, is_administrator, is_client, is_site}
-use Rattle.qc_client.specs.Conduct.{client_after}
+use Rattle.qc_decl.specs.Names.{administrator, is_administrator, is_client, is_site}
+use Rattle.qc_client.specs.Names.{client_after, new_client}
 use Rattle.qc_msg.specs.declared.message.Envelope.{Envelope}
 use Rattle.qc_msg.specs.declared.record.Record.{Record}
 use Rattle.qc_msg.specs.declared.step.Fall.{Fall}
@@ -16,25 +16,18 @@ use Rattle.qc_msg.specs.declared.step.Step.TheVariants as steps
 use Rattle.qc_msg.specs.declared.turn.Appended.{Appended}
 use Rattle.qc_msg.specs.declared.turn.Appended.TheVariants.{Done, Failed, Stopped}
 use Rattle.qc_msg.specs.declared.turn.Turn.{Turn}
-use Rattle.qc_msg.specs.Deeds.{Deed, Takes, Writes, Sends, Tells, Falls, Rises, deed_at, deeds, deeds_as, envelope_of, heard, own, sends_of, tells_of, turn_deeds}
-use Rattle.qc_msg.specs.Steps.{Entry, MayEnd, sends_as}
-use Rattle.qc_msg.specs.Turns.{quiet}
-use Rattle.qc_client.specs.Client.{new_client}
-use Rattle.qc_site.specs.Site.{new_site}
-use Rattle.qc_epoch.specs.Admin.{new_admin}
-use Rattle.qc_recover.specs.Admins.{admin_rises}
-use Rattle.qc_recover.specs.Clients.{client_rises}
-use Rattle.qc_recover.specs.Sites.{site_rises}
-use Rattle.qc_promise.specs.Kept.{Journal, journal_of, journal_with, no_journal}
-use Rattle.qc_site.specs.Conduct.{site_after}
+use Rattle.qc_msg.specs.Names.{Deed, Entry, Falls, MayEnd, Rises, Sends, Takes, Tells, Writes, deed_at, deeds, deeds_as}
+use Rattle.qc_msg.specs.Names.{envelope_of, heard, own, quiet, sends_as, sends_of, tells_of, turn_deeds}
+use Rattle.qc_site.specs.Names.{new_site, site_after}
+use Rattle.qc_epoch.specs.Names.{new_admin}
+use Rattle.qc_recover.specs.Names.{admin_rises, client_rises, site_rises}
+use Rattle.qc_promise.specs.Names.{Journal, journal_of, journal_with, no_journal}
 use Rattle.qc_core.specs.declared.actor.Actor.{Actor}
 use Rattle.qc_core.specs.declared.actor.Actor.TheVariants as actor
-use Rattle.qc_core.specs.Actors.{ActorMove, actor_after, actor_does, actor_rises, actor_sends, actor_takes, by_admin, by_client, by_site, moved}
-use Rattle.qc_core.specs.Acts.{Acts, MayTake}
+use Rattle.qc_core.specs.Names.{ActorMove, Acts, AreSteady, IsLawful, IsLawfulWithFalls, Lives, MayReach, MayTake}
+use Rattle.qc_core.specs.Names.{actor_after, actor_does, actor_rises, actor_sends, actor_takes, by_admin, by_client}
+use Rattle.qc_core.specs.Names.{by_site, is_up, journal_after, journal_at, moved, turn_after, turn_with_falls, up_at}
 use Rattle.qc_core.specs.Acts as acts
-use Rattle.qc_core.specs.Conduct.{IsLawful, IsLawfulWithFalls, turn_after, turn_with_falls}
-use Rattle.qc_core.specs.Journals.{journal_after, journal_at}
-use Rattle.qc_core.specs.Lives.{AreSteady, Lives, MayReach, is_up, up_at}
 use Rattle.qc_core.specs.Lives as lives
 use Rattle.qc_core.proofs.ActorLaws.{other_client, turn}
 use Rattle.qc_core.proofs.Steady.{acts_steady, turn_steady}

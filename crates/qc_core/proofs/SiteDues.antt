@@ -6,15 +6,14 @@ use Rattle.std.specs.Option.{option_map_or, option_or}
 use Rattle.std.proofs.lemmas.List.{append-nil}
 use Rattle.qc_stamp.specs.declared.stamp.Stamp.{Stamp}
 use Rattle.qc_stamp.specs.declared.stamp.TxId.{TxId}
-use Rattle.qc_stamp.specs.Order.{same_tx}
+use Rattle.qc_stamp.specs.Names.{same_tx}
 use Rattle.qc_entry.specs.declared.line.Line.{Line}
 use Rattle.qc_entry.specs.declared.record.Prepared.{Prepared}
-use Rattle.qc_entry.specs.Log.{union}
+use Rattle.qc_entry.specs.Names.{union}
 use Rattle.qc_decl.specs.declared.declaration.Declaration.{Declaration}
-use Rattle.qc_decl.specs.Limits.{most_record_bytes}
+use Rattle.qc_decl.specs.Names.{most_record_bytes}
 use Rattle.qc_lock.specs.declared.clash.Clash.{Clash as Conflict}
-use Rattle.qc_lock.specs.Clash.{append_clash, read_clash}
-use Rattle.qc_lock.specs.Held.{is_held}
+use Rattle.qc_lock.specs.Names.{append_clash, is_held, read_clash}
 use Rattle.qc_msg.specs.declared.message.Answer.{Answer}
 use Rattle.qc_msg.specs.declared.message.Answer.TheVariants as answers
 use Rattle.qc_msg.specs.declared.message.Envelope.{Envelope}
@@ -28,21 +27,15 @@ use Rattle.qc_msg.specs.declared.turn.Appended.TheVariants.{Done}
 use Rattle.qc_msg.specs.declared.step.Input.{Input}
 use Rattle.qc_msg.specs.declared.step.Input.TheVariants as inputs
 use Rattle.qc_msg.specs.declared.turn.Posting.{Posting}
-use Rattle.qc_msg.specs.Deeds.{Deed, Takes}
-use Rattle.qc_msg.specs.Lengths.{epoch_length}
-use Rattle.qc_msg.specs.Readings.{Requested}
-use Rattle.qc_msg.specs.Turns.{quiet}
-use Rattle.qc_promise.specs.Posts.{TurnDue, quiet_turn, sending}
-use Rattle.qc_promise.specs.SiteDue.{answers_due, clash_told, closed_refusal, epoch_refusal, fits_record, granting_turn}
-use Rattle.qc_promise.specs.SiteDue.{inquiries_due, is_declared, is_epoch, promise_due, promise_turn, recording_turn}
-use Rattle.qc_promise.specs.SiteDue.{shut_due, telling_turn, turn_due, want_refusal}
-use Rattle.qc_promise.specs.SitePromises.{is_promised, prepared_shown, promise_in}
-use Rattle.qc_site.specs.Conduct.{site_at, site_on, site_takes}
-use Rattle.qc_site.specs.Epochs.{closed, closes, installed, installs, is_closed_for, shut_answer}
-use Rattle.qc_site.specs.Promise.{joins, promise_of}
-use Rattle.qc_site.specs.Requests.{appends_by, closed_fault, fault_of, grants, names_declared, reads_by, relation_at}
-use Rattle.qc_site.specs.Requests.{requested}
-use Rattle.qc_site.specs.Site.{SiteState, answering, answers as answered, moved, recording}
+use Rattle.qc_msg.specs.Names.{Deed, Requested, Takes, epoch_length, quiet}
+use Rattle.qc_promise.specs.Names.{TurnDue, answers_due, clash_told, closed_refusal, epoch_refusal, fits_record}
+use Rattle.qc_promise.specs.Names.{granting_turn, inquiries_due, is_declared, is_epoch, is_promised, prepared_shown}
+use Rattle.qc_promise.specs.Names.{promise_due, promise_in, promise_turn, quiet_turn, recording_turn, sending, shut_due}
+use Rattle.qc_promise.specs.Names.{telling_turn, turn_due, want_refusal}
+use Rattle.qc_site.specs.Names.{SiteState, answering, answers as answered, appends_by, closed, closed_fault, closes}
+use Rattle.qc_site.specs.Names.{fault_of, grants, installed, installs, is_closed_for, joins, moved, names_declared}
+use Rattle.qc_site.specs.Names.{promise_of, reads_by, recording, relation_at, requested, shut_answer, site_at, site_on}
+use Rattle.qc_site.specs.Names.{site_takes}
 use Rattle.qc_core.proofs.SiteDecisions.{promising}
 use Rattle.qc_core.proofs.SiteGrowth.{lasts}
 use Rattle.qc_core.proofs.SiteShown.{shown, shown-more}

@@ -5,21 +5,17 @@ use Rattle.std.specs.Prelude.{filter, fold}
 use Rattle.std.proofs.lemmas.List.{append-nil}
 use Rattle.qc_entry.specs.declared.line.Line.{Line}
 use Rattle.qc_entry.specs.declared.record.Prepared.{Prepared}
-use Rattle.qc_decl.specs.Limits.{most_record_bytes}
+use Rattle.qc_decl.specs.Names.{most_record_bytes}
 use Rattle.qc_msg.specs.declared.message.Answer.{Answer}
 use Rattle.qc_msg.specs.declared.message.Answer.TheVariants as answers
 use Rattle.qc_msg.specs.declared.message.Message.TheVariants as messages
 use Rattle.qc_msg.specs.declared.record.Record.TheVariants as records
 use Rattle.qc_msg.specs.declared.step.Input.{Input}
 use Rattle.qc_msg.specs.declared.turn.Turn.{Turn}
-use Rattle.qc_msg.specs.Deeds.{Deed}
-use Rattle.qc_msg.specs.Lengths.{epoch_length}
-use Rattle.qc_promise.specs.SiteHeld.{with_promise}
-use Rattle.qc_promise.specs.SiteLogs.{Lines, learning, lines_shown, recorded_by}
-use Rattle.qc_promise.specs.Lifetimes.{records_in}
-use Rattle.qc_promise.specs.SitePromises.{prepared_shown}
-use Rattle.qc_site.specs.Epochs.{closed, closes, installed, installs, is_closed_for, shut_answer}
-use Rattle.qc_site.specs.Site.{SiteState, answering, answers as answered, moved, recording}
+use Rattle.qc_msg.specs.Names.{Deed, epoch_length}
+use Rattle.qc_promise.specs.Names.{Lines, learning, lines_shown, prepared_shown, recorded_by, records_in, with_promise}
+use Rattle.qc_site.specs.Names.{SiteState, answering, answers as answered, closed, closes, installed, installs}
+use Rattle.qc_site.specs.Names.{is_closed_for, moved, recording, shut_answer}
 use Rattle.qc_core.proofs.SiteGrowth.{lasts}
 use Rattle.qc_core.proofs.SitePosts.{learning-nil, post_frees}
 use Rattle.qc_core.proofs.SiteRecorded.{posted, prepared_then}

@@ -12,15 +12,11 @@ use Rattle.qc_entry.specs.declared.record.Prepared.{Prepared}
 use Rattle.qc_msg.specs.declared.message.Envelope.{Envelope}
 use Rattle.qc_msg.specs.declared.record.Record.{Record}
 use Rattle.qc_msg.specs.declared.turn.Posting.{Posting}
-use Rattle.qc_msg.specs.Deeds.{Deed}
-use Rattle.qc_msg.specs.InputReadings.{got_in, written_in}
-use Rattle.qc_msg.specs.Readings.{Installing, Requested, install_in, prepare_in, request_in}
-use Rattle.qc_promise.specs.Posts.{Act, posted_next, sent_by}
-use Rattle.qc_promise.specs.SiteEnds.{frees, is_decision, is_ended, is_final, is_over}
-use Rattle.qc_promise.specs.SiteHeld.{Grant, grants, is_granted, standing, standing_as, standing_by}
-use Rattle.qc_promise.specs.SiteLogs.{Lines, begun_with_lines, joining, learning, lines_done, lines_from, recorded_from}
-use Rattle.qc_promise.specs.SiteLogs.{view_by, view_in, with_given, with_joined, with_written}
-use Rattle.qc_promise.specs.SitePromises.{left_of, promises_since, unless_over}
+use Rattle.qc_msg.specs.Names.{Deed, Installing, Requested, got_in, install_in, prepare_in, request_in, written_in}
+use Rattle.qc_promise.specs.Names.{Act, Grant, Lines, begun_with_lines, frees, grants, is_decision, is_ended, is_final}
+use Rattle.qc_promise.specs.Names.{is_granted, is_over, joining, learning, left_of, lines_done, lines_from, posted_next}
+use Rattle.qc_promise.specs.Names.{promises_since, recorded_from, sent_by, standing, standing_as, standing_by}
+use Rattle.qc_promise.specs.Names.{unless_over, view_by, view_in, with_given, with_joined, with_written}
 use Rattle.qc_promise.proofs.Posts.{posted-more}
 
 abbrev pub stays : List Deed → Grant → Bool

@@ -6,21 +6,18 @@ use Rattle.std.specs.Option.{option_map_or, option_or}
 use Rattle.std.proofs.lemmas.List.Sums.{fold-append}
 use Rattle.std.proofs.lemmas.List.Folds.{fold-map, find-append}
 use Rattle.qc_stamp.specs.declared.stamp.TxId.{TxId}
-use Rattle.qc_stamp.specs.Lives.{first_life}
-use Rattle.qc_stamp.specs.Order.{same_tx}
+use Rattle.qc_stamp.specs.Names.{first_life, same_tx}
 use Rattle.qc_stamp.proofs.Orders.{same_tx_is}
 use Rattle.qc_entry.specs.declared.line.Line.{Line}
 use Rattle.qc_entry.specs.declared.record.Prepared.{Prepared}
 use Rattle.qc_msg.specs.declared.record.Record.{Record}
 use Rattle.qc_msg.specs.declared.record.Record.TheVariants as journals
-use Rattle.qc_msg.specs.Begun.{first_epoch}
-use Rattle.qc_site.specs.Promise.{lines_of, prepared_of, without_prepared}
+use Rattle.qc_msg.specs.Names.{first_epoch}
+use Rattle.qc_site.specs.Names.{lines_of, prepared_of, without_prepared}
 use Rattle.qc_site.proofs.Votes.{prepared-without, prepared-without_other}
-use Rattle.qc_recover.specs.Sites.{Kept, done_stamp, keeps, kept_by, nothing_kept}
-use Rattle.qc_promise.specs.SiteClocks.{clocks_in_record, clocks_of}
-use Rattle.qc_promise.specs.SiteLogs.{Lines, learning, recorded_by, recorded_from}
-use Rattle.qc_promise.specs.SitePromises.{promises_of}
-use Rattle.qc_promise.specs.SiteRecords.{closed_by, epoch_by, last_prepare, life_by, prepare_by}
+use Rattle.qc_recover.specs.Names.{Kept, done_stamp, keeps, kept_by, nothing_kept}
+use Rattle.qc_promise.specs.Names.{Lines, clocks_in_record, clocks_of, closed_by, epoch_by, last_prepare, learning}
+use Rattle.qc_promise.specs.Names.{life_by, prepare_by, promises_of, recorded_by, recorded_from}
 use Rattle.qc_promise.proofs.Promises.{promises_by_record, promises_with}
 use Rattle.qc_core.proofs.SitePosts.{learning-nil}
 

@@ -14,11 +14,10 @@ use Rattle.qc_msg.specs.declared.turn.Appended.{Appended}
 use Rattle.qc_msg.specs.declared.turn.Appended.TheVariants.{Done, Failed, Stopped}
 use Rattle.qc_msg.specs.declared.turn.Posting.{Posting}
 use Rattle.qc_msg.specs.declared.turn.Turn.{Turn}
-use Rattle.qc_msg.specs.Deeds.{Deed, Takes, Falls, Rises, deeds_as, sends_of, tells_of, writes_of}
-use Rattle.qc_core.specs.Conduct.{IsLawfulWithFalls}
-use Rattle.qc_core.specs.Lives.{Lives, MayReach, is_up, up_at}
+use Rattle.qc_msg.specs.Names.{Deed, Falls, Rises, Takes, deeds_as, sends_of, tells_of, writes_of}
+use Rattle.qc_core.specs.Names.{IsInput, IsLawfulWithFalls, IsSiteDeed, IsSiteInput, Lives, MayReach, Serves, is_up}
+use Rattle.qc_core.specs.Names.{stays_up, up_at}
 use Rattle.qc_core.specs.Lives as lives
-use Rattle.qc_core.specs.Sites.{IsInput, IsSiteDeed, IsSiteInput, Serves, stays_up}
 use Rattle.qc_core.specs.Sites as serving
 
 -- whether a site is up behind a post

@@ -13,15 +13,11 @@ use Rattle.qc_msg.specs.declared.record.Record.{Record}
 use Rattle.qc_msg.specs.declared.reply.Reply.{Reply}
 use Rattle.qc_msg.specs.declared.turn.Posting.{Posting}
 use Rattle.qc_msg.specs.declared.turn.Turn.{Turn}
-use Rattle.qc_msg.specs.Deeds.{Deed, sends_of, tells_of, turn_deeds, writes_of}
-use Rattle.qc_msg.specs.InputReadings.{written_in}
-use Rattle.qc_msg.specs.Readings.{Installing, install_in, prepare_in}
-use Rattle.qc_promise.specs.Posts.{Act, Sent, Told, Wrote, posted_next, sent_by}
-use Rattle.qc_promise.specs.SiteClocks.{clocks_at, clocks_written}
-use Rattle.qc_promise.specs.SiteEnds.{is_ended, is_over, redeems}
-use Rattle.qc_promise.specs.SiteHeld.{standing}
-use Rattle.qc_promise.specs.SiteLogs.{Lines, begun_with_lines, learning, lines_done, lines_from}
-use Rattle.qc_promise.specs.SitePromises.{promises_since, unless_over}
+use Rattle.qc_msg.specs.Names.{Deed, Installing, install_in, prepare_in, sends_of, tells_of, turn_deeds, writes_of}
+use Rattle.qc_msg.specs.Names.{written_in}
+use Rattle.qc_promise.specs.Names.{Act, Lines, Sent, Told, Wrote, begun_with_lines, clocks_at, clocks_written, is_ended}
+use Rattle.qc_promise.specs.Names.{is_over, learning, lines_done, lines_from, posted_next, promises_since, redeems}
+use Rattle.qc_promise.specs.Names.{sent_by, standing, unless_over}
 use Rattle.qc_promise.proofs.Lifetimes.{AreNoRises}
 use Rattle.qc_promise.proofs.Posts.{posted_sends}
 

@@ -3,15 +3,11 @@ use Rattle.std.proofs.Common.{◌≡◌, ℕ, List, ◌++◌, None, refl, ap, �
 use Rattle.std.specs.Prelude.{fold, option_to_list}
 use Rattle.qc_msg.specs.declared.step.Input.{Input}
 use Rattle.qc_msg.specs.declared.turn.Turn.{Turn}
-use Rattle.qc_msg.specs.Begun.{first_epoch}
-use Rattle.qc_msg.specs.Deeds.{Deed}
-use Rattle.qc_stamp.specs.Lives.{first_life}
-use Rattle.qc_promise.specs.SiteClocks.{clock_shown}
-use Rattle.qc_promise.specs.SiteHeld.{held_shown}
-use Rattle.qc_promise.specs.SiteLogs.{Lines, lines_shown, recorded_shown, since_shown}
-use Rattle.qc_promise.specs.SitePromises.{prepared_shown}
-use Rattle.qc_promise.specs.SiteRecords.{closed_by, closed_shown, epoch_by, epoch_shown, life_by, life_shown}
-use Rattle.qc_site.specs.Site.{SiteState}
+use Rattle.qc_msg.specs.Names.{Deed, first_epoch}
+use Rattle.qc_stamp.specs.Names.{first_life}
+use Rattle.qc_promise.specs.Names.{Lines, clock_shown, closed_by, closed_shown, epoch_by, epoch_shown, held_shown}
+use Rattle.qc_promise.specs.Names.{life_by, life_shown, lines_shown, prepared_shown, recorded_shown, since_shown}
+use Rattle.qc_site.specs.Names.{SiteState}
 use Rattle.qc_core.proofs.SiteHolds.{held_then, more_held}
 use Rattle.qc_core.proofs.SiteLines.{lines_then, more_lines, more_recorded, recorded_then}
 use Rattle.qc_core.proofs.SiteRecorded.{by_records, clock_then, more_clock, more_prepared, posted, prepared_then}

@@ -6,21 +6,18 @@ use Rattle.qc_stamp.specs.declared.stamp.Stamp.{Stamp}
 use Rattle.qc_stamp.specs.declared.stamp.TxId.{TxId}
 use Rattle.qc_entry.specs.declared.line.Line.{Line}
 use Rattle.qc_entry.specs.declared.record.Prepared.{Prepared}
-use Rattle.qc_entry.specs.Log.{of_object}
+use Rattle.qc_entry.specs.Names.{of_object}
 use Rattle.qc_decl.specs.declared.declaration.Declaration.{Declaration}
-use Rattle.qc_decl.specs.Limits.{most_record_bytes}
+use Rattle.qc_decl.specs.Names.{most_record_bytes}
 use Rattle.qc_lock.specs.declared.clash.Clash.{Clash as Conflict}
 use Rattle.std.specs.List.{AllByRecursion as Every}
 use Rattle.qc_msg.specs.declared.message.Envelope.{Envelope}
 use Rattle.qc_msg.specs.declared.turn.Posting.{Posting}
 use Rattle.qc_msg.specs.declared.turn.Turn.{Turn}
-use Rattle.qc_msg.specs.InputReadings.{heard_in}
-use Rattle.qc_msg.specs.Readings.{Answered, answer_in}
-use Rattle.qc_promise.specs.Mail.{asks_answer}
-use Rattle.qc_promise.specs.Turns.{other}
-use Rattle.qc_lock.specs.Clash.{append_clash, read_clash}
-use Rattle.qc_lock.specs.Held.{is_held}
-use Rattle.qc_plan.specs.Round.{verdict}
+use Rattle.qc_msg.specs.Names.{Answered, answer_in, epoch_length, heard_in, quiet}
+use Rattle.qc_promise.specs.Names.{asks_answer, other}
+use Rattle.qc_lock.specs.Names.{append_clash, is_held, read_clash}
+use Rattle.qc_plan.specs.Names.{verdict}
 use Rattle.qc_msg.specs.declared.message.Answer.{Answer}
 use Rattle.qc_msg.specs.declared.message.Answer.TheVariants as answers
 use Rattle.qc_msg.specs.declared.message.Message.{Message}
@@ -34,15 +31,11 @@ use Rattle.qc_msg.specs.declared.record.Record.TheVariants as records
 use Rattle.qc_msg.specs.declared.step.Input.{Input}
 use Rattle.qc_msg.specs.declared.step.Input.TheVariants as inputs
 use Rattle.qc_msg.specs.declared.turn.Appended.TheVariants.{Done}
-use Rattle.qc_msg.specs.Lengths.{epoch_length}
-use Rattle.qc_msg.specs.Turns.{quiet}
-use Rattle.qc_site.specs.Conduct.{passed, site_at, site_takes}
-use Rattle.qc_site.specs.Promise.{finishes, records_done, is_prepared, joins, prepare_length, prepared_of, prepares}
-use Rattle.qc_site.specs.Promise.{promise_of, promised, votes}
-use Rattle.qc_site.specs.Requests.{appends_by, clashing, fault_of, grants, names_declared, reads_by, relation_at}
-use Rattle.qc_site.specs.Requests.{requested}
-use Rattle.qc_site.specs.Epochs.{closed, closes, installed, installs, is_closed_for, shut_answer}
-use Rattle.qc_site.specs.Site.{SiteState, answers as answered_with, known, moved as site_moved, recording}
+use Rattle.qc_site.specs.Names.{SiteState, answers as answered_with, appends_by, clashing, closed, closes, fault_of}
+use Rattle.qc_site.specs.Names.{finishes, grants, installed, installs, is_closed_for, is_prepared, joins, known}
+use Rattle.qc_site.specs.Names.{moved as site_moved, names_declared, passed, prepare_length, prepared_of, prepares}
+use Rattle.qc_site.specs.Names.{promise_of, promised, reads_by, recording, records_done, relation_at, requested}
+use Rattle.qc_site.specs.Names.{shut_answer, site_at, site_takes, votes}
 
 -- a turn that tells nothing, and writes no record of a rise; what it answers, where its record fails too, it was asked
 -- for

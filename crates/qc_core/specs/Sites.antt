@@ -15,13 +15,10 @@ use Rattle.qc_msg.specs.declared.step.Fall.TheVariants.{Script}
 use Rattle.qc_msg.specs.declared.turn.Appended.{Appended}
 use Rattle.qc_msg.specs.declared.turn.Appended.TheVariants.{Done, Failed, Stopped}
 use Rattle.qc_msg.specs.declared.turn.Turn.{Turn}
-use Rattle.qc_msg.specs.Deeds.{Deed, Takes, Writes, Sends, Tells, Falls, Rises, deeds_as}
-use Rattle.qc_promise.specs.SiteClocks.{clock_shown}
-use Rattle.qc_promise.specs.SiteHeld.{held_shown}
-use Rattle.qc_promise.specs.SiteLogs.{began_shown, recorded_shown, since_shown}
-use Rattle.qc_promise.specs.SitePromises.{prepared_shown}
-use Rattle.qc_promise.specs.SiteRecords.{closed_shown, epoch_shown, life_shown}
-use Rattle.qc_site.specs.Site.{SiteState}
+use Rattle.qc_msg.specs.Names.{Deed, Falls, Rises, Sends, Takes, Tells, Writes, deeds_as}
+use Rattle.qc_promise.specs.Names.{began_shown, clock_shown, closed_shown, epoch_shown, held_shown, life_shown}
+use Rattle.qc_promise.specs.Names.{prepared_shown, recorded_shown, since_shown}
+use Rattle.qc_site.specs.Names.{SiteState}
 use Rattle.qc_core.specs.Conduct.{IsLawfulWithFalls}
 
 -- a Decision Committed names a stamp of the transaction's own client: a site's record tells the stamp's clock alone

@@ -5,9 +5,7 @@ use Rattle.std.proofs.lemmas.List.{length-map}
 use Rattle.std.proofs.lemmas.Option.{slice_get_within}
 use Rattle.qc_table.specs.declared.kind.Kind.{Kind}
 use Rattle.qc_decl.proofs.Places.{names_stand}
-use Rattle.qc_decl.specs.Accepted.{HasNames, IsAccepted}
-use Rattle.qc_decl.specs.Limits.{most_invocations}
-use Rattle.qc_decl.specs.Named.{IsNamed, StandForPlaces}
+use Rattle.qc_decl.specs.Names.{HasNames, IsAccepted, IsNamed, StandForPlaces, most_invocations}
 use Rattle.qc_decl.specs.declared.declaration.Declaration.{Declaration}
 use Rattle.qc_decl.specs.declared.declaration.KindNames.{KindNames}
 

@@ -5,21 +5,17 @@ use Rattle.std.specs.Prelude.{All, codes}
 use Rattle.std.proofs.lemmas.List.Elements.{All-cons, All-nil}
 use Rattle.qc_cert.proofs.Faultless.{inductive}
 use Rattle.qc_cert.proofs.Walk.{exact}
-use Rattle.qc_cert.specs.Inductive.{triple}
-use Rattle.qc_cert.specs.Views.{IsExact}
+use Rattle.qc_cert.specs.Names.{IsExact, triple}
 use Rattle.qc_cert.specs.declared.triple.Triple.{Triple}
 use Rattle.qc_decl.proofs.Places.{all_differ}
-use Rattle.qc_decl.specs.Accepted.{AreThresholds, HasNames, HasThresholds, IsAccepted, IsGood, IsRight}
-use Rattle.qc_decl.specs.Limits.{greatest_threshold, greatest_weight, most_sites}
-use Rattle.qc_decl.specs.Lookup.{kind_at}
-use Rattle.qc_decl.specs.Names.{AreNames}
-use Rattle.qc_decl.specs.One.{one, register, register_kind, register_names, register_plan, register_store, three}
+use Rattle.qc_decl.specs.Names.{AreNames, AreThresholds, HasNames, HasThresholds, IsAccepted, IsGood, IsRight}
+use Rattle.qc_decl.specs.Names.{greatest_threshold, greatest_weight, kind_at, most_sites, one, register, register_kind}
+use Rattle.qc_decl.specs.Names.{register_names, register_plan, register_store, three}
 use Rattle.qc_decl.specs.declared.declaration.KindNames.{KindNames}
 use Rattle.qc_plan.proofs.Faultless as plan_proofs
-use Rattle.qc_plan.specs.Faults.{fault_of}
+use Rattle.qc_plan.specs.Names.{fault_of}
 use Rattle.qc_plan.specs.declared.plan.Plan.{Plan}
-use Rattle.qc_table.specs.Rules.{events_of}
-use Rattle.qc_table.specs.Sound.{IsSound}
+use Rattle.qc_table.specs.Names.{IsSound, events_of}
 use Rattle.qc_table.specs.declared.kind.Kind.{Kind}
 
 -- the certificate: where view and history differ, the last write was left out

@@ -5,11 +5,8 @@ use Rattle.std.proofs.lemmas.Cmp.{tied_itself}
 use Rattle.std.specs.List.{filter}
 use Rattle.std.specs.declared.cmp.Ordering.TheVariants.{Less, Equal}
 use Rattle.qc_entry.specs.declared.line.Line.{Line}
-use Rattle.qc_entry.specs.Line.{line_cmp, IsAscending}
-use Rattle.qc_list.specs.Order.{IsBelowAll}
-use Rattle.qc_entry.specs.Log.{of_object, union}
-use Rattle.qc_list.specs.Members.{In}
-use Rattle.qc_list.specs.Order.{by_order}
+use Rattle.qc_entry.specs.Names.{IsAscending, line_cmp, of_object, union}
+use Rattle.qc_list.specs.Names.{In, IsBelowAll, by_order}
 use Rattle.qc_list.proofs.Members.{every-In, In-filter, In-passes, In-unfiltered}
 use Rattle.qc_entry.proofs.Orders.{line_order}
 use Rattle.qc_list.proofs.Order.{ascends-filter}

@@ -4,11 +4,8 @@ use Rattle.std.specs.List.{AllByRecursion as Every, slice_get}
 use Rattle.std.specs.declared.cmp.Ordering.{Ordering}
 use Rattle.std.specs.declared.cmp.Ordering.TheVariants.{Less, Equal, Greater}
 use Rattle.qc_entry.specs.declared.line.Line.{Line}
-use Rattle.qc_entry.specs.Line.{line_cmp, IsAscending}
-use Rattle.qc_list.specs.Order.{IsBelowAll}
-use Rattle.qc_entry.specs.Log.{IsUnion, union, union_from}
-use Rattle.qc_list.specs.Members.{In}
-use Rattle.qc_list.specs.Order.{by_order}
+use Rattle.qc_entry.specs.Names.{IsAscending, IsUnion, line_cmp, union, union_from}
+use Rattle.qc_list.specs.Names.{In, IsBelowAll, by_order}
 use Rattle.qc_list.proofs.Members.{every-In, every-from_In}
 use Rattle.qc_entry.proofs.Orders.{line_order, above}
 use Rattle.std.specs.Cmp.{tied_itself}

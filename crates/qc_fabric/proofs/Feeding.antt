@@ -4,27 +4,21 @@ use Rattle.std.proofs.Common.{arith, length-append, Option, Some, None, sum}
 use Rattle.std.specs.Prelude.{slice_get, slice_set}
 use Rattle.std.proofs.lemmas.List.{append-nil}
 use Rattle.atomic_table.specs.Seated.{TableId}
-use Rattle.qc_decl.specs.Actors.{actors}
+use Rattle.qc_decl.specs.Names.{actors}
 use Rattle.qc_decl.specs.declared.declaration.Declaration.{Declaration}
-use Rattle.qc_inbox.specs.Kept.{IsKept}
-use Rattle.qc_mailbox.specs.Kept.{Roomy}
+use Rattle.qc_inbox.specs.Names.{IsKept}
+use Rattle.qc_mailbox.specs.Names.{Roomy}
 use Rattle.qc_msg.specs.declared.record.Record.{Record}
 use Rattle.qc_msg.specs.declared.step.Step.{Step}
 use Rattle.qc_msg.specs.declared.turn.Turn.{Turn}
-use Rattle.qc_msg.specs.Deeds.{Deed, deeds}
-use Rattle.qc_msg.specs.Steps.{Entry, by}
+use Rattle.qc_msg.specs.Names.{Deed, Entry, by, deeds}
 use Rattle.qc_pass.specs.declared.token.Pass.{Pass}
 use Rattle.qc_pass.specs.declared.token.Right.{Right}
-use Rattle.qc_pass.specs.Tokens.{number, seen, mine, room, all, ends, rooms, Met}
-use Rattle.qc_script.specs.Ready.{phase_of}
-use Rattle.qc_script.specs.RunsWithFalls.{RunsWithFalls}
+use Rattle.qc_pass.specs.Names.{Met, all, ends, mine, number, room, rooms, seen}
+use Rattle.qc_script.specs.Names.{RunsWithFalls, phase_of}
 use Rattle.qc_script.specs.declared.script.Script.{Script}
-use Rattle.qc_fabric.specs.Events.{before_last_event}
-use Rattle.qc_fabric.specs.Feeds.{HasGrown}
-use Rattle.qc_fabric.specs.Gains.{ArmsNone, ArmsNoneBehind}
-use Rattle.qc_fabric.specs.Logs.{Logged, full_of}
-use Rattle.qc_fabric.specs.FabricStates.{IsFabricState}
-use Rattle.qc_fabric.specs.Tells.{Fed, IsSame, Sees}
+use Rattle.qc_fabric.specs.Names.{ArmsNone, ArmsNoneBehind, Fed, HasGrown, IsFabricState, IsSame, Logged, Sees}
+use Rattle.qc_fabric.specs.Names.{before_last_event, full_of}
 use Rattle.qc_fabric.proofs.Fed.{length-by, length_set, rooms_kept}
 use Rattle.qc_fabric.proofs.Gains.{Gain, end_else, end_here, gain, saw, unarmed_by}
 use Rattle.qc_fabric.proofs.Kept.{all_of, right_of, rooms_of, unarmed_of}

@@ -5,37 +5,27 @@ use Rattle.std.proofs.lemmas.List.{length-replicate}
 use mathlib.Core.Logic.{dite}
 use native.Mathlib.Decide.{ℕ_discrete}
 use Rattle.atomic_table.specs.Seated.{TableId}
-use Rattle.qc_decl.specs.Actors.{actors, controller}
+use Rattle.qc_decl.specs.Names.{actors, controller}
 use Rattle.qc_decl.specs.declared.declaration.Declaration.{Declaration}
-use Rattle.qc_inbox.specs.Inboxes.{Inboxes}
-use Rattle.qc_inbox.specs.Downs.{TellsWhereDown}
-use Rattle.qc_inbox.specs.Kept.{IsKept}
-use Rattle.qc_inbox.specs.Rooms.{empty_inboxes}
+use Rattle.qc_inbox.specs.Names.{Inboxes, IsKept, TellsWhereDown, empty_inboxes}
 use Rattle.qc_inbox.proofs.Keeping.{kept_begins}
-use Rattle.qc_mailbox.specs.Kept.{Roomy}
+use Rattle.qc_mailbox.specs.Names.{Roomy}
 use Rattle.qc_msg.specs.declared.record.Record.{Record}
 use Rattle.qc_msg.specs.declared.step.Step.{Step}
 use Rattle.qc_msg.specs.declared.turn.Turn.{Turn}
-use Rattle.qc_msg.specs.Deeds.{Deed}
-use Rattle.qc_msg.specs.Steps.{Entry, marked}
+use Rattle.qc_msg.specs.Names.{Deed, Entry, marked}
 use Rattle.qc_pass.specs.declared.token.Pass.{Pass}
 use Rattle.qc_pass.specs.declared.token.Right.{Right}
-use Rattle.qc_pass.specs.Made.{IsFirst}
-use Rattle.qc_pass.specs.Tokens.{right_table, number, room, all, ends, rooms, Met}
-use Rattle.qc_promise.specs.Stores.{arms_disk}
-use Rattle.qc_script.specs.Ready.{phase_of}
-use Rattle.qc_script.specs.RunsWithFalls.{RunsWithFalls, begins}
-use Rattle.qc_script.specs.Sound.{IsScriptFor}
+use Rattle.qc_pass.specs.Names.{IsFirst, Met, all, ends, number, right_table, room, rooms}
+use Rattle.qc_promise.specs.Names.{arms_disk}
+use Rattle.qc_script.specs.Names.{IsScriptFor, RunsWithFalls, begins, phase_of}
 use Rattle.qc_script.specs.declared.script.Script.{Script}
-use Rattle.qc_fabric.specs.Events.{before_last_event, begins_event}
-use Rattle.qc_fabric.specs.Feeds.{HasGrown}
-use Rattle.qc_fabric.specs.Gains.{ArmsNone, ArmsNoneBehind}
-use Rattle.qc_fabric.specs.Logs.{Logged, full_of}
-use Rattle.qc_fabric.specs.FabricStates.{IsFabricState, most_history}
+use Rattle.qc_fabric.specs.Names.{ArmsNone, ArmsNoneBehind, HasGrown, IsFabricState, Logged, before_last_event}
+use Rattle.qc_fabric.specs.Names.{begins_event, full_of, most_history}
 use Rattle.qc_fabric.proofs.Events.{before_event}
 use Rattle.qc_fabric.proofs.Fed.{get_else, get_here, length_set, rooms_kept, sum-set, sum_cons}
 use Rattle.qc_fabric.proofs.Gains.{look_unarmed, met_unarmed}
-use Rattle.qc_link.specs.Limits.{most_actors}
+use Rattle.qc_link.specs.Names.{most_actors}
 
 pub no_room_at : (old new : List ℕ) (p i j : ℕ) → p < length old → new ≡ slice_set old p 0 → i ≡ p → slice_get new i ≡ Some (suc j) → ⊥
 no_room_at old new p i j made is same f =

@@ -7,15 +7,13 @@ use Rattle.std.proofs.lemmas.List.{append-nil}
 use mathlib.Core.Logic.{dite}
 use native.Mathlib.Decide.{ℕ_discrete}
 use Rattle.atomic_table.specs.Seated.{TableId}
-use Rattle.qc_decl.specs.Actors.{actors, controller}
+use Rattle.qc_decl.specs.Names.{actors, controller}
 use Rattle.qc_decl.specs.declared.declaration.Declaration.{Declaration}
-use Rattle.qc_inbox.specs.Inboxes.{Inboxes}
-use Rattle.qc_inbox.specs.Kept.{IsKept}
-use Rattle.qc_inbox.specs.Rooms.{after_control, after_fall_by_line, after_first}
+use Rattle.qc_inbox.specs.Names.{Inboxes, IsKept, after_control, after_fall_by_line, after_first}
 use Rattle.qc_inbox.proofs.Bounds.{controls_shown}
 use Rattle.qc_inbox.proofs.Controlling.{kept_control}
 use Rattle.qc_inbox.proofs.FallTrays.{kept_fall_by_line}
-use Rattle.qc_mailbox.specs.Kept.{Roomy}
+use Rattle.qc_mailbox.specs.Names.{Roomy}
 use Rattle.qc_msg.specs.declared.record.Record.{Record}
 use Rattle.qc_msg.specs.declared.step.Control.{Control}
 use Rattle.qc_msg.specs.declared.step.Control.TheVariants as controls
@@ -23,24 +21,16 @@ use Rattle.qc_msg.specs.declared.step.Fall.TheVariants as causes
 use Rattle.qc_msg.specs.declared.step.Step.{Step}
 use Rattle.qc_msg.specs.declared.step.Step.TheVariants as steps
 use Rattle.qc_msg.specs.declared.turn.Turn.{Turn}
-use Rattle.qc_msg.specs.Deeds.{Deed, Falls, deeds, mail}
-use Rattle.qc_msg.specs.Steps.{Entry, marked}
+use Rattle.qc_msg.specs.Names.{Deed, Entry, Falls, deeds, mail, marked}
 use Rattle.qc_msg.proofs.Growth.{deeds-append, deeds-fell}
 use Rattle.qc_outside.specs.declared.disk.ArmKind.{ArmKind}
 use Rattle.qc_pass.specs.declared.token.Pass.{Pass}
 use Rattle.qc_pass.specs.declared.token.Right.{Right}
-use Rattle.qc_pass.specs.Tokens.{Met, all, ends, mine, number, room, rooms, seen}
-use Rattle.qc_script.specs.Ready.{controls_left, phase_of}
-use Rattle.qc_script.specs.RunsWithFalls.{RunsWithFalls, control, falls}
+use Rattle.qc_pass.specs.Names.{Met, all, ends, mine, number, room, rooms, seen}
+use Rattle.qc_script.specs.Names.{RunsWithFalls, control, controls_left, falls, phase_of}
 use Rattle.qc_script.specs.declared.script.Script.{Script}
-use Rattle.qc_fabric.specs.ActorLines.{Arms, FallsByLine}
-use Rattle.qc_fabric.specs.Controls.{MayDo}
-use Rattle.qc_fabric.specs.Events.{before_last_event}
-use Rattle.qc_fabric.specs.Feeds.{HasGrown}
-use Rattle.qc_fabric.specs.Gains.{ArmsNone, ArmsNoneBehind}
-use Rattle.qc_fabric.specs.Logs.{Logged, full_of}
-use Rattle.qc_fabric.specs.FabricStates.{IsFabricState, most_history}
-use Rattle.qc_fabric.specs.Tells.{Sees}
+use Rattle.qc_fabric.specs.Names.{Arms, ArmsNone, ArmsNoneBehind, FallsByLine, HasGrown, IsFabricState, Logged, MayDo}
+use Rattle.qc_fabric.specs.Names.{Sees, before_last_event, full_of, most_history}
 use Rattle.qc_fabric.proofs.Events.{before_event}
 use Rattle.qc_fabric.proofs.Fed.{deeds_of_front, rooms_kept}
 use Rattle.qc_fabric.proofs.Gains.{Gain, end_else, end_here, gain, saw, unarmed_on}

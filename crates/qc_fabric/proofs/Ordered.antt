@@ -3,37 +3,29 @@ use Rattle.std.proofs.Common.{◌≡◌, ℕ, ◌+◌, ◌≤◌, Bool, false, L
 use Rattle.std.proofs.Common.{sym, ◌∙◌, subst, arith, slice_get}
 use mathlib.Core.List.{IsPrefix}
 use Rattle.atomic_table.specs.Seated.{TableId}
-use Rattle.qc_decl.specs.Actors.{controller}
+use Rattle.qc_decl.specs.Names.{controller}
 use Rattle.qc_decl.specs.declared.declaration.Declaration.{Declaration}
 use Rattle.std.specs.Option.{IfSome}
-use Rattle.qc_inbox.specs.Inboxes.{Inboxes}
-use Rattle.qc_inbox.specs.Inputs.{IsWithin}
-use Rattle.qc_inbox.specs.Kept.{IsKept}
-use Rattle.qc_inbox.specs.Rooms.{after_control, after_first, after_phase}
+use Rattle.qc_inbox.specs.Names.{Inboxes, IsKept, IsWithin, after_control, after_first, after_phase}
 use Rattle.qc_inbox.proofs.Bounds.{controls_shown, controls_within}
 use Rattle.qc_inbox.proofs.Controlling.{kept_control, kept_phase}
-use Rattle.qc_mailbox.specs.Kept.{Roomy}
+use Rattle.qc_mailbox.specs.Names.{Roomy}
 use Rattle.qc_msg.specs.declared.record.Record.{Record}
 use Rattle.qc_msg.specs.declared.step.Control.{Control}
 use Rattle.qc_msg.specs.declared.step.Control.TheVariants as controls
 use Rattle.qc_msg.specs.declared.step.Step.{Step}
 use Rattle.qc_msg.specs.declared.step.Step.TheVariants as steps
 use Rattle.qc_msg.specs.declared.turn.Turn.{Turn}
-use Rattle.qc_msg.specs.Deeds.{Deed}
-use Rattle.qc_msg.specs.Steps.{Entry, marked}
+use Rattle.qc_msg.specs.Names.{Deed, Entry, marked}
 use Rattle.qc_pass.specs.declared.token.Pass.{Pass}
 use Rattle.qc_pass.specs.declared.token.Right.{Right}
-use Rattle.qc_pass.specs.Tokens.{Met, all, number, room, seen}
-use Rattle.qc_promise.specs.Stores.{arms_disk}
-use Rattle.qc_script.specs.Ready.{controller_step, controls_left, phase_of, step_of_control}
-use Rattle.qc_script.specs.RunsWithFalls.{RunsWithFalls, control, phase}
+use Rattle.qc_pass.specs.Names.{Met, all, number, room, seen}
+use Rattle.qc_promise.specs.Names.{arms_disk}
+use Rattle.qc_script.specs.Names.{RunsWithFalls, control, controller_step, controls_left, phase, phase_of}
+use Rattle.qc_script.specs.Names.{step_of_control}
 use Rattle.qc_script.specs.declared.script.PhaseLines.{PhaseLines}
 use Rattle.qc_script.specs.declared.script.Script.{Script}
-use Rattle.qc_fabric.specs.Controls.{MayDo, control_step}
-use Rattle.qc_fabric.specs.Feeds.{HasGrown}
-use Rattle.qc_fabric.specs.Logs.{Logged, full_of}
-use Rattle.qc_fabric.specs.FabricStates.{IsFabricState, most_history}
-use Rattle.qc_fabric.specs.Tells.{Does}
+use Rattle.qc_fabric.specs.Names.{Does, HasGrown, IsFabricState, Logged, MayDo, control_step, full_of, most_history}
 use Rattle.qc_fabric.proofs.Events.{begins_control}
 use Rattle.qc_fabric.proofs.Kept.{all_of, steps_on}
 use Rattle.qc_fabric.proofs.Phased.{phase_control, phase_more}

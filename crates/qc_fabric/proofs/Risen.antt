@@ -2,14 +2,13 @@
 use Rattle.std.proofs.Common.{◌≡◌, ℕ, ◌+◌, ◌<◌, ◌≤◌, ◌==◌, cond, Bool, true, false, List, [], ◌∷◌, ◌++◌, length}
 use Rattle.std.proofs.Common.{append_assoc, Option, Some, None, refl, ap, sym, ◌∙◌, subst, arith, slice_get, sum}
 use Rattle.atomic_table.specs.Seated.{TableId}
-use Rattle.qc_decl.specs.Actors.{actors}
+use Rattle.qc_decl.specs.Names.{actors}
 use Rattle.qc_decl.specs.declared.declaration.Declaration.{Declaration}
-use Rattle.qc_inbox.specs.Inboxes.{Inboxes}
-use Rattle.qc_inbox.specs.Kept.{IsKept}
+use Rattle.qc_inbox.specs.Names.{Inboxes, IsKept}
 use Rattle.qc_inbox.proofs.Controlling.{kept_damage}
 use Rattle.qc_inbox.proofs.FallLaws.{restarts_down}
 use Rattle.qc_inbox.proofs.FallTrays.{kept_fall_by_line, kept_rise, up_kept}
-use Rattle.qc_mailbox.specs.Kept.{Roomy}
+use Rattle.qc_mailbox.specs.Names.{Roomy}
 use Rattle.qc_msg.specs.declared.record.Record.{Record}
 use Rattle.qc_msg.specs.declared.step.Control.TheVariants as controls
 use Rattle.qc_msg.specs.declared.step.Fall.{Fall}
@@ -17,25 +16,16 @@ use Rattle.qc_msg.specs.declared.step.Fall.TheVariants as causes
 use Rattle.qc_msg.specs.declared.step.Step.{Step}
 use Rattle.qc_msg.specs.declared.step.Step.TheVariants as steps
 use Rattle.qc_msg.specs.declared.turn.Turn.{Turn}
-use Rattle.qc_msg.specs.Deeds.{Deed, Rises, deeds, deeds_as, mail}
-use Rattle.qc_msg.specs.Steps.{Entry, IsByDisk, by, marked, posted_as}
+use Rattle.qc_msg.specs.Names.{Deed, Entry, IsByDisk, Rises, by, deeds, deeds_as, mail, marked, posted_as}
 use Rattle.qc_msg.proofs.Growth.{deeds-append, deeds-fell, deeds-posted_as, deeds-rose}
 use Rattle.qc_pass.specs.declared.token.Pass.{Pass}
 use Rattle.qc_pass.specs.declared.token.Right.{Right}
-use Rattle.qc_pass.specs.Tokens.{Met, all, number, room, rooms, seen}
-use Rattle.qc_script.specs.Inbox.{is_by_line, is_up}
-use Rattle.qc_script.specs.Ready.{controls_left, phase_of}
-use Rattle.qc_script.specs.RunsWithFalls.{RunsWithFalls, damaged, rises, unopened}
+use Rattle.qc_pass.specs.Names.{Met, all, number, room, rooms, seen}
+use Rattle.qc_script.specs.Names.{RunsWithFalls, controls_left, damaged, is_by_line, is_up, phase_of, rises, unopened}
 use Rattle.qc_script.specs.declared.script.Script.{Script}
-use Rattle.qc_fabric.specs.Controls.{MayDo}
-use Rattle.qc_fabric.specs.Events.{before_last_event}
-use Rattle.qc_fabric.specs.Feeds.{HasGrown}
-use Rattle.qc_fabric.specs.Gains.{ArmsNone}
-use Rattle.qc_fabric.specs.Logs.{Logged, full_of}
-use Rattle.qc_fabric.specs.Risings.{IsRising, RisesAs, RisesToActors, after_rising, deeds_of_rising, sends_of_rising}
-use Rattle.qc_fabric.specs.Risings.{size_of_rising, steps_of_rising}
-use Rattle.qc_fabric.specs.FabricStates.{IsFabricState, most_history}
-use Rattle.qc_fabric.specs.Tells.{Fed}
+use Rattle.qc_fabric.specs.Names.{ArmsNone, Fed, HasGrown, IsFabricState, IsRising, Logged, MayDo, RisesAs}
+use Rattle.qc_fabric.specs.Names.{RisesToActors, after_rising, before_last_event, deeds_of_rising, full_of}
+use Rattle.qc_fabric.specs.Names.{most_history, sends_of_rising, size_of_rising, steps_of_rising}
 use Rattle.qc_fabric.specs.declared.rising.Rising.{Rising}
 use Rattle.qc_fabric.specs.declared.rising.Rising.TheVariants.{Rose, Damaged, NotOpened}
 use Rattle.qc_fabric.proofs.Events.{before_event}

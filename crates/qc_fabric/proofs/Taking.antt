@@ -6,42 +6,35 @@ use Rattle.std.specs.Prelude.{slice_get, slice_set}
 use mathlib.Core.Logic.{dite}
 use native.Mathlib.Decide.{ℕ_discrete}
 use Rattle.atomic_table.specs.Seated.{TableId}
-use Rattle.qc_decl.specs.Actors.{actors}
+use Rattle.qc_decl.specs.Names.{actors}
 use Rattle.qc_decl.specs.declared.declaration.Declaration.{Declaration}
-use Rattle.qc_inbox.specs.Inboxes.{Inboxes}
-use Rattle.qc_inbox.specs.Kept.{IsKept}
-use Rattle.qc_inbox.specs.Rooms.{after_take}
+use Rattle.qc_inbox.specs.Names.{Inboxes, IsKept, after_take}
 use Rattle.qc_inbox.specs.declared.input.ReadyInput.{ReadyInput}
 use Rattle.qc_inbox.proofs.Acting.{kept_take}
 use Rattle.qc_inbox.proofs.Among.{ready_found}
-use Rattle.qc_mailbox.specs.Kept.{Roomy}
+use Rattle.qc_mailbox.specs.Names.{Roomy}
 use Rattle.qc_msg.specs.declared.record.Record.{Record}
 use Rattle.qc_msg.specs.declared.step.Input.{Input}
 use Rattle.qc_msg.specs.declared.step.Input.TheVariants as inputs
 use Rattle.qc_msg.specs.declared.step.Step.{Step}
 use Rattle.qc_msg.specs.declared.turn.Turn.{Turn}
-use Rattle.qc_msg.specs.Deeds.{Deed, Takes as TakesInput, deeds, mail}
-use Rattle.qc_msg.specs.Steps.{Entry, marked, step_of}
+use Rattle.qc_msg.specs.Names.{Deed, Entry, Takes as TakesInput, deeds, mail, marked, step_of}
 use Rattle.qc_msg.proofs.Growth.{deeds-taken}
 use Rattle.qc_pass.specs.declared.token.Pass.{Pass}
 use Rattle.qc_pass.specs.declared.token.Right.{Right}
-use Rattle.qc_pass.specs.Tokens.{number, seen, room, all, Met}
-use Rattle.qc_promise.specs.Stores.{arms_disk}
-use Rattle.qc_script.specs.Ready.{ready}
-use Rattle.qc_script.specs.RunsWithFalls.{RunsWithFalls, takes}
+use Rattle.qc_pass.specs.Names.{Met, all, number, room, seen}
+use Rattle.qc_promise.specs.Names.{arms_disk}
+use Rattle.qc_script.specs.Names.{RunsWithFalls, ready, takes}
 use Rattle.qc_script.specs.declared.script.Script.{Script}
-use Rattle.qc_fabric.specs.Feeds.{HasGrown}
-use Rattle.qc_fabric.specs.Inputs.{IsInputFor, given_by}
-use Rattle.qc_fabric.specs.Logs.{Logged, full_of}
-use Rattle.qc_fabric.specs.FabricStates.{IsFabricState, most_history}
-use Rattle.qc_fabric.specs.Tells.{HasNext, HasNone, Sees, Takes, Waits}
+use Rattle.qc_fabric.specs.Names.{HasGrown, HasNext, HasNone, IsFabricState, IsInputFor, Logged, Sees, Takes, Waits}
+use Rattle.qc_fabric.specs.Names.{full_of, given_by, most_history}
 use Rattle.qc_fabric.proofs.Events.{begins_input}
 use Rattle.qc_fabric.proofs.Fed.{bit_clear, bit_set, deeds_of_front, get_else, get_here, get_within, length_set}
 use Rattle.qc_fabric.proofs.Gains.{Gain, gain}
 use Rattle.qc_fabric.proofs.Kept.{all_of, steps_on, unarmed_of}
 use Rattle.qc_fabric.proofs.Phased.{phase_input}
 use Rattle.qc_fabric.proofs.Ready.{given_ready, none_ready}
-use Rattle.qc_link.specs.Limits.{most_actors}
+use Rattle.qc_link.specs.Names.{most_actors}
 
 input_arms_none : (g : Input) (b : ℕ) → arms_disk b (step_of g) ≡ false
 input_arms_none (inputs.Called command) b = refl

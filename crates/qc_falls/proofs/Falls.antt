@@ -1,13 +1,14 @@
 -- Falls that nothing accounts for and faults that don't come are refused, and the right ones are taken.
 use Rattle.std.proofs.Common.{◌≡◌, ◌≤◌, ◌<◌, ℕ, List, [], ◌∷◌, ◌++◌, fold, inl, refl, sym, subst, arith}
 use Rattle.qc_list.proofs.Members.{every-In}
-use Rattle.qc_list.specs.Members.{In}
-use Rattle.qc_msg.specs.Steps.{Entry}
+use Rattle.qc_list.specs.Names.{In}
+use Rattle.qc_msg.specs.Names.{Entry}
 use Rattle.qc_outside.specs.declared.disk.ArmKind.{ArmKind}
 use Rattle.qc_outside.specs.declared.disk.ArmKind.TheVariants.{Fail, Stop}
-use Rattle.qc_promise.specs.Spent.{Arm, Spent, Tally, no_tally, tally, tally_with}
+use Rattle.qc_promise.specs.Names.{Arm, Spent, Tally, no_tally, tally, tally_with}
 use Rattle.std.specs.List.{AllByRecursion as Every}
-use Rattle.qc_falls.specs.Disks.{arms, arms_other, crashes, damaged, fails, rises, rises_with_one, stops, stops_rising}
+use Rattle.qc_falls.specs.Names.{arms, arms_other, fails, rises_with_one, stops, stops_rising}
+use Rattle.qc_falls.specs.Disks.{crashes, damaged, rises}
 use Rattle.qc_falls.specs.Disks.{writes}
 
 -- more falls than were counted

@@ -2,14 +2,13 @@
 use Rattle.std.proofs.Common.{◌≡◌, ℕ, ◌+◌, ◌*◌, List, [], ◌∷◌, ◌++◌, option_to_list, inl, inr, refl, sym, ap, subst}
 use Rattle.std.proofs.Common.{arith}
 use Rattle.std.proofs.lemmas.List.{append-nil, append_assoc}
-use Rattle.qc_msg.specs.Deeds.{own}
-use Rattle.qc_msg.specs.Steps.{Entry, marked}
+use Rattle.qc_msg.specs.Names.{Entry, marked, own}
 use Rattle.qc_msg.specs.declared.record.Record.{Record}
 use Rattle.qc_msg.specs.declared.record.Record.TheVariants as records
 use Rattle.qc_msg.specs.declared.step.Step.TheVariants.{Damaged, Wrote}
-use Rattle.qc_promise.specs.Kept.{IsGivenBack, IsKeptAt, Kept, journal_of}
-use Rattle.qc_falls.specs.Journals.{after_one, after_stop, after_two, at_last, crashes, damaged, elsewhere, first}
-use Rattle.qc_falls.specs.Journals.{later, rises, second, stops_at, twice, writes}
+use Rattle.qc_promise.specs.Names.{IsGivenBack, IsKeptAt, Kept, journal_of}
+use Rattle.qc_falls.specs.Names.{after_one, after_stop, after_two, at_last, crashes, damaged, elsewhere, first, later}
+use Rattle.qc_falls.specs.Names.{rises, second, stops_at, twice, writes}
 
 -- records as the digits of a number, by which lists of the two are told apart
 

@@ -5,7 +5,7 @@ use Rattle.qc_msg.specs.declared.record.Record.{Record}
 use Rattle.qc_msg.specs.declared.record.Record.TheVariants.{Close}
 use Rattle.qc_msg.specs.declared.step.Fall.TheVariants as causes
 use Rattle.qc_msg.specs.declared.step.Step.TheVariants.{Armed, Damaged, Fell, Rose, Wrote}
-use Rattle.qc_msg.specs.Steps.{Entry, marked}
+use Rattle.qc_msg.specs.Names.{Entry, marked}
 use Rattle.qc_outside.specs.declared.disk.ArmKind.{ArmKind}
 
 abbrev pub one : Record

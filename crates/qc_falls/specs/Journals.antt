@@ -4,7 +4,7 @@ use Rattle.qc_msg.specs.declared.record.Record.{Record}
 use Rattle.qc_msg.specs.declared.record.Record.TheVariants.{Close}
 use Rattle.qc_msg.specs.declared.step.Fall.TheVariants.{Disk, Script, Stop}
 use Rattle.qc_msg.specs.declared.step.Step.TheVariants.{Damaged, Fell, Rose, Wrote}
-use Rattle.qc_msg.specs.Steps.{Entry, marked}
+use Rattle.qc_msg.specs.Names.{Entry, marked}
 
 -- two records
 abbrev pub first : Record

@@ -1,2 +1,3 @@
 pub mod Journals
 pub mod Disks
+pub mod Names

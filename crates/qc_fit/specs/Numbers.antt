@@ -3,10 +3,9 @@
 use Rattle.std.specs.Prelude.{ℕ, ◌^◌, Bool, true, false, ◌==◌, ◌&&◌, nat_le, nat_lt, length}
 use Rattle.std.specs.Prelude.{Option, Some, None, is_some}
 use Rattle.std.specs.Option.{option_map_or}
-use Rattle.qc_decl.specs.Actors.{administrator, client_actor, is_client}
-use Rattle.qc_decl.specs.Lookup.{plan_in, table_at}
+use Rattle.qc_decl.specs.Names.{administrator, client_actor, is_client, plan_in, table_at}
 use Rattle.qc_decl.specs.declared.declaration.Declaration.{Declaration}
-use Rattle.qc_table.specs.Rules.{Rules, events_of}
+use Rattle.qc_table.specs.Names.{Rules, events_of}
 
 -- The number below which the records before a record stay, so that lives, which records count, stay below 2^32.
 abbrev pub most_records : ℕ

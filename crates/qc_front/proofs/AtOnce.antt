@@ -2,10 +2,9 @@
 use Rattle.std.proofs.Common.{◌≡◌, ℕ, ◌≤◌, ◌==◌, nat_le, Bool, true, false, cond, ◌⊎◌, inl, inr, List, [], ◌∷◌, ◌++◌}
 use Rattle.std.proofs.Common.{length, map, Option, Some, None, refl, sym, ap, ◌∙◌, subst}
 use Rattle.std.proofs.lemmas.List.{append-nil}
-use Rattle.qc_list.specs.Members.{In}
+use Rattle.qc_list.specs.Names.{In}
 use Rattle.qc_decl.specs.declared.declaration.Declaration.{Declaration}
-use Rattle.qc_decl.specs.Limits.{most_transaction_operations}
-use Rattle.qc_decl.specs.Lookup.{append_need_of, read_need_of}
+use Rattle.qc_decl.specs.Names.{append_need_of, most_transaction_operations, read_need_of}
 use Rattle.qc_msg.specs.declared.begun.Begun.{Begun}
 use Rattle.qc_msg.specs.declared.call.Call.{Call}
 use Rattle.qc_msg.specs.declared.message.Answer.{Answer}
@@ -19,26 +18,21 @@ use Rattle.qc_msg.specs.declared.reply.AbortCause.TheVariants as causes
 use Rattle.qc_msg.specs.declared.step.Command.{Command}
 use Rattle.qc_msg.specs.declared.step.Command.TheVariants as commands
 use Rattle.qc_msg.specs.declared.turn.Posting.{Posting}
-use Rattle.qc_msg.specs.Begun.{decisions}
-use Rattle.qc_msg.specs.Calls.{site_called, without_call}
-use Rattle.qc_msg.specs.Turns.{quiet, telling}
+use Rattle.qc_msg.specs.Names.{decisions, quiet, site_called, telling, without_call}
 use Rattle.qc_plan.specs.declared.standing.Verdict.{Verdict}
 use Rattle.qc_plan.specs.declared.standing.Verdict.TheVariants as verdicts
-use Rattle.qc_plan.specs.Round.{RoundState, all_noted, asking_all, note, verdict, wanted}
+use Rattle.qc_plan.specs.Names.{RoundState, all_noted, asking_all, note, verdict, wanted}
 use Rattle.qc_front.specs.declared.doing.Doing.{Doing}
 use Rattle.qc_front.specs.declared.doing.Doing.TheVariants.{Idle, Reading, Appending}
 use Rattle.qc_front.specs.declared.front.Front.{Front}
 use Rattle.qc_front.specs.declared.transaction.Transaction.{Transaction}
-use Rattle.qc_front.specs.Answering.{answer_of}
-use Rattle.qc_front.specs.Appending.{append_want, read_want, request_of, round_for}
-use Rattle.qc_front.specs.Conduct.{append_counts, appending_takes, awaited, called, commits, read_counts, reading_takes}
-use Rattle.qc_front.specs.Conduct.{takes, takes_in}
-use Rattle.qc_front.specs.Counting.{appended_with, learns, read_with, standing_of}
-use Rattle.qc_front.specs.Front.{FrontMove, aborts, begins, fresh, gives_up, moved, next_tx}
-use Rattle.qc_front.specs.Holds.{AppendingHolds, AreOpen, BegunHolds, FrontHolds, IsAwaiting, IsNumbered, IsRound}
-use Rattle.qc_front.specs.Holds.{ReadingHolds, sites_called, sites_of}
-use Rattle.qc_front.specs.Requests.{AsksAll, AsksAtOnce, AsksIn, AsksNobody, is_request}
-use Rattle.qc_front.specs.Rounds.{answered, append_by, appends, performs, read_by, reads}
+use Rattle.qc_front.specs.Names.{AppendingHolds, AreOpen, AsksAll, AsksAtOnce, AsksIn, AsksNobody, BegunHolds}
+use Rattle.qc_front.specs.Names.{FrontHolds, FrontMove, IsAwaiting, IsNumbered, IsRound, ReadingHolds, aborts}
+use Rattle.qc_front.specs.Names.{answer_of, answered, append_by, append_counts, append_want, appended_with}
+use Rattle.qc_front.specs.Names.{appending_takes, appends, awaited, begins, called, commits, fresh, gives_up}
+use Rattle.qc_front.specs.Names.{is_request, learns, moved, next_tx, performs, read_by, read_counts, read_want}
+use Rattle.qc_front.specs.Names.{read_with, reading_takes, reads, request_of, round_for, sites_called, sites_of}
+use Rattle.qc_front.specs.Names.{standing_of, takes, takes_in}
 use Rattle.qc_front.proofs.Apart.{AreApart}
 use Rattle.qc_front.proofs.Awaited.{asking_awaits, unnoted}
 use Rattle.qc_front.proofs.Keeping.{called_holds, takes_holds}

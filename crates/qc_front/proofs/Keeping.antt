@@ -4,9 +4,7 @@ use Rattle.std.specs.Prelude.{is_none, option_map, slice_get}
 use Rattle.std.proofs.lemmas.Bool.{leb-false}
 use Rattle.std.proofs.lemmas.List.{append-nil, length-append}
 use Rattle.qc_decl.specs.declared.declaration.Declaration.{Declaration}
-use Rattle.qc_decl.specs.Actors.{first_site}
-use Rattle.qc_decl.specs.Limits.{most_transaction_operations}
-use Rattle.qc_decl.specs.Lookup.{append_need_of, read_need_of}
+use Rattle.qc_decl.specs.Names.{append_need_of, first_site, most_transaction_operations, read_need_of}
 use Rattle.qc_entry.specs.declared.line.Op.{Op}
 use Rattle.qc_msg.specs.declared.begun.Begun.{Begun}
 use Rattle.qc_msg.specs.declared.begun.LifeAt.{LifeAt}
@@ -17,25 +15,24 @@ use Rattle.qc_msg.specs.declared.step.Command.{Command}
 use Rattle.qc_msg.specs.declared.step.Command.TheVariants as commands
 use Rattle.qc_msg.specs.declared.reply.Reply.TheVariants as replies
 use Rattle.qc_msg.specs.declared.reply.AbortCause.TheVariants as causes
-use Rattle.qc_msg.specs.Calls.{site_called, without_call}
-use Rattle.qc_msg.specs.Turns.{quiet, telling}
+use Rattle.qc_msg.specs.Names.{quiet, site_called, telling, without_call}
 use Rattle.qc_plan.specs.declared.standing.Standing.{Standing}
 use Rattle.qc_plan.specs.declared.standing.Verdict.{Verdict}
 use Rattle.qc_plan.specs.declared.standing.Verdict.TheVariants as verdicts
-use Rattle.qc_plan.specs.Round.{RoundState, asking_all, note, start, verdict, wanted}
+use Rattle.qc_plan.specs.Names.{RoundState, asking_all, note, start, verdict, wanted}
 use Rattle.qc_view.specs.declared.view.View.{View}
-use Rattle.qc_view.specs.View.{with_log, with_own}
+use Rattle.qc_view.specs.Names.{with_log, with_own}
 use Rattle.qc_front.specs.declared.doing.Doing.{Doing}
 use Rattle.qc_front.specs.declared.doing.Doing.TheVariants.{Idle, Reading, Appending}
 use Rattle.qc_front.specs.declared.front.Front.{Front}
 use Rattle.qc_front.specs.declared.transaction.Transaction.{Transaction}
-use Rattle.qc_front.specs.Answering.{answer_of, next_own, op_of, resp_of, with_event, with_granted, with_op, with_view}
-use Rattle.qc_front.specs.Appending.{round_for, weights_of}
-use Rattle.qc_front.specs.Conduct.{append_counts, appending_takes, called, commits, read_counts, reading_takes, takes, takes_in}
-use Rattle.qc_front.specs.Counting.{appended_with, learns, lived, read_with, standing_of}
-use Rattle.qc_front.specs.Front.{FrontMove, aborts, begins, ended, fresh, gives_up, moved, new_front, next_tx}
-use Rattle.qc_front.specs.Holds.{AppendingHolds, AreOpen, BegunHolds, DoingHolds, FrontHolds, IsAwaiting, IsPrefix, IsRound, ReadingHolds, RecordsHold, sites_called}
-use Rattle.qc_front.specs.Rounds.{answered, append_by, appends, performs, read_by, reads}
+use Rattle.qc_front.specs.Names.{AppendingHolds, AreOpen, BegunHolds, DoingHolds, FrontHolds, FrontMove, IsAwaiting}
+use Rattle.qc_front.specs.Names.{IsPrefix, IsRound, ReadingHolds, RecordsHold, aborts, answer_of, answered, append_by}
+use Rattle.qc_front.specs.Names.{append_counts, appended_with, appending_takes, appends, begins, called, commits, ended}
+use Rattle.qc_front.specs.Names.{fresh, gives_up, learns, lived, moved, new_front, next_own, next_tx, op_of, performs}
+use Rattle.qc_front.specs.Names.{read_by, read_counts, read_with, reading_takes, reads, resp_of, round_for}
+use Rattle.qc_front.specs.Names.{sites_called, standing_of, takes, takes_in, weights_of, with_event, with_granted}
+use Rattle.qc_front.specs.Names.{with_op, with_view}
 use Rattle.qc_front.proofs.Awaited.{asking_awaits, asking_round, asking_waits}
 use Rattle.qc_front.proofs.Learning.{append_learns, learned, read_learns}
 use Rattle.qc_front.proofs.Noting.{note_open, note_round, round_apart}

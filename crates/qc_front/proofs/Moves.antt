@@ -3,15 +3,13 @@ use Rattle.std.proofs.Common.{◌≡◌, ℕ, List, [], Option, Some, None, opti
 use Rattle.std.specs.Prelude.{Result, Ok, Err, IfOk}
 use Rattle.std.specs.declared.alloc.AllocError.{AllocError}
 use Rattle.qc_decl.specs.declared.declaration.Declaration.{Declaration}
-use Rattle.qc_decl.specs.Actors.{first_site}
-use Rattle.qc_decl.specs.Lookup.{read_need_of}
+use Rattle.qc_decl.specs.Names.{first_site, read_need_of}
 use Rattle.qc_msg.specs.declared.call.Call.{Call}
 use Rattle.qc_msg.specs.declared.message.Answer.{Answer}
 use Rattle.qc_msg.specs.declared.message.Want.{Want}
 use Rattle.qc_msg.specs.declared.reply.Reply.TheVariants as replies
-use Rattle.qc_msg.specs.Calls.{site_called, without_call}
-use Rattle.qc_msg.specs.Turns.{telling}
-use Rattle.qc_plan.specs.Round.{RoundState, note, start, verdict}
+use Rattle.qc_msg.specs.Names.{site_called, telling, without_call}
+use Rattle.qc_plan.specs.Names.{RoundState, note, start, verdict}
 use Rattle.qc_plan.specs.declared.standing.Verdict.{Verdict}
 use Rattle.qc_plan.specs.declared.standing.Verdict.TheVariants as verdicts
 use Rattle.qc_front.specs.declared.counting.Noted.{Noted}
@@ -21,14 +19,11 @@ use Rattle.qc_front.specs.declared.draft.Draft.{Draft}
 use Rattle.qc_front.specs.declared.front.Front.{Front}
 use Rattle.qc_front.specs.declared.next.Next.{Next}
 use Rattle.qc_front.specs.declared.transaction.Transaction.{Transaction}
-use Rattle.qc_front.specs.Answering.{resp_of}
-use Rattle.qc_front.specs.Appending.{round_for, weights_of}
-use Rattle.qc_front.specs.Conduct.{appending_takes, reading_takes, takes, takes_in}
-use Rattle.qc_front.specs.Counting.{appended_with, read_with, standing_of}
-use Rattle.qc_front.specs.Drafts.{IsDraft, answer_in_draft, append_want_of, appended_draft, asking, becomes, draft_of}
-use Rattle.qc_front.specs.Drafts.{drafted, event_draft, noted, noted_at, read_draft, views_of, went}
-use Rattle.qc_front.specs.Front.{moved, turned}
-use Rattle.qc_front.specs.Rounds.{answered, append_by, appends, goes_on, read_by, reads, responds}
+use Rattle.qc_front.specs.Names.{IsDraft, answer_in_draft, answered, append_by, append_want_of, appended_draft}
+use Rattle.qc_front.specs.Names.{appended_with, appending_takes, appends, asking, becomes, draft_of, drafted}
+use Rattle.qc_front.specs.Names.{event_draft, goes_on, moved, noted, noted_at, read_by, read_draft, read_with}
+use Rattle.qc_front.specs.Names.{reading_takes, reads, resp_of, responds, round_for, standing_of, takes, takes_in}
+use Rattle.qc_front.specs.Names.{turned, views_of, weights_of, went}
 use Rattle.qc_front.proofs.Drafts.{answer_drafted, appended_drafted, appended_is_draft, event_drafted, read_drafted}
 use Rattle.qc_front.proofs.Drafts.{read_is_draft, undone, want_drafted}
 use Rattle.qc_front.proofs.Learning.{append_learns, learned, read_learns}

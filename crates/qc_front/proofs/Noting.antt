@@ -6,23 +6,20 @@ use Rattle.std.specs.Ordering.{nat_cmp}
 use Rattle.std.proofs.lemmas.List.Elements.{filter-append}
 use Rattle.std.specs.declared.cmp.Ordering.TheVariants.{Equal, Greater, Less}
 use Rattle.std.proofs.lemmas.Bool.{ltb-true}
-use Rattle.qc_list.specs.Members.{In}
-use Rattle.qc_list.specs.Order.{Ascends, IsBelowAll}
+use Rattle.qc_list.specs.Names.{Ascends, In, IsBelowAll}
 use Rattle.qc_list.proofs.Members.{In-first, In-unfiltered}
 use Rattle.qc_list.proofs.Order.{ascends-filter}
 use Rattle.qc_decl.specs.declared.declaration.Declaration.{Declaration}
-use Rattle.qc_decl.specs.Actors.{first_site}
+use Rattle.qc_decl.specs.Names.{first_site}
 use Rattle.qc_msg.specs.declared.call.Call.{Call}
-use Rattle.qc_msg.specs.Calls.{site_called, without_call}
+use Rattle.qc_msg.specs.Names.{site_called, without_call}
 use Rattle.qc_plan.specs.declared.standing.Asked.{Asked}
 use Rattle.qc_plan.specs.declared.standing.Standing.{Standing}
 use Rattle.qc_plan.specs.declared.standing.Verdict.{Verdict}
 use Rattle.qc_plan.specs.declared.standing.Verdict.TheVariants as verdicts
-use Rattle.qc_plan.specs.Round.{RoundState, all_noted, cyclic, has_granted, is_asked, is_waiting, note, note_in, prefix, refusal, settled, start, verdict, wanted}
-use Rattle.qc_plan.specs.Weights.{weight}
-use Rattle.qc_front.specs.Appending.{weights_of}
-use Rattle.qc_front.specs.Conduct.{awaited}
-use Rattle.qc_front.specs.Holds.{AreOpen, IsAwaiting, IsPrefix, IsRound, sites_called, sites_of}
+use Rattle.qc_plan.specs.Names.{RoundState, all_noted, cyclic, has_granted, is_asked, is_waiting, note, note_in, prefix}
+use Rattle.qc_plan.specs.Names.{refusal, settled, start, verdict, wanted, weight}
+use Rattle.qc_front.specs.Names.{AreOpen, IsAwaiting, IsPrefix, IsRound, awaited, sites_called, sites_of, weights_of}
 use Rattle.qc_front.proofs.Apart.{AreApart, apart_filter, apart_first, apart_weighing}
 use Rattle.qc_front.proofs.Awaited.{unnoted, settled_by, wanted_by}
 

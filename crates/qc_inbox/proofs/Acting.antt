@@ -12,22 +12,18 @@ use Rattle.qc_msg.specs.declared.step.Input.TheVariants as inputs
 use Rattle.qc_msg.specs.declared.step.Step.TheVariants.{Sent, Told, Wrote}
 use Rattle.qc_msg.specs.declared.turn.Posting.{Posting}
 use Rattle.qc_msg.specs.declared.turn.Turn.{Turn}
-use Rattle.qc_msg.specs.Deeds.{envelope_of, mail}
-use Rattle.qc_msg.specs.Steps.{Entry, by, marked, posted, sents, step_of, told, wrote}
+use Rattle.qc_msg.specs.Names.{Entry, by, envelope_of, mail, marked, posted, sents, step_of, told, wrote}
 use Rattle.qc_msg.proofs.GrownMail.{by-posted}
-use Rattle.qc_script.specs.Inbox.{Inbox, command_called, control_acted, copy_taken, count_of, inbox, inbox_at, is_up}
-use Rattle.qc_script.specs.Inbox.{loss_taken, reply_told, wrote_record}
-use Rattle.qc_script.specs.Ready.{ready}
+use Rattle.qc_script.specs.Names.{Inbox, command_called, control_acted, copy_taken, count_of, inbox, inbox_at, is_up}
+use Rattle.qc_script.specs.Names.{loss_taken, ready, reply_told, wrote_record}
 use Rattle.qc_script.specs.declared.script.Script.{Script}
-use Rattle.qc_inbox.specs.Inboxes.{Inboxes, Tray}
-use Rattle.qc_inbox.specs.Kept.{IsKept, MayWrite, Shows, tray_of}
-use Rattle.qc_inbox.specs.Picks.{calls_at, calls_of}
-use Rattle.qc_inbox.specs.Rooms.{after_reply, after_send, after_sends, after_take, after_turn, tray_at}
-use Rattle.qc_inbox.specs.Trays.{empty_tray, tray_taken, tray_told}
+use Rattle.qc_inbox.specs.Names.{Inboxes, IsKept, MayWrite, Shows, Tray, after_reply, after_send, after_sends}
+use Rattle.qc_inbox.specs.Names.{after_take, after_turn, calls_at, calls_of, empty_tray, tray_at, tray_of, tray_taken}
+use Rattle.qc_inbox.specs.Names.{tray_told}
 use Rattle.qc_inbox.proofs.Keeping.{kept_send, kept_step, shows_along}
 use Rattle.qc_inbox.proofs.Sent.{Keeps, by_test, same}
 use Rattle.qc_inbox.proofs.Taking.{taken_shown}
-use Rattle.qc_link.specs.Limits.{most_actors}
+use Rattle.qc_link.specs.Names.{most_actors}
 
 -- the trays, where one of them is changed
 pub own_tray : (trays : List Tray) (a b : ℕ) (change : Tray → Tray) (old new : Tray) → a < length trays

@@ -6,11 +6,11 @@ use Rattle.std.specs.Option.{option_map_or}
 use Rattle.std.proofs.lemmas.Bool.{eqb-true}
 use Rattle.std.proofs.lemmas.List.{append-nil}
 use Rattle.qc_decl.specs.declared.declaration.Declaration.{Declaration}
-use Rattle.qc_link.specs.Fate.{fate}
+use Rattle.qc_link.specs.Names.{fate, most_actors, with_cut, without_cut}
 use Rattle.qc_link.specs.declared.plan.Link.{Link}
 use Rattle.qc_link.specs.declared.rule.Fate.{Fate}
 use Rattle.qc_link.specs.declared.rule.Fate.TheVariants as fates
-use Rattle.qc_list.specs.Members.{In}
+use Rattle.qc_list.specs.Names.{In}
 use Rattle.qc_list.proofs.Members.{In-first, In-last, every-append, every-at, every-weaker}
 use Rattle.qc_msg.specs.declared.message.Envelope.{Envelope}
 use Rattle.qc_msg.specs.declared.message.Message.{Message}
@@ -21,19 +21,18 @@ use Rattle.qc_msg.specs.declared.step.Input.{Input}
 use Rattle.qc_msg.specs.declared.step.Input.TheVariants as inputs
 use Rattle.qc_msg.specs.declared.step.Step.{Step}
 use Rattle.qc_msg.specs.declared.step.Step.TheVariants as steps
-use Rattle.qc_msg.specs.Deeds.{WasSentTo, envelope_at, envelope_of, mail}
-use Rattle.qc_msg.specs.Steps.{Entry}
-use Rattle.qc_link.specs.Cuts.{with_cut, without_cut}
+use Rattle.qc_msg.specs.Names.{Entry, WasSentTo, envelope_at, envelope_of, mail}
 use Rattle.qc_msg.specs.declared.step.Fall.{Fall}
-use Rattle.qc_script.specs.Requests.{has_request, requests_to, requests_to_others, with_lost}
-use Rattle.qc_script.specs.Inbox.{Inbox, acting, actor_fell, control_acted, emptied, fell_by, if_up, is_by_line, is_up, opened, wrote_record, answers_by, comes, comes_at_once, comes_with, command_called, commands_for, copies_at_once, copy_taken, count_of, empty_inbox, goes, goes_with, inbox, inbox_at, is_request, late_copies, loss_taken, one_more, opened_by, phase_begun, reply_told, request_answered, request_sent, with_copies}
+use Rattle.qc_script.specs.Names.{Inbox, acting, actor_fell, answers_by, comes, comes_at_once, comes_with}
+use Rattle.qc_script.specs.Names.{command_called, commands_for, control_acted, copies_at_once, copy_taken, count_of}
+use Rattle.qc_script.specs.Names.{emptied, empty_inbox, fell_by, goes, goes_with, has_request, if_up, inbox, inbox_at}
+use Rattle.qc_script.specs.Names.{is_by_line, is_request, is_up, late_copies, loss_taken, one_more, opened, opened_by}
+use Rattle.qc_script.specs.Names.{phase_begun, ready_in, reply_told, request_answered, request_sent, requests_to}
+use Rattle.qc_script.specs.Names.{requests_to_others, takes_commands, with_copies, with_lost, wrote_record}
 use Rattle.qc_script.specs.Ready as ready
-use Rattle.qc_script.specs.Ready.{ready_in, takes_commands}
 use Rattle.qc_script.specs.declared.script.PhaseLines.{PhaseLines}
 use Rattle.qc_script.specs.declared.script.Script.{Script}
-use Rattle.qc_inbox.specs.Inboxes.{Inboxes}
-use Rattle.qc_inbox.specs.Kept.{AreNumbered, IsKept}
-use Rattle.qc_link.specs.Limits.{most_actors}
+use Rattle.qc_inbox.specs.Names.{AreNumbered, Inboxes, IsKept}
 
 -- an envelope is one of some messages, and for actor a
 abbrev IsSentTo : List Envelope → ℕ → Envelope → Type 0

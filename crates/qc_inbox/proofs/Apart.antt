@@ -1,6 +1,6 @@
 -- Which inboxes a step leaves as they are, and what all of them have in common.
 use Rattle.std.proofs.Common.{◌≡◌, ℕ, ◌+◌, ◌<◌, ◌==◌, Bool, false, if◌then◌else◌, List, [], ◌∷◌, ◌++◌, ap, ◌∙◌}
-use Rattle.qc_link.specs.Fate.{fate}
+use Rattle.qc_link.specs.Names.{fate, most_actors}
 use Rattle.qc_link.specs.declared.plan.Link.{Link}
 use Rattle.qc_msg.specs.declared.message.Envelope.{Envelope}
 use Rattle.qc_msg.specs.declared.message.Message.{Message}
@@ -8,13 +8,12 @@ use Rattle.qc_msg.specs.declared.reply.Reply.{Reply}
 use Rattle.qc_msg.specs.declared.step.Input.{Input}
 use Rattle.qc_msg.specs.declared.step.Input.TheVariants as inputs
 use Rattle.qc_msg.specs.declared.step.Step.TheVariants.{Sent, Told}
-use Rattle.qc_msg.specs.Steps.{Entry, marked, step_of}
-use Rattle.qc_script.specs.Inbox.{Inbox, comes, comes_with, command_called, copy_taken, count_of, goes, goes_with}
-use Rattle.qc_script.specs.Inbox.{inbox, inbox_at, is_up, loss_taken, reply_told}
+use Rattle.qc_msg.specs.Names.{Entry, marked, step_of}
+use Rattle.qc_script.specs.Names.{Inbox, comes, comes_with, command_called, copy_taken, count_of, goes, goes_with}
+use Rattle.qc_script.specs.Names.{inbox, inbox_at, is_up, loss_taken, reply_told}
 use Rattle.qc_script.specs.declared.script.Script.{Script}
 use Rattle.qc_script.proofs.Inboxes.{InCommon, inboxes_have_in_common}
 use Rattle.qc_inbox.proofs.Keeping.{inbox_after}
-use Rattle.qc_link.specs.Limits.{most_actors}
 
 -- an inbox that a test leaves as it is
 left : (t : Bool) (i j : Inbox) → t ≡ false → (if t then i else j) ≡ j

@@ -4,29 +4,22 @@ use Rattle.std.proofs.Common.{Option, Some, None, refl, ap, sym, subst, arith}
 use Rattle.std.specs.Prelude.{drop, set, slice_get}
 use Rattle.std.specs.List.{AllByRecursion as Every, fold}
 use Rattle.std.specs.Option.{IfSome, option_map_or}
-use Rattle.qc_decl.specs.Actors.{administrator}
+use Rattle.qc_decl.specs.Names.{administrator}
 use Rattle.qc_decl.specs.declared.declaration.Declaration.{Declaration}
 use Rattle.qc_list.proofs.Members.{every-at, every-weaker}
 use Rattle.qc_msg.specs.declared.step.Control.{Control}
 use Rattle.qc_msg.specs.declared.step.Control.TheVariants as controls
 use Rattle.qc_msg.specs.declared.step.Step.{Step}
 use Rattle.qc_msg.specs.declared.step.Step.TheVariants as steps
-use Rattle.qc_msg.specs.Steps.{Entry}
-use Rattle.qc_link.specs.Cuts.{with_cut, without_cut}
-use Rattle.qc_script.specs.Requests.{requests_to, requests_to_others, with_lost}
-use Rattle.qc_script.specs.Inbox.{Inbox, acting, actor_fell, control_acted, does_nothing, emptied, is_by_line, is_up}
-use Rattle.qc_script.specs.Inbox.{opened, empty_inbox, inbox, inbox_at, opened_by, phase_begun}
-use Rattle.qc_script.specs.Ready.{controls_left}
-use Rattle.qc_script.specs.Sound.{IsControlFor, IsPhaseFor, IsScriptFor}
+use Rattle.qc_msg.specs.Names.{Entry}
+use Rattle.qc_link.specs.Names.{most_actors, with_cut, without_cut}
+use Rattle.qc_script.specs.Names.{Inbox, IsControlFor, IsPhaseFor, IsScriptFor, acting, actor_fell, control_acted}
+use Rattle.qc_script.specs.Names.{controls_left, does_nothing, emptied, empty_inbox, inbox, inbox_at, is_by_line, is_up}
+use Rattle.qc_script.specs.Names.{opened, opened_by, phase_begun, requests_to, requests_to_others, with_lost}
 use Rattle.qc_script.specs.declared.script.PhaseLines.{PhaseLines}
 use Rattle.qc_script.specs.declared.script.Script.{Script}
-use Rattle.qc_inbox.specs.Inboxes.{Inboxes, Tray}
-use Rattle.qc_inbox.specs.Inputs.{IsWithin}
-use Rattle.qc_inbox.specs.Kept.{IsKept, Shows}
-use Rattle.qc_inbox.specs.Picks.{calls_at, calls_of}
-use Rattle.qc_inbox.specs.Rooms.{tray_at}
+use Rattle.qc_inbox.specs.Names.{Inboxes, IsKept, IsWithin, Shows, Tray, calls_at, calls_of, tray_at}
 use Rattle.qc_inbox.proofs.Sent.{sends_count}
-use Rattle.qc_link.specs.Limits.{most_actors}
 
 -- an actor calls no more commands than there are steps
 

@@ -5,29 +5,23 @@ use Rattle.std.specs.Prelude.{drop, slice_get}
 use Rattle.std.specs.Option.{option_map_or}
 use Rattle.std.proofs.lemmas.Bool.{eqb-false, eqb-true}
 use Rattle.std.proofs.lemmas.List.{append-nil, get_or-set_other, get_or-set_same, length-set}
-use Rattle.qc_link.specs.Cuts.{with_cut, without_cut}
+use Rattle.qc_link.specs.Names.{most_actors, with_cut, without_cut}
 use Rattle.qc_msg.specs.declared.step.Control.{Control}
 use Rattle.qc_msg.specs.declared.step.Control.TheVariants as controls
 use Rattle.qc_msg.specs.declared.step.Step.{Step}
 use Rattle.qc_msg.specs.declared.step.Step.TheVariants.{Armed, Cut, Damaged, Heal, Phase}
-use Rattle.qc_msg.specs.Steps.{Entry, marked}
+use Rattle.qc_msg.specs.Names.{Entry, marked}
 use Rattle.qc_script.proofs.Inboxes as opens
-use Rattle.qc_script.specs.Inbox.{Inbox, acting, if_up, is_up, opened, commands_for, control_acted, count_of, inbox}
-use Rattle.qc_script.specs.Inbox.{opened_by, phase_begun}
-use Rattle.qc_script.specs.Ready.{controller_step}
+use Rattle.qc_script.specs.Names.{Inbox, acting, commands_for, control_acted, controller_step, count_of, if_up, inbox}
+use Rattle.qc_script.specs.Names.{is_up, opened, opened_by, phase_begun}
 use Rattle.qc_script.specs.declared.script.CommandLine.{CommandLine}
 use Rattle.qc_script.specs.declared.script.PhaseLines.{PhaseLines}
 use Rattle.qc_script.specs.declared.script.Script.{Script}
-use Rattle.qc_inbox.specs.Inboxes.{Inboxes, Tray}
-use Rattle.qc_inbox.specs.Kept.{IsKept, Shows, tray_of}
-use Rattle.qc_inbox.specs.Picks.{calls_of}
-use Rattle.qc_inbox.specs.Rooms.{after_control, after_phase, each_by_up, none_left, tray_at, with_command}
-use Rattle.qc_inbox.specs.Rooms.{with_commands, with_control_gone}
-use Rattle.qc_inbox.specs.Tallies.{Tally, count}
-use Rattle.qc_inbox.specs.Trays.{empty_tray, tray_asked, tray_begun, tray_opened}
+use Rattle.qc_inbox.specs.Names.{Inboxes, IsKept, Shows, Tally, Tray, after_control, after_phase, calls_of, count}
+use Rattle.qc_inbox.specs.Names.{each_by_up, empty_tray, none_left, tray_asked, tray_at, tray_begun, tray_of}
+use Rattle.qc_inbox.specs.Names.{tray_opened, with_command, with_commands, with_control_gone}
 use Rattle.qc_inbox.proofs.Keeping.{kept_step}
 use Rattle.qc_inbox.proofs.Shown.{numbers-append}
-use Rattle.qc_link.specs.Limits.{most_actors}
 
 -- each tray is changed, by whether its actor is up
 

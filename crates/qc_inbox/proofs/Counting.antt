@@ -3,10 +3,9 @@ use Rattle.std.proofs.Common.{◌≡◌, ℕ, zero, suc, replicate, ◌+◌, ◌
 use Rattle.std.proofs.Common.{length, get_or, set, refl, ap, sym, subst, ◌∙◌, arith}
 use Rattle.std.proofs.lemmas.Bool.{eq-eqb, eqb-false, eqb-true}
 use Rattle.std.proofs.lemmas.List.{get_or-set_other, get_or-set_same}
-use Rattle.qc_script.specs.Inbox.{count_of, one_more}
-use Rattle.qc_inbox.specs.Few.{AreFew}
-use Rattle.qc_inbox.specs.Tallies.{Tally, count, one_message_more, place}
-use Rattle.qc_link.specs.Limits.{most_actors}
+use Rattle.qc_script.specs.Names.{count_of, one_more}
+use Rattle.qc_inbox.specs.Names.{AreFew, Tally, count, one_message_more, place}
+use Rattle.qc_link.specs.Names.{most_actors}
 
 -- what stands at a place after a write
 

@@ -6,7 +6,7 @@ use Rattle.std.specs.List.{fold}
 use Rattle.std.proofs.lemmas.Bool.{eq-eqb, eqb-false, eqb-true}
 use Rattle.std.proofs.lemmas.List.{append-nil, get_or-set_other, get_or-set_same}
 use Rattle.std.proofs.lemmas.List.Sums.{fold-append}
-use Rattle.qc_link.specs.Limits.{most_actors}
+use Rattle.qc_link.specs.Names.{most_actors}
 use Rattle.qc_msg.specs.declared.message.Envelope.{Envelope}
 use Rattle.qc_msg.specs.declared.record.Record.{Record}
 use Rattle.qc_msg.specs.declared.reply.Reply.{Reply}
@@ -18,11 +18,11 @@ use Rattle.qc_msg.specs.declared.turn.Appended.{Appended}
 use Rattle.qc_msg.specs.declared.turn.Appended.TheVariants.{Done, Failed, Stopped}
 use Rattle.qc_msg.specs.declared.turn.Posting.{Posting}
 use Rattle.qc_msg.specs.declared.turn.Turn.{Turn}
-use Rattle.qc_msg.specs.Deeds.{Deed, deed_at, deeds, deeds_as, heard, mail, sends_of, tells_of, turn_deeds, writes_of}
-use Rattle.qc_msg.specs.Steps.{Entry, by, marked, posted_as, step_of}
+use Rattle.qc_msg.specs.Names.{Deed, Entry, by, deed_at, deeds, deeds_as, heard, mail, marked, posted_as, sends_of}
+use Rattle.qc_msg.specs.Names.{step_of, tells_of, turn_deeds, writes_of}
 use Rattle.qc_msg.proofs.Growth.{deeds-append, deeds-other, deeds-posted_as}
-use Rattle.qc_script.specs.Inbox.{is_up}
-use Rattle.qc_inbox.specs.Downs.{down_at, is_down}
+use Rattle.qc_script.specs.Names.{is_up}
+use Rattle.qc_inbox.specs.Names.{down_at, is_down}
 
 -- a step more
 

@@ -3,7 +3,7 @@ use Rattle.std.proofs.Common.{◌≡◌, ℕ, ◌+◌, ◌==◌, Bool, true, fal
 use Rattle.std.proofs.Common.{None, refl, ap, sym, subst, ◌∙◌}
 use Rattle.std.specs.Prelude.{drop, set}
 use Rattle.std.specs.List.{fold}
-use Rattle.qc_link.specs.Fate.{fate}
+use Rattle.qc_link.specs.Names.{fate}
 use Rattle.qc_link.specs.declared.rule.Fate.{Fate}
 use Rattle.qc_msg.specs.declared.message.Envelope.{Envelope}
 use Rattle.qc_msg.specs.declared.message.Message.{Message}
@@ -11,14 +11,14 @@ use Rattle.qc_msg.specs.declared.message.Message.TheVariants as messages
 use Rattle.qc_msg.specs.declared.reply.Reply.{Reply}
 use Rattle.qc_msg.specs.declared.step.Control.{Control}
 use Rattle.qc_msg.specs.declared.turn.Posting.{Posting}
-use Rattle.qc_msg.specs.Steps.{Entry, by, sents, told}
-use Rattle.qc_script.specs.Inbox.{Inbox, acting, actor_fell, answers_by, comes, control_acted, copies_at_once, count_of}
-use Rattle.qc_script.specs.Inbox.{emptied, goes, goes_with, if_up, inbox_at, is_up, opened, opened_by, reply_told}
-use Rattle.qc_script.specs.Inbox.{request_answered, with_copies}
-use Rattle.qc_script.specs.Requests.{SentRequest, has_request, requests_to, requests_to_others, with_lost}
+use Rattle.qc_msg.specs.Names.{Entry, by, sents, told}
+use Rattle.qc_script.specs.Names.{Inbox, SentRequest, acting, actor_fell, answers_by, comes, control_acted}
+use Rattle.qc_script.specs.Names.{copies_at_once, count_of, emptied, goes, goes_with, has_request, if_up, inbox_at}
+use Rattle.qc_script.specs.Names.{is_up, opened, opened_by, reply_told, request_answered, requests_to}
+use Rattle.qc_script.specs.Names.{requests_to_others, with_copies, with_lost}
 use Rattle.qc_script.specs.declared.script.Script.{Script}
 use Rattle.qc_script.proofs.Inboxes.{opened_keeps, sends_does}
-use Rattle.qc_inbox.specs.Downs.{IsEmptied}
+use Rattle.qc_inbox.specs.Names.{IsEmptied}
 
 emptied_if : (t : Bool) (i j : Inbox) → IsEmptied i → IsEmptied j → IsEmptied (if t then i else j)
 emptied_if true i j here there = here

@@ -2,9 +2,9 @@
 use Rattle.std.proofs.Common.{◌≡◌, ℕ, ◌<◌, ◌≤◌, ◌∙◌, ◌&&◌, Bool, true, false, not, cond, List, [], ◌∷◌, Option, Some}
 use Rattle.std.proofs.Common.{None, refl, ap, sym, subst, arith}
 use Rattle.std.specs.Prelude.{slice_get}
-use Rattle.qc_decl.specs.Actors.{actors}
+use Rattle.qc_decl.specs.Names.{actors}
 use Rattle.qc_decl.specs.declared.declaration.Declaration.{Declaration}
-use Rattle.qc_link.specs.Limits.{most_actors}
+use Rattle.qc_link.specs.Names.{most_actors}
 use Rattle.qc_msg.specs.declared.message.Envelope.{Envelope}
 use Rattle.qc_msg.specs.declared.record.Record.{Record}
 use Rattle.qc_msg.specs.declared.step.Command.{Command}
@@ -15,17 +15,11 @@ use Rattle.qc_msg.specs.declared.step.Input.TheVariants as inputs
 use Rattle.qc_msg.specs.declared.turn.Turn.{Turn}
 use Rattle.qc_msg.specs.declared.turn.Appended.{Appended}
 use Rattle.qc_msg.specs.declared.turn.Appended.TheVariants.{Done, Failed, Stopped}
-use Rattle.qc_msg.specs.Deeds.{Deed, deeds}
-use Rattle.qc_msg.specs.Steps.{Entry, MayEnd}
-use Rattle.qc_script.specs.Inbox.{Inbox, inbox, is_up}
-use Rattle.qc_script.specs.Ready.{after_controls, command_in, controls_left, first_command, first_copy, first_lost}
-use Rattle.qc_script.specs.Ready.{ready, takes_commands}
-use Rattle.qc_script.specs.Runs.{Runs}
-use Rattle.qc_script.specs.RunsWithFalls.{RunsWithFalls}
+use Rattle.qc_msg.specs.Names.{Deed, Entry, MayEnd, deeds}
+use Rattle.qc_script.specs.Names.{Inbox, Runs, RunsWithFalls, after_controls, command_in, controls_left, first_command}
+use Rattle.qc_script.specs.Names.{first_copy, first_lost, inbox, is_up, ready, takes_commands}
 use Rattle.qc_script.specs.declared.script.Script.{Script}
-use Rattle.qc_inbox.specs.Downs.{IsCommand, IsEmptied, TellsWhereDown, is_down}
-use Rattle.qc_inbox.specs.Inboxes.{Inboxes}
-use Rattle.qc_inbox.specs.Kept.{IsKept, MayPost, MayWrite}
+use Rattle.qc_inbox.specs.Names.{Inboxes, IsCommand, IsEmptied, IsKept, MayPost, MayWrite, TellsWhereDown, is_down}
 use Rattle.qc_script.proofs.AllUp.{actor_up}
 use Rattle.qc_inbox.proofs.Apart.{one_controls}
 use Rattle.qc_inbox.proofs.FallRuns.{run_stands}

@@ -5,10 +5,9 @@ use Rattle.std.proofs.Common.{refl, sym, subst, ◌∙◌, arith}
 use Rattle.std.specs.Prelude.{replicate, slice_get, slice_set}
 use Rattle.std.proofs.lemmas.List.{length-replicate}
 use Rattle.std.proofs.lemmas.List.Sums.{fold-append}
-use Rattle.qc_decl.specs.Actors.{actors, controller}
+use Rattle.qc_decl.specs.Names.{actors, controller}
 use Rattle.qc_decl.specs.declared.declaration.Declaration.{Declaration}
-use Rattle.qc_link.specs.Cuts.{with_cut, without_cut}
-use Rattle.qc_link.specs.Limits.{most_actors}
+use Rattle.qc_link.specs.Names.{most_actors, with_cut, without_cut}
 use Rattle.qc_msg.specs.declared.record.Record.{Record}
 use Rattle.qc_msg.specs.declared.step.Control.{Control}
 use Rattle.qc_msg.specs.declared.step.Control.TheVariants as controls
@@ -16,15 +15,13 @@ use Rattle.qc_msg.specs.declared.step.Fall.TheVariants as causes
 use Rattle.qc_msg.specs.declared.step.Step.{Step}
 use Rattle.qc_msg.specs.declared.step.Step.TheVariants as steps
 use Rattle.qc_msg.specs.declared.turn.Turn.{Turn}
-use Rattle.qc_msg.specs.Deeds.{Deed, mail}
-use Rattle.qc_msg.specs.Steps.{Entry, by, marked, posted_as, step_of}
-use Rattle.qc_script.specs.Inbox.{Inbox, empty_inbox, everybody, inbox, inbox_at}
-use Rattle.qc_script.specs.Ready.{controller_step, controls_left, phase_of}
-use Rattle.qc_script.specs.RunsWithFalls.{RunsWithFalls, begins, takes, posts, phase, control, falls, rises, damaged}
-use Rattle.qc_script.specs.RunsWithFalls.{unopened}
+use Rattle.qc_msg.specs.Names.{Deed, Entry, by, mail, marked, posted_as, step_of}
+use Rattle.qc_script.specs.Names.{Inbox, RunsWithFalls, begins, control, controller_step, controls_left, damaged}
+use Rattle.qc_script.specs.Names.{empty_inbox, everybody, falls, inbox, inbox_at, phase, phase_of, posts, rises, takes}
+use Rattle.qc_script.specs.Names.{unopened}
 use Rattle.qc_script.specs.declared.script.Script.{Script}
 use Rattle.qc_script.proofs.AllUp.{is_up-everybody}
-use Rattle.qc_inbox.specs.Downs.{TellsWhereDown}
+use Rattle.qc_inbox.specs.Names.{TellsWhereDown}
 use Rattle.qc_inbox.proofs.Apart.{one_controls}
 use Rattle.qc_inbox.proofs.Emptied.{after}
 use Rattle.qc_inbox.proofs.Falling.{act_stands, line_falls, none_open, post_stands, restarted, rise_stands, take_stands}

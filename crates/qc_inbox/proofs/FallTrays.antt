@@ -4,7 +4,7 @@ use Rattle.std.proofs.Common.{Option, Some, None, refl, ap, sym, subst, ◌∙�
 use Rattle.std.specs.Prelude.{set}
 use Rattle.std.specs.List.{AllByRecursion as Every}
 use Rattle.std.proofs.lemmas.List.{get_or-map, length-map, length-set}
-use Rattle.qc_link.specs.Limits.{most_actors}
+use Rattle.qc_link.specs.Names.{most_actors}
 use Rattle.qc_msg.specs.declared.record.Record.{Record}
 use Rattle.qc_msg.specs.declared.reply.Reply.{Reply}
 use Rattle.qc_msg.specs.declared.step.Fall.{Fall}
@@ -15,19 +15,15 @@ use Rattle.qc_msg.specs.declared.turn.Appended.{Appended}
 use Rattle.qc_msg.specs.declared.turn.Appended.TheVariants.{Done, Failed, Stopped}
 use Rattle.qc_msg.specs.declared.turn.Posting.{Posting}
 use Rattle.qc_msg.specs.declared.turn.Turn.{Turn}
-use Rattle.qc_msg.specs.Deeds.{mail}
-use Rattle.qc_msg.specs.Steps.{Entry, HasRecord, by, fell, marked, posted_as, sends_as, sents, told, wrote}
+use Rattle.qc_msg.specs.Names.{Entry, HasRecord, by, fell, mail, marked, posted_as, sends_as, sents, told, wrote}
 use Rattle.qc_msg.proofs.GrownMail.{by-append}
 use Rattle.qc_script.proofs.Inboxes as opens
-use Rattle.qc_script.specs.Inbox.{Inbox, actor_fell, control_acted, emptied, inbox, is_by_line, is_up}
-use Rattle.qc_script.specs.Requests.{requests_to, requests_to_others, with_lost}
+use Rattle.qc_script.specs.Names.{Inbox, actor_fell, control_acted, emptied, inbox, is_by_line, is_up, requests_to}
+use Rattle.qc_script.specs.Names.{requests_to_others, with_lost}
 use Rattle.qc_script.specs.declared.script.Script.{Script}
-use Rattle.qc_inbox.specs.Inboxes.{Inboxes, Tray}
-use Rattle.qc_inbox.specs.Kept.{IsKept, MayPost, Shows, tray_of}
-use Rattle.qc_inbox.specs.Picks.{calls_of}
-use Rattle.qc_inbox.specs.Rooms.{after_fall, after_fall_by_line, after_post_as, after_reply, after_rise}
-use Rattle.qc_inbox.specs.Rooms.{after_rising_as, after_send, after_sends, tray_at}
-use Rattle.qc_inbox.specs.Trays.{empty_tray, tray_emptied, tray_losing}
+use Rattle.qc_inbox.specs.Names.{Inboxes, IsKept, MayPost, Shows, Tray, after_fall, after_fall_by_line, after_post_as}
+use Rattle.qc_inbox.specs.Names.{after_reply, after_rise, after_rising_as, after_send, after_sends, calls_of}
+use Rattle.qc_inbox.specs.Names.{empty_tray, tray_at, tray_emptied, tray_losing, tray_of}
 use Rattle.qc_inbox.proofs.Acting.{kept_turn, own_tray, replied, sent}
 use Rattle.qc_inbox.proofs.Controlling.{gone_shown, length-gone, shown_after}
 use Rattle.qc_inbox.proofs.Keeping.{kept_step}

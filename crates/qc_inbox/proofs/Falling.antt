@@ -3,7 +3,7 @@ use Rattle.std.proofs.Common.{◌≡◌, ℕ, ◌<◌, ◌==◌, Bool, true, fal
 use Rattle.std.proofs.Common.{Option, Some, None, refl, ap, sym, subst, ◌∙◌, arith, eqb-true}
 use Rattle.std.specs.Prelude.{drop, set}
 use Rattle.std.proofs.lemmas.List.{length-set}
-use Rattle.qc_link.specs.Limits.{most_actors}
+use Rattle.qc_link.specs.Names.{most_actors}
 use Rattle.qc_msg.specs.declared.record.Record.{Record}
 use Rattle.qc_msg.specs.declared.step.Control.{Control}
 use Rattle.qc_msg.specs.declared.step.Control.TheVariants as controls
@@ -16,13 +16,12 @@ use Rattle.qc_msg.specs.declared.turn.Appended.{Appended}
 use Rattle.qc_msg.specs.declared.turn.Appended.TheVariants.{Done, Failed, Stopped}
 use Rattle.qc_msg.specs.declared.turn.Posting.{Posting}
 use Rattle.qc_msg.specs.declared.turn.Turn.{Turn}
-use Rattle.qc_msg.specs.Deeds.{Deed, deed_at, deeds, mail}
-use Rattle.qc_msg.specs.Steps.{Entry, HasRecord, MayEnd, by, marked, posted_as, sents, step_of, told, wrote}
-use Rattle.qc_script.specs.Inbox.{Inbox, actor_fell, command_called, control_acted, copy_taken, inbox, inbox_at, is_up}
-use Rattle.qc_script.specs.Inbox.{loss_taken}
-use Rattle.qc_script.specs.Ready.{controls_left}
+use Rattle.qc_msg.specs.Names.{Deed, Entry, HasRecord, MayEnd, by, deed_at, deeds, mail, marked, posted_as, sents}
+use Rattle.qc_msg.specs.Names.{step_of, told, wrote}
+use Rattle.qc_script.specs.Names.{Inbox, actor_fell, command_called, control_acted, controls_left, copy_taken, inbox}
+use Rattle.qc_script.specs.Names.{inbox_at, is_up, loss_taken}
 use Rattle.qc_script.specs.declared.script.Script.{Script}
-use Rattle.qc_inbox.specs.Downs.{IsEmptied, TellsWhereDown, is_down}
+use Rattle.qc_inbox.specs.Names.{IsEmptied, TellsWhereDown, is_down}
 use Rattle.qc_inbox.proofs.Acting.{input_keeps}
 use Rattle.qc_inbox.proofs.Apart.{one_controls}
 use Rattle.qc_inbox.proofs.Downs.{AreTied, down_within, down_posted, down_risen, down_step, ends_down, tied_on}

@@ -3,7 +3,7 @@ use Rattle.std.proofs.Common.{◌≡◌, ℕ, zero, suc, ◌<◌, Bool, List, []
 use Rattle.std.specs.Prelude.{slice_get, slice_set}
 use Rattle.qc_msg.specs.declared.step.Control.{Control}
 use Rattle.qc_msg.specs.declared.step.Input.{Input}
-use Rattle.qc_script.specs.Ready.{after_controls}
+use Rattle.qc_script.specs.Names.{after_controls}
 
 pub set_long : (bs : List Bool) (a : ℕ) (v : Bool) → length (slice_set bs a v) ≡ length bs
 set_long [] a v = refl

@@ -11,19 +11,14 @@ use Rattle.qc_list.proofs.Members.{every-append}
 use Rattle.qc_msg.specs.declared.message.Envelope.{Envelope}
 use Rattle.qc_msg.specs.declared.step.Step.TheVariants.{Sent}
 use Rattle.qc_msg.specs.declared.turn.Posting.{Posting}
-use Rattle.qc_msg.specs.Deeds.{envelope_of, mail}
-use Rattle.qc_msg.specs.Steps.{Entry, marked}
-use Rattle.qc_script.specs.Inbox.{Inbox, comes, empty_inbox, goes, inbox, inbox_at}
+use Rattle.qc_msg.specs.Names.{Entry, envelope_of, mail, marked}
+use Rattle.qc_script.specs.Names.{Inbox, comes, empty_inbox, goes, inbox, inbox_at}
 use Rattle.qc_script.specs.declared.script.Script.{Script}
-use Rattle.qc_inbox.specs.Inboxes.{Inboxes}
-use Rattle.qc_inbox.specs.Kept.{AreBetweenActors, AreNumbered, IsKept, Shows}
-use Rattle.qc_inbox.specs.Picks.{calls_at, calls_of}
-use Rattle.qc_inbox.specs.Rooms.{after_send, empty_inboxes}
-use Rattle.qc_inbox.specs.Tallies.{Tally, place}
-use Rattle.qc_inbox.specs.Trays.{empty_tray}
+use Rattle.qc_inbox.specs.Names.{AreBetweenActors, AreNumbered, Inboxes, IsKept, Shows, Tally, after_send, calls_at}
+use Rattle.qc_inbox.specs.Names.{calls_of, empty_inboxes, empty_tray, place}
 use Rattle.qc_inbox.proofs.Counting.{place_within}
 use Rattle.qc_inbox.proofs.Shipping.{sending_shown}
-use Rattle.qc_link.specs.Limits.{most_actors}
+use Rattle.qc_link.specs.Names.{most_actors}
 
 -- an inbox, and a count of calls, after one entry more
 

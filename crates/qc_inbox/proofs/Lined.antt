@@ -6,10 +6,9 @@ use Rattle.std.specs.List.{AllByRecursion as Every}
 use Rattle.std.specs.Option.{option_map_or}
 use Rattle.std.proofs.lemmas.List.{length-replicate, length-set}
 use Rattle.std.proofs.lemmas.List.Sums.{fold-append}
-use Rattle.qc_decl.specs.Actors.{actors, controller}
+use Rattle.qc_decl.specs.Names.{actors, controller}
 use Rattle.qc_decl.specs.declared.declaration.Declaration.{Declaration}
-use Rattle.qc_link.specs.Cuts.{with_cut, without_cut}
-use Rattle.qc_link.specs.Limits.{most_actors}
+use Rattle.qc_link.specs.Names.{most_actors, with_cut, without_cut}
 use Rattle.qc_msg.specs.declared.record.Record.{Record}
 use Rattle.qc_msg.specs.declared.reply.Reply.{Reply}
 use Rattle.qc_msg.specs.declared.step.Control.{Control}
@@ -23,11 +22,11 @@ use Rattle.qc_msg.specs.declared.turn.Appended.{Appended}
 use Rattle.qc_msg.specs.declared.turn.Appended.TheVariants.{Done, Failed, Stopped}
 use Rattle.qc_msg.specs.declared.turn.Posting.{Posting}
 use Rattle.qc_msg.specs.declared.turn.Turn.{Turn}
-use Rattle.qc_msg.specs.Deeds.{Deed, mail}
-use Rattle.qc_msg.specs.Steps.{Entry, HasRecord, by, marked, posted_as, sents, step_of, told, wrote}
-use Rattle.qc_script.specs.Inbox.{Inbox, acting, actor_fell, command_called, commands_for, control_acted, copy_taken, empty_inbox, inbox, inbox_at, is_by_line, is_up, loss_taken, opened, phase_begun, reply_told}
-use Rattle.qc_script.specs.Ready.{controller_step, controls_left, phase_of}
-use Rattle.qc_script.specs.RunsWithFalls.{RunsWithFalls, begins, takes, posts, phase, control, falls, rises, damaged, unopened}
+use Rattle.qc_msg.specs.Names.{Deed, Entry, HasRecord, by, mail, marked, posted_as, sents, step_of, told, wrote}
+use Rattle.qc_script.specs.Names.{Inbox, RunsWithFalls, acting, actor_fell, begins, command_called, commands_for}
+use Rattle.qc_script.specs.Names.{control, control_acted, controller_step, controls_left, copy_taken, damaged}
+use Rattle.qc_script.specs.Names.{empty_inbox, falls, inbox, inbox_at, is_by_line, is_up, loss_taken, opened, phase}
+use Rattle.qc_script.specs.Names.{phase_begun, phase_of, posts, reply_told, rises, takes, unopened}
 use Rattle.qc_script.specs.declared.script.PhaseLines.{PhaseLines}
 use Rattle.qc_script.specs.declared.script.Script.{Script}
 use Rattle.qc_script.proofs.Inboxes.{sends_does}

@@ -5,8 +5,7 @@ use Rattle.std.specs.List.{AllByRecursion as Every, cons_option, fold}
 use Rattle.std.specs.Option.{option_map_or}
 use Rattle.std.proofs.lemmas.List.{append-nil}
 use Rattle.qc_decl.specs.declared.declaration.Declaration.{Declaration}
-use Rattle.qc_link.specs.Cuts.{with_cut, without_cut}
-use Rattle.qc_link.specs.Fate.{fate}
+use Rattle.qc_link.specs.Names.{fate, with_cut, without_cut}
 use Rattle.qc_link.specs.declared.plan.Link.{Link}
 use Rattle.qc_link.specs.declared.rule.Fate.{Fate}
 use Rattle.qc_list.proofs.Members.{In-first, In-last, every-append, every-weaker}
@@ -19,15 +18,17 @@ use Rattle.qc_msg.specs.declared.step.Fall.{Fall}
 use Rattle.qc_msg.specs.declared.step.Input.TheVariants as inputs
 use Rattle.qc_msg.specs.declared.step.Step.{Step}
 use Rattle.qc_msg.specs.declared.step.Step.TheVariants as steps
-use Rattle.qc_msg.specs.Deeds.{envelope_at, envelope_of, mail}
-use Rattle.qc_msg.specs.Steps.{Entry}
-use Rattle.qc_script.specs.Inbox.{Inbox, acting, actor_fell, answers_by, comes, comes_at_once, command_called, commands_for, control_acted, copy_taken, count_of, emptied, empty_inbox, fell_by, goes, inbox, inbox_at, is_by_line, is_request, is_up, loss_taken, one_more, opened, opened_by, phase_begun, reply_told, request_answered, request_sent, with_copies, wrote_record}
-use Rattle.qc_script.specs.Requests.{SentRequest, has_request, requests_to, requests_to_others, with_lost, with_number, without_request}
+use Rattle.qc_msg.specs.Names.{Entry, envelope_at, envelope_of, mail}
+use Rattle.qc_script.specs.Names.{Inbox, SentRequest, acting, actor_fell, answers_by, comes, comes_at_once}
+use Rattle.qc_script.specs.Names.{command_called, commands_for, control_acted, copy_taken, count_of, emptied}
+use Rattle.qc_script.specs.Names.{empty_inbox, fell_by, goes, has_request, inbox, inbox_at, is_by_line, is_request}
+use Rattle.qc_script.specs.Names.{is_up, loss_taken, one_more, opened, opened_by, phase_begun, ready_in, reply_told}
+use Rattle.qc_script.specs.Names.{request_answered, request_sent, requests_to, requests_to_others, takes_commands}
+use Rattle.qc_script.specs.Names.{with_copies, with_lost, with_number, without_request, wrote_record}
 use Rattle.qc_script.specs.Ready as ready
-use Rattle.qc_script.specs.Ready.{ready_in, takes_commands}
 use Rattle.qc_script.specs.declared.script.PhaseLines.{PhaseLines}
 use Rattle.qc_script.specs.declared.script.Script.{Script}
-use Rattle.qc_inbox.specs.Owned.{IsOwnRequest}
+use Rattle.qc_inbox.specs.Names.{IsOwnRequest}
 
 abbrev IsOwn : List Envelope → ℕ → SentRequest → Type 0
 IsOwn ms a r = IsOwnRequest ms a r.number

@@ -4,26 +4,21 @@ use Rattle.std.proofs.Common.{Option, Some, None, refl, ap, sym, subst, ◌∙�
 use Rattle.std.specs.Prelude.{option_map}
 use Rattle.std.specs.Option.{IsSome}
 use Rattle.std.proofs.lemmas.Bool.{eqb-false, eqb-true}
-use Rattle.qc_decl.specs.Actors.{actors}
+use Rattle.qc_decl.specs.Names.{actors}
 use Rattle.qc_decl.specs.declared.declaration.Declaration.{Declaration}
 use Rattle.qc_msg.specs.declared.step.Input.{Input}
 use Rattle.qc_msg.specs.declared.step.Input.TheVariants as inputs
-use Rattle.qc_msg.specs.Steps.{Entry}
-use Rattle.qc_script.specs.Inbox.{inbox}
-use Rattle.qc_script.specs.Ready.{ready}
+use Rattle.qc_msg.specs.Names.{Entry}
+use Rattle.qc_script.specs.Names.{inbox, ready}
 use Rattle.qc_script.specs.declared.script.Script.{Script}
-use Rattle.qc_inbox.specs.Inboxes.{Inboxes, Tray}
-use Rattle.qc_inbox.specs.Inputs.{input_in, input_of}
-use Rattle.qc_inbox.specs.Kept.{IsKept, Shows}
-use Rattle.qc_inbox.specs.Picks.{calls_of, comes_before, first_of, is_held, picked, rank_at, rank_of, sooner}
-use Rattle.qc_inbox.specs.Picks.{unless_held}
-use Rattle.qc_inbox.specs.PicksKept.{input_rank, picked_in, rank_in}
-use Rattle.qc_inbox.specs.Rooms.{tray_at}
+use Rattle.qc_inbox.specs.Names.{Inboxes, IsKept, Shows, Tray, calls_of, comes_before, first_of, input_in, input_of}
+use Rattle.qc_inbox.specs.Names.{input_rank, is_held, picked, picked_in, rank_at, rank_in, rank_of, sooner, tray_at}
+use Rattle.qc_inbox.specs.Names.{unless_held}
 use Rattle.qc_inbox.specs.declared.input.ReadyInput.{ReadyInput}
 use Rattle.qc_inbox.specs.declared.input.Candidate.{Candidate}
 use Rattle.qc_inbox.specs.declared.input.Rank.{Rank}
 use Rattle.qc_inbox.proofs.Seeing.{ready_kept}
-use Rattle.qc_link.specs.Limits.{most_actors}
+use Rattle.qc_link.specs.Names.{most_actors}
 
 -- the first of some actors, by ranks that are the same
 

@@ -3,11 +3,11 @@ use Rattle.std.proofs.Common.{◌≡◌, ℕ, zero, suc, ◌<◌, ◌≤◌, ◌
 use Rattle.std.proofs.Common.{None, refl, ap, sym, subst, ◌∙◌, arith}
 use Rattle.std.specs.Prelude.{option_map}
 use Rattle.std.proofs.lemmas.Bool.{eqb-false, eqb-true, ltb-false, ltb-true, lt-ltb, le-ltb}
-use Rattle.qc_decl.specs.Actors.{actors}
+use Rattle.qc_decl.specs.Names.{actors}
 use Rattle.qc_decl.specs.declared.declaration.Declaration.{Declaration}
-use Rattle.qc_msg.specs.Steps.{Entry}
+use Rattle.qc_msg.specs.Names.{Entry}
 use Rattle.qc_script.specs.declared.script.Script.{Script}
-use Rattle.qc_inbox.specs.Picks.{comes_before, first_of, picked, rank_at, sooner}
+use Rattle.qc_inbox.specs.Names.{comes_before, first_of, picked, rank_at, sooner}
 use Rattle.qc_inbox.specs.declared.input.Candidate.{Candidate}
 use Rattle.qc_inbox.specs.declared.input.Rank.{Rank}
 use Rattle.qc_inbox.specs.declared.input.Rank.TheVariants.{Copy, Lost, Command}

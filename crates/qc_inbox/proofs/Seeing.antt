@@ -3,16 +3,13 @@ use Rattle.std.proofs.Common.{◌≡◌, ℕ, ◌<◌, List, ap, ◌∙◌, sym}
 use Rattle.std.specs.Prelude.{option_map}
 use Rattle.qc_decl.specs.declared.declaration.Declaration.{Declaration}
 use Rattle.qc_msg.specs.declared.step.Control.{Control}
-use Rattle.qc_msg.specs.Steps.{Entry}
-use Rattle.qc_script.specs.Inbox.{inbox}
-use Rattle.qc_script.specs.Ready.{ready, takes_commands}
+use Rattle.qc_msg.specs.Names.{Entry}
+use Rattle.qc_script.specs.Names.{inbox, ready, takes_commands}
 use Rattle.qc_script.specs.declared.script.Script.{Script}
-use Rattle.qc_inbox.specs.Inboxes.{Inboxes, Tray}
-use Rattle.qc_inbox.specs.Inputs.{after_controls, input_in, input_of, next_in}
-use Rattle.qc_inbox.specs.Kept.{IsKept, Shows, tray_of}
-use Rattle.qc_inbox.specs.Picks.{calls_of}
+use Rattle.qc_inbox.specs.Names.{Inboxes, IsKept, Shows, Tray, after_controls, calls_of, input_in, input_of, next_in}
+use Rattle.qc_inbox.specs.Names.{tray_of}
 use Rattle.qc_inbox.proofs.Taking.{ready_shown}
-use Rattle.qc_link.specs.Limits.{most_actors}
+use Rattle.qc_link.specs.Names.{most_actors}
 
 pub ready_kept : (decl : Declaration) (script : Script) (h : List Entry) (kept : Inboxes) (a : ℕ) → IsKept script h kept
     → a < most_actors

@@ -1,14 +1,13 @@
 -- What a message changes in an inbox beside what waits: the counts.
 use Rattle.std.proofs.Common.{◌≡◌, ℕ, ◌+◌, ◌==◌, ◌&&◌, Bool, true, false, if◌then◌else◌, List, refl, ap, ◌∙◌}
-use Rattle.qc_link.specs.Fate.{fate}
+use Rattle.qc_link.specs.Names.{fate}
 use Rattle.qc_link.specs.declared.plan.Link.{Link}
 use Rattle.qc_link.specs.declared.rule.Fate.{Fate}
 use Rattle.qc_msg.specs.declared.message.Envelope.{Envelope}
 use Rattle.qc_msg.specs.declared.message.Message.{Message}
 use Rattle.qc_msg.specs.declared.message.Message.TheVariants as messages
-use Rattle.qc_script.specs.Requests.{has_request}
-use Rattle.qc_script.specs.Inbox.{Inbox, answers_by, comes, comes_at_once, comes_with, count_of, goes, goes_with}
-use Rattle.qc_script.specs.Inbox.{is_request, is_up, one_more, request_answered, request_sent, with_copies}
+use Rattle.qc_script.specs.Names.{Inbox, answers_by, comes, comes_at_once, comes_with, count_of, goes, goes_with}
+use Rattle.qc_script.specs.Names.{has_request, is_request, is_up, one_more, request_answered, request_sent, with_copies}
 
 -- the same but for what waits, with these counts
 pub record Counts (i j : Inbox) (from_now to_now : List ℕ) : Type 0 where

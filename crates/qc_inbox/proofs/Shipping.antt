@@ -3,20 +3,16 @@ use Rattle.std.proofs.Common.{◌*◌, ◌≡◌, ℕ, ◌+◌, ◌<◌, ◌==�
 use Rattle.std.proofs.Common.{ap, sym, subst, ◌∙◌}
 use Rattle.std.proofs.lemmas.Bool.{eqb-true}
 use Rattle.std.proofs.lemmas.List.{length-set}
-use Rattle.qc_link.specs.Fate.{fate}
+use Rattle.qc_link.specs.Names.{fate, most_actors}
 use Rattle.qc_link.specs.declared.rule.Fate.{Fate}
 use Rattle.qc_msg.specs.declared.message.Envelope.{Envelope}
 use Rattle.qc_msg.specs.declared.turn.Posting.{Posting}
-use Rattle.qc_script.specs.Inbox.{Inbox, comes, comes_with, count_of, goes, goes_with, is_up, one_more}
-use Rattle.qc_inbox.specs.Inboxes.{Inboxes, Tray}
-use Rattle.qc_inbox.specs.Kept.{Shows, tray_of}
-use Rattle.qc_inbox.specs.Rooms.{after_send, tray_at, with_coming, with_going}
-use Rattle.qc_inbox.specs.Tallies.{count}
-use Rattle.qc_inbox.specs.Trays.{empty_tray, tray_comes, tray_goes}
+use Rattle.qc_script.specs.Names.{Inbox, comes, comes_with, count_of, goes, goes_with, is_up, one_more}
+use Rattle.qc_inbox.specs.Names.{Inboxes, Shows, Tray, after_send, count, empty_tray, tray_at, tray_comes, tray_goes}
+use Rattle.qc_inbox.specs.Names.{tray_of, with_coming, with_going}
 use Rattle.qc_inbox.proofs.Counting.{at_set, count_more, more_of}
 use Rattle.qc_inbox.proofs.Sent.{Counts, comes_counts, sends_count}
 use Rattle.qc_inbox.proofs.Shown.{comes_shown, goes_shown}
-use Rattle.qc_link.specs.Limits.{most_actors}
 
 abbrev envelope : ℕ → ℕ → Posting → Envelope
 envelope n from p = record { number = n; from = from; to = p.to; message = p.message }

@@ -7,13 +7,11 @@ use Rattle.qc_link.specs.declared.rule.Fate.TheVariants.{Pass, Drop, Twice, Late
 use Rattle.qc_msg.specs.declared.message.Envelope.{Envelope}
 use Rattle.qc_msg.specs.declared.message.Message.{Message}
 use Rattle.qc_msg.specs.declared.message.Message.TheVariants as messages
-use Rattle.qc_script.specs.Inbox.{Inbox, answers_by, comes_at_once, comes_with, goes_with, is_request, is_up, one_more}
-use Rattle.qc_script.specs.Inbox.{request_answered, request_sent, with_copies}
-use Rattle.qc_script.specs.Requests.{has_request, with_number, without_request}
-use Rattle.qc_inbox.specs.Inboxes.{Tray}
-use Rattle.qc_inbox.specs.Kept.{numbers_of, tray_of}
-use Rattle.qc_inbox.specs.Trays.{tray_answered, tray_answered_by, tray_asks, tray_comes, tray_goes, tray_lost_unless}
-use Rattle.qc_inbox.specs.Trays.{tray_with_copies}
+use Rattle.qc_script.specs.Names.{Inbox, answers_by, comes_at_once, comes_with, goes_with, has_request, is_request}
+use Rattle.qc_script.specs.Names.{is_up, one_more, request_answered, request_sent, with_copies, with_number}
+use Rattle.qc_script.specs.Names.{without_request}
+use Rattle.qc_inbox.specs.Names.{Tray, numbers_of, tray_answered, tray_answered_by, tray_asks, tray_comes, tray_goes}
+use Rattle.qc_inbox.specs.Names.{tray_lost_unless, tray_of, tray_with_copies}
 
 -- numbers of copies
 

@@ -5,22 +5,21 @@ use Rattle.std.specs.Prelude.{drop, set, slice_get}
 use Rattle.std.specs.Option.{option_map_or}
 use Rattle.std.proofs.lemmas.List.{length-set}
 use Rattle.std.proofs.lemmas.List.Sums.{fold-append}
-use Rattle.qc_link.specs.Limits.{most_actors}
+use Rattle.qc_link.specs.Names.{most_actors}
 use Rattle.qc_msg.specs.declared.step.Control.{Control}
 use Rattle.qc_msg.specs.declared.step.Fall.{Fall}
 use Rattle.qc_msg.specs.declared.step.Fall.TheVariants as causes
 use Rattle.qc_msg.specs.declared.step.Step.{Step}
 use Rattle.qc_msg.specs.declared.turn.Appended.TheVariants.{Failed, Stopped}
 use Rattle.qc_msg.specs.declared.turn.Turn.{Turn}
-use Rattle.qc_msg.specs.Deeds.{deeds}
-use Rattle.qc_msg.specs.Steps.{Entry, by, fell, posted_as, sents, told, IsByDisk}
+use Rattle.qc_msg.specs.Names.{Entry, IsByDisk, by, deeds, fell, posted_as, sents, told}
 use Rattle.qc_msg.proofs.GrownMail.{by-append}
-use Rattle.qc_script.specs.Inbox.{Inbox, acting, actor_fell, commands_for, control_acted, does_nothing, fell_by}
-use Rattle.qc_script.specs.Inbox.{inbox_at, is_by_line, is_up, opened, phase_begun, wrote_record}
+use Rattle.qc_script.specs.Names.{Inbox, acting, actor_fell, commands_for, control_acted, does_nothing, fell_by}
+use Rattle.qc_script.specs.Names.{inbox_at, is_by_line, is_up, opened, phase_begun, wrote_record}
 use Rattle.qc_script.specs.declared.script.PhaseLines.{PhaseLines}
 use Rattle.qc_script.specs.declared.script.Script.{Script}
 use Rattle.qc_script.proofs.Inboxes.{opened_keeps}
-use Rattle.qc_inbox.specs.Downs.{IsEmptied, is_down}
+use Rattle.qc_inbox.specs.Names.{IsEmptied, is_down}
 use Rattle.qc_inbox.proofs.Downs.{AreTied, tied_on, up_other, up_same}
 use Rattle.qc_inbox.proofs.Emptied.{Passes, after, fell_controls, fell_emptied, fell_up, opened_emptied, sents_pass}
 use Rattle.qc_inbox.proofs.Emptied.{told_passes}

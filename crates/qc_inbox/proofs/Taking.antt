@@ -9,15 +9,12 @@ use Rattle.qc_msg.specs.declared.step.Command.{Command}
 use Rattle.qc_msg.specs.declared.step.Control.{Control}
 use Rattle.qc_msg.specs.declared.step.Input.{Input}
 use Rattle.qc_msg.specs.declared.step.Input.TheVariants as inputs
-use Rattle.qc_msg.specs.Steps.{step_of}
-use Rattle.qc_script.specs.Inbox.{Inbox, command_called, inbox_at}
+use Rattle.qc_msg.specs.Names.{step_of}
+use Rattle.qc_script.specs.Names.{Inbox, command_called, inbox_at, ready_in, takes_commands}
 use Rattle.qc_script.specs.Ready as ready
-use Rattle.qc_script.specs.Ready.{ready_in, takes_commands}
 use Rattle.qc_script.specs.declared.script.Script.{Script}
-use Rattle.qc_inbox.specs.Inputs.{after_controls, first_command, first_copy, first_lost, input_of, next_in}
-use Rattle.qc_inbox.specs.Kept.{numbers_of, tray_of}
-use Rattle.qc_inbox.specs.Picks.{calls_at}
-use Rattle.qc_inbox.specs.Trays.{tray_taken}
+use Rattle.qc_inbox.specs.Names.{after_controls, calls_at, first_command, first_copy, first_lost, input_of, next_in}
+use Rattle.qc_inbox.specs.Names.{numbers_of, tray_of, tray_taken}
 use Rattle.qc_inbox.specs.declared.input.ReadyInput.{ReadyInput}
 
 -- what is ready

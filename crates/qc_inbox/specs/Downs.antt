@@ -1,11 +1,10 @@
 -- Which actors are down, by their deeds; and conducts by which such an actor only tells replies.
 use Rattle.std.specs.Prelude.{◌≡◌, ℕ, Bool, true, false, List, [], None, fold}
-use Rattle.qc_msg.specs.Deeds.{Deed, Falls, Rises, Sends, Takes, Tells, Writes}
-use Rattle.qc_msg.specs.Steps.{MayEnd}
+use Rattle.qc_msg.specs.Names.{Deed, Falls, MayEnd, Rises, Sends, Takes, Tells, Writes}
 use Rattle.qc_msg.specs.declared.step.Input.{Input}
 use Rattle.qc_msg.specs.declared.step.Input.TheVariants as inputs
 use Rattle.qc_msg.specs.declared.turn.Turn.{Turn}
-use Rattle.qc_script.specs.Inbox.{Inbox}
+use Rattle.qc_script.specs.Names.{Inbox}
 
 abbrev pub down_at : Bool → Deed → Bool
 down_at down (Takes given) = down

@@ -3,7 +3,7 @@ use Rattle.std.specs.Prelude.{ℕ, Bool, List}
 use Rattle.qc_link.specs.declared.plan.Link.{Link}
 use Rattle.qc_msg.specs.declared.step.Command.{Command}
 use Rattle.qc_msg.specs.declared.step.Control.{Control}
-use Rattle.qc_script.specs.Requests.{SentRequest}
+use Rattle.qc_script.specs.Names.{SentRequest}
 use Rattle.qc_inbox.specs.Tallies.{Tally}
 
 -- what waits for one actor, its messages named by their numbers

@@ -6,12 +6,12 @@ use Rattle.qc_msg.specs.declared.step.Control.{Control}
 use Rattle.qc_msg.specs.declared.step.Control.TheVariants as controls
 use Rattle.qc_msg.specs.declared.step.Input.{Input}
 use Rattle.qc_msg.specs.declared.step.Input.TheVariants as inputs
-use Rattle.qc_script.specs.Ready.{takes_commands}
+use Rattle.qc_script.specs.Names.{takes_commands}
 use Rattle.qc_inbox.specs.Inboxes.{Inboxes, Tray}
 use Rattle.qc_inbox.specs.Rooms.{tray_at}
 use Rattle.qc_inbox.specs.declared.input.ReadyInput.{ReadyInput}
 use Rattle.qc_inbox.specs.declared.input.ReadyInput.TheVariants.{Copy, Lost, Command as Called}
-use Rattle.qc_link.specs.Limits.{most_actors}
+use Rattle.qc_link.specs.Names.{most_actors}
 
 -- an input, its message named by its number
 abbrev pub input_of : Input → ReadyInput

@@ -2,18 +2,17 @@
 use Rattle.std.specs.Prelude.{◌*◌, ◌≡◌, ℕ, ◌<◌, Bool, true, List, Option, Some, None, length, map, slice_get}
 use Rattle.std.specs.List.{AllByRecursion as Every}
 use Rattle.qc_msg.specs.declared.message.Envelope.{Envelope}
-use Rattle.qc_msg.specs.Deeds.{mail}
+use Rattle.qc_msg.specs.Names.{Entry, mail}
 use Rattle.qc_msg.specs.declared.record.Record.{Record}
 use Rattle.qc_msg.specs.declared.turn.Appended.{Appended}
 use Rattle.qc_msg.specs.declared.turn.Appended.TheVariants.{Done, Failed, Stopped}
-use Rattle.qc_msg.specs.Steps.{Entry}
-use Rattle.qc_script.specs.Inbox.{Inbox, count_of, inbox}
+use Rattle.qc_script.specs.Names.{Inbox, count_of, inbox}
 use Rattle.qc_script.specs.declared.script.Script.{Script}
 use Rattle.qc_inbox.specs.Inboxes.{Inboxes, Tray}
 use Rattle.qc_inbox.specs.Picks.{calls_of}
 use Rattle.qc_inbox.specs.Rooms.{tray_at}
 use Rattle.qc_inbox.specs.Tallies.{count}
-use Rattle.qc_link.specs.Limits.{most_actors}
+use Rattle.qc_link.specs.Names.{most_actors}
 
 abbrev pub numbers_of : List Envelope → List ℕ
 numbers_of es = map (λ (e : Envelope). e.number) es

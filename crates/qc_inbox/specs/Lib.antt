@@ -9,3 +9,4 @@ pub mod Picks
 pub mod PicksKept
 pub mod Downs
 pub mod Owned
+pub mod Names

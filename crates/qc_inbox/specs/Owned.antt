@@ -1,8 +1,8 @@
 -- Requests that an actor sent itself.
 use Rattle.std.specs.Prelude.{◌≡◌, ℕ, true, List}
-use Rattle.qc_list.specs.Members.{In}
+use Rattle.qc_list.specs.Names.{In}
 use Rattle.qc_msg.specs.declared.message.Envelope.{Envelope}
-use Rattle.qc_script.specs.Inbox.{is_request}
+use Rattle.qc_script.specs.Names.{is_request}
 
 -- among these messages stands a request of this number that the actor sent
 pub record IsOwnRequest (ms : List Envelope) (a n : ℕ) : Type 0 where

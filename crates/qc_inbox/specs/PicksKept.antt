@@ -1,6 +1,6 @@
 -- Which actor comes next, as it is read off what is kept.
 use Rattle.std.specs.Prelude.{ℕ, List, Bool, Option, option_map}
-use Rattle.qc_decl.specs.Actors.{actors}
+use Rattle.qc_decl.specs.Names.{actors}
 use Rattle.qc_decl.specs.declared.declaration.Declaration.{Declaration}
 use Rattle.qc_inbox.specs.Inboxes.{Inboxes}
 use Rattle.qc_inbox.specs.Inputs.{input_in}

@@ -2,8 +2,7 @@
 use Rattle.std.specs.Prelude.{ℕ, ◌+◌, ◌==◌, Bool, true, false, List, [], ◌∷◌, Option, Some, None, drop, get_or}
 use Rattle.std.specs.Prelude.{length, map}
 use Rattle.std.specs.Prelude.{replicate, set}
-use Rattle.qc_link.specs.Cuts.{no_cuts, with_cut, without_cut}
-use Rattle.qc_link.specs.Fate.{fate}
+use Rattle.qc_link.specs.Names.{fate, most_actors, no_cuts, with_cut, without_cut}
 use Rattle.qc_link.specs.declared.rule.Fate.{Fate}
 use Rattle.qc_msg.specs.declared.message.Message.{Message}
 use Rattle.qc_msg.specs.declared.reply.Reply.{Reply}
@@ -13,7 +12,7 @@ use Rattle.qc_msg.specs.declared.turn.Appended.{Appended}
 use Rattle.qc_msg.specs.declared.turn.Appended.TheVariants.{Done, Failed, Stopped}
 use Rattle.qc_msg.specs.declared.turn.Posting.{Posting}
 use Rattle.qc_msg.specs.declared.turn.Turn.{Turn}
-use Rattle.qc_script.specs.Inbox.{acting, everybody, is_up}
+use Rattle.qc_script.specs.Names.{acting, everybody, is_up}
 use Rattle.qc_script.specs.declared.script.CommandLine.{CommandLine}
 use Rattle.qc_script.specs.declared.script.PhaseLines.{PhaseLines}
 use Rattle.qc_script.specs.declared.script.Script.{Script}
@@ -21,7 +20,6 @@ use Rattle.qc_inbox.specs.Inboxes.{Inboxes, Tray}
 use Rattle.qc_inbox.specs.Tallies.{count, no_messages, one_message_more}
 use Rattle.qc_inbox.specs.Trays.{empty_tray, tray_asked, tray_begun, tray_comes, tray_emptied, tray_goes, tray_losing}
 use Rattle.qc_inbox.specs.Trays.{tray_opened, tray_taken, tray_told}
-use Rattle.qc_link.specs.Limits.{most_actors}
 
 abbrev pub tray_at : List Tray → ℕ → Tray
 tray_at trays a = get_or trays a empty_tray

@@ -1,6 +1,6 @@
 -- How many messages there were, in all and from each actor to each. Actors are numbered below the most actors.
 use Rattle.std.specs.Prelude.{ℕ, ◌+◌, ◌*◌, List, get_or, replicate, set}
-use Rattle.qc_link.specs.Limits.{most_actors}
+use Rattle.qc_link.specs.Names.{most_actors}
 
 pub record Tally : Type 0 where
   -- by sender, then by receiver

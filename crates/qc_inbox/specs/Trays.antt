@@ -6,9 +6,8 @@ use Rattle.qc_link.specs.declared.rule.Fate.TheVariants.{Pass, Drop, Twice, Late
 use Rattle.qc_msg.specs.declared.message.Message.{Message}
 use Rattle.qc_msg.specs.declared.message.Message.TheVariants as messages
 use Rattle.qc_msg.specs.declared.step.Command.{Command}
-use Rattle.qc_script.specs.Inbox.{comes_at_once, is_request}
-use Rattle.qc_script.specs.Requests.{has_request, requests_to, requests_to_others, with_lost, with_number}
-use Rattle.qc_script.specs.Requests.{without_request}
+use Rattle.qc_script.specs.Names.{comes_at_once, has_request, is_request, requests_to, requests_to_others, with_lost}
+use Rattle.qc_script.specs.Names.{with_number, without_request}
 use Rattle.qc_inbox.specs.Inboxes.{Tray}
 
 abbrev pub empty_tray : Tray

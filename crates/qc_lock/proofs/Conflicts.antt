@@ -11,13 +11,13 @@ use Rattle.qc_stamp.specs.declared.stamp.TxId.{TxId}
 use Rattle.qc_stamp.proofs.Orders.{tx_order}
 use Rattle.qc_entry.specs.declared.line.OwnLine.{OwnLine}
 use Rattle.qc_entry.specs.declared.line.ReadLock.{ReadLock}
-use Rattle.qc_list.specs.Order.{by_order}
-use Rattle.qc_table.specs.Depends.{depends}
+use Rattle.qc_list.specs.Names.{by_order}
+use Rattle.qc_table.specs.Names.{depends}
 use Rattle.qc_lock.specs.declared.clash.Clash.{Clash}
 use Rattle.qc_lock.specs.declared.held.Held.{Held}
-use Rattle.qc_lock.specs.Held.{same_tx}
-use Rattle.qc_lock.specs.Clash.{clash_cmp, smaller, smallest, lines_in_way, locks_in_way, read_clashes, append_clashes, read_clash, append_clash}
-use Rattle.qc_lock.specs.Conflict.{In, IsReadConflict, IsAppendConflict, IsSmallest}
+use Rattle.qc_lock.specs.Names.{In, IsAppendConflict, IsReadConflict, IsSmallest, append_clash, append_clashes}
+use Rattle.qc_lock.specs.Names.{clash_cmp, lines_in_way, locks_in_way, read_clash, read_clashes, same_tx, smaller}
+use Rattle.qc_lock.specs.Names.{smallest}
 use Rattle.qc_lock.proofs.Entries.{and_first, and_second}
 
 pub clash_total : IsTotalOrder clash_cmp

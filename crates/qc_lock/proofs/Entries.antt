@@ -11,10 +11,9 @@ use Rattle.std.specs.declared.cmp.Ordering.{Ordering}
 use Rattle.std.specs.declared.cmp.Ordering.TheVariants.{Less, Equal, Greater}
 use Rattle.qc_entry.specs.declared.line.OwnLine.{OwnLine}
 use Rattle.qc_entry.specs.declared.line.ReadLock.{ReadLock}
-use Rattle.qc_list.specs.Order.{by_order}
-use Rattle.qc_lock.specs.Held.{same_tx, lock_cmp, own_cmp, inserted, with_locks, with_owns, entry_of, held_of}
-use Rattle.qc_lock.specs.Held.{with_entry, with_held, without_held}
-use Rattle.qc_lock.specs.Sound.{AreFull}
+use Rattle.qc_list.specs.Names.{by_order}
+use Rattle.qc_lock.specs.Names.{AreFull, entry_of, held_of, inserted, lock_cmp, own_cmp, same_tx, with_entry, with_held}
+use Rattle.qc_lock.specs.Names.{with_locks, with_owns, without_held}
 
 -- the test of names
 

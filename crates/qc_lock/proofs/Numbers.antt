@@ -14,9 +14,10 @@ use Rattle.std.proofs.lemmas.Bool.Decides.{nat_tests}
 use Rattle.std.proofs.lemmas.Cmp.{nat_cmp_total}
 use Rattle.std.proofs.lemmas.Map.Keys.{sorted_head, sorted_tail}
 use Rattle.qc_stamp.specs.declared.stamp.TxId.{TxId}
-use Rattle.qc_stamp.specs.Order.{tx_cmp}
+use Rattle.qc_stamp.specs.Names.{tx_cmp}
 use Rattle.qc_stamp.proofs.Orders.{tx_order}
-use Rattle.qc_lock.specs.Numbered.{same_tx, one_of, put_one, without_one, number_of, AreBelow, AreOfOthers, IsOneForEach}
+use Rattle.qc_lock.specs.Names.{AreBelow, AreOfOthers, IsOneForEach, number_of, one_of, put_one, without_one}
+use Rattle.qc_lock.specs.Numbered.{same_tx}
 use Rattle.qc_lock.proofs.Entries.{same_self, tx_apart}
 
 -- orders

@@ -3,8 +3,8 @@ use Rattle.std.proofs.Common.{◌≡◌, ◌++◌, Bool, true, false, cond, not,
 use Rattle.std.proofs.Common.{subst}
 use Rattle.qc_stamp.specs.declared.stamp.TxId.{TxId}
 use Rattle.qc_lock.specs.declared.held.Held.{Held}
-use Rattle.qc_lock.specs.Held.{with_entry}
-use Rattle.qc_lock.specs.Numbered.{same_tx, one_of, put_one, without_one, AreOfOthers, IsOneForEach}
+use Rattle.qc_lock.specs.Names.{AreOfOthers, IsOneForEach, one_of, put_one, with_entry, without_one}
+use Rattle.qc_lock.specs.Numbered.{same_tx}
 use Rattle.qc_lock.proofs.Entries.{apart_sym, same_self, tx_apart}
 
 others-put : {A : Type 0} (tx_of : A → TxId) (tx : TxId) (xs : List A) (one : A) → same_tx (tx_of one) tx ≡ false

@@ -11,12 +11,11 @@ use Rattle.std.proofs.lemmas.Cmp.{then_total, on_total, nat_cmp_total}
 use Rattle.qc_stamp.specs.declared.stamp.TxId.{TxId}
 use Rattle.qc_entry.specs.declared.line.OwnLine.{OwnLine}
 use Rattle.qc_entry.specs.declared.line.ReadLock.{ReadLock}
-use Rattle.qc_list.specs.Order.{Ascends, IsBelowAll, by_order, inserted}
+use Rattle.qc_list.specs.Names.{Ascends, IsBelowAll, by_order, inserted}
 use Rattle.qc_list.proofs.Order.{ascends-inserted}
 use Rattle.qc_lock.specs.declared.held.Held.{Held}
-use Rattle.qc_lock.specs.Held.{same_tx, same_lock, has_lock, lock_cmp, own_cmp, with_lock, with_locks, with_owns}
-use Rattle.qc_lock.specs.Held.{with_held, entry_of, held_of, with_entry, without_held}
-use Rattle.qc_lock.specs.Sound.{AreSorted, IsSingle, IsSound}
+use Rattle.qc_lock.specs.Names.{AreSorted, IsSingle, IsSound, entry_of, has_lock, held_of, lock_cmp, own_cmp, same_lock}
+use Rattle.qc_lock.specs.Names.{same_tx, with_entry, with_held, with_lock, with_locks, with_owns, without_held}
 use Rattle.qc_lock.proofs.Entries.{and_first, and_second, tx_apart, full-put, full-filter}
 use Rattle.qc_lock.proofs.Ones.{holder, once-put, once-filter, put_entry}
 

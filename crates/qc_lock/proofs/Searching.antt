@@ -9,20 +9,16 @@ use Rattle.std.specs.declared.cmp.Ordering.TheVariants.{Less, Equal, Greater}
 use Rattle.std.proofs.lemmas.Bool.{and_parts, and_from, both_ways, eq-eqb, eqb-true, or_cases, or_left, or_right}
 use Rattle.std.proofs.lemmas.Bool.{not-true}
 use Rattle.qc_stamp.specs.declared.stamp.TxId.{TxId}
-use Rattle.qc_stamp.specs.Order.{tx_cmp}
+use Rattle.qc_stamp.specs.Names.{tx_cmp}
 use Rattle.qc_entry.specs.declared.line.OwnLine.{OwnLine}
 use Rattle.qc_entry.specs.declared.line.ReadLock.{ReadLock}
-use Rattle.qc_table.specs.Depends.{depends}
+use Rattle.qc_table.specs.Names.{depends}
 use Rattle.qc_lock.specs.declared.clash.Clash.{Clash}
 use Rattle.qc_lock.specs.declared.held.Held.{Held}
 use Rattle.qc_lock.specs.declared.places.Place.{Place}
-use Rattle.qc_lock.specs.Held.{same_tx, entry_of, held_of}
-use Rattle.qc_lock.specs.Clash.{clash_cmp, read_clash, append_clash}
-use Rattle.qc_lock.specs.Conflict.{In, IsReadConflict, IsAppendConflict, IsSmallest}
-use Rattle.qc_lock.specs.Places.{has_line, has_read, is_there, lines_held, reads_held, IsAppendPlaced, IsFirst, IsIndex}
-use Rattle.qc_lock.specs.Places.{IsPlaced, IsReadPlaced}
-use Rattle.qc_lock.specs.Numbered.{AreOfOthers}
-use Rattle.qc_lock.specs.Sound.{IsSingle}
+use Rattle.qc_lock.specs.Names.{AreOfOthers, In, IsAppendConflict, IsAppendPlaced, IsFirst, IsIndex, IsPlaced}
+use Rattle.qc_lock.specs.Names.{IsReadConflict, IsReadPlaced, IsSingle, IsSmallest, append_clash, clash_cmp, entry_of}
+use Rattle.qc_lock.specs.Names.{has_line, has_read, held_of, is_there, lines_held, read_clash, reads_held, same_tx}
 use Rattle.qc_lock.proofs.Conflicts.{append_smallest, read_smallest, smallest_by}
 use Rattle.qc_lock.proofs.Entries.{same_self, tx_apart}
 use Rattle.qc_lock.proofs.Numbers.{nat_self}

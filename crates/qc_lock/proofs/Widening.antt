@@ -12,10 +12,9 @@ use Rattle.std.proofs.lemmas.Bool.Decides.{nat_tests}
 use Rattle.std.proofs.lemmas.List.{take-append-drop}
 use Rattle.std.proofs.lemmas.List.Folds.{list_any-append}
 use Rattle.qc_stamp.specs.declared.stamp.TxId.{TxId}
-use Rattle.qc_stamp.specs.Order.{tx_cmp}
+use Rattle.qc_stamp.specs.Names.{tx_cmp}
 use Rattle.qc_lock.specs.declared.places.Place.{Place}
-use Rattle.qc_lock.specs.Held.{same_tx}
-use Rattle.qc_lock.specs.Places.{is_there, place_cmp, Narrows, Sets, Widens}
+use Rattle.qc_lock.specs.Names.{Narrows, Sets, Widens, is_there, place_cmp, same_tx}
 use Rattle.qc_lock.proofs.Entries.{apart_sym, same_self, tx_apart}
 use Rattle.qc_lock.proofs.Holding.{place}
 use Rattle.qc_lock.proofs.Numbers.{tx_same}

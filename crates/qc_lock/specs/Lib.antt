@@ -4,3 +4,4 @@ pub mod Held
 pub mod Numbered
 pub mod Places
 pub mod Sound
+pub mod Names

@@ -1,12 +1,8 @@
 -- How the room of mailboxes goes on, where one of them is changed.
 use Rattle.std.proofs.Common.{◌≡◌, ℕ, ◌+◌, ◌<◌, ◌≤◌, List, ap, sym, ◌∙◌, arith, length, get_or, map, set, subst}
 use Rattle.std.specs.List.{AllByRecursion as Every}
-use Rattle.qc_inbox.specs.Inboxes.{Tray}
-use Rattle.qc_inbox.specs.Rooms.{tray_at}
-use Rattle.qc_inbox.specs.Trays.{empty_tray}
-use Rattle.qc_mailbox.specs.Boxes.{HasRoom, HasUsed, tray}
-use Rattle.qc_mailbox.specs.Phases.{HasOthers, IsPrepared}
-use Rattle.qc_mailbox.specs.Queues.{spare}
+use Rattle.qc_inbox.specs.Names.{Tray, empty_tray, tray_at}
+use Rattle.qc_mailbox.specs.Names.{HasOthers, HasRoom, HasUsed, IsPrepared, spare, tray}
 use Rattle.qc_mailbox.specs.declared.mailbox.Mailbox.{Mailbox}
 use Rattle.qc_mailbox.proofs.Each.{every_get, every_less, every_set, every_weaker, map_changed, map_same}
 

@@ -5,3 +5,4 @@ pub mod Boxes
 pub mod Phases
 pub mod Kept
 pub mod Passed
+pub mod Names

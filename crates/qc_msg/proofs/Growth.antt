@@ -20,10 +20,12 @@ use Rattle.qc_msg.specs.declared.turn.Appended.{Appended}
 use Rattle.qc_msg.specs.declared.turn.Appended.TheVariants.{Done, Failed, Stopped}
 use Rattle.qc_msg.specs.declared.turn.Posting.{Posting}
 use Rattle.qc_msg.specs.declared.turn.Turn.{Turn}
-use Rattle.qc_msg.specs.Deeds.{Deed, Falls, Rises, Takes, Sends, deed_at, deeds, deeds_as, envelope_of, envelopes, heard, mail, own, sends_of, tells_of, turn_deeds, writes_of, WasSentTo}
+use Rattle.qc_msg.specs.Names.{Deed, Entry, Falls, IsNoRise, Rises, Sends, Takes, Tally, WasSentTo, answered}
+use Rattle.qc_msg.specs.Names.{answered_at, answered_in, by, commit_in, deed_at, deeds, deeds_as, envelope_of}
+use Rattle.qc_msg.specs.Names.{envelopes, fell, heard, mail, marked, no_tally, operations_of, own, posted, posted_as}
+use Rattle.qc_msg.specs.Names.{sends_as, sends_of, sents, standing_after, step_of, tally_of, tally_with, tells_of, told}
+use Rattle.qc_msg.specs.Names.{turn_deeds, writes_of, written, wrote}
 use Rattle.qc_entry.specs.declared.record.Commit.{Commit}
-use Rattle.qc_msg.specs.Counts.{IsNoRise, Tally, answered, answered_at, answered_in, commit_in, no_tally, operations_of, standing_after, tally_of, tally_with, written}
-use Rattle.qc_msg.specs.Steps.{Entry, by, fell, marked, posted, posted_as, sends_as, sents, step_of, told, wrote}
 use Rattle.qc_msg.proofs.GrownMail.{by-append, by-posted, mail-append, mail-sents, mail-told, mail-posted}
 
 -- an actor's own steps

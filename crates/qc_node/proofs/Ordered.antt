@@ -4,15 +4,12 @@ use Rattle.std.proofs.Common.{refl, sym, ap, ◌∙◌, subst, inr, arith}
 use Rattle.std.proofs.lemmas.Bool.{ne_eqb}
 use Rattle.atomic_table.specs.Seated.{TableId}
 use Rattle.qc_core.specs.declared.actor.Actor.TheVariants.{Down}
-use Rattle.qc_core.specs.Actors.{ActorMove, actor_after}
-use Rattle.qc_core.specs.Conduct.{IsLawfulWithFalls}
+use Rattle.qc_core.specs.Names.{ActorMove, IsLawfulWithFalls, actor_after}
 use Rattle.qc_core.proofs.LivesLaws.{falls}
-use Rattle.qc_decl.specs.Accepted.{IsAccepted}
-use Rattle.qc_decl.specs.Actors.{actors, controller}
+use Rattle.qc_decl.specs.Names.{IsAccepted, actors, controller}
 use Rattle.qc_decl.specs.declared.declaration.Declaration.{Declaration}
-use Rattle.qc_link.specs.Limits.{most_actors}
-use Rattle.qc_msg.specs.Deeds.{Deed, deeds}
-use Rattle.qc_msg.specs.Steps.{Entry, marked}
+use Rattle.qc_link.specs.Names.{most_actors}
+use Rattle.qc_msg.specs.Names.{Deed, Entry, deeds, marked}
 use Rattle.qc_msg.specs.declared.step.Control.{Control}
 use Rattle.qc_msg.specs.declared.step.Control.TheVariants as controls
 use Rattle.qc_msg.specs.declared.step.Fall.TheVariants as causes
@@ -20,21 +17,13 @@ use Rattle.qc_msg.specs.declared.step.Step.{Step}
 use Rattle.qc_msg.specs.declared.step.Step.TheVariants as steps
 use Rattle.qc_outside.specs.declared.disk.ArmKind.{ArmKind}
 use Rattle.qc_pass.specs.declared.token.Pass.{Pass}
-use Rattle.qc_pass.specs.Tokens.{number, room, seen}
-use Rattle.qc_process.specs.Goes.{GoesArmed}
-use Rattle.qc_process.specs.Opens.{GoesOn, StaysOnDisk}
-use Rattle.qc_process.specs.Stored.{IsProcess, IsStored}
-use Rattle.qc_process.specs.Views.{ProcessView}
-use Rattle.qc_script.specs.RunsWithFalls.{RunsWithFalls}
+use Rattle.qc_pass.specs.Names.{number, room, seen}
+use Rattle.qc_process.specs.Names.{GoesArmed, GoesOn, IsProcess, IsStored, ProcessView, StaysOnDisk}
+use Rattle.qc_script.specs.Names.{RunsWithFalls}
 use Rattle.qc_script.specs.declared.script.Script.{Script}
-use Rattle.qc_fabric.specs.ActorLines.{Arms, FallsByLine}
-use Rattle.qc_fabric.specs.Controls.{IsUpTo, MayDo}
-use Rattle.qc_fabric.specs.Risings.{RisesAs}
-use Rattle.qc_fabric.specs.Tells.{IsSame}
+use Rattle.qc_fabric.specs.Names.{Arms, FallsByLine, IsSame, IsUpTo, MayDo, RisesAs}
 use Rattle.qc_fabric.specs.declared.rising.Rising.{Rising}
-use Rattle.qc_node.specs.Cells.{IsCell, IsLeft}
-use Rattle.qc_node.specs.Rules.{fits_of}
-use Rattle.qc_node.specs.Runnable.{IsRunnable}
+use Rattle.qc_node.specs.Names.{IsCell, IsLeft, IsRunnable, fits_of}
 use Rattle.qc_node.proofs.Lines.{armed_counted, crashed_up, restarted_down}
 
 pub few_actors : (decl : Declaration) → IsAccepted decl → actors decl ≤ most_actors

@@ -5,14 +5,12 @@ use Rattle.std.specs.Prelude.{IfSome}
 use Rattle.std.proofs.lemmas.List.{append-nil}
 use Rattle.qc_core.specs.declared.actor.Actor.{Actor}
 use Rattle.qc_core.specs.declared.actor.Actor.TheVariants as actors_of
-use Rattle.qc_core.specs.Actors.{ActorFits, ActorMove, AsksFew, actor_after, actor_sent, actor_takes, moved}
-use Rattle.qc_core.specs.Conduct.{IsLawfulWithFalls}
+use Rattle.qc_core.specs.Names.{ActorFits, ActorMove, AsksFew, IsLawfulWithFalls, actor_after, actor_sent, actor_takes}
+use Rattle.qc_core.specs.Names.{moved}
 use Rattle.qc_core.proofs.ByTurns.{after_takes}
 use Rattle.qc_core.proofs.Written.{after_written}
-use Rattle.qc_epoch.specs.Deciding.{most_asks}
-use Rattle.qc_decl.specs.Accepted.{IsAccepted}
-use Rattle.qc_decl.specs.Actors.{actors}
-use Rattle.qc_decl.specs.Limits.{most_steps}
+use Rattle.qc_epoch.specs.Names.{most_asks}
+use Rattle.qc_decl.specs.Names.{IsAccepted, actors, most_steps}
 use Rattle.qc_decl.specs.declared.declaration.Declaration.{Declaration}
 use Rattle.qc_msg.specs.declared.record.Record.{Record}
 use Rattle.qc_msg.specs.declared.step.Input.{Input}
@@ -21,25 +19,21 @@ use Rattle.qc_msg.specs.declared.step.Step.{Step}
 use Rattle.qc_msg.specs.declared.turn.Appended.{Appended}
 use Rattle.qc_msg.specs.declared.turn.Appended.TheVariants.{Done}
 use Rattle.qc_msg.specs.declared.turn.Turn.{Turn}
-use Rattle.qc_msg.specs.Deeds.{Deed, Takes as TakesInput, deeds, deeds_as, mail}
-use Rattle.qc_msg.specs.Steps.{Entry, HasRecord, MayEnd, by, marked, posted_as, step_of}
+use Rattle.qc_msg.specs.Names.{Deed, Entry, HasRecord, MayEnd, Takes as TakesInput, by, deeds, deeds_as, mail, marked}
+use Rattle.qc_msg.specs.Names.{posted_as, step_of}
 use Rattle.qc_msg.proofs.GrownMail.{length-mail}
 use Rattle.qc_pass.specs.declared.token.Pass.{Pass}
-use Rattle.qc_pass.specs.Tokens.{number, seen}
-use Rattle.qc_process.specs.Goes.{Goes}
-use Rattle.qc_process.specs.Inputs.{IsReadable}
-use Rattle.qc_process.specs.Stored.{IsPlaced, IsProcess, IsStored}
-use Rattle.qc_process.specs.Views.{HasFewRecords, IsUp, IsWritable, MayWrite, OpenJournal, ProcessView, StoreView}
+use Rattle.qc_pass.specs.Names.{number, seen}
+use Rattle.qc_process.specs.Names.{Goes, HasFewRecords, IsPlaced, IsProcess, IsReadable, IsStored, IsUp, IsWritable}
+use Rattle.qc_process.specs.Names.{MayWrite, OpenJournal, ProcessView, StoreView}
 use Rattle.qc_process.proofs.Going.{plain_on}
 use Rattle.qc_process.proofs.Plain.{ArePlain}
-use Rattle.qc_script.specs.Sound.{IsScriptFor}
+use Rattle.qc_script.specs.Names.{IsScriptFor}
 use Rattle.qc_script.specs.declared.script.Script.{Script}
 use Rattle.laws_bounds.proofs.TurnsSpelled.{turn_spelled}
-use Rattle.qc_fabric.specs.FabricStates.{most_history}
-use Rattle.qc_fabric.specs.Tells.{GoesToActors, Posts, Sees, Takes}
+use Rattle.qc_fabric.specs.Names.{GoesToActors, Posts, Sees, Takes, most_history}
 use Rattle.qc_fabric.proofs.Limits.{none_reached}
-use Rattle.qc_node.specs.Cells.{IsServed}
-use Rattle.qc_node.specs.Rules.{fits_of}
+use Rattle.qc_node.specs.Names.{IsServed, fits_of}
 use Rattle.qc_node.proofs.Turned.{same_deeds, same_record, turned}
 use Rattle.qc_node.proofs.Turns.{asks_few, fits, numbered, readable, short_failed, short_turn, turn_is_lawful}
 

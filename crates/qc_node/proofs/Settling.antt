@@ -3,33 +3,24 @@ use Rattle.std.proofs.Common.{◌≡◌, ℕ, ◌+◌, ◌==◌, Bool, true, fal
 use Rattle.std.proofs.Common.{refl, sym, ap, ◌∙◌, subst, arith, inl, inr}
 use Rattle.std.specs.Prelude.{◌<◌, IfSome, is_some, slice_get, slice_set}
 use Rattle.std.proofs.lemmas.Bool.{eqb-false, eqb-true}
-use Rattle.qc_decl.specs.Actors.{controller}
+use Rattle.qc_decl.specs.Names.{controller}
 use Rattle.qc_decl.specs.declared.declaration.Declaration.{Declaration}
-use Rattle.qc_fabric.specs.Tells.{Sees}
+use Rattle.qc_fabric.specs.Names.{Sees}
 use Rattle.qc_fabric.proofs.Fed.{get_else, get_here, get_within}
-use Rattle.qc_msg.specs.Deeds.{own}
-use Rattle.qc_msg.specs.Steps.{Entry}
+use Rattle.qc_msg.specs.Names.{Entry, own}
 use Rattle.qc_msg.specs.declared.step.Step.{Step}
-use Rattle.qc_outside.specs.Disk.{IsKept}
-use Rattle.qc_outside.specs.Images.{Told}
-use Rattle.qc_outside.specs.Places.{IsPutBack, Places}
+use Rattle.qc_outside.specs.Names.{IsKept, IsPutBack, Places, Told}
 use Rattle.qc_pass.specs.declared.token.Pass.{Pass}
-use Rattle.qc_pass.specs.Tokens.{number, seen}
-use Rattle.qc_process.specs.Goes.{Goes}
-use Rattle.qc_process.specs.Stored.{IsOnDisk, IsStored}
-use Rattle.qc_process.specs.Views.{ProcessView}
+use Rattle.qc_pass.specs.Names.{number, seen}
+use Rattle.qc_process.specs.Names.{Goes, IsOnDisk, IsStored, ProcessView}
 use Rattle.qc_process.proofs.GivenUp.{on_disk_past_others, stored_past_others}
-use Rattle.qc_promise.specs.DiskAccount.{DiskAccount, IsEverInTime, disk_account}
-use Rattle.qc_promise.specs.Kept.{Journal, journal_of}
-use Rattle.laws_bounds.specs.Misfits.{AreKeptOrMisfits}
-use Rattle.laws_bounds.specs.Places.{AreHandedOut, JournalIsOn, place_of}
-use Rattle.laws_bounds.specs.Visits.{nobody, with_visit}
+use Rattle.qc_promise.specs.Names.{DiskAccount, IsEverInTime, Journal, disk_account, journal_of}
+use Rattle.laws_bounds.specs.Names.{AreHandedOut, AreKeptOrMisfits, JournalIsOn, nobody, place_of, with_visit}
 use Rattle.laws_bounds.proofs.BackPlaces.{none_back, one_back}
 use Rattle.laws_bounds.proofs.Counted.{each_visited, none_visited, one_visited, visit_other}
 use Rattle.laws_bounds.proofs.Falls.{none_spent, one_spent}
-use Rattle.qc_store.specs.Accounts.{IsCounted}
-use Rattle.qc_node.specs.Cells.{IsKnown, IsLeft}
-use Rattle.qc_node.specs.Settling.{IsSettling}
+use Rattle.qc_store.specs.Names.{IsCounted}
+use Rattle.qc_node.specs.Names.{IsKnown, IsLeft, IsSettling}
 use Rattle.qc_node.proofs.Misfits.{misfits_of}
 use Rattle.qc_node.proofs.Served.{saw_goes}
 use Rattle.qc_node.proofs.Starts.{put_tells}

@@ -3,17 +3,15 @@ use Rattle.std.proofs.Common.{◌≡◌, ◌⊎◌, ℕ, ◌+◌, ◌<◌, ◌�
 use Rattle.std.proofs.Common.{refl, sym, ◌∙◌, subst, arith, inl, inr}
 use Rattle.std.specs.Prelude.{IsSome, is_some}
 use Rattle.std.proofs.lemmas.Bool.{cases_lt, cases_order}
-use Rattle.qc_outside.specs.Disk.{IsKept, NamesActor}
-use Rattle.qc_outside.specs.Images.{Told, settled}
-use Rattle.qc_outside.specs.Places.{HoldsNoByte, IsPutBack, Places}
+use Rattle.qc_outside.specs.Names.{HoldsNoByte, IsKept, IsPutBack, NamesActor, Places, Told, settled}
 use Rattle.qc_outside.specs.declared.rack.RackFault.{RackFault}
 use Rattle.qc_outside.specs.declared.rack.RackFault.TheVariants.{Failed, NotEmpty, OutOfMemory}
-use Rattle.qc_process.specs.Opens.{IsStartRefused}
-use Rattle.laws_bounds.specs.Places.{place_of}
+use Rattle.qc_process.specs.Names.{IsStartRefused}
+use Rattle.laws_bounds.specs.Names.{place_of}
 use Rattle.laws_bounds.proofs.BackPlaces.{elsewhere}
-use Rattle.qc_node.specs.Places.{AreGivenBack, BothTell, HasBegun, IsNotEmpty, IsRefused}
-use Rattle.qc_node.specs.Starts.{AreBackBelow, AreBackBut, AreBackFrom, AreHandedBelow, AreStarted, AreUnbegun}
-use Rattle.qc_node.specs.Starts.{AreUnstarted, IsBackFrom, IsGivenBack, IsHandedBelow, IsUnbegun, IsUnwritten}
+use Rattle.qc_node.specs.Names.{AreBackBelow, AreBackBut, AreBackFrom, AreGivenBack, AreHandedBelow, AreStarted}
+use Rattle.qc_node.specs.Names.{AreUnbegun, AreUnstarted, BothTell, HasBegun, IsBackFrom, IsGivenBack, IsHandedBelow}
+use Rattle.qc_node.specs.Names.{IsNotEmpty, IsRefused, IsUnbegun, IsUnwritten}
 use Rattle.qc_node.proofs.Starts.{other_place}
 use Rattle.qc_node.proofs.Unstarted.{told_alike}
 

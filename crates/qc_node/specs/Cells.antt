@@ -2,22 +2,19 @@
 use Rattle.std.specs.Prelude.{◌≡◌, ◌⊎◌, ℕ, ◌<◌, Bool, true, false, List, [], ◌∷◌, ◌++◌, None}
 use mathlib.Core.List.{IsPrefix}
 use Rattle.atomic_table.specs.Seated.{TableId}
-use Rattle.qc_core.specs.Actors.{actor_after, actor_takes}
-use Rattle.qc_core.specs.Conduct.{IsLawfulWithFalls}
-use Rattle.qc_decl.specs.Actors.{actors}
+use Rattle.qc_core.specs.Names.{IsLawfulWithFalls, actor_after, actor_takes}
+use Rattle.qc_decl.specs.Names.{actors}
 use Rattle.qc_decl.specs.declared.declaration.Declaration.{Declaration}
-use Rattle.qc_msg.specs.Deeds.{Takes, deeds, deeds_as}
-use Rattle.qc_msg.specs.Steps.{Entry}
+use Rattle.qc_msg.specs.Names.{Entry, Takes, deeds, deeds_as}
 use Rattle.qc_msg.specs.declared.step.Input.{Input}
 use Rattle.qc_msg.specs.declared.step.Step.{Step}
 use Rattle.qc_msg.specs.declared.turn.Appended.{Appended}
 use Rattle.qc_pass.specs.declared.token.Pass.{Pass}
-use Rattle.qc_pass.specs.Tokens.{number, pass_table, room, seen}
-use Rattle.qc_process.specs.Stored.{IsOnDisk, IsProcess, IsStored}
-use Rattle.qc_process.specs.Views.{ProcessView, StoreView}
-use Rattle.qc_script.specs.RunsWithFalls.{RunWithFalls}
+use Rattle.qc_pass.specs.Names.{number, pass_table, room, seen}
+use Rattle.qc_process.specs.Names.{IsOnDisk, IsProcess, IsStored, ProcessView, StoreView}
+use Rattle.qc_script.specs.Names.{RunWithFalls}
 use Rattle.qc_script.specs.declared.script.Script.{Script}
-use Rattle.qc_fabric.specs.Tells.{HasNone}
+use Rattle.qc_fabric.specs.Names.{HasNone}
 use Rattle.qc_node.specs.Rules.{fits_of}
 use Rattle.qc_node.specs.declared.ends.TurnEnd.{TurnEnd}
 use Rattle.qc_node.specs.declared.ends.TurnEnd.TheVariants as ends

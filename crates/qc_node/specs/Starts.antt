@@ -3,15 +3,11 @@
 use Rattle.std.specs.Prelude.{◌≡◌, ℕ, ◌+◌, ◌<◌, ◌≤◌, Bool, true, List, [], Option, Some, Ok}
 use Rattle.std.specs.Prelude.{All, IsSome, is_some, slice_get}
 use Rattle.qc_decl.specs.declared.declaration.Declaration.{Declaration}
-use Rattle.qc_outside.specs.Causes.{Rose}
-use Rattle.qc_outside.specs.Disk.{NamesActor}
-use Rattle.qc_outside.specs.Images.{Told, settled}
-use Rattle.qc_outside.specs.Places.{HoldsNoByte, IsHandedOut, IsSameAtAll, Places}
+use Rattle.qc_outside.specs.Names.{HoldsNoByte, IsHandedOut, IsSameAtAll, NamesActor, Places, Rose, Told, settled}
 use Rattle.qc_outside.specs.declared.rack.RackFault.{RackFault}
 use Rattle.qc_outside.specs.declared.rack.RackFault.TheVariants as racks
-use Rattle.qc_process.specs.Stored.{IsProcess}
-use Rattle.qc_process.specs.Views.{IsUp, ProcessView}
-use Rattle.laws_bounds.specs.Places.{AreHandedOut, place_of}
+use Rattle.qc_process.specs.Names.{IsProcess, IsUp, ProcessView}
+use Rattle.laws_bounds.specs.Names.{AreHandedOut, place_of}
 use Rattle.qc_node.specs.Places.{AreGivenBack, BothTell, HasBegun, IsRefused}
 
 -- the processes of the actors from 0 on, before these do anything

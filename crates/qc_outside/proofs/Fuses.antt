@@ -2,11 +2,9 @@
 use Rattle.std.proofs.Common.{◌≡◌, ℕ, ◌+◌, ◌-◌, ◌≤◌, Option, Some, None, Result, Ok, Err, inl, inr, refl, sym}
 use Rattle.std.proofs.Common.{◌∙◌, ap, subst, arith, nat_le, true, false, Bool, if◌then◌else◌}
 use Rattle.std.proofs.lemmas.Bool.{leb-true, leb-false}
-use Rattle.qc_outside.specs.Arms.{Armed, acting, armed_after}
-use Rattle.qc_outside.specs.Causes.{Rose}
-use Rattle.qc_outside.specs.Disk.{DiskRose}
-use Rattle.qc_outside.specs.Fuses.{Burns, BurnsMany, Fuse, HasActed, HasFailed, HasFaulted, HasPassed, BurnsNothing}
-use Rattle.qc_outside.specs.Fuses.{IsBlamed, IsArmedAfter, IsRefused, fault_of}
+use Rattle.qc_outside.specs.Names.{Armed, Burns, BurnsMany, BurnsNothing, DiskRose, Fuse, HasActed, HasFailed}
+use Rattle.qc_outside.specs.Names.{HasFaulted, HasPassed, IsArmedAfter, IsBlamed, IsRefused, Rose, acting, armed_after}
+use Rattle.qc_outside.specs.Names.{fault_of}
 use Rattle.qc_outside.specs.declared.disk.ArmKind.{ArmKind}
 use Rattle.qc_outside.specs.declared.disk.ArmKind.TheVariants.{Fail, Stop}
 use Rattle.qc_outside.specs.declared.disk.DiskFault.{DiskFault}

@@ -8,8 +8,8 @@ use Rattle.atomic_table.specs.Table.{State, Me, step, keeps, opening, Allows, Sp
 use Rattle.atomic_table.proofs.Lists.{set_again}
 use Rattle.qc_list.specs.declared.marked.Marked.{Marked}
 use Rattle.qc_pass.specs.declared.view.View.{View}
-use Rattle.qc_pass.specs.Views.{marked, pass_view, right_view, spent, with_pass, next_pass, joined, IsJoined, with_entry, pass_apart, right_apart, Knows, Loads, Adds}
-use Rattle.qc_pass.specs.Rule.{IsPassOf, IsRightTo, IsOneHistory}
+use Rattle.qc_pass.specs.Names.{Adds, IsJoined, IsOneHistory, IsPassOf, IsRightTo, Knows, Loads, joined, marked}
+use Rattle.qc_pass.specs.Names.{next_pass, pass_apart, pass_view, right_apart, right_view, spent, with_entry, with_pass}
 use Rattle.qc_pass.proofs.Places.{got, at_inside, set_here, set_else, at_longer, at_last, set_fact, end_fact, prefix_more, prefix_all}
 use Rattle.qc_pass.proofs.Owns.{own_mine, own_other}
 

@@ -4,10 +4,8 @@ use Rattle.std.proofs.Common.{◌∙◌, subst, arith}
 use Rattle.std.specs.Prelude.{slice_get, slice_index, Option, Some}
 use Rattle.qc_list.specs.declared.marked.Marked.{Marked}
 use Rattle.qc_pass.specs.declared.view.View.{View}
-use Rattle.qc_pass.specs.Views.{marked, pass_view, right_view, own}
-use Rattle.qc_pass.specs.Seats.{word_of}
+use Rattle.qc_pass.specs.Names.{IsOneHistory, IsPassOf, IsRightTo, marked, own, pass_view, right_view, word_of}
 use Rattle.qc_pass.proofs.Owns.{own_other}
-use Rattle.qc_pass.specs.Rule.{IsPassOf, IsRightTo, IsOneHistory}
 
 module _ {E : Type 0} where
   pub no_right : IsOneHistory {E = E} (word_of 0 (pass_view 0 [] [] 0 ∷ [])) → ⊥

@@ -6,16 +6,13 @@ use Rattle.std.specs.List.{list_any}
 use Rattle.std.specs.Option.{option_or}
 use Rattle.std.proofs.lemmas.Bool.{eqb-false, leb-false, lt-leb, ne_eqb, or_from, or_parts}
 use Rattle.std.proofs.lemmas.Option.{slice_get_within}
-use Rattle.qc_plan.specs.Admitted.{IsAdmitted}
-use Rattle.qc_plan.specs.Faults.{can_miss, fault_of, heavy_fault, is_heavy, kind_fault, object_fault, pair_fault}
-use Rattle.qc_plan.specs.Need.{need_of}
-use Rattle.qc_plan.specs.Weights.{total}
+use Rattle.qc_plan.specs.Names.{IsAdmitted, can_miss, fault_of, heavy_fault, is_heavy, kind_fault, need_of}
+use Rattle.qc_plan.specs.Names.{object_fault, pair_fault, total}
 use Rattle.qc_plan.specs.declared.fault.PlanFault.TheVariants.{NoWeight, TooHeavy, CanMiss}
 use Rattle.qc_plan.specs.declared.plan.Plan.{Plan}
-use Rattle.qc_table.specs.Depends.{depends}
-use Rattle.qc_list.specs.Search.{first_below}
+use Rattle.qc_table.specs.Names.{depends, events_of}
+use Rattle.qc_list.specs.Names.{first_below}
 use Rattle.qc_list.proofs.Search.{below_none, none_from, none_below, none_parts}
-use Rattle.qc_table.specs.Rules.{events_of}
 use Rattle.qc_table.specs.declared.kind.Kind.{Kind}
 use Rattle.qc_plan.proofs.Heaviness.{all_light, none_heavy}
 

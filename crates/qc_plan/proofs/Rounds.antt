@@ -6,8 +6,10 @@ use Rattle.std.proofs.Math.Seq.{take-set-lt}
 use Rattle.std.specs.Option.{option_or}
 use Rattle.std.proofs.lemmas.Bool.Decides.{nat_tests}
 use Rattle.std.proofs.lemmas.List.Folds.{list_any-append, list_all-append}
-use Rattle.qc_plan.specs.Round.{RoundState, is_asked, has_granted, is_granted, all_noted, first_closed, first_clash, refusal, closed_at, clash_at, settled, verdict, is_waiting, may_ask, first, next_site, asking_first, asking_next, prefix, wanted, asking_all, asking_on, asking_in_turn, place_in, note_in, weighing, cyclic, start}
-use Rattle.qc_plan.specs.Weights.{weight}
+use Rattle.qc_plan.specs.Names.{RoundState, all_noted, asking_all, asking_first, asking_in_turn, asking_next, asking_on}
+use Rattle.qc_plan.specs.Names.{clash_at, closed_at, cyclic, first, first_clash, first_closed, has_granted, is_asked}
+use Rattle.qc_plan.specs.Names.{is_granted, is_waiting, may_ask, next_site, note_in, place_in, prefix, refusal, settled}
+use Rattle.qc_plan.specs.Names.{start, verdict, wanted, weighing, weight}
 use Rattle.qc_plan.specs.declared.standing.Asked.{Asked}
 use Rattle.qc_plan.specs.declared.standing.Standing.{Standing}
 use Rattle.qc_plan.specs.declared.standing.Standing.TheVariants as standings

@@ -2,25 +2,17 @@
 use Rattle.std.proofs.Common.{◌≡◌, ℕ, ◌≤◌, Bool, true, List, [], ◌∷◌, Option, Some, None, IsSome, length}
 use Rattle.std.proofs.Common.{refl, sym, ◌∙◌, ap, arith, subst, Err}
 use Rattle.qc_decl.specs.declared.declaration.Declaration.{Declaration}
-use Rattle.qc_journal.specs.Causes.{JournalRose}
-use Rattle.qc_journal.specs.Grammar.{IsNoJournal}
-use Rattle.qc_journal.specs.Journal.{Rests}
+use Rattle.qc_journal.specs.Names.{IsNoJournal, JournalRose, Rests}
 use Rattle.qc_journal.specs.declared.fault.JournalFault.{JournalFault}
 use Rattle.qc_journal.specs.declared.fault.JournalFault.TheVariants as faults
-use Rattle.qc_msg.specs.Deeds.{own}
-use Rattle.qc_msg.specs.Steps.{Entry}
-use Rattle.qc_outside.specs.Fuses.{Fuse}
-use Rattle.qc_outside.specs.Images.{Tells, Told, as_read, settled}
-use Rattle.qc_outside.specs.Causes.{Rose}
+use Rattle.qc_msg.specs.Names.{Entry, own}
+use Rattle.qc_outside.specs.Names.{Fuse, Rose, Tells, Told, as_read, settled}
 use Rattle.qc_outside.specs.declared.rack.RackFault.{RackFault}
 use Rattle.qc_outside.specs.declared.rack.RackFault.TheVariants as racks
-use Rattle.qc_promise.specs.DiskAccount.{IsEverInTime, IsInTime, no_disk_account}
-use Rattle.qc_promise.specs.Kept.{Journal, journal_of, no_journal}
-use Rattle.qc_store.specs.Accounts.{IsAccountOf}
-use Rattle.qc_store.specs.Contents.{DiskHasJournal}
-use Rattle.qc_process.specs.Opens.{IsStartRefused, not_begun}
-use Rattle.qc_process.specs.Stored.{IsPlaced, IsStored, IsTold, bodies_of}
-use Rattle.qc_process.specs.Views.{OpenJournal, StoreView}
+use Rattle.qc_promise.specs.Names.{IsEverInTime, IsInTime, Journal, journal_of, no_disk_account, no_journal}
+use Rattle.qc_store.specs.Names.{DiskHasJournal, IsAccountOf}
+use Rattle.qc_process.specs.Names.{IsPlaced, IsStartRefused, IsStored, IsTold, OpenJournal, StoreView, bodies_of}
+use Rattle.qc_process.specs.Names.{not_begun}
 use Rattle.qc_process.proofs.Appending.{Shows}
 use Rattle.qc_process.proofs.Own.{none_kept}
 

@@ -4,21 +4,17 @@ use Rattle.std.proofs.Common.{◌∷◌, ◌++◌}
 use Rattle.std.proofs.Common.{Vec, length, drop, get_or, refl, sym, ◌∙◌, ap, subst, arith, ltb-true, append_assoc}
 use Rattle.std.proofs.Common.{length-append}
 use Rattle.std.specs.declared.alloc.Global.{Global}
-use Rattle.qc_decl.specs.Accepted.{IsAccepted}
-use Rattle.qc_decl.specs.Actors.{is_site}
-use Rattle.qc_decl.specs.Limits.{most_clients}
+use Rattle.qc_decl.specs.Names.{IsAccepted, is_site, most_clients}
 use Rattle.qc_decl.specs.declared.declaration.Declaration.{Declaration}
 use Rattle.qc_entry.specs.declared.record.Prepared.{Prepared}
-use Rattle.qc_fit.specs.Fits.{fits, is_of, is_prepared_fit}
-use Rattle.qc_fit.specs.Numbers.{has_client, most_records}
-use Rattle.qc_journal.specs.Journal.{lists}
-use Rattle.qc_list.specs.Members.{In}
+use Rattle.qc_fit.specs.Names.{fits, has_client, is_of, is_prepared_fit, most_records}
+use Rattle.qc_journal.specs.Names.{lists}
+use Rattle.qc_list.specs.Names.{In}
 use Rattle.qc_list.proofs.Members.{every-append}
 use Rattle.qc_msg.specs.declared.record.Record.{Record}
 use Rattle.qc_msg.specs.declared.record.Record.TheVariants as records
-use Rattle.qc_record.specs.Records.{is_legal, spelled}
-use Rattle.qc_process.specs.Fitting.{AreLegal, AreUnfit, IsFirstUnfit, all_fit, bytes_of}
-use Rattle.qc_process.specs.Stored.{bodies_of}
+use Rattle.qc_record.specs.Names.{is_legal, spelled}
+use Rattle.qc_process.specs.Names.{AreLegal, AreUnfit, IsFirstUnfit, all_fit, bodies_of, bytes_of}
 use Rattle.qc_process.proofs.Going.{bodies_more}
 
 both : (b c : Bool) → (b && c) ≡ true → (b ≡ true) × (c ≡ true)

@@ -3,14 +3,11 @@ use Rattle.std.proofs.Common.{◌≡◌, ℕ, ◌+◌, ◌≤◌, ◌==◌, fals
 use Rattle.std.proofs.Common.{append-nil, append_assoc, arith, length-append}
 use Rattle.std.proofs.lemmas.Bool.{eq-eqb}
 use Rattle.qc_decl.specs.declared.declaration.Declaration.{Declaration}
-use Rattle.qc_msg.specs.Deeds.{own}
-use Rattle.qc_msg.specs.Steps.{Entry, by}
+use Rattle.qc_msg.specs.Names.{Entry, by, own}
 use Rattle.qc_msg.specs.declared.step.Step.{Step}
 use Rattle.qc_msg.proofs.Growth.{own-append}
-use Rattle.qc_promise.specs.Kept.{journal_of}
-use Rattle.qc_promise.specs.Stores.{IsKeptOrUnfit, IsOfOthers}
-use Rattle.qc_process.specs.Fitting.{AreKeptOrUnfit, journal_fits}
-use Rattle.qc_process.specs.Goes.{Goes}
+use Rattle.qc_promise.specs.Names.{IsKeptOrUnfit, IsOfOthers, journal_of}
+use Rattle.qc_process.specs.Names.{AreKeptOrUnfit, Goes, journal_fits}
 
 -- where a list with one more at its end is cut: at that one, or before it
 

@@ -2,12 +2,12 @@
 use Rattle.std.proofs.Common.{◌≡◌, ◌≢◌, ℕ, ◌==◌, Bool, List, [], ◌∷◌, ◌++◌, Option, None, refl, sym, ◌∙◌, ap}
 use Rattle.std.proofs.Common.{append_assoc, cond, true, false}
 use Rattle.std.proofs.Common.{append-nil}
-use Rattle.qc_core.specs.Actors.{ActorMove, actor_after}
+use Rattle.qc_core.specs.Names.{ActorMove, actor_after}
 use Rattle.qc_core.specs.declared.actor.Actor.TheVariants.{Down}
 use Rattle.qc_core.proofs.LivesLaws.{falls as after_fall}
 use Rattle.qc_decl.specs.declared.declaration.Declaration.{Declaration}
-use Rattle.qc_msg.specs.Deeds.{Deed, Falls, deeds, deeds_as, mail, sends_of, tells_of}
-use Rattle.qc_msg.specs.Steps.{Entry, by, fell, marked, posted_as}
+use Rattle.qc_msg.specs.Names.{Deed, Entry, Falls, by, deeds, deeds_as, fell, mail, marked, posted_as, sends_of}
+use Rattle.qc_msg.specs.Names.{tells_of}
 use Rattle.qc_msg.specs.declared.record.Record.{Record}
 use Rattle.qc_msg.specs.declared.step.Fall.{Fall}
 use Rattle.qc_msg.specs.declared.step.Fall.TheVariants as causes
@@ -17,10 +17,8 @@ use Rattle.qc_msg.specs.declared.turn.Appended.TheVariants.{Done, Failed, Stoppe
 use Rattle.qc_msg.specs.declared.turn.Turn.{Turn}
 use Rattle.qc_msg.proofs.Growth.{deeds-append, deeds-fell, deeds-posted_as, same_deeds}
 use Rattle.qc_outside.specs.declared.disk.ArmKind.{ArmKind}
-use Rattle.qc_promise.specs.Stores.{IsOfOthers}
-use Rattle.qc_process.specs.Goes.{Goes, GoesArmed}
-use Rattle.qc_process.specs.Stored.{IsProcess, IsStored}
-use Rattle.qc_process.specs.Views.{ProcessView}
+use Rattle.qc_promise.specs.Names.{IsOfOthers}
+use Rattle.qc_process.specs.Names.{Goes, GoesArmed, IsProcess, IsStored, ProcessView}
 use Rattle.qc_process.proofs.Own.{own_other, own_others}
 use Rattle.qc_process.proofs.GivenUp.{stored_past_others}
 

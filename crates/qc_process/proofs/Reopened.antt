@@ -3,20 +3,14 @@ use Rattle.std.proofs.Common.{◌≡◌, ℕ, Bool, List, [], ◌∷◌, Option,
 use Rattle.std.proofs.Common.{arith}
 use Rattle.std.specs.declared.alloc.Global.{Global}
 use Rattle.qc_decl.specs.declared.declaration.Declaration.{Declaration}
-use Rattle.qc_journal.specs.Journal.{Rests, lists}
-use Rattle.qc_msg.specs.Steps.{Entry}
+use Rattle.qc_journal.specs.Names.{Rests, lists}
+use Rattle.qc_msg.specs.Names.{Entry}
 use Rattle.qc_msg.specs.declared.step.Step.TheVariants as steps
-use Rattle.qc_outside.specs.Fuses.{Fuse}
-use Rattle.qc_outside.specs.Images.{Tells, Told}
+use Rattle.qc_outside.specs.Names.{Fuse, Tells, Told}
 use Rattle.qc_outside.specs.declared.disk.ArmKind.{ArmKind}
-use Rattle.qc_promise.specs.DiskAccount.{DiskAccount, disk_called, disk_fell}
-use Rattle.qc_promise.specs.Spent.{of_reading}
-use Rattle.qc_store.specs.Accounts.{IsAccountOf}
-use Rattle.qc_store.specs.Calls.{of_bodies, of_broken_opening}
-use Rattle.qc_store.specs.Contents.{AreGiven, DiskHolds, StillTells}
-use Rattle.qc_process.specs.Goes.{Goes}
-use Rattle.qc_process.specs.Stored.{IsOpened, IsStored}
-use Rattle.qc_process.specs.Views.{OpenJournal, StoreView, fall_by}
+use Rattle.qc_promise.specs.Names.{DiskAccount, disk_called, disk_fell, of_reading}
+use Rattle.qc_store.specs.Names.{AreGiven, DiskHolds, IsAccountOf, StillTells, of_bodies, of_broken_opening}
+use Rattle.qc_process.specs.Names.{Goes, IsOpened, IsStored, OpenJournal, StoreView, fall_by}
 use Rattle.qc_process.proofs.Appending.{Shows}
 use Rattle.qc_process.proofs.Openings.{opened_on, torn_on, unopened_on}
 

@@ -4,17 +4,13 @@ use Rattle.std.proofs.Common.{IfSome, length}
 use Rattle.std.proofs.Common.{refl, sym, ◌∙◌, ap, arith, append_assoc, append-nil}
 use Rattle.std.proofs.lemmas.Bool.{eq-eqb}
 use Rattle.qc_decl.specs.declared.declaration.Declaration.{Declaration}
-use Rattle.qc_msg.specs.Deeds.{own}
-use Rattle.qc_msg.specs.Steps.{Entry, by}
+use Rattle.qc_msg.specs.Names.{Entry, by, own}
 use Rattle.qc_msg.specs.declared.step.Step.{Step}
 use Rattle.qc_msg.proofs.GrownMail.{by-append}
 use Rattle.qc_msg.proofs.Growth.{own-append}
-use Rattle.qc_promise.specs.Kept.{Journal, journal_of}
-use Rattle.qc_promise.specs.Stores.{IsKeptOrUnfit}
-use Rattle.qc_process.specs.Fitting.{AreKeptOrUnfit, journal_fits}
-use Rattle.qc_process.specs.Goes.{Goes}
-use Rattle.qc_process.specs.Stored.{IsPlaced, IsStored}
-use Rattle.qc_process.specs.Views.{HasFewRecords, OpenJournal, StoreView}
+use Rattle.qc_promise.specs.Names.{IsKeptOrUnfit, Journal, journal_of}
+use Rattle.qc_process.specs.Names.{AreKeptOrUnfit, Goes, HasFewRecords, IsPlaced, IsStored, OpenJournal, StoreView}
+use Rattle.qc_process.specs.Names.{journal_fits}
 
 pub in_parts : (a : ℕ) (h now : List Entry) (xs ys : List Step) → Goes a h (xs ++ ys) now
     → (mid : List Entry) × Goes a h xs mid × Goes a mid ys now

@@ -2,21 +2,16 @@
 use Rattle.std.specs.Prelude.{◌≡◌, ℕ, ◌+◌, ◌^◌, ◌≤◌, Bool, true, false, List, [], Option, Some, None, IsSome, length}
 use Rattle.std.specs.Prelude.{map}
 use Rattle.std.specs.Prelude.{option_map}
-use Rattle.qc_core.specs.Actors.{actor_after}
+use Rattle.qc_core.specs.Names.{actor_after}
 use Rattle.qc_decl.specs.declared.declaration.Declaration.{Declaration}
-use Rattle.qc_journal.specs.Journal.{Rests}
-use Rattle.qc_msg.specs.Deeds.{deeds, own}
-use Rattle.qc_msg.specs.Steps.{Entry}
+use Rattle.qc_journal.specs.Names.{Rests}
+use Rattle.qc_msg.specs.Names.{Entry, deeds, own}
 use Rattle.qc_msg.specs.declared.record.Record.{Record}
 use Rattle.qc_msg.specs.declared.turn.Turn.{Turn}
-use Rattle.qc_outside.specs.Images.{Told}
-use Rattle.qc_promise.specs.DiskAccount.{DiskAccount, disk_called}
-use Rattle.qc_promise.specs.Kept.{Journal}
-use Rattle.qc_promise.specs.Stores.{IsStoreOf}
-use Rattle.qc_record.specs.Records.{is_legal, spelled}
-use Rattle.qc_store.specs.Accounts.{IsAccountOf, IsCounted}
-use Rattle.qc_store.specs.Calls.{of_bodies}
-use Rattle.qc_store.specs.Contents.{AreGiven, DiskHolds}
+use Rattle.qc_outside.specs.Names.{Told}
+use Rattle.qc_promise.specs.Names.{DiskAccount, IsStoreOf, Journal, disk_called}
+use Rattle.qc_record.specs.Names.{is_legal, spelled}
+use Rattle.qc_store.specs.Names.{AreGiven, DiskHolds, IsAccountOf, IsCounted, of_bodies}
 use Rattle.qc_process.specs.Fitting.{AreKeptOrUnfit, AreLegal}
 use Rattle.qc_process.specs.Views.{OpenJournal, ProcessView, StoreView}
 

@@ -5,20 +5,17 @@ use Rattle.std.specs.Prelude.{List, [], ◌∷◌, ◌++◌, map, take, fold, Op
 use Rattle.std.specs.Option.{option_map_or, option_or}
 use Rattle.std.specs.Ordering.{on}
 use Rattle.std.specs.declared.cmp.Ordering.{Ordering}
-use Rattle.qc_list.specs.Order.{inserted}
+use Rattle.qc_list.specs.Names.{inserted}
 use Rattle.qc_stamp.specs.declared.stamp.TxId.{TxId}
-use Rattle.qc_stamp.specs.Order.{tx_cmp}
+use Rattle.qc_stamp.specs.Names.{tx_cmp}
 use Rattle.qc_entry.specs.declared.record.Prepared.{Prepared}
-use Rattle.qc_entry.specs.Log.{of_object, without}
+use Rattle.qc_entry.specs.Names.{of_object, without}
 use Rattle.qc_table.specs.declared.kind.Kind.{Kind}
 use Rattle.qc_decl.specs.declared.declaration.Declaration.{Declaration}
-use Rattle.qc_decl.specs.Actors.{client_actor}
-use Rattle.qc_decl.specs.Limits.{most_record_bytes}
-use Rattle.qc_decl.specs.Lookup.{kind_at}
+use Rattle.qc_decl.specs.Names.{client_actor, kind_at, most_record_bytes}
 use Rattle.qc_lock.specs.declared.clash.Clash.{Clash as Conflict}
 use Rattle.qc_lock.specs.declared.held.Held.{Held}
-use Rattle.qc_lock.specs.Clash.{append_clash, read_clash}
-use Rattle.qc_lock.specs.Held.{held_of, is_held}
+use Rattle.qc_lock.specs.Names.{append_clash, held_of, is_held, read_clash}
 use Rattle.qc_msg.specs.declared.message.Answer.{Answer}
 use Rattle.qc_msg.specs.declared.message.Answer.TheVariants as answers
 use Rattle.qc_msg.specs.declared.message.Message.TheVariants as messages
@@ -31,15 +28,14 @@ use Rattle.qc_msg.specs.declared.record.Record.TheVariants as records
 use Rattle.qc_msg.specs.declared.message.Envelope.{Envelope}
 use Rattle.qc_msg.specs.declared.step.Input.{Input}
 use Rattle.qc_msg.specs.declared.turn.Posting.{Posting}
-use Rattle.qc_msg.specs.Deeds.{Deed, Takes, Writes, Sends, Tells, Falls, Rises}
-use Rattle.qc_msg.specs.Lengths.{epoch_length, prepare_length}
+use Rattle.qc_msg.specs.Names.{Decided, Deed, Falls, Installing, Requested, Rises, Sends, Takes, Tells, Writes}
+use Rattle.qc_msg.specs.Names.{closing_in, decision_in, epoch_length, heard_in, installing_in, prepare_length}
+use Rattle.qc_msg.specs.Names.{request_in}
 use Rattle.qc_promise.specs.Posts.{IsPostOf, TurnDue, quiet_turn, sending}
 use Rattle.qc_promise.specs.SiteClocks.{clock_shown}
 use Rattle.qc_promise.specs.SiteHeld.{held_shown}
 use Rattle.qc_promise.specs.SiteLogs.{log_shown, recorded_shown, since_shown}
 use Rattle.qc_promise.specs.SitePromises.{is_promised, prepared_shown}
-use Rattle.qc_msg.specs.InputReadings.{heard_in}
-use Rattle.qc_msg.specs.Readings.{Decided, Installing, Requested, closing_in, decision_in, installing_in, request_in}
 use Rattle.qc_promise.specs.SiteRecords.{closed_shown, epoch_shown, life_shown}
 
 -- the refusal that the request's epoch and life are due, if any

@@ -7,16 +7,14 @@ use Rattle.qc_stamp.specs.declared.stamp.TxId.{TxId}
 use Rattle.qc_entry.specs.declared.line.Line.{Line}
 use Rattle.qc_entry.specs.declared.line.OwnLine.{OwnLine}
 use Rattle.qc_entry.specs.declared.record.Prepared.{Prepared}
-use Rattle.qc_entry.specs.Log.{union, without}
+use Rattle.qc_entry.specs.Names.{union, without}
 use Rattle.qc_msg.specs.declared.message.Envelope.{Envelope}
 use Rattle.qc_msg.specs.declared.message.Want.{Want}
 use Rattle.qc_msg.specs.declared.message.Want.TheVariants.{Read, Append, Prepare}
 use Rattle.qc_msg.specs.declared.record.Record.{Record}
-use Rattle.qc_msg.specs.Deeds.{Deed}
+use Rattle.qc_msg.specs.Names.{Deed, Finished, Installing, Requested, done_in, got_in, install_in, prepare_in}
+use Rattle.qc_msg.specs.Names.{request_in, written_in}
 use Rattle.qc_promise.specs.Lifetimes.{lifetime, records_in}
-use Rattle.qc_msg.specs.Readings.{Installing, install_in}
-use Rattle.qc_msg.specs.InputReadings.{got_in, written_in}
-use Rattle.qc_msg.specs.Readings.{Finished, Requested, done_in, prepare_in, request_in}
 use Rattle.qc_promise.specs.SiteHeld.{is_granted}
 use Rattle.qc_promise.specs.SiteRecords.{last_prepare}
 

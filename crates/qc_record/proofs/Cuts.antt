@@ -6,8 +6,8 @@ use Rattle.std.proofs.lemmas.List.{take-append-le, length-append, length-take-le
 use Rattle.std.proofs.lemmas.Bool.Decides.{nat_tests}
 use Rattle.byteorder.specs.Endian.{big_bytes}
 use Rattle.byteorder.specs.Numbers.{length-bytes_high_first}
-use Rattle.qc_record.specs.Form.{Form, ◌>>=◌, number_at, field, both, shaped, items_at, items_spelled, items_are_legal}
-use Rattle.qc_record.specs.Form.{counted}
+use Rattle.qc_record.specs.Names.{Form, both, counted, field, items_are_legal, items_at, items_spelled, number_at}
+use Rattle.qc_record.specs.Names.{shaped, ◌>>=◌}
 
 pub both_true : (a b : Bool) → (a && b) ≡ true → (a ≡ true) × (b ≡ true)
 both_true true true e = (refl, refl)

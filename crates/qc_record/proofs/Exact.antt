@@ -7,17 +7,15 @@ use Rattle.qc_entry.specs.declared.line.Op.{Op}
 use Rattle.qc_entry.specs.declared.line.OwnLine.{OwnLine}
 use Rattle.qc_entry.specs.declared.line.ReadLock.{ReadLock}
 use Rattle.qc_entry.specs.declared.record.Commit.{Commit}
-use Rattle.qc_record.specs.Form.{Form, field, within, climbs, tops, climb, top, tied}
-use Rattle.qc_record.specs.Records.{always, greatest_clock, client_form, ordinal_form, epoch_form, stamp_clock_form}
-use Rattle.qc_record.specs.Records.{start_clock_form, object_form, invocation_form, event_form, is_response}
-use Rattle.qc_record.specs.Records.{response_of, response_number, has_response_number, response_form, tx_of, tx_parts}
-use Rattle.qc_record.specs.Records.{tx_form}
-use Rattle.qc_record.specs.Records.{lock_floor, lock_of, lock_parts, lock_form, own_floor, own_of, own_parts, own_form}
-use Rattle.qc_record.specs.Records.{line_floor, line_of, line_parts, is_own_stamp, line_numbers, from_client, from_life}
-use Rattle.qc_record.specs.Records.{from_number, from_op, from_object, from_event, line_form, op_of, op_parts, op_form}
-use Rattle.qc_record.specs.Records.{locks_form, owns_form, lines_form, ops_form}
-use Rattle.qc_record.specs.Records.{prepared_of, prepared_parts, prepared_form, done_form, start_form, commit_of}
-use Rattle.qc_record.specs.Records.{commit_parts, has_own_stamp, commit_form}
+use Rattle.qc_record.specs.Names.{Form, always, client_form, climb, climbs, commit_form, commit_of, commit_parts}
+use Rattle.qc_record.specs.Names.{done_form, epoch_form, event_form, field, from_client, from_event, from_life}
+use Rattle.qc_record.specs.Names.{from_number, from_object, from_op, greatest_clock, has_own_stamp, has_response_number}
+use Rattle.qc_record.specs.Names.{invocation_form, is_own_stamp, is_response, line_floor, line_form, line_numbers}
+use Rattle.qc_record.specs.Names.{line_of, line_parts, lines_form, lock_floor, lock_form, lock_of, lock_parts}
+use Rattle.qc_record.specs.Names.{locks_form, object_form, op_form, op_of, op_parts, ops_form, ordinal_form, own_floor}
+use Rattle.qc_record.specs.Names.{own_form, own_of, own_parts, owns_form, prepared_form, prepared_of, prepared_parts}
+use Rattle.qc_record.specs.Names.{response_form, response_number, response_of, stamp_clock_form, start_clock_form}
+use Rattle.qc_record.specs.Names.{start_form, tied, top, tops, tx_form, tx_of, tx_parts, within}
 use Rattle.qc_record.proofs.Numbers.{IsWidth}
 use Rattle.qc_record.proofs.Cuts.{both_true}
 use Rattle.qc_record.proofs.Exactness.{IsExact, IsShape, field_exact, both_exact, shaped_exact, counted_exact}

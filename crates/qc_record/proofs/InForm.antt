@@ -10,14 +10,16 @@ use Rattle.qc_entry.specs.declared.line.Line.{Line}
 use Rattle.qc_entry.specs.declared.line.Op.{Op}
 use Rattle.qc_entry.specs.declared.line.OwnLine.{OwnLine}
 use Rattle.qc_entry.specs.declared.line.ReadLock.{ReadLock}
-use Rattle.qc_entry.specs.Line.{IsAscending, line_cmp}
-use Rattle.qc_list.specs.Order.{IsBelowAll}
+use Rattle.qc_entry.specs.Names.{IsAscending, line_cmp}
+use Rattle.qc_list.specs.Names.{IsBelowAll}
 use Rattle.qc_msg.specs.declared.record.Record.{Record}
 use Rattle.qc_msg.specs.declared.record.Record.TheVariants as records
-use Rattle.qc_record.specs.Form.{within, climbs, tops, tied, items_are_legal}
-use Rattle.qc_record.specs.Legal.{AreLines, AreLocks, AreOps, AreOwns, IsInForm, IsLine, IsLock, IsLockBelow, IsOp, IsOwn, IsOwnBelow, IsResponse, IsStart, IsTx, Rises}
-use Rattle.qc_record.specs.Records.{is_legal, is_response, response_form, tx_form, lock_form, lock_floor, own_form, own_floor, op_form, line_form, is_own_stamp, from_client, from_life, from_number, from_op, from_object, from_event}
-use Rattle.qc_record.specs.Records.{locks_form, owns_form, lines_form, ops_form, start_form, greatest_clock}
+use Rattle.qc_record.specs.Names.{AreLines, AreLocks, AreOps, AreOwns, IsInForm, IsLine, IsLock, IsLockBelow, IsOp}
+use Rattle.qc_record.specs.Names.{IsOwn, IsOwnBelow, IsResponse, IsStart, IsTx, Rises, climbs, from_client, from_event}
+use Rattle.qc_record.specs.Names.{from_life, from_number, from_object, from_op, greatest_clock, is_legal, is_own_stamp}
+use Rattle.qc_record.specs.Names.{is_response, items_are_legal, line_form, lines_form, lock_floor, lock_form}
+use Rattle.qc_record.specs.Names.{locks_form, op_form, ops_form, own_floor, own_form, owns_form, response_form}
+use Rattle.qc_record.specs.Names.{start_form, tied, tops, tx_form, within}
 use Rattle.qc_record.proofs.Cuts.{both_true}
 use Rattle.qc_record.proofs.Exact.{same_number}
 use Rattle.qc_record.proofs.Exactness.{true_both}

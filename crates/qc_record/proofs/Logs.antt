@@ -10,15 +10,14 @@ use Rattle.std.specs.Ordering.{nat_cmp, ordering_then}
 use Rattle.std.specs.declared.cmp.Ordering.{Ordering}
 use Rattle.std.specs.declared.cmp.Ordering.TheVariants.{Less, Equal, Greater}
 use Rattle.qc_entry.specs.declared.line.Line.{Line}
-use Rattle.qc_entry.specs.Line.{line_cmp, IsAscending}
-use Rattle.qc_entry.specs.Log.{union}
+use Rattle.qc_entry.specs.Names.{IsAscending, line_cmp, union}
 use Rattle.qc_entry.proofs.Orders.{line_order}
 use Rattle.qc_entry.proofs.Union.{union-after}
-use Rattle.qc_list.specs.Order.{IsBelowAll}
+use Rattle.qc_list.specs.Names.{IsBelowAll}
 use Rattle.qc_list.proofs.Order.{below_trans}
-use Rattle.qc_record.specs.Form.{IsBytes, within, climbs, tied, items_are_legal}
-use Rattle.qc_record.specs.Records.{is_own_stamp, line_form, line_floor, line_parts, lines_form, line_numbers}
-use Rattle.qc_record.specs.Records.{from_client, from_life, from_number, from_op, from_object, from_event}
+use Rattle.qc_record.specs.Names.{IsBytes, climbs, from_client, from_event, from_life, from_number, from_object}
+use Rattle.qc_record.specs.Names.{from_op, is_own_stamp, items_are_legal, line_floor, line_form, line_numbers}
+use Rattle.qc_record.specs.Names.{line_parts, lines_form, tied, within}
 use Rattle.qc_record.proofs.Cuts.{both_true}
 use Rattle.qc_record.proofs.Exact.{same_number, lines_exact}
 

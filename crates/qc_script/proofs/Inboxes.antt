@@ -6,8 +6,7 @@ use Rattle.std.specs.List.{fold}
 use Rattle.std.specs.Option.{option_map_or}
 use Rattle.std.proofs.lemmas.Bool.{eqb-false, eqb-true}
 use Rattle.std.proofs.lemmas.List.{get_or-replicate, get_or-set_other, get_or-set_same, length-set}
-use Rattle.qc_link.specs.Cuts.{with_cut, without_cut}
-use Rattle.qc_link.specs.Fate.{fate}
+use Rattle.qc_link.specs.Names.{fate, most_actors, with_cut, without_cut}
 use Rattle.qc_link.specs.declared.plan.Link.{Link}
 use Rattle.qc_link.specs.declared.rule.Fate.{Fate}
 use Rattle.qc_msg.specs.declared.message.Envelope.{Envelope}
@@ -17,12 +16,14 @@ use Rattle.qc_msg.specs.declared.step.Control.{Control}
 use Rattle.qc_msg.specs.declared.step.Fall.{Fall}
 use Rattle.qc_msg.specs.declared.step.Step.{Step}
 use Rattle.qc_msg.specs.declared.step.Step.TheVariants as steps
-use Rattle.qc_msg.specs.Steps.{Entry}
+use Rattle.qc_msg.specs.Names.{Entry}
 use Rattle.qc_script.specs.declared.script.PhaseLines.{PhaseLines}
 use Rattle.qc_script.specs.declared.script.Script.{Script}
-use Rattle.qc_script.specs.Requests.{has_request, requests_to, requests_to_others, with_lost}
-use Rattle.qc_script.specs.Inbox.{Inbox, acting, actor_fell, emptied, fell_by, is_by_line, is_up, wrote_record, answers_by, comes, comes_at_once, comes_with, command_called, control_acted, copy_taken, count_of, empty_inbox, goes, goes_with, inbox, inbox_at, is_request, loss_taken, one_more, opened, opened_by, phase_begun, reply_told, request_answered, request_sent, with_copies}
-use Rattle.qc_link.specs.Limits.{most_actors}
+use Rattle.qc_script.specs.Names.{Inbox, acting, actor_fell, answers_by, comes, comes_at_once, comes_with}
+use Rattle.qc_script.specs.Names.{command_called, control_acted, copy_taken, count_of, emptied, empty_inbox, fell_by}
+use Rattle.qc_script.specs.Names.{goes, goes_with, has_request, inbox, inbox_at, is_by_line, is_request, is_up}
+use Rattle.qc_script.specs.Names.{loss_taken, one_more, opened, opened_by, phase_begun, reply_told, request_answered}
+use Rattle.qc_script.specs.Names.{request_sent, requests_to, requests_to_others, with_copies, with_lost, wrote_record}
 
 -- another inbox with the same cuts, control lines and counts
 pub record Keeps (i j : Inbox) : Type 0 where

@@ -6,12 +6,11 @@ use Rattle.qc_outside.specs.declared.disk.ArmKind.{ArmKind}
 use Rattle.qc_outside.specs.declared.disk.ArmKind.TheVariants.{Stop, Fail}
 use Rattle.qc_script.proofs.WrittenWords.{actor_read, apart, client_read, end_read, name_read, ordinal_read, rule_read}
 use Rattle.qc_number.proofs.Numbers.{number_read}
-use Rattle.qc_script.specs.Forms.{actor_of, client_of, end_of, name_of, ordinal_of, rule_of}
-use Rattle.qc_number.specs.Numbers.{number_of}
-use Rattle.qc_script.specs.Lines.{command_line, line_of, link_of, other_line, pair_of, verb_of}
-use Rattle.qc_script.specs.Options.{◌>>=◌}
-use Rattle.qc_script.specs.Written.{HasFewDigits, IsWritable, IsWritableActor, IsWritableEnd, IsWritableOrdinal}
-use Rattle.qc_script.specs.Written.{IsWritableVerb, actor_word, end_word, ordinal_word, rule_word, verb_words, words_in}
+use Rattle.qc_script.specs.Names.{HasFewDigits, IsWritable, IsWritableActor, IsWritableEnd, IsWritableOrdinal}
+use Rattle.qc_script.specs.Names.{IsWritableVerb, actor_of, actor_word, client_of, command_line, end_of, end_word}
+use Rattle.qc_script.specs.Names.{line_of, link_of, name_of, ordinal_of, ordinal_word, other_line, pair_of, rule_of}
+use Rattle.qc_script.specs.Names.{rule_word, verb_of, verb_words, words_in, ◌>>=◌}
+use Rattle.qc_number.specs.Names.{number_of}
 use Rattle.qc_script.specs.declared.actor.ActorName.{ActorName}
 use Rattle.qc_script.specs.declared.actor.ActorName.TheVariants.{Client}
 use Rattle.qc_script.specs.declared.line.ScriptLine.{ScriptLine}

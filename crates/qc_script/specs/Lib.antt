@@ -17,3 +17,4 @@ pub mod Steady
 pub mod Runs
 pub mod RunsWithFalls
 pub mod Written
+pub mod Names

@@ -6,10 +6,9 @@ use Rattle.qc_entry.specs.declared.line.Line.{Line}
 use Rattle.qc_entry.specs.declared.line.OwnLine.{OwnLine}
 use Rattle.qc_entry.specs.declared.record.Prepared.{Prepared}
 use Rattle.qc_decl.specs.declared.declaration.Declaration.{Declaration}
-use Rattle.qc_decl.specs.Limits.{most_record_bytes}
+use Rattle.qc_decl.specs.Names.{most_record_bytes}
 use Rattle.qc_lock.specs.declared.clash.Clash.{Clash as Conflict}
-use Rattle.qc_lock.specs.Clash.{append_clash, read_clash}
-use Rattle.qc_lock.specs.Held.{is_held}
+use Rattle.qc_lock.specs.Names.{append_clash, is_held, read_clash}
 use Rattle.qc_msg.specs.declared.message.Answer.{Answer}
 use Rattle.qc_msg.specs.declared.message.Answer.TheVariants as says
 use Rattle.qc_msg.specs.declared.message.Message.{Message}
@@ -20,15 +19,12 @@ use Rattle.qc_msg.specs.declared.message.Want.{Want}
 use Rattle.qc_msg.specs.declared.message.Want.TheVariants.{Read, Append, Prepare}
 use Rattle.qc_msg.specs.declared.record.Record.TheVariants as records
 use Rattle.qc_msg.specs.declared.turn.Turn.{Turn}
-use Rattle.qc_msg.specs.Lengths.{epoch_length}
-use Rattle.qc_msg.specs.Turns.{quiet}
-use Rattle.qc_site.specs.Epochs.{closed, closes, installed, installs, is_closed_for, shut_answer}
-use Rattle.qc_site.specs.Site.{SiteState, SiteMove, moved, answers, recording}
-use Rattle.qc_site.specs.Promise.{dropped, finishes, is_prepared, joins, prepare_length, prepared_of, prepares, promise_of, promised, votes}
-use Rattle.qc_site.specs.Requests.{appends, appends_by, clashing, closed_fault, fault_of, grants, names_declared, reads, reads_by, relation_at, requested}
-use Rattle.qc_site.specs.Conduct.{site_at}
-use Rattle.qc_site.specs.Ended.{is_final}
-use Rattle.qc_site.specs.Told.{closes_in, installs_in, is_grant}
+use Rattle.qc_msg.specs.Names.{epoch_length, quiet}
+use Rattle.qc_site.specs.Names.{SiteMove, SiteState, answers, appends, appends_by, clashing, closed, closed_fault}
+use Rattle.qc_site.specs.Names.{closes, closes_in, dropped, fault_of, finishes, grants, installed, installs}
+use Rattle.qc_site.specs.Names.{installs_in, is_closed_for, is_final, is_grant, is_prepared, joins, moved}
+use Rattle.qc_site.specs.Names.{names_declared, prepare_length, prepared_of, prepares, promise_of, promised, reads}
+use Rattle.qc_site.specs.Names.{reads_by, recording, relation_at, requested, shut_answer, site_at, votes}
 
 -- what a test that came out otherwise would show
 pub never : {A : Type 0} → false ≡ true → A

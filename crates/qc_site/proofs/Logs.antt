@@ -11,11 +11,8 @@ use Rattle.qc_msg.specs.declared.message.Message.TheVariants as messages
 use Rattle.qc_msg.specs.declared.message.Outcome.TheVariants.{Committed, Aborted, Active}
 use Rattle.qc_msg.specs.declared.message.Want.{Want}
 use Rattle.qc_msg.specs.declared.message.Want.TheVariants.{Read, Append, Prepare}
-use Rattle.qc_site.specs.Brought.{brought, lines_promised, view_in}
-use Rattle.qc_site.specs.Conduct.{passed, site_at, site_on}
-use Rattle.qc_site.specs.Requests.{fault_of, grants}
-use Rattle.qc_site.specs.Site.{SiteMove, SiteState, answers, learned, moved}
-use Rattle.qc_site.specs.Told.{grants_in, installs_in}
+use Rattle.qc_site.specs.Names.{SiteMove, SiteState, answers, brought, fault_of, grants, grants_in, installs_in}
+use Rattle.qc_site.specs.Names.{learned, lines_promised, moved, passed, site_at, site_on, view_in}
 use Rattle.qc_site.proofs.Cases.{append_cases, close_cases, fault_is, install_cases, join_cases, lasting_cases}
 use Rattle.qc_site.proofs.Cases.{prepare_cases, read_cases, request_cases}
 

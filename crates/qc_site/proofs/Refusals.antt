@@ -5,12 +5,10 @@ use Rattle.qc_entry.specs.declared.line.Line.{Line}
 use Rattle.qc_entry.specs.declared.line.OwnLine.{OwnLine}
 use Rattle.qc_entry.specs.declared.line.ReadLock.{ReadLock}
 use Rattle.qc_decl.specs.declared.declaration.Declaration.{Declaration}
-use Rattle.qc_table.specs.Depends.{depends}
+use Rattle.qc_table.specs.Names.{depends}
 use Rattle.qc_lock.specs.declared.clash.Clash.{Clash as Conflict}
 use Rattle.qc_lock.specs.declared.held.Held.{Held}
-use Rattle.qc_lock.specs.Clash.{append_clash, read_clash}
-use Rattle.qc_lock.specs.Conflict.{In, IsAppendConflict, IsReadConflict, IsSmallest}
-use Rattle.qc_lock.specs.Held.{same_tx}
+use Rattle.qc_lock.specs.Names.{In, IsAppendConflict, IsReadConflict, IsSmallest, append_clash, read_clash, same_tx}
 use Rattle.qc_lock.proofs.Conflicts.{append_free, append_smallest, read_free, read_smallest}
 use Rattle.qc_msg.specs.declared.message.Answer.{Answer}
 use Rattle.qc_msg.specs.declared.message.Answer.TheVariants as says
@@ -20,10 +18,8 @@ use Rattle.qc_msg.specs.declared.message.Outcome.TheVariants.{Committed, Aborted
 use Rattle.qc_msg.specs.declared.message.Want.{Want}
 use Rattle.qc_msg.specs.declared.message.Want.TheVariants.{Read, Append, Prepare}
 use Rattle.qc_msg.specs.declared.turn.Turn.{Turn}
-use Rattle.qc_site.specs.Conduct.{passed, site_at, site_on}
-use Rattle.qc_site.specs.Requests.{clashing, fault_of, grants, relation_at}
-use Rattle.qc_site.specs.Site.{SiteMove, SiteState, answers}
-use Rattle.qc_site.specs.Told.{answer_of, grants_in, refuses_in}
+use Rattle.qc_site.specs.Names.{SiteMove, SiteState, answer_of, answers, clashing, fault_of, grants, grants_in, passed}
+use Rattle.qc_site.specs.Names.{refuses_in, relation_at, site_at, site_on}
 use Rattle.qc_site.proofs.Cases.{append_cases, close_cases, fault_grants_not, fault_is, install_cases, never}
 use Rattle.qc_site.proofs.Cases.{join_cases, prepare_cases, read_cases, request_cases}
 

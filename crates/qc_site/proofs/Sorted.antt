@@ -1,34 +1,30 @@
 -- What is in order at a site stays so.
 use Rattle.std.proofs.Common.{ℕ, ◌==◌, ◌&&◌, not, Bool, true, false, cond, List, [], ◌∷◌, ◌++◌, fold, filter, length}
 use Rattle.std.proofs.Common.{Some, subst}
-use Rattle.qc_list.specs.Order.{Ascends}
+use Rattle.qc_list.specs.Names.{Ascends}
 use Rattle.qc_list.proofs.Order.{ascends-filter}
 use Rattle.qc_stamp.specs.declared.stamp.Stamp.{Stamp}
 use Rattle.qc_stamp.specs.declared.stamp.TxId.{TxId}
-use Rattle.qc_stamp.specs.Order.{same_tx}
+use Rattle.qc_stamp.specs.Names.{same_tx}
 use Rattle.qc_entry.specs.declared.line.Line.{Line}
 use Rattle.qc_entry.specs.declared.line.OwnLine.{OwnLine}
 use Rattle.qc_entry.specs.declared.line.ReadLock.{ReadLock}
 use Rattle.qc_entry.specs.declared.record.Prepared.{Prepared}
-use Rattle.qc_entry.specs.Line.{IsAscending, line_cmp}
-use Rattle.qc_entry.specs.Log.{has_line, without}
+use Rattle.qc_entry.specs.Names.{IsAscending, has_line, line_cmp, without}
 use Rattle.qc_entry.proofs.Union.{ascending-union}
 use Rattle.qc_decl.specs.declared.declaration.Declaration.{Declaration}
 use Rattle.qc_lock.specs.declared.held.Held.{Held}
-use Rattle.qc_lock.specs.Held.{held_of, lock_cmp, own_cmp, with_entry, with_held, with_locks, with_owns}
-use Rattle.qc_lock.specs.Sound.{IsSound}
+use Rattle.qc_lock.specs.Names.{IsSound, held_of, lock_cmp, own_cmp, with_entry, with_held, with_locks, with_owns}
 use Rattle.qc_lock.proofs.Entries.{entry_some}
 use Rattle.qc_lock.proofs.Order.{ascends-locks, ascends-owns, sorted-find, sound-put, sound-without}
 use Rattle.qc_msg.specs.declared.message.Message.{Message}
 use Rattle.qc_msg.specs.declared.step.Input.{Input}
 use Rattle.qc_msg.specs.declared.step.Input.TheVariants as inputs
-use Rattle.qc_msg.specs.Deeds.{Deed, Takes, Writes, Sends, Tells, Falls, Rises}
-use Rattle.qc_msg.specs.Turns.{quiet}
-use Rattle.qc_site.specs.Conduct.{passed, site_after, site_at, site_does, site_on, site_takes}
-use Rattle.qc_site.specs.Epochs.{holds}
-use Rattle.qc_site.specs.Promise.{dropped, joins, lines_of, promise_of, promised, stamped, with_stamped}
-use Rattle.qc_site.specs.Site.{SiteMove, SiteState, moved, new_site}
-use Rattle.qc_site.specs.Sorted.{AreDeedsSorted, ArePromisesSorted, IsGivenSorted, IsMessageSorted, IsSiteSorted}
+use Rattle.qc_msg.specs.Names.{Deed, Falls, Rises, Sends, Takes, Tells, Writes, quiet}
+use Rattle.qc_site.specs.Names.{AreDeedsSorted, ArePromisesSorted, IsGivenSorted, IsMessageSorted, IsSiteSorted}
+use Rattle.qc_site.specs.Names.{SiteMove, SiteState, dropped, holds, joins, lines_of, moved, new_site, passed}
+use Rattle.qc_site.specs.Names.{promise_of, promised, site_after, site_at, site_does, site_on, site_takes, stamped}
+use Rattle.qc_site.specs.Names.{with_stamped}
 use Rattle.qc_site.proofs.Cases.{choose, state_cases}
 
 -- what is held, with something given to a transaction

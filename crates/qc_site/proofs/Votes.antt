@@ -4,7 +4,7 @@ use Rattle.std.proofs.Common.{is_some, refl, sym, ap, ◌∙◌, subst}
 use Rattle.std.specs.Option.{option_or}
 use Rattle.std.proofs.lemmas.List.Folds.{find-append}
 use Rattle.qc_stamp.specs.declared.stamp.TxId.{TxId}
-use Rattle.qc_stamp.specs.Order.{same_tx}
+use Rattle.qc_stamp.specs.Names.{same_tx}
 use Rattle.qc_entry.specs.declared.record.Prepared.{Prepared}
 use Rattle.qc_decl.specs.declared.declaration.Declaration.{Declaration}
 use Rattle.qc_lock.proofs.Entries.{find-none, same_self, tx_apart}
@@ -15,13 +15,9 @@ use Rattle.qc_msg.specs.declared.message.Outcome.{Outcome}
 use Rattle.qc_msg.specs.declared.message.Outcome.TheVariants.{Committed}
 use Rattle.qc_msg.specs.declared.message.Want.{Want}
 use Rattle.qc_msg.specs.declared.message.Want.TheVariants.{Read, Append, Prepare}
-use Rattle.qc_site.specs.Conduct.{passed, site_at, site_on}
-use Rattle.qc_site.specs.Ended.{ends, is_final}
-use Rattle.qc_site.specs.Promise.{is_prepared, prepared_of, prepares, promise_of, without_prepared}
-use Rattle.qc_site.specs.Requests.{fault_of, grants}
-use Rattle.qc_site.specs.Site.{SiteMove, SiteState, answers, moved}
-use Rattle.qc_site.specs.Told.{installs_in, is_vote, votes_in}
-use Rattle.qc_site.specs.Vote.{IsBacked}
+use Rattle.qc_site.specs.Names.{IsBacked, SiteMove, SiteState, answers, ends, fault_of, grants, installs_in, is_final}
+use Rattle.qc_site.specs.Names.{is_prepared, is_vote, moved, passed, prepared_of, prepares, promise_of, site_at}
+use Rattle.qc_site.specs.Names.{site_on, votes_in, without_prepared}
 use Rattle.qc_site.proofs.Cases.{append_cases, fault_is, lasting_cases, never, prepare_cases, read_cases, request_cases}
 
 -- promises, one more

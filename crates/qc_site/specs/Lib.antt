@@ -9,3 +9,4 @@ pub mod Vote
 pub mod Brought
 pub mod Ended
 pub mod Sorted
+pub mod Names

@@ -9,11 +9,10 @@ use Rattle.qc_msg.specs.declared.step.Step.{Step}
 use Rattle.qc_msg.specs.declared.step.Step.TheVariants as steps
 use Rattle.qc_outside.specs.declared.disk.ArmKind.{ArmKind}
 use Rattle.qc_outside.specs.declared.disk.ArmKind.TheVariants as kinds
-use Rattle.qc_promise.specs.DiskAccount.{IsFallBelow, disk_called, disk_fell_by, disk_account_with, total_below}
-use Rattle.qc_promise.specs.DiskAccount.{DiskAccount, DiskArm, disk_armed, disk_fell, disk_fell_with, more_calls}
-use Rattle.qc_promise.specs.DiskAccount.{waiting_after}
-use Rattle.qc_promise.specs.Spent.{Arm, Calls, Tally, armed, called, fell, no_calls, of_fall, of_opening, of_reading}
-use Rattle.qc_promise.specs.Spent.{of_record, tally_with, used, with_calls, without_arm}
+use Rattle.qc_promise.specs.Names.{Arm, Calls, DiskAccount, DiskArm, IsFallBelow, Tally, armed, called}
+use Rattle.qc_promise.specs.Names.{disk_account_with, disk_armed, disk_called, disk_fell, disk_fell_by, disk_fell_with}
+use Rattle.qc_promise.specs.Names.{fell, more_calls, no_calls, of_fall, of_opening, of_reading, of_record, tally_with}
+use Rattle.qc_promise.specs.Names.{total_below, used, waiting_after, with_calls, without_arm}
 use Rattle.qc_spent.proofs.OwnArms.{arms_of, called_arms, called_parts, of_actor, others, same_actor}
 use Rattle.qc_spent.proofs.Sums.{total_more, total_same}
 use Rattle.qc_spent.proofs.ActingArms.{Finds, IsUnused, IsUsed, finds}

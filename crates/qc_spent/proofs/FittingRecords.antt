@@ -1,12 +1,10 @@
 -- Damage comes only where a record doesn't fit, and where records are kept so far, each fits: so they are kept.
 use Rattle.std.proofs.Common.{◌≡◌, ℕ, Bool, true, List, [], ◌∷◌, ◌++◌, refl, sym, ◌∙◌, subst, append_assoc}
 use Rattle.std.proofs.Common.{append-nil}
-use Rattle.qc_msg.specs.Deeds.{own}
-use Rattle.qc_msg.specs.Steps.{Entry}
+use Rattle.qc_msg.specs.Names.{Entry, own}
 use Rattle.qc_msg.specs.declared.step.Step.{Step}
 use Rattle.qc_msg.specs.declared.step.Step.TheVariants as steps
-use Rattle.qc_promise.specs.Kept.{IsKeptAt, Kept}
-use Rattle.qc_promise.specs.Stores.{IsKeptOrUnfit}
+use Rattle.qc_promise.specs.Names.{IsKeptAt, IsKeptOrUnfit, Kept}
 use Rattle.qc_spent.proofs.Ends.{CutAt, at_end, cut_at, inside}
 
 fit_kept : (fit : Bool) (before : List Step) (s : Step) → IsKeptOrUnfit fit before s → fit ≡ true → IsKeptAt before s

@@ -2,8 +2,7 @@
 use Rattle.std.proofs.Common.{◌≡◌, ℕ, ◌+◌, ◌==◌, Bool, true, false, not, List, [], ◌∷◌, filter}
 use Rattle.std.proofs.Common.{map, cond, Option, Some, None, refl, sym, ◌∙◌, ap, if◌then◌else◌}
 use Rattle.std.proofs.lemmas.Bool.{eqb-true, eqb-false, eq-eqb, ne_eqb}
-use Rattle.qc_promise.specs.DiskAccount.{DiskArm, waiting_after}
-use Rattle.qc_promise.specs.Spent.{Arm, Calls, with_calls}
+use Rattle.qc_promise.specs.Names.{Arm, Calls, DiskArm, waiting_after, with_calls}
 
 -- the test on numbers
 

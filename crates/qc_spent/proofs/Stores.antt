@@ -3,17 +3,14 @@ use Rattle.std.proofs.Common.{◌≡◌, ℕ, ◌<◌, ◌≤◌, ◌==◌, Bool
 use Rattle.std.proofs.Common.{◌∙◌, ap, subst, append_assoc, append-nil, arith, if◌then◌else◌}
 use Rattle.std.proofs.lemmas.List.Sums.{fold-append}
 use Rattle.std.proofs.lemmas.Bool.{eq-eqb}
-use Rattle.qc_msg.specs.Deeds.{own}
-use Rattle.qc_msg.specs.Steps.{Entry, by, marked}
+use Rattle.qc_msg.specs.Names.{Entry, by, marked, own}
 use Rattle.qc_msg.specs.declared.step.Step.{Step}
 use Rattle.qc_msg.specs.declared.step.Step.TheVariants as steps
-use Rattle.qc_promise.specs.DiskAccount.{IsInTime, disk_account, disk_account_with}
-use Rattle.qc_promise.specs.Kept.{IsKeptAt, Journal, journal_of, journal_with, no_journal}
-use Rattle.qc_promise.specs.Stores.{AreKept, AreStoreSteps, IsStoreOf, IsKeptBy, IsOfOthers, arms_disk, journal_after}
-use Rattle.qc_promise.specs.Stores.{disk_account_after}
+use Rattle.qc_promise.specs.Names.{AreKept, AreStoreSteps, DiskAccount, DiskArm, IsInTime, IsKeptAt, IsKeptBy}
+use Rattle.qc_promise.specs.Names.{IsOfOthers, IsStoreOf, Journal, arms_disk, disk_account, disk_account_after}
+use Rattle.qc_promise.specs.Names.{disk_account_with, disk_armed, journal_after, journal_of, journal_with, no_calls}
+use Rattle.qc_promise.specs.Names.{no_disk_account, no_journal}
 use Rattle.qc_outside.specs.declared.disk.ArmKind.{ArmKind}
-use Rattle.qc_promise.specs.DiskAccount.{DiskAccount, DiskArm, no_disk_account, disk_armed}
-use Rattle.qc_promise.specs.Spent.{no_calls}
 use Rattle.qc_spent.proofs.OwnRecords.{kept_more, own_mine, own_other}
 use Rattle.qc_spent.proofs.Whole.{in_time_more}
 

@@ -2,15 +2,12 @@
 use Rattle.std.proofs.Common.{◌≡◌, ℕ, ◌+◌, ◌-◌, ◌<◌, ◌≤◌, nat_le, Bool, true, false, ◌&&◌, Option, Some, None, inl}
 use Rattle.std.proofs.Common.{inr, refl, sym, ◌∙◌, ap, subst, arith, if◌then◌else◌}
 use Rattle.std.proofs.lemmas.Bool.{le-leb}
-use Rattle.qc_outside.specs.Arms.{Armed}
-use Rattle.qc_outside.specs.Causes.{Rose}
-use Rattle.qc_outside.specs.Fuses.{KeepsArm, Fuse, HasFaulted, HasPassed, IsArmedAfter}
+use Rattle.qc_outside.specs.Names.{Armed, Fuse, HasFaulted, HasPassed, IsArmedAfter, KeepsArm, Rose}
 use Rattle.qc_outside.specs.declared.disk.ArmKind.{ArmKind}
 use Rattle.qc_outside.specs.declared.disk.ArmKind.TheVariants.{Fail, Stop}
-use Rattle.qc_promise.specs.DiskAccount.{DiskAccount, DiskArm, may_have_acted, disk_armed, disk_called, disk_fell}
-use Rattle.qc_promise.specs.DiskAccount.{disk_fell_with, more_calls, waiting_after}
-use Rattle.qc_promise.specs.Spent.{Calls, same_kind}
-use Rattle.qc_store.specs.Accounts.{IsCounted, IsArmedBy, IsArmOf, IsAccountOf}
+use Rattle.qc_promise.specs.Names.{Calls, DiskAccount, DiskArm, disk_armed, disk_called, disk_fell, disk_fell_with}
+use Rattle.qc_promise.specs.Names.{may_have_acted, more_calls, same_kind, waiting_after}
+use Rattle.qc_store.specs.Names.{IsAccountOf, IsArmOf, IsArmedBy, IsCounted}
 
 -- counts
 

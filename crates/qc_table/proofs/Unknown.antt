@@ -8,10 +8,8 @@ use Rattle.std.proofs.lemmas.List.Folds.{list_any_at}
 use Rattle.std.proofs.lemmas.List.Elements.{All-append}
 use Rattle.qc_table.specs.declared.row.Row.{Row}
 use Rattle.qc_table.specs.declared.row.Event.{Event}
-use Rattle.qc_table.specs.Rules.{Rules, event_of, same_event, with_event, events_of}
-use Rattle.qc_table.specs.Cases.{IsSmall}
-use Rattle.qc_table.specs.Faults.{is_unknown, ranked, first_repeat}
-use Rattle.qc_table.specs.Sound.{IsSound}
+use Rattle.qc_table.specs.Names.{IsSmall, IsSound, Rules, event_of, events_of, first_repeat, is_unknown, ranked}
+use Rattle.qc_table.specs.Names.{same_event, with_event}
 use Rattle.qc_table.proofs.Places.{position_none}
 
 -- without a fault no row is unknown

@@ -7,3 +7,4 @@ pub mod Rules
 pub mod Run
 pub mod Sets
 pub mod Sound
+pub mod Names

@@ -3,9 +3,9 @@ use Rattle.std.proofs.Common.{◌≡◌, ℕ, ◌+◌, ◌==◌, ◌&&◌, Bool,
 use Rattle.std.proofs.Common.{Some, None, option_to_list, slice_get, refl, subst, eqb-true}
 use Rattle.std.specs.List.{AllByRecursion as Every}
 use Rattle.qc_list.proofs.Members.{every-append, every-weaker}
-use Rattle.qc_core.specs.Conduct.{IsLawfulWithFalls}
+use Rattle.qc_core.specs.Names.{IsLawfulWithFalls}
 use Rattle.qc_decl.specs.declared.declaration.Declaration.{Declaration}
-use Rattle.laws_turns.specs.OwnRises.{GivesOwn, IsOwnRecord, RiseWithOwn}
+use Rattle.laws_turns.specs.Names.{GivesOwn, IsOwnRecord, RiseWithOwn}
 use Rattle.qc_msg.specs.declared.message.Envelope.{Envelope}
 use Rattle.qc_msg.specs.declared.record.Record.{Record}
 use Rattle.qc_msg.specs.declared.record.Record.TheVariants as records
@@ -21,13 +21,12 @@ use Rattle.qc_msg.specs.declared.turn.Appended.{Appended}
 use Rattle.qc_msg.specs.declared.turn.Appended.TheVariants.{Done, Failed, Stopped}
 use Rattle.qc_msg.specs.declared.turn.Posting.{Posting}
 use Rattle.qc_msg.specs.declared.turn.Turn.{Turn}
-use Rattle.qc_msg.specs.Deeds.{deed_at, deeds, envelope_of, heard, mail}
-use Rattle.qc_msg.specs.Steps.{Entry, by, fell, posted_as, sents, step_of, told, wrote}
-use Rattle.qc_node.specs.Rules.{fits_of}
-use Rattle.qc_record.specs.Records.{has_own_stamp, is_legal}
-use Rattle.qc_script.specs.Ready.{controller_step}
-use Rattle.qc_script.specs.RunsWithFalls.{RunsWithFalls, begins, takes, posts, phase, control, falls, rises, damaged}
-use Rattle.qc_script.specs.RunsWithFalls.{unopened}
+use Rattle.qc_msg.specs.Names.{Entry, by, deed_at, deeds, envelope_of, fell, heard, mail, posted_as, sents, step_of}
+use Rattle.qc_msg.specs.Names.{told, wrote}
+use Rattle.qc_node.specs.Names.{fits_of}
+use Rattle.qc_record.specs.Names.{has_own_stamp, is_legal}
+use Rattle.qc_script.specs.Names.{RunsWithFalls, begins, control, controller_step, damaged, falls, phase, posts, rises}
+use Rattle.qc_script.specs.Names.{takes, unopened}
 use Rattle.qc_script.specs.declared.script.Script.{Script}
 
 -- a record that has a spelling names a stamp of its transaction's own client

@@ -1,30 +1,25 @@
 -- What the top call leaves: a run of the words' script and its text, a word on a declaration, or a cause that is due.
 use Rattle.std.specs.Prelude.{◌≡◌, ℕ, Bool, ◌++◌, List, [], Option, Some, None, Ok, Err, IsSome, ◌⊎◌}
-use Rattle.qc_promise.specs.Atomic.{Atomic}
-use Rattle.qc_promise.specs.Committed.{committed}
-use Rattle.qc_promise.specs.Due.{Due}
-use Rattle.qc_promise.specs.Kept.{Kept}
-use Rattle.qc_core.specs.Conduct.{IsLawfulWithFalls}
-use Rattle.laws_due.specs.Whole.{IsWholeWithFalls}
-use Rattle.theory_onecopy.specs.Replay.{replay}
-use Rattle.qc_decl.specs.Accepted.{IsAccepted}
+use Rattle.qc_promise.specs.Names.{Atomic, Due, Kept, committed}
+use Rattle.qc_core.specs.Names.{IsLawfulWithFalls}
+use Rattle.laws_due.specs.Names.{IsWholeWithFalls}
+use Rattle.theory_onecopy.specs.Names.{replay}
+use Rattle.qc_decl.specs.Names.{IsAccepted}
 use Rattle.qc_decl.specs.declared.declaration.Declaration.{Declaration}
-use Rattle.qc_msg.specs.Steps.{Entry}
-use Rattle.qc_outside.specs.Places.{Places}
-use Rattle.qc_outside.specs.Shelf.{Answer, Files}
+use Rattle.qc_msg.specs.Names.{Entry}
+use Rattle.qc_outside.specs.Names.{Answer, Files, Places}
 use Rattle.qc_outside.specs.declared.rack.RackFault.{RackFault}
 use Rattle.qc_outside.specs.declared.rack.RackFault.TheVariants as racks
 use Rattle.qc_outside.specs.declared.shelf.ShelfFault.TheVariants as faults
-use Rattle.qc_report.specs.Declarations.{accepted_text_of}
+use Rattle.qc_report.specs.Names.{accepted_text_of}
 use Rattle.qc_report.specs.declared.cause.Cause.{Cause}
 use Rattle.qc_report.specs.declared.cause.Cause.TheVariants as causes
-use Rattle.qc_text.specs.Summary.{summary_of}
-use Rattle.qc_text.specs.Text.{text_of}
-use Rattle.qc_script.specs.RunsWithFalls.{RunWithFalls}
+use Rattle.qc_text.specs.Names.{summary_of, text_of}
+use Rattle.qc_script.specs.Names.{RunWithFalls}
 use Rattle.qc_script.specs.declared.script.Script.{Script}
-use Rattle.qc_fabric.specs.Limits.{HasReached, IsBelow}
+use Rattle.qc_fabric.specs.Names.{HasReached, IsBelow}
 pub use Rattle.qc_node.specs.Runnable.{IsRunnable}
-use Rattle.qc_node.specs.Rules.{fits_of}
+use Rattle.qc_node.specs.Names.{fits_of}
 use Rattle.qc_node.specs.declared.ends.DriveEnd.{DriveEnd}
 use Rattle.qc_node.specs.declared.ends.DriveEnd.TheVariants as ends
 use Rattle.qc_top.specs.Answers.{AreAnswers}
@@ -36,8 +31,7 @@ use Rattle.qc_top.specs.declared.work.Work.{Work}
 use Rattle.qc_top.specs.declared.work.Work.TheVariants as works
 use Rattle.qc_top.specs.declared.work.Output.{Output}
 use Rattle.qc_top.specs.declared.work.Output.TheVariants as outputs
-use Rattle.qc_words.specs.Forms.{Text}
-use Rattle.qc_words.specs.Words.{AskedOf, asked}
+use Rattle.qc_words.specs.Names.{AskedOf, Text, asked}
 use Rattle.qc_words.specs.declared.fault.WordsFault.{WordsFault}
 use Rattle.qc_words.specs.declared.fault.WordsFault.TheVariants as words_faults
 

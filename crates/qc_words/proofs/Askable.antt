@@ -9,15 +9,13 @@ use Rattle.std.proofs.lemmas.Bool.{and_from, leb-true}
 use Rattle.std.proofs.lemmas.List.Folds.{list_all-append}
 use Rattle.std.proofs.lemmas.Option.{cond_some, none-some, option_and_then_some, same_Some}
 use Rattle.clap.proofs.WalkLemmas.{both}
-use Rattle.qc_words.specs.Askable.{AreFew, IsAskable, IsName, IsNameIfAny}
-use Rattle.qc_words.specs.Forms.{Form, Part, Reading, Text, Values, are_given, ended, is_among, is_given, is_value}
-use Rattle.qc_words.specs.Forms.{nothing_read, option_of, option_or_place, parts_of, placed, value_of, values_in}
-use Rattle.qc_words.specs.Forms.{values_of, waits_for_none, with_named, with_next, with_part, with_word, with_words}
-use Rattle.qc_words.specs.Limits.{greatest_seed, most_transactions, most_workers}
-use Rattle.qc_number.specs.Numbers.{number_of}
-use Rattle.qc_words.specs.Numbers.{number_within, within}
-use Rattle.qc_words.specs.Words.{AskedOf, Check, asked, asked_behind, check_form, check_of, load_form, load_of}
-use Rattle.qc_words.specs.Words.{run_form, run_of, workers_of}
+use Rattle.qc_words.specs.Names.{AreFew, AskedOf, Check, Form, IsAskable, IsName, IsNameIfAny, Part, Reading, Text}
+use Rattle.qc_words.specs.Names.{Values, are_given, asked, asked_behind, check_form, check_of, ended, greatest_seed}
+use Rattle.qc_words.specs.Names.{is_among, is_given, is_value, load_form, load_of, most_transactions, most_workers}
+use Rattle.qc_words.specs.Names.{nothing_read, number_within, option_of, option_or_place, parts_of, placed, run_form}
+use Rattle.qc_words.specs.Names.{run_of, value_of, values_in, values_of, waits_for_none, with_named, with_next}
+use Rattle.qc_words.specs.Names.{with_part, with_word, with_words, within, workers_of}
+use Rattle.qc_number.specs.Names.{number_of}
 
 bounds : (least most : ℕ) (o : Option ℕ) (n : ℕ) → within least most o ≡ Some n → (least ≤ n) × (n ≤ most)
 bounds least most None n is = absurd (none-some n is)

@@ -10,13 +10,13 @@ use Rattle.std.proofs.lemmas.Bool.{and_from}
 use Rattle.std.proofs.lemmas.Option.{cond_some, none-some, option_and_then_some}
 use Rattle.clap.proofs.LexerLemmas.{name_and_value-at, name_and_value-without}
 use Rattle.clap.proofs.WalkLemmas.{both}
-use Rattle.qc_words.specs.Forms.{Form, Part, Reading, Text, Values, ended, is_among, is_given, is_value, nothing_read}
-use Rattle.qc_words.specs.Forms.{option_of, option_or_place, parts_of, placed, values_in, values_of, waiting_for}
-use Rattle.qc_words.specs.Forms.{with_named, with_next, with_part, with_word, with_words}
-use Rattle.qc_words.specs.Said.{IsOptionName, is_known, said_apart, said_joined}
+use Rattle.qc_words.specs.Names.{Form, IsOptionName, Part, Reading, Text, Values, asked, asked_behind, check_form}
+use Rattle.qc_words.specs.Names.{check_of, ended, is_among, is_given, is_known, is_value, load_form, load_of}
+use Rattle.qc_words.specs.Names.{nothing_read, option_of, option_or_place, parts_of, placed, run_form, run_of}
+use Rattle.qc_words.specs.Names.{said_apart, said_joined, values_in, values_of, waiting_for, with_named, with_next}
+use Rattle.qc_words.specs.Names.{with_part, with_word, with_words}
 use Rattle.qc_words.proofs.Rows.{or_right}
 use Rattle.qc_words.proofs.Steps.{reading}
-use Rattle.qc_words.specs.Words.{asked, asked_behind, check_form, check_of, load_form, load_of, run_form, run_of}
 
 part_fits : (name text : Text) (r end : Reading) → with_part name text r ≡ Some end → is_value text ≡ true
 part_fits name text r end e = (both (is_value text) (not (is_given name r.parts))

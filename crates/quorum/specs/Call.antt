@@ -1,30 +1,22 @@
 -- What a call of the program leaves: by its words, what was handed over for its files, and what standard output took.
 use Rattle.std.specs.Prelude.{◌≡◌, ◌⊎◌, ℕ, ◌<◌, ◌-◌, ◌^◌, Bool, List, [], ◌∷◌, ◌++◌, Option, None, Some, Ok, Err}
 use Rattle.qc_decl.specs.declared.declaration.Declaration.{Declaration}
-use Rattle.qc_fabric.specs.Events.{before_last_event}
-use Rattle.qc_fabric.specs.Limits.{IsBelow}
+use Rattle.qc_fabric.specs.Names.{IsBelow, before_last_event}
 use Rattle.qc_files.specs.Handed.{HandedOver}
-use Rattle.qc_msg.specs.Steps.{Entry}
-use Rattle.qc_outside.specs.Shelf.{Answer}
+use Rattle.qc_msg.specs.Names.{Entry}
+use Rattle.qc_outside.specs.Names.{Answer}
 use Rattle.qc_outside.specs.declared.shelf.ShelfFault.TheVariants as faults
-use Rattle.qc_promise.specs.Atomic.{Atomic}
-use Rattle.qc_promise.specs.Due.{Due}
-use Rattle.qc_promise.specs.Kept.{Kept}
-use Rattle.qc_promise.specs.Spent.{Spent}
-use Rattle.qc_report.specs.Causes.{status_of}
+use Rattle.qc_promise.specs.Names.{Atomic, Due, Kept, Spent}
+use Rattle.qc_report.specs.Names.{status_of}
 use Rattle.qc_outside.specs.declared.rack.RackFault.{RackFault}
 use Rattle.qc_report.specs.declared.cause.Cause.{Cause}
 use Rattle.qc_report.specs.declared.cause.Cause.TheVariants as causes
-use Rattle.qc_top.specs.Answers.{decl_file, most_declaration_bytes, most_script_bytes, script_file}
-use Rattle.qc_top.specs.Top.{AreStatesKnown, IsFullCause, IsNoRack, Leaves, OnPrinted}
-use Rattle.qc_top.specs.Racks.{IsRackBlamed}
-use Rattle.qc_top.specs.Words.{folder_in}
-use Rattle.qc_top.specs.Work.{Caused, IsBlamed, work_of}
+use Rattle.qc_top.specs.Names.{AreStatesKnown, Caused, IsBlamed, IsFullCause, IsNoRack, IsRackBlamed, Leaves, OnPrinted}
+use Rattle.qc_top.specs.Names.{decl_file, folder_in, most_declaration_bytes, most_script_bytes, script_file, work_of}
 use Rattle.qc_top.specs.declared.answers.Answers.{Answers}
 use Rattle.qc_top.specs.declared.work.Work.{Work}
 use Rattle.qc_top.specs.declared.work.Work.TheVariants as works
-use Rattle.qc_words.specs.Forms.{Text}
-use Rattle.qc_words.specs.Words.{AskedOf, asked}
+use Rattle.qc_words.specs.Names.{AskedOf, Text, asked}
 
 -- what is handed over for a file, where one is asked for
 abbrev pub for_file : Option (List ℕ) → ℕ → Answer → List HandedOver

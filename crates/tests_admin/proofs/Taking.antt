@@ -2,15 +2,14 @@
 use Rattle.std.proofs.Common.{◌≡◌, ℕ, None, Result, Ok, Err, IfOk, OnOk, sym, ap, ◌∙◌, subst}
 use Rattle.std.specs.declared.alloc.AllocError.{AllocError}
 use Rattle.qc_decl.specs.declared.declaration.Declaration.{Declaration}
-use Rattle.qc_decl.specs.Accepted.{IsAccepted}
+use Rattle.qc_decl.specs.Names.{IsAccepted}
 use Rattle.qc_msg.specs.declared.message.Envelope.{Envelope}
 use Rattle.qc_msg.specs.declared.message.Message.{Message}
 use Rattle.qc_msg.specs.declared.step.Command.{Command}
 use Rattle.qc_msg.specs.declared.step.Input.TheVariants as inputs
 use Rattle.qc_msg.specs.declared.turn.Turn.{Turn}
-use Rattle.qc_epoch.specs.Admin.{Admin, AdminMove, moved}
-use Rattle.qc_epoch.specs.Conduct.{answered, called, heard}
-use Rattle.qc_admin.specs.Fits.{AdminFits, MessageFits}
+use Rattle.qc_epoch.specs.Names.{Admin, AdminMove, answered, called, heard, moved}
+use Rattle.qc_admin.specs.Names.{AdminFits, MessageFits}
 use Rattle.qc_admin.proofs.Fitting.{takes_fit}
 
 -- what he becomes fits

@@ -6,10 +6,11 @@ use Rattle.std.proofs.lemmas.Bool.{and_parts}
 use Rattle.std.proofs.lemmas.Bool.Decides.{nat_tests}
 use Rattle.qc_decl.specs.declared.declaration.Declaration.{Declaration}
 use Rattle.qc_entry.specs.declared.record.Commit.{Commit}
-use Rattle.qc_list.specs.Members.{In}
+use Rattle.qc_list.specs.Names.{In}
 use Rattle.qc_msg.specs.declared.record.Record.{Record}
 use Rattle.qc_msg.specs.declared.record.Record.TheVariants as records
-use Rattle.qc_recover.specs.Clients.{Kept, client_rises, kept_by, nothing_kept}
+use Rattle.qc_recover.specs.Names.{client_rises}
+use Rattle.qc_recover.specs.Clients.{Kept, kept_by, nothing_kept}
 use Rattle.qc_recover.proofs.ClientLaws.{IsReached, clocks_reached, kept_more}
 use Rattle.tests_clients.specs.Journals.{is_small}
 use Rattle.tests_clients.specs.Young.{IsYoung, most_told}

@@ -1,12 +1,11 @@
 -- A young client stays young over any input, and its calls ask no more.
 use Rattle.std.proofs.Common.{◌≡◌, ℕ, ◌+◌, ◌^◌, ◌<◌, ◌≤◌, ◌==◌, Bool, true, false, cond, List, [], length, Option, Some, None, is_some, Result, Ok, Err, IfOk, OnOk, refl, sym, subst, arith}
 use Rattle.qc_decl.specs.declared.declaration.Declaration.{Declaration}
-use Rattle.qc_decl.specs.Accepted.{IsAccepted}
-use Rattle.qc_decl.specs.Lookup.{append_need_of}
+use Rattle.qc_decl.specs.Names.{IsAccepted, append_need_of}
 use Rattle.qc_stamp.specs.declared.clock.Clock.{Clock}
 use Rattle.qc_plan.specs.declared.standing.Verdict.{Verdict}
 use Rattle.qc_plan.specs.declared.standing.Verdict.TheVariants as verdicts
-use Rattle.qc_plan.specs.Round.{RoundState, note, verdict}
+use Rattle.qc_plan.specs.Names.{RoundState, note, verdict}
 use Rattle.qc_msg.specs.declared.begun.Begun.{Begun}
 use Rattle.qc_msg.specs.declared.call.Call.{Call}
 use Rattle.qc_msg.specs.declared.message.Answer.{Answer}
@@ -17,35 +16,28 @@ use Rattle.qc_msg.specs.declared.reply.AbortCause.{AbortCause}
 use Rattle.qc_msg.specs.declared.step.Command.{Command}
 use Rattle.qc_msg.specs.declared.step.Command.TheVariants as commands
 use Rattle.qc_msg.specs.declared.turn.Turn.{Turn}
-use Rattle.qc_msg.specs.Calls.{site_called, without_call}
+use Rattle.qc_msg.specs.Names.{site_called, without_call}
 use Rattle.qc_commit.specs.declared.ballot.Ballot.{Ballot}
 use Rattle.qc_commit.specs.declared.desk.Desk.{Desk}
 use Rattle.qc_commit.specs.declared.desk.Voting.{Voting}
-use Rattle.qc_commit.specs.Calls.{Prepares, Votes, Numbers}
+use Rattle.qc_commit.specs.Names.{AsksFew, DeskMove, Numbers, Prepares, Votes, are_cast, cast, first_against}
+use Rattle.qc_commit.specs.Names.{participants, vote_of}
 use Rattle.qc_commit.specs.Conduct as desks
-use Rattle.qc_commit.specs.Desk.{DeskMove}
-use Rattle.qc_commit.specs.Fits.{AsksFew}
-use Rattle.qc_commit.specs.Votes.{are_cast, cast, first_against, participants, vote_of}
 use Rattle.qc_commit.proofs.Aside.{few-after}
 use Rattle.qc_front.specs.declared.doing.Doing.{Doing}
 use Rattle.qc_front.specs.declared.doing.Doing.TheVariants.{Idle, Reading, Appending}
 use Rattle.qc_front.specs.declared.front.Front.{Front}
 use Rattle.qc_front.specs.declared.transaction.Transaction.{Transaction}
-use Rattle.qc_front.specs.Answering.{answer_of}
-use Rattle.qc_front.specs.Appending.{round_for}
+use Rattle.qc_front.specs.Names.{FrontHolds, FrontMove, answer_of, answered, append_by, appended_with, ended, learns}
+use Rattle.qc_front.specs.Names.{read_by, read_with, round_for, standing_of}
 use Rattle.qc_front.specs.Conduct as fronts
-use Rattle.qc_front.specs.Counting.{appended_with, learns, read_with, standing_of}
-use Rattle.qc_front.specs.Front.{FrontMove, ended}
-use Rattle.qc_front.specs.Holds.{FrontHolds}
-use Rattle.qc_front.specs.Rounds.{answered, append_by, read_by}
 use Rattle.qc_front.proofs.Clocks.{called_clock, called_count, takes_count}
 use Rattle.qc_front.proofs.Fitting.{fits}
 use Rattle.qc_front.proofs.Keeping.{called_holds, takes_holds, new_holds, ended_holds}
 use Rattle.qc_front.proofs.Numbering.{sent_holds}
 use Rattle.qc_client.specs.declared.client.Client.{Client}
-use Rattle.qc_client.specs.Client.{ClientMove, by_desk, by_front, new_client}
+use Rattle.qc_client.specs.Names.{ClientFits, ClientMove, by_desk, by_front, new_client, promise_in}
 use Rattle.qc_client.specs.Conduct as clients
-use Rattle.qc_client.specs.Fits.{ClientFits, promise_in}
 use Rattle.tests_clients.specs.Young.{IsYoung, most_told, told, told_in}
 
 -- the front end's clock after what comes of a request

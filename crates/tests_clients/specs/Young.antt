@@ -2,8 +2,8 @@
 -- that a test may go on with any input.
 use Rattle.std.specs.Prelude.{ℕ, ◌+◌, ◌≤◌, Option, Some, None}
 use Rattle.qc_decl.specs.declared.declaration.Declaration.{Declaration}
-use Rattle.qc_commit.specs.Fits.{AsksFew}
-use Rattle.qc_front.specs.Holds.{FrontHolds}
+use Rattle.qc_commit.specs.Names.{AsksFew}
+use Rattle.qc_front.specs.Names.{FrontHolds}
 use Rattle.qc_msg.specs.declared.message.Answer.{Answer}
 use Rattle.qc_msg.specs.declared.message.Answer.TheVariants as answers
 use Rattle.qc_msg.specs.declared.message.Message.{Message}

@@ -2,15 +2,13 @@
 use Rattle.std.proofs.Common.{◌≡◌, ℕ, zero, suc, ◌<◌, ◌==◌, ◌&&◌, Bool, true, false, List, [], ◌∷◌, ◌++◌, length, Option, Some, None, is_some, option_to_list, slice_get, refl, subst, sym, arith}
 use Rattle.std.proofs.lemmas.Bool.{eqb-false, eqb-true}
 use Rattle.qc_decl.specs.declared.declaration.Declaration.{Declaration}
-use Rattle.qc_decl.specs.Actors.{is_site}
+use Rattle.qc_decl.specs.Names.{is_site}
 use Rattle.qc_msg.specs.declared.message.Envelope.{Envelope}
 use Rattle.qc_msg.specs.declared.step.Step.{Step}
 use Rattle.qc_msg.specs.declared.step.Step.TheVariants as steps
-use Rattle.qc_msg.specs.Deeds.{deeds, envelope_of}
-use Rattle.qc_msg.specs.Readings.{Answered, answer_in}
-use Rattle.qc_msg.specs.Steps.{Entry}
-use Rattle.qc_promise.specs.Mail.{IsAnswerOf, IsMailStep, IsMailed, IsReceived, IsRequestOf, IsRequestTo, asks_answer}
-use Rattle.qc_promise.specs.Turns.{AreByTurns, place_after}
+use Rattle.qc_msg.specs.Names.{Answered, Entry, answer_in, deeds, envelope_of}
+use Rattle.qc_promise.specs.Names.{AreByTurns, IsAnswerOf, IsMailStep, IsMailed, IsReceived, IsRequestOf, IsRequestTo}
+use Rattle.qc_promise.specs.Names.{asks_answer, place_after}
 
 -- two tests, one after the other
 

@@ -1,10 +1,8 @@
 -- Rows that those histories and the random ones don't have: their replies are due.
 use Rattle.std.proofs.Common.{[], refl}
-use Rattle.qc_decl.specs.One.{three}
-use Rattle.qc_msg.specs.Deeds.{deeds}
-use Rattle.qc_decl.specs.Actors.{actors}
-use Rattle.qc_promise.specs.Due.{Due}
-use Rattle.qc_promise.specs.Replies.{AreRepliesDue}
+use Rattle.qc_decl.specs.Names.{actors, three}
+use Rattle.qc_msg.specs.Names.{deeds}
+use Rattle.qc_promise.specs.Names.{AreRepliesDue, Due}
 use Rattle.tests_due.proofs.Orders.{by_turns_where_placed, mailed_where_shown}
 use Rattle.tests_due.proofs.Owed.{all_due_where_shown}
 use Rattle.tests_due.proofs.Owed.{due_where_shown}

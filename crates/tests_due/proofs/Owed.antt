@@ -1,7 +1,7 @@
 -- All deeds of a client are due where two lists are equal: what is due of each, and what is there.
 use Rattle.std.proofs.Common.{◌≡◌, ℕ, zero, suc, ◌<◌, ◌==◌, Bool, true, false, List, [], ◌∷◌, Option, Some, None, is_some, refl, ap, subst, sym, arith}
 use Rattle.std.proofs.lemmas.Bool.{eqb-false, eqb-true}
-use Rattle.qc_decl.specs.Actors.{client_actor}
+use Rattle.qc_decl.specs.Names.{client_actor}
 use Rattle.qc_decl.specs.declared.declaration.Declaration.{Declaration}
 use Rattle.qc_entry.specs.declared.record.Commit.{Commit}
 use Rattle.qc_msg.specs.declared.record.Record.{Record}
@@ -11,13 +11,11 @@ use Rattle.qc_msg.specs.declared.reply.Reply.TheVariants as replies
 use Rattle.qc_msg.specs.declared.step.Command.{Command}
 use Rattle.qc_msg.specs.declared.step.Input.{Input}
 use Rattle.qc_msg.specs.declared.step.Input.TheVariants as inputs
-use Rattle.qc_msg.specs.Deeds.{Deed, Takes, Writes, Sends, Tells, Falls, Rises, deeds}
-use Rattle.qc_msg.specs.Steps.{Entry}
-use Rattle.qc_promise.specs.Account.{Account, new_account}
-use Rattle.qc_promise.specs.Accounting.{account_at}
-use Rattle.qc_promise.specs.Posts.{Act, fallen_in, pending_next, posted_due, posted_next}
-use Rattle.qc_promise.specs.Replies.{AreDeedsDue, AreRepliesDue, IsDeedDue, IsInputDue, IsRecordDue, rising_turn}
-use Rattle.qc_promise.specs.Rows.{commit_of, due, pending_with, record_with}
+use Rattle.qc_msg.specs.Names.{Deed, Entry, Falls, Rises, Sends, Takes, Tells, Writes, deeds}
+use Rattle.qc_promise.specs.Names.{Account, Act, AreDeedsDue, AreRepliesDue, IsDeedDue, IsInputDue, IsRecordDue}
+use Rattle.qc_promise.specs.Names.{account_at, commit_of, due, fallen_in, new_account, pending_next, posted_due}
+use Rattle.qc_promise.specs.Names.{posted_next, record_with, rising_turn}
+use Rattle.qc_promise.specs.Rows.{pending_with}
 
 -- what is due of a deed, or what is there
 pub record Owed : Type 0 where

@@ -4,10 +4,8 @@ use Rattle.qc_decl.specs.declared.declaration.Declaration.{Declaration}
 use Rattle.qc_entry.specs.declared.record.Commit.{Commit}
 use Rattle.qc_msg.specs.declared.reply.Reply.{Reply}
 use Rattle.qc_msg.specs.declared.reply.Reply.TheVariants as replies
-use Rattle.qc_msg.specs.Deeds.{Deed}
-use Rattle.qc_promise.specs.Account.{Account, new_account}
-use Rattle.qc_promise.specs.Accounting.{account_at}
-use Rattle.qc_promise.specs.Replies.{AreDeedsDue, AreRepliesDue, IsDeedDue}
+use Rattle.qc_msg.specs.Names.{Deed}
+use Rattle.qc_promise.specs.Names.{Account, AreDeedsDue, AreRepliesDue, IsDeedDue, account_at, new_account}
 
 -- what is due of the deed at this place
 abbrev DeedAt : ℕ → Declaration → Account → List Deed → Type 0

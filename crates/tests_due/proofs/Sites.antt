@@ -3,10 +3,9 @@
 use Rattle.std.proofs.Common.{◌≡◌, ℕ, zero, suc, ◌<◌, ◌==◌, Bool, true, false, List, [], ◌∷◌, ◌++◌, refl, ap, subst, sym, arith}
 use Rattle.std.proofs.lemmas.Bool.{eqb-false, eqb-true}
 use Rattle.qc_decl.specs.declared.declaration.Declaration.{Declaration}
-use Rattle.qc_msg.specs.Deeds.{Deed, Takes, Writes, Sends, Tells, Falls, Rises, deeds}
-use Rattle.qc_msg.specs.Steps.{Entry}
-use Rattle.qc_promise.specs.Posts.{Act, fallen_in, posted_due, posted_next}
-use Rattle.qc_promise.specs.SiteDue.{AreDue, IsDueAt, rising_turn, turn_due}
+use Rattle.qc_msg.specs.Names.{Deed, Entry, Falls, Rises, Sends, Takes, Tells, Writes, deeds}
+use Rattle.qc_promise.specs.Names.{Act, AreDue, IsDueAt, fallen_in, posted_due, posted_next, turn_due}
+use Rattle.qc_promise.specs.SiteDue.{rising_turn}
 
 -- what is due for the inputs that something comes after, and for rises; and what comes
 

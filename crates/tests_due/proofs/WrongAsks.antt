@@ -1,9 +1,9 @@
 -- None of these is due: requests that no round wants, replies of what isn't declared, and untold replies.
 use Rattle.std.proofs.Common.{◌≡◌, [], Option, Some, None}
-use Rattle.qc_decl.specs.One.{three}
+use Rattle.qc_decl.specs.Names.{three}
 use Rattle.qc_msg.specs.declared.reply.Reply.{Reply}
-use Rattle.qc_msg.specs.Deeds.{deeds}
-use Rattle.qc_promise.specs.Replies.{AreRepliesDue}
+use Rattle.qc_msg.specs.Names.{deeds}
+use Rattle.qc_promise.specs.Names.{AreRepliesDue}
 use Rattle.tests_histories.specs.Words.{tx}
 use Rattle.tests_due.proofs.Places.{due_at}
 use Rattle.qc_msg.specs.declared.reply.Half.TheVariants as halves

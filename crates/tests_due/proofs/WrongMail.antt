@@ -1,6 +1,6 @@
 -- None of these is mailed.
 use Rattle.std.proofs.Common.{◌≡◌, ℕ, Bool, true, false, []}
-use Rattle.qc_promise.specs.Mail.{IsMailed}
+use Rattle.qc_promise.specs.Names.{IsMailed}
 use Rattle.tests_due.proofs.Orders.{mail_at}
 use Rattle.tests_due.specs.WrongMail as wrong_mail
 

@@ -1,9 +1,9 @@
 -- None of these is due: sites that answer or write something else than is due.
 use Rattle.std.proofs.Common.{◌≡◌, ℕ, [], Option, Some, ap}
-use Rattle.qc_decl.specs.One.{three}
+use Rattle.qc_decl.specs.Names.{three}
 use Rattle.qc_msg.specs.declared.message.Answer.{Answer}
-use Rattle.qc_msg.specs.Deeds.{deeds}
-use Rattle.qc_promise.specs.SiteDue.{AreDue}
+use Rattle.qc_msg.specs.Names.{deeds}
+use Rattle.qc_promise.specs.Names.{AreDue}
 use Rattle.tests_due.proofs.SitePlaces.{clock_granted, count_records, count_sends}
 use Rattle.tests_due.proofs.SitePlaces.{first_answer, lines_granted, own_promised, site_due_at}
 use Rattle.qc_msg.specs.declared.message.Answer.TheVariants as answers

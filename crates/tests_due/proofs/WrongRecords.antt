@@ -1,10 +1,10 @@
 -- None of these is due: commits without their record.
 use Rattle.std.proofs.Common.{◌≡◌, ℕ, [], ◌∷◌, Option, Some, None, ap}
-use Rattle.qc_decl.specs.One.{three}
+use Rattle.qc_decl.specs.Names.{three}
 use Rattle.qc_entry.specs.declared.record.Commit.{Commit}
 use Rattle.qc_msg.specs.declared.reply.Reply.{Reply}
-use Rattle.qc_msg.specs.Deeds.{deeds}
-use Rattle.qc_promise.specs.Replies.{AreRepliesDue}
+use Rattle.qc_msg.specs.Names.{deeds}
+use Rattle.qc_promise.specs.Names.{AreRepliesDue}
 use Rattle.tests_histories.specs.Words.{operation, stamp, tx}
 use Rattle.tests_due.proofs.Places.{clock_told, count_written, due_at}
 use Rattle.qc_msg.specs.declared.reply.AbortCause.TheVariants as causes

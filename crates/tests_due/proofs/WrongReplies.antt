@@ -1,9 +1,9 @@
 -- None of these is due: replies that aren't the first row's.
 use Rattle.std.proofs.Common.{◌≡◌, ℕ, [], Option, Some, None, ap}
-use Rattle.qc_decl.specs.One.{three}
+use Rattle.qc_decl.specs.Names.{three}
 use Rattle.qc_msg.specs.declared.reply.Reply.{Reply}
-use Rattle.qc_msg.specs.Deeds.{deeds}
-use Rattle.qc_promise.specs.Replies.{AreRepliesDue}
+use Rattle.qc_msg.specs.Names.{deeds}
+use Rattle.qc_promise.specs.Names.{AreRepliesDue}
 use Rattle.tests_histories.specs.Words.{tx}
 use Rattle.tests_due.proofs.Places.{due_at, number_begun}
 use Rattle.qc_msg.specs.declared.reply.Reply.TheVariants as replies

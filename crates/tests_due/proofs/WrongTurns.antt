@@ -1,12 +1,10 @@
 -- None of these is by turns, and nobody falls; and no client is told a fault.
 use Rattle.std.proofs.Common.{◌≡◌, true, false, [], Option, Some}
-use Rattle.qc_decl.specs.Actors.{is_site}
-use Rattle.qc_decl.specs.One.{three}
+use Rattle.qc_decl.specs.Names.{is_site, three}
 use Rattle.qc_msg.specs.declared.reply.Reply.{Reply}
 use Rattle.qc_msg.specs.declared.reply.Reply.TheVariants as replies
-use Rattle.qc_msg.specs.Deeds.{deeds}
-use Rattle.qc_promise.specs.Replies.{AreRepliesDue}
-use Rattle.qc_promise.specs.Turns.{AreByTurns}
+use Rattle.qc_msg.specs.Names.{deeds}
+use Rattle.qc_promise.specs.Names.{AreByTurns, AreRepliesDue}
 use Rattle.tests_due.proofs.Places.{due_at}
 use Rattle.tests_due.specs.WrongTurns as wrong_turns
 

@@ -1,9 +1,8 @@
 -- None of these is by turns: falls and rises.
 use Rattle.std.proofs.Common.{◌≡◌, true, false, []}
-use Rattle.qc_decl.specs.Actors.{is_site}
-use Rattle.qc_decl.specs.One.{three}
-use Rattle.qc_msg.specs.Deeds.{deeds}
-use Rattle.qc_promise.specs.Turns.{AreByTurns}
+use Rattle.qc_decl.specs.Names.{is_site, three}
+use Rattle.qc_msg.specs.Names.{deeds}
+use Rattle.qc_promise.specs.Names.{AreByTurns}
 use Rattle.tests_due.specs.WrongTurnsThroughFalls as wrong_turns_through_falls
 
 pub takes_while_down_refused : AreByTurns (is_site three 0) (deeds 0 [] wrong_turns_through_falls.takes_while_down) → ⊥

@@ -1,9 +1,7 @@
 -- What a script asks a client is answered in a history.
 use Rattle.std.specs.Prelude.{ℕ, List, []}
-use Rattle.laws_turns.specs.Exchanges.{AreAnswered, exchanges}
-use Rattle.laws_turns.specs.Whole.{asked_by}
-use Rattle.qc_msg.specs.Deeds.{deeds}
-use Rattle.qc_msg.specs.Steps.{Entry}
+use Rattle.laws_turns.specs.Names.{AreAnswered, asked_by, exchanges}
+use Rattle.qc_msg.specs.Names.{Entry, deeds}
 use Rattle.qc_script.specs.declared.script.Script.{Script}
 
 abbrev pub IsAnswered : Script → List Entry → ℕ → Type 0

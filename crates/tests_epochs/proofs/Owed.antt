@@ -7,14 +7,11 @@ use Rattle.qc_msg.specs.declared.reply.Reply.{Reply}
 use Rattle.qc_msg.specs.declared.step.Command.{Command}
 use Rattle.qc_msg.specs.declared.step.Input.{Input}
 use Rattle.qc_msg.specs.declared.step.Input.TheVariants as inputs
-use Rattle.qc_msg.specs.Deeds.{Deed, Takes, Writes, Sends, Tells, Falls, Rises}
-use Rattle.qc_msg.specs.Readings.{Installing}
-use Rattle.qc_promise.specs.AdminAccount.{AdminAccount, new_admin_account}
-use Rattle.qc_promise.specs.AdminAccounting.{admin_account_at}
-use Rattle.qc_promise.specs.AdminDue.{AreAdminDeedsDue, IsAdminDeedDue, IsAdminDue, IsAdminInputDue, IsAdminRecordDue, IsDecisionMet, decide_record, is_called_for}
-use Rattle.qc_promise.specs.AdminRows.{admin_due, decide_due}
-use Rattle.qc_promise.specs.Posts.{Act, fallen_in, pending_next, posted_due, posted_next}
-use Rattle.qc_promise.specs.Replies.{rising_turn}
+use Rattle.qc_msg.specs.Names.{Deed, Falls, Installing, Rises, Sends, Takes, Tells, Writes}
+use Rattle.qc_promise.specs.Names.{Act, AdminAccount, AreAdminDeedsDue, IsAdminDeedDue, IsAdminDue, IsAdminInputDue}
+use Rattle.qc_promise.specs.Names.{IsAdminRecordDue, IsDecisionMet, admin_account_at, admin_due, decide_due}
+use Rattle.qc_promise.specs.Names.{decide_record, fallen_in, is_called_for, new_admin_account, pending_next, posted_due}
+use Rattle.qc_promise.specs.Names.{posted_next, rising_turn}
 
 pub record Owed : Type 0 where
   pub reply : Option Reply

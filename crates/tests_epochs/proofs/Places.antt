@@ -1,10 +1,9 @@
 -- What is due of one deed of the administrator.
 use Rattle.std.proofs.Common.{ℕ, zero, suc, List, [], ◌∷◌}
 use Rattle.qc_decl.specs.declared.declaration.Declaration.{Declaration}
-use Rattle.qc_msg.specs.Deeds.{Deed}
-use Rattle.qc_promise.specs.AdminAccount.{AdminAccount, new_admin_account}
-use Rattle.qc_promise.specs.AdminAccounting.{admin_account_at}
-use Rattle.qc_promise.specs.AdminDue.{AreAdminDeedsDue, IsAdminDeedDue, IsAdminDue}
+use Rattle.qc_msg.specs.Names.{Deed}
+use Rattle.qc_promise.specs.Names.{AdminAccount, AreAdminDeedsDue, IsAdminDeedDue, IsAdminDue, admin_account_at}
+use Rattle.qc_promise.specs.Names.{new_admin_account}
 
 -- what is due of the deed at this place
 abbrev DeedAt : ℕ → Declaration → AdminAccount → List Deed → Type 0

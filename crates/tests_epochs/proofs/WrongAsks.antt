@@ -1,8 +1,7 @@
 -- None of these is due: the administrator asks other clients, or at another time.
 use Rattle.std.proofs.Common.{◌≡◌, [], ◌∷◌, Option, Some, None}
-use Rattle.qc_decl.specs.Actors.{administrator}
-use Rattle.qc_msg.specs.Deeds.{deeds}
-use Rattle.qc_msg.specs.Readings.{Installing}
+use Rattle.qc_decl.specs.Names.{administrator}
+use Rattle.qc_msg.specs.Names.{Installing, deeds}
 use Rattle.tests_histories.specs.Words.{line}
 use Rattle.tests_epochs.specs.Declarations.{three_epochs}
 use Rattle.tests_epochs.specs.Whole.{IsAdminDueIn}

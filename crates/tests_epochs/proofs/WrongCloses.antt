@@ -1,9 +1,8 @@
 -- None of these is due: the administrator closes otherwise than the next epoch's round asks.
 use Rattle.std.proofs.Common.{◌≡◌, [], ◌∷◌, Option, Some, None}
-use Rattle.qc_decl.specs.Actors.{administrator}
+use Rattle.qc_decl.specs.Names.{administrator}
 use Rattle.qc_msg.specs.declared.reply.Reply.{Reply}
-use Rattle.qc_msg.specs.Deeds.{deeds}
-use Rattle.qc_msg.specs.Readings.{Installing}
+use Rattle.qc_msg.specs.Names.{Installing, deeds}
 use Rattle.tests_histories.specs.Words.{line}
 use Rattle.tests_epochs.specs.Declarations.{three_epochs}
 use Rattle.tests_epochs.specs.Whole.{IsAdminDueIn}

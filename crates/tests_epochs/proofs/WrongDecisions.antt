@@ -1,8 +1,8 @@
 -- None of these is due: decisions of the administrator with another clock or other lines.
 use Rattle.std.proofs.Common.{◌≡◌, ℕ, [], Option, Some, None, ap}
-use Rattle.qc_decl.specs.Actors.{administrator}
+use Rattle.qc_decl.specs.Names.{administrator}
 use Rattle.qc_msg.specs.declared.reply.Reply.{Reply}
-use Rattle.qc_msg.specs.Deeds.{deeds}
+use Rattle.qc_msg.specs.Names.{deeds}
 use Rattle.tests_epochs.specs.Declarations.{three_epochs, two_objects}
 use Rattle.tests_epochs.specs.Whole.{IsAdminDueIn}
 use Rattle.tests_epochs.proofs.Places.{admin_due_at}

@@ -1,9 +1,8 @@
 -- None of these is due: doubts of the administrator, and a decision in doubt.
 use Rattle.std.proofs.Common.{◌≡◌, ℕ, [], ◌∷◌, Option, Some, None, ap}
-use Rattle.qc_decl.specs.Actors.{administrator}
+use Rattle.qc_decl.specs.Names.{administrator}
 use Rattle.qc_msg.specs.declared.reply.Reply.{Reply}
-use Rattle.qc_msg.specs.Deeds.{deeds}
-use Rattle.qc_msg.specs.Readings.{Installing}
+use Rattle.qc_msg.specs.Names.{Installing, deeds}
 use Rattle.tests_histories.specs.Words.{line, tx}
 use Rattle.tests_epochs.specs.Declarations.{three_epochs}
 use Rattle.tests_epochs.specs.Whole.{IsAdminDueIn}

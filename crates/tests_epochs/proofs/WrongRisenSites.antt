@@ -1,6 +1,6 @@
 -- None of these is due: sites that rise closed, or in an installed epoch.
 use Rattle.std.proofs.Common.{◌≡◌, ℕ, [], ap}
-use Rattle.qc_msg.specs.Deeds.{deeds}
+use Rattle.qc_msg.specs.Names.{deeds}
 use Rattle.tests_due.proofs.SitePlaces.{count_records, count_sends, lines_granted, site_due_at}
 use Rattle.tests_epochs.specs.Declarations.{three_epochs}
 use Rattle.tests_epochs.specs.Whole.{IsSiteDueIn}

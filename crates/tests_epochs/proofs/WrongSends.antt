@@ -1,7 +1,7 @@
 -- None of these is due: the administrator sends what nothing calls for.
 use Rattle.std.proofs.Common.{◌≡◌, Bool, true, false, []}
-use Rattle.qc_decl.specs.Actors.{administrator}
-use Rattle.qc_msg.specs.Deeds.{deeds}
+use Rattle.qc_decl.specs.Names.{administrator}
+use Rattle.qc_msg.specs.Names.{deeds}
 use Rattle.tests_epochs.specs.Declarations.{three_epochs}
 use Rattle.tests_epochs.specs.Whole.{IsAdminDueIn}
 use Rattle.tests_epochs.proofs.Places.{admin_due_at}

@@ -1,6 +1,6 @@
 -- None of these is due: sites that close and install epochs.
 use Rattle.std.proofs.Common.{◌≡◌, ℕ, [], ap}
-use Rattle.qc_msg.specs.Deeds.{deeds}
+use Rattle.qc_msg.specs.Names.{deeds}
 use Rattle.tests_due.proofs.SitePlaces.{count_records, site_due_at}
 use Rattle.tests_epochs.specs.Declarations.{three_epochs}
 use Rattle.tests_epochs.specs.Whole.{IsSiteDueIn}

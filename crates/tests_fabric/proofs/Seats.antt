@@ -3,13 +3,13 @@ use Rattle.std.proofs.Common.{◌≡◌, ℕ, ◌+◌, ◌<◌, Bool, true, fals
 use Rattle.std.specs.List.{fold}
 use Rattle.std.proofs.lemmas.List.Sums.{fold-append}
 use Rattle.atomic_table.specs.Seated.{TableId}
-use Rattle.qc_decl.specs.Actors.{actors, controller}
+use Rattle.qc_decl.specs.Names.{actors, controller}
 use Rattle.qc_decl.specs.declared.declaration.Declaration.{Declaration}
-use Rattle.qc_inbox.specs.Downs.{TellsWhereDown, down_at, is_down}
-use Rattle.qc_msg.specs.Steps.{Entry}
+use Rattle.qc_inbox.specs.Names.{TellsWhereDown, down_at, is_down}
+use Rattle.qc_msg.specs.Names.{Deed, Entry, Falls, Rises, Takes as TakesInput, deeds, deeds_as, sends_of, tells_of}
+use Rattle.qc_msg.specs.Names.{writes_of}
 use Rattle.qc_msg.specs.declared.step.Fall.TheVariants as causes
 use Rattle.qc_outside.specs.declared.disk.ArmKind.{ArmKind}
-use Rattle.qc_msg.specs.Deeds.{Deed, Takes as TakesInput, Falls, Rises, deeds, deeds_as, sends_of, tells_of, writes_of}
 use Rattle.qc_msg.specs.declared.record.Record.{Record}
 use Rattle.qc_msg.specs.declared.reply.Reply.{Reply}
 use Rattle.qc_msg.specs.declared.step.Input.{Input}
@@ -19,11 +19,9 @@ use Rattle.qc_msg.specs.declared.turn.Appended.TheVariants.{Done, Failed, Stoppe
 use Rattle.qc_msg.specs.declared.turn.Posting.{Posting}
 use Rattle.qc_msg.specs.declared.turn.Turn.{Turn}
 use Rattle.qc_pass.specs.declared.token.Pass.{Pass}
-use Rattle.qc_pass.specs.Tokens.{number, seen}
+use Rattle.qc_pass.specs.Names.{number, seen}
 use Rattle.qc_script.specs.declared.script.Script.{Script}
-use Rattle.qc_fabric.specs.ActorLines.{Arms, FallsByLine}
-use Rattle.qc_fabric.specs.Risings.{IsRising, RisesAs, deeds_of_rising}
-use Rattle.qc_fabric.specs.Tells.{IsSame, Posts, Sees, Takes}
+use Rattle.qc_fabric.specs.Names.{Arms, FallsByLine, IsRising, IsSame, Posts, RisesAs, Sees, Takes, deeds_of_rising}
 use Rattle.qc_fabric.specs.declared.rising.Rising.{Rising}
 use Rattle.qc_fabric.specs.declared.rising.Rising.TheVariants.{Rose, Damaged, NotOpened}
 use Rattle.qc_fabric.proofs.Plain.{may_end}

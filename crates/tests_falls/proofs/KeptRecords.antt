@@ -11,10 +11,9 @@ use Rattle.qc_msg.specs.declared.turn.Appended.{Appended}
 use Rattle.qc_msg.specs.declared.turn.Appended.TheVariants.{Done, Failed, Stopped}
 use Rattle.qc_msg.specs.declared.turn.Posting.{Posting}
 use Rattle.qc_msg.specs.declared.turn.Turn.{Turn}
-use Rattle.qc_msg.specs.Deeds.{own}
-use Rattle.qc_msg.specs.Steps.{Entry, by, fell, posted_as, sents, told, wrote}
+use Rattle.qc_msg.specs.Names.{Entry, by, fell, own, posted_as, sents, told, wrote}
 use Rattle.qc_msg.proofs.GrownMail.{by-append}
-use Rattle.qc_promise.specs.Kept.{IsGivenBack, IsKeptAt, Journal, Kept, journal_of}
+use Rattle.qc_promise.specs.Names.{IsGivenBack, IsKeptAt, Journal, Kept, journal_of}
 use Rattle.tests_falls.specs.Perform.{given_back}
 
 -- entries that keep what stands there before them

@@ -1,6 +1,6 @@
 -- A post is refused by each end of the record of the turn that is due.
 use Rattle.std.proofs.Common.{◌≡◌, ℕ, List, [], ◌∷◌, length, Some, sym, ap, ◌∙◌}
-use Rattle.qc_core.specs.Conduct.{turn_with_falls, with_record}
+use Rattle.qc_core.specs.Names.{actor_after, turn_with_falls, with_record}
 use Rattle.qc_decl.specs.declared.declaration.Declaration.{Declaration}
 use Rattle.qc_msg.specs.declared.record.Record.TheVariants as records
 use Rattle.qc_msg.specs.declared.reply.Reply.TheVariants as replies
@@ -9,9 +9,7 @@ use Rattle.qc_msg.specs.declared.step.Step.TheVariants as steps
 use Rattle.qc_msg.specs.declared.turn.Appended.{Appended}
 use Rattle.qc_msg.specs.declared.turn.Appended.TheVariants.{Done, Failed, Stopped}
 use Rattle.qc_msg.specs.declared.turn.Turn.{Turn}
-use Rattle.qc_msg.specs.Deeds.{deeds, mail}
-use Rattle.qc_msg.specs.Steps.{Entry, posted_as}
-use Rattle.qc_core.specs.Actors.{actor_after}
+use Rattle.qc_msg.specs.Names.{Entry, deeds, mail, posted_as}
 use Rattle.tests_falls.specs.Refused.{IsNoPost}
 
 -- the turn that the actor's deeds call for

@@ -3,10 +3,10 @@ use Rattle.std.proofs.Common.{◌≡◌, ℕ, ◌+◌, ◌==◌, ◌&&◌, nat_l
 use Rattle.std.specs.Prelude.{option_and_then, replicate, slice_get}
 use Rattle.std.proofs.lemmas.Bool.{eqb-true, ltb-true}
 use Rattle.std.proofs.lemmas.List.{length-replicate, length-set}
-use Rattle.qc_core.specs.Conduct.{IsLawfulWithFalls, turn_with_falls}
+use Rattle.qc_core.specs.Names.{IsLawfulWithFalls, turn_with_falls}
 use Rattle.qc_core.proofs.LivesLaws.{called_written}
 use Rattle.qc_decl.specs.declared.declaration.Declaration.{Declaration}
-use Rattle.qc_decl.specs.Actors.{actors, controller}
+use Rattle.qc_decl.specs.Names.{actors, controller}
 use Rattle.qc_msg.specs.declared.record.Record.{Record}
 use Rattle.qc_msg.specs.declared.step.Control.{Control}
 use Rattle.qc_msg.specs.declared.step.Control.TheVariants as controls
@@ -18,12 +18,11 @@ use Rattle.qc_msg.specs.declared.step.Step.TheVariants as steps
 use Rattle.qc_msg.specs.declared.turn.Appended.{Appended}
 use Rattle.qc_msg.specs.declared.turn.Appended.TheVariants.{Done, Failed, Stopped}
 use Rattle.qc_msg.specs.declared.turn.Turn.{Turn}
-use Rattle.qc_msg.specs.Deeds.{Deed, deeds, mail, own}
-use Rattle.qc_msg.specs.Steps.{Entry, HasRecord, by, marked, posted_as, step_of, IsByDisk}
-use Rattle.qc_promise.specs.Kept.{journal_of}
+use Rattle.qc_msg.specs.Names.{Deed, Entry, HasRecord, IsByDisk, by, deeds, mail, marked, own, posted_as, step_of}
+use Rattle.qc_promise.specs.Names.{journal_of}
 use Rattle.qc_script.specs.declared.script.Script.{Script}
-use Rattle.qc_script.specs.Ready.{controls_left, phase_of, ready}
-use Rattle.qc_script.specs.RunsWithFalls.{begins, takes, posts, phase, control, falls, rises, damaged, unopened}
+use Rattle.qc_script.specs.Names.{begins, control, controls_left, damaged, falls, phase, phase_of, posts, ready, rises}
+use Rattle.qc_script.specs.Names.{takes, unopened}
 use Rattle.tests_runs.specs.Perform.{Stage, ended, is_over, is_quiet, may_begin, none_left, nothing_done, taken_by, with_step, with_taken}
 use Rattle.tests_runs.proofs.Sound.{all_closed, first_of_both, no_controls, none_open, quiet_below, quiet_closed, second_of_both}
 use Rattle.tests_falls.specs.Perform.{Move, Begins, Acts, Takes, Posts, Rises, Unopened, acted_by, are_fit, ending_so, given_back, is_by_disk, moved, moved_on, posted_by, restarted, rises_by, risen_with, run_with_falls, turn_in, unopened_by, where_recorded, with_fall, with_posted, with_rise}

@@ -1,6 +1,6 @@
 -- The worked histories are whole runs of their scripts.
 use Rattle.std.proofs.Common.{◌≡◌, Some, refl}
-use Rattle.qc_decl.specs.One.{three}
+use Rattle.qc_decl.specs.Names.{three}
 use Rattle.tests_falls.specs.Perform.{run_with_falls}
 use Rattle.tests_falls.specs.RestartedSite as restarted_site
 use Rattle.tests_falls.specs.UnknownCommit as unknown_commit

@@ -1,6 +1,6 @@
 -- No wrong history with falls is right.
 use Rattle.std.proofs.Common.{◌≡◌, ℕ, inl, inr, refl, ap}
-use Rattle.qc_decl.specs.One.{three}
+use Rattle.qc_decl.specs.Names.{three}
 use Rattle.tests_falls.specs.Refused.{IsNoPost, IsNoRise}
 use Rattle.tests_falls.specs.WrongFalls as wrong
 use Rattle.tests_falls.proofs.Refusing.{clock_written, life_begun, refused}

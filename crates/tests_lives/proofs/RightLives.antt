@@ -1,7 +1,7 @@
 -- All that these sites post is due.
 use Rattle.std.proofs.Common.{[], refl}
-use Rattle.qc_decl.specs.One.{three}
-use Rattle.qc_promise.specs.SiteDue.{AreDue}
+use Rattle.qc_decl.specs.Names.{three}
+use Rattle.qc_promise.specs.Names.{AreDue}
 use Rattle.tests_lives.specs.RightLives as right_lives
 
 pub pending_done_rises_due : AreDue three [] right_lives.pending_done_rises

@@ -1,7 +1,7 @@
 -- All that these sites post is due.
 use Rattle.std.proofs.Common.{[], refl}
-use Rattle.qc_decl.specs.One.{three}
-use Rattle.qc_promise.specs.SiteDue.{AreDue}
+use Rattle.qc_decl.specs.Names.{three}
+use Rattle.qc_promise.specs.Names.{AreDue}
 use Rattle.tests_lives.specs.RightRises as right_rises
 
 pub lets_go_of_what_it_held_due : AreDue three [] right_rises.lets_go_of_what_it_held

@@ -1,7 +1,7 @@
 -- None of these is due: what sites do wrong where a record isn't written, and about their falls.
 use Rattle.std.proofs.Common.{◌≡◌, ℕ, [], ap}
-use Rattle.qc_decl.specs.One.{three}
-use Rattle.qc_promise.specs.SiteDue.{AreDue}
+use Rattle.qc_decl.specs.Names.{three}
+use Rattle.qc_promise.specs.Names.{AreDue}
 use Rattle.tests_lives.proofs.Figures.{figure_of}
 use Rattle.tests_lives.proofs.Places.{post_at}
 use Rattle.tests_lives.specs.WrongFalls as wrong_falls

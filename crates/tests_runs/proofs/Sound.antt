@@ -4,19 +4,18 @@ use Rattle.std.specs.Prelude.{is_none, option_map, option_and_then, replicate, s
 use Rattle.std.specs.List.{list_all, range_with_len}
 use Rattle.std.proofs.lemmas.Bool.{eqb-false, eqb-true, ltb-true}
 use Rattle.std.proofs.lemmas.List.{length-replicate, length-set}
-use Rattle.qc_core.specs.Conduct.{IsLawful, turn_after}
+use Rattle.qc_core.specs.Names.{IsLawful, turn_after}
 use Rattle.qc_decl.specs.declared.declaration.Declaration.{Declaration}
-use Rattle.qc_decl.specs.Actors.{actors}
+use Rattle.qc_decl.specs.Names.{actors}
 use Rattle.qc_msg.specs.declared.step.Control.{Control}
 use Rattle.qc_msg.specs.declared.step.Input.{Input}
 use Rattle.qc_msg.specs.declared.step.Step.{Step}
 use Rattle.qc_msg.specs.declared.step.Step.TheVariants as steps
 use Rattle.qc_msg.specs.declared.turn.Turn.{Turn}
-use Rattle.qc_msg.specs.Deeds.{deeds}
-use Rattle.qc_msg.specs.Steps.{Entry}
+use Rattle.qc_msg.specs.Names.{Entry, deeds}
 use Rattle.qc_script.specs.declared.script.Script.{Script}
-use Rattle.qc_script.specs.Ready.{controls_left, phase_of, ready, step_of_control}
-use Rattle.qc_script.specs.Runs.{Runs, begins, takes, posts, phase, control}
+use Rattle.qc_script.specs.Names.{Runs, controls_left, phase_of, ready, step_of_control}
+use Rattle.qc_script.specs.Runs.{begins, takes, posts, phase, control}
 use Rattle.tests_histories.specs.Play.{Move, Takes, Posts, Acts}
 use Rattle.tests_runs.specs.Perform.{Stage, acted_by, ended, is_over, is_quiet, may_begin, moved, moved_on, next_control, none_left, nothing_done, posted_by, run_by, taken_by, with_posted, with_step, with_taken}
 use Rattle.tests_runs.specs.Whole.{IsWholeRun}

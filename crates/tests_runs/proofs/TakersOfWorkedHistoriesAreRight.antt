@@ -1,6 +1,6 @@
 -- In the worked histories those that may take an input are the model's.
 use Rattle.std.proofs.Common.{◌≡◌, refl}
-use Rattle.qc_decl.specs.One.{three}
+use Rattle.qc_decl.specs.Names.{three}
 use Rattle.tests_histories.specs.ReadAfterWrite as read_after_write
 use Rattle.tests_histories.specs.ReadBeforeCommit as read_before_commit
 use Rattle.tests_histories.specs.BlindWrites as blind_writes

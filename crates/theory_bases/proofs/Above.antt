@@ -4,22 +4,17 @@ use Rattle.std.proofs.Common.{arith, append-nil}
 use Rattle.qc_stamp.specs.declared.stamp.TxId.{TxId}
 use Rattle.qc_entry.specs.declared.line.Line.{Line}
 use Rattle.qc_decl.specs.declared.declaration.Declaration.{Declaration}
-use Rattle.qc_decl.specs.Accepted.{IsAccepted}
-use Rattle.qc_decl.specs.Lookup.{append_need_of}
-use Rattle.qc_plan.specs.Weights.{weight}
-use Rattle.qc_list.specs.Members.{In}
-use Rattle.theory_onecopy.specs.Executed.{Executed, own_line}
-use Rattle.theory_machine.specs.Site.{Own, Deed, Grants, epoch_from, site_after}
-use Rattle.theory_machine.specs.State.{Decision, Granted, Snapshot, Status}
-use Rattle.theory_machine.specs.Acts.{Act, state}
-use Rattle.theory_machine.specs.Guards.{HasRecord, HasQuorum, IsRun, weights_of}
-use Rattle.theory_machine.specs.Logs.{IsClosedAt}
+use Rattle.qc_decl.specs.Names.{IsAccepted, append_need_of}
+use Rattle.qc_plan.specs.Names.{weight}
+use Rattle.qc_list.specs.Names.{In}
+use Rattle.theory_onecopy.specs.Names.{Executed, own_line}
+use Rattle.theory_machine.specs.Names.{Act, Decision, Deed, Granted, Grants, HasQuorum, HasRecord, IsClosedAt, IsRun}
+use Rattle.theory_machine.specs.Names.{Own, Snapshot, Status, epoch_from, site_after, state, weights_of}
 use Rattle.theory_machine.proofs.Decided.{of_epoch}
 use Rattle.theory_machine.proofs.Keeps.{laws}
 use Rattle.theory_machine.proofs.LogKeeps.{log_laws}
 use Rattle.theory_machine.proofs.Quorums.{some_site}
-use Rattle.theory_bases.specs.Discipline.{AreDisciplined}
-use Rattle.theory_bases.specs.Belongs.{BelongsTo}
+use Rattle.theory_bases.specs.Names.{AreDisciplined, BelongsTo}
 use Rattle.theory_bases.proofs.Keeps.{epoch_laws}
 use Rattle.theory_bases.proofs.Passing.{passes}
 

@@ -3,18 +3,12 @@
 use Rattle.std.proofs.Common.{◌≡◌, ℕ, ◌<◌, ◌⊎◌, inl, inr, List, [], ◌∷◌, Some, refl, sym, ap, ◌∙◌, subst}
 use Rattle.qc_entry.specs.declared.line.Line.{Line}
 use Rattle.qc_decl.specs.declared.declaration.Declaration.{Declaration}
-use Rattle.qc_decl.specs.Accepted.{IsAccepted}
-use Rattle.qc_decl.specs.Lookup.{plan_in}
-use Rattle.qc_list.specs.Members.{In}
-use Rattle.theory_machine.specs.Site.{Deed, Grants, Prepares, LearnsCommit, LearnsAbort, Closes, Installs, Rises}
-use Rattle.theory_machine.specs.Site.{epoch_from, site_after}
-use Rattle.theory_machine.specs.State.{Decision}
-use Rattle.theory_machine.specs.Acts.{Act, state}
-use Rattle.theory_machine.specs.Guards.{IsRun}
+use Rattle.qc_decl.specs.Names.{IsAccepted, plan_in}
+use Rattle.qc_list.specs.Names.{In}
+use Rattle.theory_machine.specs.Names.{Act, Closes, Decision, Deed, Grants, Installs, IsRun, LearnsAbort, LearnsCommit}
+use Rattle.theory_machine.specs.Names.{Prepares, Rises, epoch_from, site_after, state}
 use Rattle.theory_machine.proofs.Keeps.{laws}
-use Rattle.theory_bases.specs.Bases.{IsAbove}
-use Rattle.theory_bases.specs.Discipline.{AreDisciplined}
-use Rattle.theory_bases.specs.Short.{AreShortDeeds, base_from, base_of, short_site_after}
+use Rattle.theory_bases.specs.Names.{AreDisciplined, AreShortDeeds, IsAbove, base_from, base_of, short_site_after}
 use Rattle.theory_bases.proofs.Above.{decided_once, later_lines_are_above}
 use Rattle.theory_bases.proofs.Stands.{short_sites_stand_for_whole_ones}
 

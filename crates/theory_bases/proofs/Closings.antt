@@ -4,15 +4,11 @@ use Rattle.std.proofs.Common.{◌≡◌, ◌⊎◌, inl, inr, List, ◌∷◌, �
 use Rattle.qc_stamp.specs.declared.stamp.Stamp.{Stamp}
 use Rattle.qc_entry.specs.declared.record.Commit.{Commit as CommitRecord}
 use Rattle.qc_decl.specs.declared.declaration.Declaration.{Declaration}
-use Rattle.qc_decl.specs.Accepted.{IsAccepted}
-use Rattle.qc_list.specs.Members.{In}
+use Rattle.qc_decl.specs.Names.{IsAccepted}
+use Rattle.qc_list.specs.Names.{In}
 use Rattle.qc_list.proofs.Members.{In-first, In-second}
-use Rattle.theory_machine.specs.Site.{Item, Promise, Deed, Grants, LearnsCommit, site_after, empty_site, done_records}
-use Rattle.theory_machine.specs.Site.{epoch_from}
-use Rattle.theory_machine.specs.State.{Committed, Granted, Snapshot}
-use Rattle.theory_machine.specs.Acts.{Act, state}
-use Rattle.theory_machine.specs.Guards.{IsRun}
-use Rattle.theory_machine.specs.StateLaws.{StateLaws}
+use Rattle.theory_machine.specs.Names.{Act, Committed, Deed, Granted, Grants, IsRun, Item, LearnsCommit, Promise}
+use Rattle.theory_machine.specs.Names.{Snapshot, StateLaws, done_records, empty_site, epoch_from, site_after, state}
 use Rattle.theory_machine.proofs.Decided.{IsPast, past, tells}
 use Rattle.theory_machine.proofs.Keeps.{laws}
 use Rattle.theory_machine.proofs.Order.{ended, first_done_recorded, holds_granted, spared, stamp_of}

@@ -4,14 +4,11 @@ use Rattle.qc_stamp.specs.declared.stamp.Stamp.{Stamp}
 use Rattle.qc_entry.specs.declared.line.Line.{Line}
 use Rattle.qc_entry.specs.declared.line.OwnLine.{OwnLine}
 use Rattle.qc_decl.specs.declared.declaration.Declaration.{Declaration}
-use Rattle.qc_list.specs.Members.{In}
-use Rattle.theory_onecopy.specs.Executed.{committed_line}
-use Rattle.theory_machine.specs.Site.{Own, Promise, epoch_from, site_after}
-use Rattle.theory_machine.specs.State.{Decision, State}
-use Rattle.theory_machine.specs.Guards.{IsMerged, MayDecide}
+use Rattle.qc_list.specs.Names.{In}
+use Rattle.theory_onecopy.specs.Names.{committed_line}
+use Rattle.theory_machine.specs.Names.{Decision, IsMerged, MayDecide, Own, Promise, State, epoch_from, site_after}
 use Rattle.theory_machine.proofs.Order.{site_laws}
-use Rattle.theory_bases.specs.Belongs.{BelongsNow, IsWrittenIn}
-use Rattle.theory_bases.specs.EpochLaws.{EpochLawsOf, IsLineOfDecision, IsSnapshotOfEpoch}
+use Rattle.theory_bases.specs.Names.{BelongsNow, EpochLawsOf, IsLineOfDecision, IsSnapshotOfEpoch, IsWrittenIn}
 
 module _ (decl : Declaration) (now : State) (d : Decision) (ok : MayDecide decl now d) (epochs : EpochLawsOf decl now)
     (l : Line) (m : IsMerged now.verdicts d l) where

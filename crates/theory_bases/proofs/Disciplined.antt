@@ -5,25 +5,20 @@ use Rattle.std.proofs.lemmas.Bool.{eqb-false}
 use Rattle.qc_entry.specs.declared.line.Line.{Line}
 use Rattle.qc_entry.specs.declared.line.OwnLine.{OwnLine}
 use Rattle.qc_entry.specs.declared.line.ReadLock.{ReadLock}
-use Rattle.qc_decl.specs.One.{three}
+use Rattle.qc_decl.specs.Names.{append_need_of, three}
 use Rattle.qc_decl.specs.declared.declaration.Declaration.{Declaration}
-use Rattle.qc_decl.specs.Lookup.{append_need_of}
-use Rattle.qc_list.specs.Members.{In}
-use Rattle.theory_machine.specs.Asked.{every_guard}
-use Rattle.theory_machine.specs.Site.{Item, Lock, Own, site_after}
-use Rattle.theory_machine.specs.State.{Decision, Granted, Snapshot, State}
-use Rattle.theory_machine.specs.Acts.{Act, TakeSnapshot, Decide, Install, Begin, Choose, SendAppend, Execute}
-use Rattle.theory_machine.specs.Acts.{ExecuteAbsent, Grant, Count, Prepare, Vote, PrepareLost, Commit, CommitUnknown}
-use Rattle.theory_machine.specs.Acts.{Recover, Abort, RiseClient, Announce, Learn, Rise, Close, state}
+use Rattle.qc_list.specs.Names.{In}
+use Rattle.theory_machine.specs.Names.{Abort, Act, Announce, Begin, Choose, Close, Commit, CommitUnknown, Count, Decide}
+use Rattle.theory_machine.specs.Names.{Decision, Execute, ExecuteAbsent, Grant, Granted, Install, Item, Learn, Lock}
+use Rattle.theory_machine.specs.Names.{Own, Prepare, PrepareLost, Recover, Rise, RiseClient, SendAppend, Snapshot}
+use Rattle.theory_machine.specs.Names.{State, TakeSnapshot, Vote, every_guard, site_after, state}
 use Rattle.theory_witnesses.proofs.Accepted.{moving_register_accepted}
 use Rattle.theory_witnesses.proofs.Allowed.{run_of}
 use Rattle.theory_witnesses.proofs.Finding.{IsFound, below, both, every, proof_of, same_number, some}
 use Rattle.theory_witnesses.proofs.WitnessRuns.{one_epoch_commits, two_epochs_commit}
-use Rattle.theory_witnesses.specs.Moves.{acts_of}
-use Rattle.theory_witnesses.specs.Settings.{moving_register, three_in_two_epochs}
-use Rattle.theory_witnesses.specs.Witnesses.{one_epoch, two_epochs}
-use Rattle.theory_bases.specs.Discipline.{AreDisciplined, IsDisciplined, IsGrantOfEpoch}
-use Rattle.theory_bases.specs.Witnesses.{HasLowSnapshot, IsDisciplinedRun, low_snapshot, two_moves}
+use Rattle.theory_witnesses.specs.Names.{acts_of, moving_register, one_epoch, three_in_two_epochs, two_epochs}
+use Rattle.theory_bases.specs.Names.{AreDisciplined, HasLowSnapshot, IsDisciplined, IsDisciplinedRun, IsGrantOfEpoch}
+use Rattle.theory_bases.specs.Names.{low_snapshot, two_moves}
 
 -- an own line's event has a final threshold
 abbrev Weighs : Declaration → ℕ → Item → Type 0

@@ -4,22 +4,15 @@
 use Rattle.std.proofs.Common.{◌≡◌, ℕ, ◌<◌, ◌≤◌, IsTrue, ◌↔◌, inl, List, ◌∷◌, IsSome, sym, ap, ◌∙◌, subst, arith}
 use Rattle.qc_entry.specs.declared.line.Line.{Line}
 use Rattle.qc_entry.specs.declared.record.Commit.{Commit as CommitRecord}
-use Rattle.qc_plan.specs.Weights.{weight}
+use Rattle.qc_plan.specs.Names.{weight}
 use Rattle.qc_decl.specs.declared.declaration.Declaration.{Declaration}
-use Rattle.qc_decl.specs.Accepted.{IsAccepted}
-use Rattle.qc_decl.specs.Lookup.{append_need_of, read_need_of}
-use Rattle.qc_list.specs.Members.{In}
-use Rattle.theory_onecopy.specs.Committed.{IsStampedBefore, sorted}
-use Rattle.theory_onecopy.specs.Lists.{IsOrdered}
-use Rattle.theory_onecopy.specs.Executed.{Executed, depends_at, own_line, committed_line}
+use Rattle.qc_decl.specs.Names.{IsAccepted, append_need_of, read_need_of}
+use Rattle.qc_list.specs.Names.{In}
+use Rattle.theory_onecopy.specs.Names.{Executed, IsOrdered, IsStampedBefore, committed_line, depends_at, own_line}
+use Rattle.theory_onecopy.specs.Names.{sorted}
 use Rattle.theory_onecopy.proofs.Committed.{records_are_sorted}
-use Rattle.theory_machine.specs.Site.{Grants, site_after}
-use Rattle.theory_machine.specs.State.{Decision, Granted}
-use Rattle.theory_machine.specs.Acts.{Act, state}
-use Rattle.theory_machine.specs.Guards.{read_lock, weights_of, IsRun}
-use Rattle.theory_machine.specs.Logs.{IsDependedOn, LogLaws}
-use Rattle.theory_machine.specs.Placed.{place, placed}
-use Rattle.theory_machine.specs.StateLaws.{StateLaws}
+use Rattle.theory_machine.specs.Names.{Act, Decision, Granted, Grants, IsDependedOn, IsRun, LogLaws, StateLaws, place}
+use Rattle.theory_machine.specs.Names.{placed, read_lock, site_after, state, weights_of}
 use Rattle.theory_machine.proofs.ClaimLaws.{records_are_apart}
 use Rattle.theory_machine.proofs.CommittedViews.{clock_below, depended, plan_of, smaller, whose}
 use Rattle.theory_machine.proofs.Decided.{kept_lines, of_epoch, passed_stamps, positive}

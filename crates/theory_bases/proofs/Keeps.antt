@@ -7,32 +7,25 @@ use Rattle.qc_entry.specs.declared.line.Line.{Line}
 use Rattle.qc_entry.specs.declared.line.OwnLine.{OwnLine}
 use Rattle.qc_entry.specs.declared.record.Commit.{Commit as CommitRecord}
 use Rattle.qc_decl.specs.declared.declaration.Declaration.{Declaration}
-use Rattle.qc_decl.specs.Accepted.{IsAccepted}
-use Rattle.qc_decl.specs.Lookup.{append_need_of}
-use Rattle.qc_list.specs.Members.{In}
-use Rattle.theory_onecopy.specs.Executed.{Executed}
-use Rattle.theory_machine.specs.Names.{put, put_tx}
-use Rattle.theory_machine.specs.Site.{Item, Lock, Own, Deed, Grants, Prepares, Closes, Installs, Rises, Site}
-use Rattle.theory_machine.specs.Site.{epoch_from, site_after, empty_site}
-use Rattle.theory_machine.specs.State.{Status, Active, Voting, Pending, Committed, Aborted, NotBegun, AppendRequest}
-use Rattle.theory_machine.specs.State.{Decision, Granted, Snapshot, State}
-use Rattle.theory_machine.specs.Acts.{Act, TakeSnapshot, Decide, Install, Begin, Choose, SendAppend, Execute}
-use Rattle.theory_machine.specs.Acts.{ExecuteAbsent, Grant, Count, Prepare, Vote, PrepareLost, Commit, CommitUnknown}
-use Rattle.theory_machine.specs.Acts.{Recover, Abort, RiseClient, Announce, Learn, Rise, Close, deed_of}
-use Rattle.theory_machine.specs.Acts.{deed_of_outcome, after_act, recover_status, state}
-use Rattle.theory_machine.specs.Guards.{IsAllowed, IsRun, IsRequested}
-use Rattle.theory_machine.specs.StateLaws.{StateLaws}
-use Rattle.theory_machine.specs.Logs.{LogLaws}
+use Rattle.qc_decl.specs.Names.{IsAccepted, append_need_of}
+use Rattle.qc_list.specs.Names.{In}
+use Rattle.theory_onecopy.specs.Names.{Executed}
+use Rattle.theory_machine.specs.Names.{Abort, Aborted, Act, Active, Announce, AppendRequest, Begin, Choose, Close}
+use Rattle.theory_machine.specs.Names.{Closes, Commit, CommitUnknown, Committed, Count, Decide, Decision, Deed, Execute}
+use Rattle.theory_machine.specs.Names.{ExecuteAbsent, Grant, Granted, Grants, Install, Installs, IsAllowed, IsRequested}
+use Rattle.theory_machine.specs.Names.{IsRun, Item, Learn, Lock, LogLaws, NotBegun, Own, Pending, Prepare, PrepareLost}
+use Rattle.theory_machine.specs.Names.{Prepares, Recover, Rise, RiseClient, Rises, SendAppend, Site, Snapshot, State}
+use Rattle.theory_machine.specs.Names.{StateLaws, Status, TakeSnapshot, Vote, Voting, after_act, deed_of}
+use Rattle.theory_machine.specs.Names.{deed_of_outcome, empty_site, epoch_from, put, put_tx, recover_status, site_after}
+use Rattle.theory_machine.specs.Names.{state}
 use Rattle.theory_machine.proofs.Names.{put_case, put_tx_case}
 use Rattle.theory_machine.proofs.SiteOrder.{after_append}
 use Rattle.theory_machine.proofs.Epochs.{epoch-append, upward}
 use Rattle.theory_machine.proofs.Order.{site_laws}
 use Rattle.theory_machine.proofs.Keeps.{laws}
 use Rattle.theory_machine.proofs.LogKeeps.{log_laws}
-use Rattle.theory_bases.specs.Discipline.{IsDisciplined, AreDisciplined}
-use Rattle.theory_bases.specs.Belongs.{BelongsTo}
-use Rattle.theory_bases.specs.EpochLaws.{IsSiteOfEpoch, IsAppendOfEpoch, IsSnapshotOfEpoch, IsLineOfDecision, EpochLaws}
-use Rattle.theory_bases.specs.EpochLaws.{EpochLawsOf}
+use Rattle.theory_bases.specs.Names.{AreDisciplined, BelongsTo, EpochLaws, EpochLawsOf, IsAppendOfEpoch, IsDisciplined}
+use Rattle.theory_bases.specs.Names.{IsLineOfDecision, IsSiteOfEpoch, IsSnapshotOfEpoch}
 use Rattle.theory_bases.proofs.Growing.{GoesOn, belongs_still, site_still, append_still, snapshot_still, decision_still}
 use Rattle.theory_bases.proofs.Growing.{laws_still}
 use Rattle.theory_machine.proofs.Merges.{recovered_begun}

@@ -6,28 +6,19 @@ use Rattle.std.specs.Option.{option_map_or}
 use Rattle.qc_stamp.specs.declared.stamp.Stamp.{Stamp}
 use Rattle.qc_entry.specs.declared.line.Line.{Line}
 use Rattle.qc_entry.specs.declared.record.Commit.{Commit as CommitRecord}
-use Rattle.qc_plan.specs.Admitted.{Closes}
-use Rattle.qc_plan.specs.Need.{need_of}
-use Rattle.qc_plan.specs.Weights.{IsShared, total, weight}
+use Rattle.qc_plan.specs.Names.{Closes, IsShared, need_of, total, weight}
 use Rattle.qc_plan.specs.declared.plan.Plan.{Plan}
 use Rattle.qc_plan.proofs.Meet.{meet}
 use Rattle.qc_decl.specs.declared.declaration.Declaration.{Declaration}
-use Rattle.qc_decl.specs.Accepted.{IsAccepted}
-use Rattle.qc_decl.specs.Lookup.{append_need_of, plan_in}
-use Rattle.qc_list.specs.Members.{In}
-use Rattle.theory_onecopy.specs.Executed.{own_line}
-use Rattle.theory_machine.specs.Site.{Own, Promise, epoch_from}
-use Rattle.theory_machine.specs.State.{Committed, Decision, Snapshot, Status}
-use Rattle.theory_machine.specs.Acts.{Act, state}
-use Rattle.theory_machine.specs.Guards.{IsResolved, IsRun, weights_of}
-use Rattle.theory_machine.specs.Logs.{LogLaws}
-use Rattle.theory_machine.specs.StateLaws.{IsOutcome, StateLaws}
+use Rattle.qc_decl.specs.Names.{IsAccepted, append_need_of, plan_in}
+use Rattle.qc_list.specs.Names.{In}
+use Rattle.theory_onecopy.specs.Names.{own_line}
+use Rattle.theory_machine.specs.Names.{Act, Committed, Decision, IsOutcome, IsResolved, IsRun, LogLaws, Own, Promise}
+use Rattle.theory_machine.specs.Names.{Snapshot, StateLaws, Status, epoch_from, state, weights_of}
 use Rattle.theory_machine.proofs.Decided.{of_epoch}
 use Rattle.theory_machine.proofs.Keeps.{laws}
 use Rattle.theory_machine.proofs.LogKeeps.{log_laws}
-use Rattle.theory_bases.specs.Belongs.{IsWrittenIn}
-use Rattle.theory_bases.specs.Discipline.{AreDisciplined}
-use Rattle.theory_bases.specs.EpochLaws.{EpochLawsOf}
+use Rattle.theory_bases.specs.Names.{AreDisciplined, EpochLawsOf, IsWrittenIn}
 use Rattle.theory_bases.proofs.Closings.{tells_end}
 use Rattle.theory_bases.proofs.Keeps.{epoch_laws}
 

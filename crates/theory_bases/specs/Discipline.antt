@@ -8,14 +8,12 @@
 use Rattle.std.specs.Prelude.{◌≡◌, ◌≢◌, ◌<◌, List, [], ◌∷◌}
 use Rattle.qc_entry.specs.declared.line.OwnLine.{OwnLine}
 use Rattle.qc_decl.specs.declared.declaration.Declaration.{Declaration}
-use Rattle.qc_decl.specs.Lookup.{append_need_of}
-use Rattle.qc_list.specs.Members.{In}
-use Rattle.theory_machine.specs.Site.{Own}
-use Rattle.theory_machine.specs.State.{Decision, Granted, State}
-use Rattle.theory_machine.specs.Acts.{Act, Begin, Choose, SendAppend, Execute, ExecuteAbsent, Grant, Count, Prepare}
-use Rattle.theory_machine.specs.Acts.{Vote}
-use Rattle.theory_machine.specs.Acts.{PrepareLost, Commit, CommitUnknown, Recover, Abort, RiseClient, Announce, Learn}
-use Rattle.theory_machine.specs.Acts.{Rise, Close, TakeSnapshot, Decide, Install, state}
+use Rattle.qc_decl.specs.Names.{append_need_of}
+use Rattle.qc_list.specs.Names.{In}
+use Rattle.theory_machine.specs.Names.{Abort, Act, Announce, Begin, Choose, Close, Commit, CommitUnknown, Count, Decide}
+use Rattle.theory_machine.specs.Names.{Decision, Execute, ExecuteAbsent, Grant, Granted, Install, Learn, Own, Prepare}
+use Rattle.theory_machine.specs.Names.{PrepareLost, Recover, Rise, RiseClient, SendAppend, State, TakeSnapshot, Vote}
+use Rattle.theory_machine.specs.Names.{state}
 
 -- a grant is of its transaction's epoch, and its own lines are of events with a final threshold in it
 pub record IsGrantOfEpoch (decl : Declaration) (now : State) (g : Granted) : Type 0 where

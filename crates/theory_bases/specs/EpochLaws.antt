@@ -5,9 +5,9 @@ use Rattle.qc_stamp.specs.declared.stamp.TxId.{TxId}
 use Rattle.qc_entry.specs.declared.line.Line.{Line}
 use Rattle.qc_entry.specs.declared.line.OwnLine.{OwnLine}
 use Rattle.qc_decl.specs.declared.declaration.Declaration.{Declaration}
-use Rattle.qc_list.specs.Members.{In}
-use Rattle.theory_machine.specs.Site.{Deed, Own, Promise, Site, epoch_from, items_of, site_after}
-use Rattle.theory_machine.specs.State.{AppendRequest, Decision, Granted, NotBegun, Snapshot, State, Status}
+use Rattle.qc_list.specs.Names.{In}
+use Rattle.theory_machine.specs.Names.{AppendRequest, Decision, Deed, Granted, NotBegun, Own, Promise, Site, Snapshot}
+use Rattle.theory_machine.specs.Names.{State, Status, epoch_from, items_of, site_after}
 use Rattle.theory_bases.specs.Belongs.{BelongsTo, IsOwnWrittenIn}
 
 -- a site in epoch k: its lines belong to k, and what is held or promised there was written in it

@@ -7,14 +7,11 @@ use Rattle.qc_stamp.specs.declared.stamp.TxId.{TxId}
 use Rattle.qc_entry.specs.declared.line.Line.{Line}
 use Rattle.qc_entry.specs.declared.line.OwnLine.{OwnLine}
 use Rattle.qc_decl.specs.declared.declaration.Declaration.{Declaration}
-use Rattle.qc_list.specs.Members.{In}
-use Rattle.theory_onecopy.specs.Executed.{Executed, own_line, committed_line}
+use Rattle.qc_list.specs.Names.{In}
+use Rattle.theory_onecopy.specs.Names.{Executed, committed_line, own_line}
 use Rattle.theory_onecopy.proofs.Lists.{in_split}
-use Rattle.theory_machine.specs.Site.{site_after}
-use Rattle.theory_machine.specs.State.{State}
-use Rattle.theory_machine.specs.Guards.{IsExecutedFrom, own_on}
-use Rattle.theory_machine.specs.StateLaws.{StateLaws}
-use Rattle.theory_machine.specs.Logs.{AreInOrder, IsClosedAt, IsNextOperation, IsAnsweredFromQuorum, LogLaws}
+use Rattle.theory_machine.specs.Names.{AreInOrder, IsAnsweredFromQuorum, IsClosedAt, IsExecutedFrom, IsNextOperation}
+use Rattle.theory_machine.specs.Names.{LogLaws, State, StateLaws, own_on, site_after}
 use Rattle.theory_machine.proofs.Grows.{same}
 
 module _ (decl : Declaration) where

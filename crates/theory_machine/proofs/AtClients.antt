@@ -4,16 +4,13 @@ use Rattle.std.proofs.Common.{arith}
 use Rattle.std.specs.Prelude.{max}
 use Rattle.qc_stamp.specs.declared.stamp.TxId.{TxId}
 use Rattle.qc_decl.specs.declared.declaration.Declaration.{Declaration}
-use Rattle.qc_list.specs.Members.{In}
-use Rattle.theory_onecopy.specs.Executed.{Executed}
+use Rattle.qc_list.specs.Names.{In}
+use Rattle.theory_onecopy.specs.Names.{Executed}
 use Rattle.qc_list.proofs.Members.{In-first, In-second}
-use Rattle.theory_machine.specs.Names.{put}
-use Rattle.theory_machine.specs.Site.{Deed, Grants, Prepares}
-use Rattle.theory_machine.specs.State.{Status, NotBegun, Active, Voting, Granted, AppendRequest, State}
+use Rattle.theory_machine.specs.Names.{Active, AppendRequest, Count, CountedLaw, Deed, Granted, GrantedLaw, Grants}
+use Rattle.theory_machine.specs.Names.{HasRecord, IsAllowed, MayPrepare, NotBegun, Prepares, State, StateLaws, Status}
+use Rattle.theory_machine.specs.Names.{Voting, after_act, op_of, put}
 use Rattle.qc_entry.specs.declared.record.Commit.{Commit as CommitRecord}
-use Rattle.theory_machine.specs.Acts.{Count, after_act}
-use Rattle.theory_machine.specs.Guards.{HasRecord, MayPrepare, op_of, IsAllowed}
-use Rattle.theory_machine.specs.StateLaws.{GrantedLaw, CountedLaw, StateLaws}
 use Rattle.theory_machine.proofs.Names.{put_case, put_here}
 use Rattle.theory_machine.proofs.Deeds.{calm_all}
 use Rattle.theory_machine.proofs.Outcomes.{active_mild, not_active}

@@ -5,18 +5,13 @@ use Rattle.qc_stamp.specs.declared.stamp.TxId.{TxId}
 use Rattle.qc_entry.specs.declared.line.Line.{Line}
 use Rattle.qc_entry.specs.declared.line.OwnLine.{OwnLine}
 use Rattle.qc_decl.specs.declared.declaration.Declaration.{Declaration}
-use Rattle.qc_decl.specs.Accepted.{IsAccepted}
-use Rattle.qc_decl.specs.Lookup.{append_need_of}
-use Rattle.qc_list.specs.Members.{In}
-use Rattle.theory_onecopy.specs.Executed.{Executed, own_line}
-use Rattle.theory_machine.specs.Names.{put_tx}
-use Rattle.theory_machine.specs.Site.{Own}
-use Rattle.theory_machine.specs.State.{NotBegun, Active, AppendRequest, State}
-use Rattle.theory_machine.specs.Acts.{Choose, SendAppend, after_act}
-use Rattle.theory_machine.specs.Guards.{IsAppendOf, own_on, IsAllowed}
-use Rattle.theory_machine.specs.StateLaws.{StateLaws}
-use Rattle.theory_machine.specs.Logs.{IsDependedOn, IsClosedAt, IsExecutedOrChosen, IsNextOperation, IsOwnClosedAt}
-use Rattle.theory_machine.specs.Logs.{IsAnsweredFromQuorum, IsAppendClosed, LogLaws}
+use Rattle.qc_decl.specs.Names.{IsAccepted, append_need_of}
+use Rattle.qc_list.specs.Names.{In}
+use Rattle.theory_onecopy.specs.Names.{Executed, own_line}
+use Rattle.theory_machine.specs.Names.{Active, AppendRequest, Choose, IsAllowed, IsAnsweredFromQuorum, IsAppendClosed}
+use Rattle.theory_machine.specs.Names.{IsAppendOf, IsClosedAt, IsDependedOn, IsExecutedOrChosen, IsNextOperation}
+use Rattle.theory_machine.specs.Names.{IsOwnClosedAt, LogLaws, NotBegun, Own, SendAppend, State, StateLaws, after_act}
+use Rattle.theory_machine.specs.Names.{own_on, put_tx}
 use Rattle.theory_machine.proofs.Names.{put_tx_case}
 use Rattle.theory_machine.proofs.Quorums.{heavy, needed}
 use Rattle.theory_machine.proofs.Grows.{Grows, carry}

@@ -7,41 +7,34 @@ use Rattle.std.proofs.lemmas.List.{length-append}
 use Rattle.std.specs.declared.cmp.Ordering.TheVariants.{Less}
 use Rattle.qc_stamp.specs.declared.stamp.Stamp.{Stamp}
 use Rattle.qc_stamp.specs.declared.stamp.TxId.{TxId}
-use Rattle.qc_stamp.specs.Order.{stamp_cmp}
+use Rattle.qc_stamp.specs.Names.{stamp_cmp}
 use Rattle.qc_entry.specs.declared.line.Line.{Line}
 use Rattle.qc_entry.specs.declared.line.Op.{Op}
 use Rattle.qc_entry.specs.declared.record.Commit.{Commit as CommitRecord}
 use Rattle.qc_table.specs.declared.kind.Kind.{Kind}
-use Rattle.qc_table.specs.Depends.{depends}
-use Rattle.qc_table.specs.Rules.{Rules, event, event_number, events_of}
-use Rattle.qc_cert.specs.Views.{inv_of}
+use Rattle.qc_table.specs.Names.{Rules, depends, event, event_number, events_of}
+use Rattle.qc_cert.specs.Names.{inv_of}
 use Rattle.qc_decl.specs.declared.declaration.Declaration.{Declaration}
-use Rattle.qc_decl.specs.Accepted.{IsAccepted}
-use Rattle.theory_onecopy.specs.Lists.{IsOrdered}
-use Rattle.qc_list.specs.Members.{In}
-use Rattle.theory_onecopy.specs.OneCopy.{OneCopy}
-use Rattle.theory_onecopy.specs.Committed.{AreApart, IsStampedBefore, sorted}
-use Rattle.theory_onecopy.specs.Executed.{Executed, IsAnswered, IsEarlier, IsLineBefore, Placed, line_of, depends_at, own_line, committed_line}
-use Rattle.theory_onecopy.specs.Views.{IsNext}
-use Rattle.theory_onecopy.specs.Logged.{IsClosedLog, IsLogged, event_at, line_depends}
+use Rattle.qc_decl.specs.Names.{IsAccepted}
+use Rattle.theory_onecopy.specs.Names.{AreApart, Executed, IsAnswered, IsClosedLog, IsEarlier, IsLineBefore, IsLogged}
+use Rattle.theory_onecopy.specs.Names.{IsNext, IsOrdered, IsStampedBefore, OneCopy, Placed, committed_line, depends_at}
+use Rattle.theory_onecopy.specs.Names.{event_at, line_depends, line_of, own_line, sorted}
+use Rattle.qc_list.specs.Names.{In}
 use Rattle.theory_onecopy.proofs.Committed.{records_are_sorted}
 use Rattle.theory_onecopy.proofs.Lists.{compared}
 use Rattle.theory_onecopy.proofs.Orders.{earlier_line, line_clocks, line_trans, not_stamp_less}
 use Rattle.qc_entry.proofs.Members.{not_below}
 use Rattle.theory_onecopy.proofs.Runs.{inv_is, table_is}
-use Rattle.theory_machine.specs.State.{Committed, Aborted, Granted, Verdict}
-use Rattle.theory_machine.specs.Guards.{Shows, MayCommit, op_of, IsRun}
-use Rattle.theory_machine.specs.Acts.{Act, state}
-use Rattle.theory_machine.specs.StateLaws.{IsOutcome, StateLaws}
-use Rattle.theory_machine.specs.Logs.{AreInOrder, IsDependedOn, IsClosedAt, LogLaws}
-use Rattle.theory_machine.specs.Claims.{OfAppend, OfDecision, OfGrant, OfSite, OfSnapshot, FollowsSeen, HasEarlier, IsLogOf, IsVerdictOf}
+use Rattle.theory_machine.specs.Names.{Aborted, Act, AreInOrder, Committed, FollowsSeen, Granted, HasEarlier}
+use Rattle.theory_machine.specs.Names.{IsClosedAt, IsDependedOn, IsLogOf, IsOutcome, IsRun, IsVerdictOf, LogLaws}
+use Rattle.theory_machine.specs.Names.{MayCommit, OfAppend, OfDecision, OfGrant, OfSite, OfSnapshot, Shows, StateLaws}
+use Rattle.theory_machine.specs.Names.{Verdict, op_of, place, placed, state}
 use Rattle.theory_machine.proofs.Names.{tx_cases}
 use Rattle.theory_machine.proofs.Outcomes.{committed_record, outcome_commit, outcome_aborted}
 use Rattle.theory_machine.proofs.Keeps.{laws}
 use Rattle.theory_machine.proofs.LogKeeps.{log_laws}
 use Rattle.theory_machine.proofs.CommittedViews.{depended, own_all, whose}
 use Rattle.theory_machine.proofs.Ordering.{ordered}
-use Rattle.theory_machine.specs.Placed.{place, placed}
 use Rattle.theory_machine.proofs.PlacedOperations.{placed_of, placed_ordered, some_resp}
 use Rattle.theory_machine.proofs.OneCopyLaw.{records_in_order_are_one_copy}
 

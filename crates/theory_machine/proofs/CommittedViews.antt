@@ -9,21 +9,14 @@ use Rattle.qc_entry.specs.declared.line.Line.{Line}
 use Rattle.qc_entry.specs.declared.line.OwnLine.{OwnLine}
 use Rattle.qc_entry.specs.declared.record.Commit.{Commit as CommitRecord}
 use Rattle.qc_table.specs.declared.kind.Kind.{Kind}
-use Rattle.qc_table.specs.Rules.{events_of}
+use Rattle.qc_table.specs.Names.{events_of}
 use Rattle.qc_decl.specs.declared.declaration.Declaration.{Declaration}
-use Rattle.qc_decl.specs.Accepted.{IsAccepted}
-use Rattle.qc_decl.specs.Lookup.{plan_in}
-use Rattle.theory_onecopy.specs.Lists.{IsOrdered}
-use Rattle.qc_list.specs.Members.{In}
-use Rattle.theory_onecopy.specs.Committed.{IsStampedBefore}
-use Rattle.theory_onecopy.specs.Executed.{Executed, Placed, IsOwnBefore, depends_at, kind_at, line_of, own_line}
-use Rattle.theory_onecopy.specs.Executed.{committed_line}
-use Rattle.theory_onecopy.specs.Views.{HasLine, HasOwn, IsNext}
-use Rattle.theory_machine.specs.State.{Committed, Granted}
-use Rattle.theory_machine.specs.Acts.{Act, state}
-use Rattle.theory_machine.specs.Guards.{IsRun}
-use Rattle.theory_machine.specs.StateLaws.{StateLaws}
-use Rattle.theory_machine.specs.Logs.{IsDependedOn, IsClosedAt, IsAnsweredFromQuorum, LogLaws}
+use Rattle.qc_decl.specs.Names.{IsAccepted, plan_in}
+use Rattle.theory_onecopy.specs.Names.{Executed, HasLine, HasOwn, IsNext, IsOrdered, IsOwnBefore, IsStampedBefore}
+use Rattle.theory_onecopy.specs.Names.{Placed, committed_line, depends_at, kind_at, line_of, own_line}
+use Rattle.qc_list.specs.Names.{In}
+use Rattle.theory_machine.specs.Names.{Act, Committed, Granted, IsAnsweredFromQuorum, IsClosedAt, IsDependedOn, IsRun}
+use Rattle.theory_machine.specs.Names.{LogLaws, StateLaws, place, placed, state}
 use Rattle.theory_machine.proofs.Outcomes.{committed_record}
 use Rattle.theory_machine.proofs.Keeps.{laws}
 use Rattle.theory_machine.proofs.LogKeeps.{log_laws}
@@ -31,7 +24,6 @@ use Rattle.theory_machine.proofs.OwnLines.{own_of}
 use Rattle.theory_machine.proofs.Order.{committed_yes}
 use Rattle.theory_machine.proofs.Places.{IsAt, at, own_in}
 use Rattle.theory_machine.proofs.Quorums.{number_within}
-use Rattle.theory_machine.specs.Placed.{place, placed}
 use Rattle.theory_machine.proofs.PlacedOperations.{IsOf, of_placed, placed_of, own_ordered, some_resp}
 
 module _ (decl : Declaration) (accepted : IsAccepted decl) (acts : List Act) (run : IsRun decl acts)

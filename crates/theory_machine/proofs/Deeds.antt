@@ -1,13 +1,12 @@
 -- One more deed after a grant: which deeds leave what a transaction holds, and which keep that it is prepared or done.
 use Rattle.std.proofs.Common.{◌≡◌, ◌≢◌, Bool, true, false, IsTrue, ◌||◌, inl, inr, List, [], ◌∷◌, ◌++◌, refl, ap}
-use Rattle.qc_list.specs.Members.{In}
+use Rattle.qc_list.specs.Names.{In}
 use Rattle.qc_stamp.specs.declared.stamp.TxId.{TxId}
-use Rattle.qc_stamp.specs.Order.{same_tx}
+use Rattle.qc_stamp.specs.Names.{same_tx}
 use Rattle.theory_machine.proofs.Names.{tx_test}
 use Rattle.qc_stamp.proofs.Orders.{same_tx_is}
-use Rattle.theory_machine.specs.Site.{Deed, Grants, Prepares, LearnsCommit, LearnsAbort, Closes, Installs, Rises}
-use Rattle.theory_machine.specs.SiteLaws.{SparesUntilDone}
-use Rattle.theory_machine.specs.StateLaws.{KeepsLife, IsPreparedOrDone}
+use Rattle.theory_machine.specs.Names.{Closes, Deed, Grants, Installs, IsPreparedOrDone, KeepsLife, LearnsAbort}
+use Rattle.theory_machine.specs.Names.{LearnsCommit, Prepares, Rises, SparesUntilDone}
 
 -- a deed that harms nobody but whom it names
 abbrev pub IsCalm : TxId → Deed → Type 0

@@ -5,13 +5,12 @@ use Rattle.std.proofs.Common.{ap, ◌∙◌, subst, arith}
 use Rattle.std.proofs.lemmas.Bool.{cases_eq}
 use Rattle.qc_stamp.specs.declared.stamp.TxId.{TxId}
 use Rattle.qc_entry.specs.declared.line.Line.{Line}
-use Rattle.qc_list.specs.Members.{In}
-use Rattle.qc_stamp.specs.Order.{same_tx}
-use Rattle.theory_machine.specs.Site.{Item, Deed, Grants, Prepares, LearnsCommit, LearnsAbort, Closes, Installs, Rises}
-use Rattle.theory_machine.specs.Site.{Site, site_from, after_deed, epoch_from, shut_from}
-use Rattle.theory_machine.specs.SiteLaws.{HasDone, HaveNoInstall, Holds, IsPreparedWith, SiteLaws, Spares}
-use Rattle.theory_machine.specs.SiteLaws.{SparesUntilDone, is_prepared_after}
-use Rattle.theory_machine.specs.StateLaws.{HasRisingEpochs, IsPreparedOrDone}
+use Rattle.qc_list.specs.Names.{In}
+use Rattle.qc_stamp.specs.Names.{same_tx}
+use Rattle.theory_machine.specs.Names.{Closes, Deed, Grants, HasDone, HasRisingEpochs, HaveNoInstall, Holds, Installs}
+use Rattle.theory_machine.specs.Names.{IsPreparedOrDone, IsPreparedWith, Item, LearnsAbort, LearnsCommit, Prepares}
+use Rattle.theory_machine.specs.Names.{Rises, Site, SiteLaws, Spares, SparesUntilDone, after_deed, epoch_from}
+use Rattle.theory_machine.specs.Names.{is_prepared_after, shut_from, site_from}
 use Rattle.theory_machine.proofs.SiteHolds.{held_after}
 use Rattle.theory_machine.proofs.SiteOrder.{first_done, keeps, stays}
 

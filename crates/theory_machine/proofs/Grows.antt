@@ -5,15 +5,13 @@ use Rattle.qc_entry.specs.declared.line.Line.{Line}
 use Rattle.qc_entry.specs.declared.line.OwnLine.{OwnLine}
 use Rattle.qc_entry.specs.declared.record.Commit.{Commit as CommitRecord}
 use Rattle.qc_decl.specs.declared.declaration.Declaration.{Declaration}
-use Rattle.qc_decl.specs.Lookup.{append_need_of}
-use Rattle.qc_list.specs.Members.{In}
-use Rattle.theory_onecopy.specs.Executed.{Executed, own_line}
-use Rattle.theory_machine.specs.Names.{put, put_tx}
-use Rattle.theory_machine.specs.Site.{Item, Own, Deed, Site, empty_site, site_after}
-use Rattle.theory_machine.specs.State.{Status, YesVote, NotBegun, Committed, Granted, State}
-use Rattle.theory_machine.specs.Guards.{HasQuorum, IsShown}
-use Rattle.theory_machine.specs.Logs.{AreInOrder, IsClosedAt, IsExecutedOrChosen, IsNextOperation, IsOwnClosedAt}
-use Rattle.theory_machine.specs.Logs.{IsAnsweredFromQuorum, IsAppendClosed, LogLaws, IsSiteClosed}
+use Rattle.qc_decl.specs.Names.{append_need_of}
+use Rattle.qc_list.specs.Names.{In}
+use Rattle.theory_onecopy.specs.Names.{Executed, own_line}
+use Rattle.theory_machine.specs.Names.{AreInOrder, Committed, Deed, Granted, HasQuorum, IsAnsweredFromQuorum}
+use Rattle.theory_machine.specs.Names.{IsAppendClosed, IsClosedAt, IsExecutedOrChosen, IsNextOperation, IsOwnClosedAt}
+use Rattle.theory_machine.specs.Names.{IsShown, IsSiteClosed, Item, LogLaws, NotBegun, Own, Site, State, Status}
+use Rattle.theory_machine.specs.Names.{YesVote, empty_site, put, put_tx, site_after}
 use Rattle.theory_machine.proofs.Names.{put_case, put_tx_case}
 use Rattle.theory_machine.proofs.SiteOrder.{after_append}
 use Rattle.theory_machine.proofs.Sound.{IsReady, deed_keeps_closed}

@@ -4,15 +4,11 @@ use Rattle.std.proofs.lemmas.List.{append_cancel_left}
 use Rattle.qc_entry.specs.declared.line.Line.{Line}
 use Rattle.qc_entry.specs.declared.record.Commit.{Commit as CommitRecord}
 use Rattle.qc_decl.specs.declared.declaration.Declaration.{Declaration}
-use Rattle.qc_list.specs.Members.{In}
-use Rattle.theory_machine.specs.Site.{Closes, Deed, Grants, Installs, Item, LearnsAbort, LearnsCommit, Prepares, Rises}
-use Rattle.theory_machine.specs.Site.{Site, after_deed, empty_site, items_of, site_after, site_from}
-use Rattle.theory_machine.specs.SiteLaws.{HaveNoInstall, SparesUntilDone}
-use Rattle.theory_machine.specs.State.{Aborted, Granted}
-use Rattle.theory_machine.specs.Acts.{Act, state}
-use Rattle.theory_machine.specs.Guards.{IsRun}
-use Rattle.theory_machine.specs.StateLaws.{StateLaws}
-use Rattle.theory_machine.specs.HeldLaw.{AreBeforeDone, HasPassed, IsBound, IsSince}
+use Rattle.qc_list.specs.Names.{In}
+use Rattle.theory_machine.specs.Names.{Aborted, Act, AreBeforeDone, Closes, Deed, Granted, Grants, HasPassed}
+use Rattle.theory_machine.specs.Names.{HaveNoInstall, Installs, IsBound, IsRun, IsSince, Item, LearnsAbort}
+use Rattle.theory_machine.specs.Names.{LearnsCommit, Prepares, Rises, Site, SparesUntilDone, StateLaws, after_deed}
+use Rattle.theory_machine.specs.Names.{empty_site, items_of, site_after, site_from, state}
 use Rattle.theory_machine.proofs.Keeps.{laws}
 use Rattle.theory_machine.proofs.Order.{ended, holds_granted}
 use Rattle.theory_machine.proofs.Outcomes.{committed_record}

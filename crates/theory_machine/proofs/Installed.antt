@@ -4,13 +4,10 @@ use Rattle.qc_stamp.specs.declared.stamp.Stamp.{Stamp}
 use Rattle.qc_stamp.specs.declared.stamp.TxId.{TxId}
 use Rattle.qc_entry.specs.declared.line.Line.{Line}
 use Rattle.qc_decl.specs.declared.declaration.Declaration.{Declaration}
-use Rattle.qc_list.specs.Members.{In}
-use Rattle.theory_machine.specs.Site.{Deed, Grants, Prepares, LearnsCommit, LearnsAbort, Closes, Installs, Rises}
-use Rattle.theory_machine.specs.Site.{Promise, epoch_from}
-use Rattle.theory_machine.specs.State.{Decision, Snapshot, Verdict}
-use Rattle.theory_machine.specs.Acts.{deed_of_outcome}
-use Rattle.theory_machine.specs.Guards.{IsResolved}
-use Rattle.theory_machine.specs.StateLaws.{HasRisingEpochs, HasDecision, IsDecisionFrom}
+use Rattle.qc_list.specs.Names.{In}
+use Rattle.theory_machine.specs.Names.{Closes, Decision, Deed, Grants, HasDecision, HasRisingEpochs, Installs}
+use Rattle.theory_machine.specs.Names.{IsDecisionFrom, IsResolved, LearnsAbort, LearnsCommit, Prepares, Promise, Rises}
+use Rattle.theory_machine.specs.Names.{Snapshot, Verdict, deed_of_outcome, epoch_from}
 
 -- a deed that a site may do: an Install is of a decided, greater epoch
 abbrev pub IsNew : List Decision → List Deed → Deed → Type 0

@@ -3,19 +3,16 @@ use Rattle.std.proofs.Common.{◌≡◌, ◌≢◌, ℕ, ◌≤◌, inl, inr, Li
 use Rattle.std.proofs.Common.{append-nil}
 use Rattle.qc_stamp.specs.declared.stamp.TxId.{TxId}
 use Rattle.qc_decl.specs.declared.declaration.Declaration.{Declaration}
-use Rattle.qc_list.specs.Members.{In}
+use Rattle.qc_list.specs.Names.{In}
 use Rattle.theory_onecopy.proofs.Lists.{in_split}
 use Rattle.qc_list.proofs.Members.{In-second}
-use Rattle.theory_machine.specs.Names.{put, put_tx}
-use Rattle.theory_machine.specs.Site.{Deed, Prepares, Installs}
-use Rattle.theory_machine.specs.State.{Status, Active, Voting, Pending, Committed, Aborted, Decision, Granted, Snapshot}
-use Rattle.theory_machine.specs.State.{State}
-use Rattle.theory_machine.specs.Acts.{Act, TakeSnapshot, Decide, Install, Begin, Choose, SendAppend, Execute}
-use Rattle.theory_machine.specs.Acts.{ExecuteAbsent, Grant, Count, Prepare, Vote, PrepareLost, Commit, CommitUnknown}
-use Rattle.theory_machine.specs.Acts.{Recover, Abort, RiseClient, Announce, Learn, Rise, Close, chosen_list, verdict_of}
-use Rattle.theory_machine.specs.Acts.{recover_status, recover_records, after_act, state}
-use Rattle.theory_machine.specs.Guards.{MaySnapshot, IsAllowed, IsRun}
-use Rattle.theory_machine.specs.StateLaws.{IsOutcome, IsDecisionFrom, StateLaws}
+use Rattle.theory_machine.specs.Names.{Abort, Aborted, Act, Active, Announce, Begin, Choose, Close, Commit}
+use Rattle.theory_machine.specs.Names.{CommitUnknown, Committed, Count, Decide, Decision, Deed, Execute, ExecuteAbsent}
+use Rattle.theory_machine.specs.Names.{Grant, Granted, Install, Installs, IsAllowed, IsDecisionFrom, IsOutcome, IsRun}
+use Rattle.theory_machine.specs.Names.{Learn, MaySnapshot, Pending, Prepare, PrepareLost, Prepares, Recover, Rise}
+use Rattle.theory_machine.specs.Names.{RiseClient, SendAppend, Snapshot, State, StateLaws, Status, TakeSnapshot, Vote}
+use Rattle.theory_machine.specs.Names.{Voting, after_act, chosen_list, put, put_tx, recover_records, recover_status}
+use Rattle.theory_machine.specs.Names.{state, verdict_of}
 use Rattle.theory_machine.proofs.Names.{put_case, put_tx_case}
 use Rattle.theory_machine.proofs.Outcomes.{verdict_is}
 use Rattle.theory_machine.proofs.Installed.{made_more}

@@ -4,21 +4,17 @@ use Rattle.std.proofs.Common.{◌≡◌, ◌≢◌, ℕ, suc, inl, inr, List, []
 use Rattle.std.proofs.Common.{subst}
 use Rattle.std.specs.Prelude.{max}
 use Rattle.qc_decl.specs.declared.declaration.Declaration.{Declaration}
-use Rattle.qc_decl.specs.Accepted.{IsAccepted}
-use Rattle.qc_decl.specs.Lookup.{append_need_of}
-use Rattle.qc_list.specs.Members.{In}
-use Rattle.theory_onecopy.specs.Executed.{Executed, own_line}
-use Rattle.theory_machine.specs.Names.{put, put_tx}
-use Rattle.theory_machine.specs.Site.{Own, Installs, Deed, Grants, Prepares, Closes, Rises, site_after}
-use Rattle.theory_machine.specs.State.{Status, Decision, Snapshot, NotBegun, Active, Voting, Pending, Committed}
-use Rattle.theory_machine.specs.State.{Aborted, Granted, AppendRequest, State}
-use Rattle.theory_machine.specs.Acts.{TakeSnapshot, Decide, Install, Act, Begin, Choose, SendAppend, Execute}
-use Rattle.theory_machine.specs.Acts.{ExecuteAbsent, Grant, Count, Prepare, Vote, PrepareLost, Commit, CommitUnknown}
-use Rattle.theory_machine.specs.Acts.{Recover, Abort, RiseClient, Announce, Learn, Rise, Close, deed_of, after_act}
-use Rattle.theory_machine.specs.Acts.{recover_status, recover_records, chosen_list, state}
-use Rattle.theory_machine.specs.Guards.{IsAllowed, IsRun}
-use Rattle.theory_machine.specs.StateLaws.{StateLaws}
-use Rattle.theory_machine.specs.Logs.{IsClosedAt, IsExecutedOrChosen, IsAppendClosed, LogLaws, IsSiteClosed}
+use Rattle.qc_decl.specs.Names.{IsAccepted, append_need_of}
+use Rattle.qc_list.specs.Names.{In}
+use Rattle.theory_onecopy.specs.Names.{Executed, own_line}
+use Rattle.theory_machine.specs.Names.{Abort, Aborted, Act, Active, Announce, AppendRequest, Begin, Choose, Close}
+use Rattle.theory_machine.specs.Names.{Closes, Commit, CommitUnknown, Committed, Count, Decide, Decision, Deed, Execute}
+use Rattle.theory_machine.specs.Names.{ExecuteAbsent, Grant, Granted, Grants, Install, Installs, IsAllowed}
+use Rattle.theory_machine.specs.Names.{IsAppendClosed, IsClosedAt, IsExecutedOrChosen, IsRun, IsSiteClosed, Learn}
+use Rattle.theory_machine.specs.Names.{LogLaws, NotBegun, Own, Pending, Prepare, PrepareLost, Prepares, Recover, Rise}
+use Rattle.theory_machine.specs.Names.{RiseClient, Rises, SendAppend, Snapshot, State, StateLaws, Status, TakeSnapshot}
+use Rattle.theory_machine.specs.Names.{Vote, Voting, after_act, chosen_list, deed_of, put, put_tx, recover_records}
+use Rattle.theory_machine.specs.Names.{recover_status, site_after, state}
 use Rattle.theory_machine.proofs.Names.{put_tx_case}
 use Rattle.theory_machine.proofs.Keeps.{laws}
 use Rattle.theory_machine.proofs.Grows.{right_more, met_more, carry, restated, same, at_site}

@@ -8,14 +8,12 @@ use Rattle.qc_entry.specs.declared.line.Line.{Line}
 use Rattle.qc_entry.specs.declared.line.OwnLine.{OwnLine}
 use Rattle.qc_entry.specs.declared.record.Commit.{Commit as CommitRecord}
 use Rattle.qc_decl.specs.declared.declaration.Declaration.{Declaration}
-use Rattle.qc_list.specs.Members.{In}
-use Rattle.theory_onecopy.specs.Executed.{Executed, committed_line}
-use Rattle.theory_machine.specs.Site.{Item, Lock, Own, Promise, site_after}
-use Rattle.theory_machine.specs.State.{Status, Decision, NotBegun, Pending, Committed, Aborted, Granted, State}
-use Rattle.theory_machine.specs.Acts.{deed_of_outcome, recover_status}
-use Rattle.theory_machine.specs.Guards.{IsMerged, IsResolved, MayDecide, IsRequested}
-use Rattle.theory_machine.specs.StateLaws.{IsOutcome, StateLaws}
-use Rattle.theory_machine.specs.Logs.{IsClosedAt, IsExecutedOrChosen, IsAppendClosed, LogLaws, IsSiteClosed}
+use Rattle.qc_list.specs.Names.{In}
+use Rattle.theory_onecopy.specs.Names.{Executed, committed_line}
+use Rattle.theory_machine.specs.Names.{Aborted, Committed, Decision, Granted, IsAppendClosed, IsClosedAt}
+use Rattle.theory_machine.specs.Names.{IsExecutedOrChosen, IsMerged, IsOutcome, IsRequested, IsResolved, IsSiteClosed}
+use Rattle.theory_machine.specs.Names.{Item, Lock, LogLaws, MayDecide, NotBegun, Own, Pending, Promise, State}
+use Rattle.theory_machine.specs.Names.{StateLaws, Status, deed_of_outcome, recover_status, site_after}
 use Rattle.theory_machine.proofs.Sound.{IsReady, wider}
 use Rattle.theory_machine.proofs.Outcomes.{committed_record, outcome_aborted, outcome_commit}
 use Rattle.theory_machine.proofs.Grows.{same}

@@ -4,19 +4,14 @@ use Rattle.std.proofs.lemmas.List.{map-append}
 use Rattle.qc_entry.specs.declared.line.Op.{Op}
 use Rattle.qc_entry.specs.declared.record.Commit.{Commit as CommitRecord}
 use Rattle.qc_decl.specs.declared.declaration.Declaration.{Declaration}
-use Rattle.qc_decl.specs.Accepted.{IsAccepted}
-use Rattle.theory_onecopy.specs.Lists.{IsOrdered}
-use Rattle.qc_list.specs.Members.{In}
-use Rattle.theory_onecopy.specs.Committed.{IsStampedBefore}
-use Rattle.theory_onecopy.specs.OneCopy.{OneCopy, Walks, operations, start_at}
-use Rattle.theory_onecopy.specs.Executed.{Executed, Placed}
-use Rattle.theory_onecopy.specs.Views.{AreFromViews}
+use Rattle.qc_decl.specs.Names.{IsAccepted}
+use Rattle.theory_onecopy.specs.Names.{AreFromViews, Executed, IsOrdered, IsStampedBefore, OneCopy, Placed, Walks}
+use Rattle.theory_onecopy.specs.Names.{operations, start_at}
+use Rattle.qc_list.specs.Names.{In}
 use Rattle.theory_onecopy.proofs.Walk.{views_are_one_copy}
-use Rattle.theory_machine.specs.Acts.{Act, state}
-use Rattle.theory_machine.specs.Guards.{op_of, IsRun}
+use Rattle.theory_machine.specs.Names.{Act, IsRun, op_of, place, placed, state}
 use Rattle.theory_machine.proofs.Outcomes.{committed_record}
 use Rattle.theory_machine.proofs.Quorums.{exact}
-use Rattle.theory_machine.specs.Placed.{place, placed}
 use Rattle.theory_machine.proofs.PlacedOperations.{placed_ordered}
 use Rattle.theory_machine.proofs.CommittedViews.{wl, ll, whose, right, own, own_sorted, own_all, grows, smaller, closed}
 use Rattle.theory_machine.proofs.CommittedViews.{closed_own}

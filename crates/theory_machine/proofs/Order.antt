@@ -7,16 +7,16 @@ use Rattle.qc_entry.specs.declared.line.OwnLine.{OwnLine}
 use Rattle.qc_entry.specs.declared.line.ReadLock.{ReadLock}
 use Rattle.qc_entry.specs.declared.record.Commit.{Commit as CommitRecord}
 use Rattle.qc_decl.specs.declared.declaration.Declaration.{Declaration}
-use Rattle.qc_list.specs.Members.{In}
-use Rattle.theory_onecopy.specs.Executed.{depends_at, committed_line}
+use Rattle.qc_list.specs.Names.{In}
+use Rattle.theory_onecopy.specs.Names.{committed_line, depends_at}
 use Rattle.qc_list.proofs.Members.{In-first, In-second}
-use Rattle.qc_stamp.specs.Order.{same_tx}
-use Rattle.theory_machine.specs.Site.{Item, Lock, Own, Promise, Deed, Grants, Prepares, LearnsCommit, LearnsAbort, Closes, Installs, Rises, Site, each_held, items_of, promise_of, after_prepare, after_commit, after_deed, site_from, site_after, empty_site, done_record, done_records, epoch_from}
-use Rattle.theory_machine.specs.SiteLaws.{SiteLaws, Holds, SparesUntilDone, HaveNoInstall, HasDone}
-use Rattle.theory_machine.specs.State.{Status, Committed, Aborted, Granted}
-use Rattle.theory_machine.specs.Acts.{Act, state}
-use Rattle.theory_machine.specs.Guards.{IsRun}
-use Rattle.theory_machine.specs.StateLaws.{IsOutcome, HasRisingEpochs, CountedLaw, StateLaws}
+use Rattle.qc_stamp.specs.Names.{same_tx}
+use Rattle.theory_machine.specs.Names.{Aborted, Act, Closes, Committed, CountedLaw, Deed, Granted, Grants, HasDone}
+use Rattle.theory_machine.specs.Names.{HasRisingEpochs, HaveNoInstall, Holds, Installs, IsOutcome, IsRun, Item}
+use Rattle.theory_machine.specs.Names.{LearnsAbort, LearnsCommit, Lock, Own, Prepares, Promise, Rises, Site, SiteLaws}
+use Rattle.theory_machine.specs.Names.{SparesUntilDone, StateLaws, Status, after_commit, after_deed, after_prepare}
+use Rattle.theory_machine.specs.Names.{done_record, done_records, each_held, empty_site, epoch_from, items_of}
+use Rattle.theory_machine.specs.Names.{promise_of, site_after, site_from, state}
 use Rattle.theory_machine.proofs.Names.{tx_test}
 use Rattle.qc_stamp.proofs.Orders.{same_tx_is}
 use Rattle.theory_machine.proofs.SiteLists.{items_of-append, items_of-each_held, in_dropped, not_found}

@@ -8,23 +8,18 @@ use Rattle.qc_stamp.specs.declared.stamp.Stamp.{Stamp}
 use Rattle.qc_stamp.specs.declared.stamp.TxId.{TxId}
 use Rattle.qc_entry.specs.declared.line.Line.{Line}
 use Rattle.qc_entry.specs.declared.record.Commit.{Commit as CommitRecord}
-use Rattle.qc_plan.specs.Weights.{weight}
+use Rattle.qc_plan.specs.Names.{weight}
 use Rattle.qc_decl.specs.declared.declaration.Declaration.{Declaration}
-use Rattle.qc_decl.specs.Accepted.{IsAccepted}
-use Rattle.qc_decl.specs.Lookup.{append_need_of, read_need_of}
-use Rattle.theory_onecopy.specs.Lists.{IsOrdered}
-use Rattle.qc_list.specs.Members.{In}
-use Rattle.theory_onecopy.specs.Committed.{IsStampedBefore}
-use Rattle.theory_onecopy.specs.Executed.{Placed, depends_at, line_of, own_line, committed_line}
-use Rattle.theory_machine.specs.Site.{Grants, site_after}
-use Rattle.theory_machine.specs.Acts.{Act, state}
-use Rattle.theory_machine.specs.Guards.{read_lock, weights_of, IsRun}
-use Rattle.theory_machine.specs.Logs.{IsDependedOn}
+use Rattle.qc_decl.specs.Names.{IsAccepted, append_need_of, read_need_of}
+use Rattle.theory_onecopy.specs.Names.{IsOrdered, IsStampedBefore, Placed, committed_line, depends_at, line_of}
+use Rattle.theory_onecopy.specs.Names.{own_line}
+use Rattle.qc_list.specs.Names.{In}
+use Rattle.theory_machine.specs.Names.{Act, Grants, IsDependedOn, IsRun, placed, read_lock, site_after, state}
+use Rattle.theory_machine.specs.Names.{weights_of}
 use Rattle.theory_machine.proofs.Order.{ordering}
 use Rattle.theory_machine.proofs.Places.{above}
 use Rattle.theory_machine.proofs.Quorums.{heavy, needed, read_needed, shared, some_site}
 use Rattle.theory_machine.proofs.Decided.{kept_lines, of_epoch, passed_stamps, positive}
-use Rattle.theory_machine.specs.Placed.{placed}
 use Rattle.theory_machine.proofs.PlacedOperations.{IsOf, le_cases}
 use Rattle.theory_machine.proofs.CommittedViews.{wl, ll, whose, status_is, same_stamp, right, clock_below, depended}
 use Rattle.theory_machine.proofs.CommittedViews.{plan_of}

@@ -4,13 +4,11 @@ use Rattle.std.proofs.Common.{◌≡◌, ◌≢◌, inl, inr, [], ◌∷◌, Opt
 use Rattle.qc_stamp.specs.declared.stamp.Stamp.{Stamp}
 use Rattle.qc_stamp.specs.declared.stamp.TxId.{TxId}
 use Rattle.qc_entry.specs.declared.record.Commit.{Commit as CommitRecord}
-use Rattle.qc_list.specs.Members.{In}
-use Rattle.theory_machine.specs.Names.{put_tx}
-use Rattle.theory_machine.specs.Site.{Deed, Grants, Prepares, LearnsCommit, LearnsAbort, Closes, Installs, Rises}
-use Rattle.theory_machine.specs.State.{Status, NotBegun, Active, Voting, Pending, Committed, Aborted, Verdict}
-use Rattle.theory_machine.specs.Acts.{deed_of_outcome, verdict_of}
-use Rattle.theory_machine.specs.Guards.{HasRecord, MayPrepare}
-use Rattle.theory_machine.specs.StateLaws.{IsOutcome, AgreesWithStatus, KeepsLife}
+use Rattle.qc_list.specs.Names.{In}
+use Rattle.theory_machine.specs.Names.{Aborted, Active, AgreesWithStatus, Closes, Committed, Deed, Grants, HasRecord}
+use Rattle.theory_machine.specs.Names.{Installs, IsOutcome, KeepsLife, LearnsAbort, LearnsCommit, MayPrepare, NotBegun}
+use Rattle.theory_machine.specs.Names.{Pending, Prepares, Rises, Status, Verdict, Voting, deed_of_outcome, put_tx}
+use Rattle.theory_machine.specs.Names.{verdict_of}
 use Rattle.theory_machine.proofs.Names.{put_tx_case}
 use Rattle.theory_machine.proofs.Deeds.{IsMild}
 

@@ -3,18 +3,14 @@ use Rattle.std.proofs.Common.{◌≡◌, ℕ, false, inl, inr, List, [], ◌∷�
 use Rattle.qc_stamp.specs.declared.stamp.Stamp.{Stamp}
 use Rattle.qc_stamp.specs.declared.stamp.TxId.{TxId}
 use Rattle.qc_decl.specs.declared.declaration.Declaration.{Declaration}
-use Rattle.qc_list.specs.Members.{In}
+use Rattle.qc_list.specs.Names.{In}
 use Rattle.theory_onecopy.proofs.Lists.{in_split}
-use Rattle.theory_machine.specs.Names.{put}
-use Rattle.theory_machine.specs.Site.{Deed, Grants, Prepares, LearnsCommit, LearnsAbort, Closes, Installs, Rises}
-use Rattle.theory_machine.specs.Site.{epoch_from, shut_from}
-use Rattle.theory_machine.specs.Acts.{Act, TakeSnapshot, Prepare, Begin, Count, Decide, Grant, Learn, Install, Abort}
-use Rattle.theory_machine.specs.Acts.{Execute, ExecuteAbsent, Commit, RiseClient, Rise, Vote, SendAppend, Recover}
-use Rattle.theory_machine.specs.Acts.{Close, CommitUnknown, Announce, Choose, PrepareLost, deed_of, after_act}
-use Rattle.theory_machine.specs.Acts.{deed_of_outcome, state}
-use Rattle.theory_machine.specs.Guards.{IsAllowed, IsRun}
-use Rattle.theory_machine.specs.State.{Granted, State}
-use Rattle.theory_machine.specs.Plain.{ArePlain, IsFirst, IsPlain, IsPlainDeed}
+use Rattle.theory_machine.specs.Names.{Abort, Act, Announce, ArePlain, Begin, Choose, Close, Closes, Commit}
+use Rattle.theory_machine.specs.Names.{CommitUnknown, Count, Decide, Deed, Execute, ExecuteAbsent, Grant, Granted}
+use Rattle.theory_machine.specs.Names.{Grants, Install, Installs, IsAllowed, IsFirst, IsPlain, IsPlainDeed, IsRun}
+use Rattle.theory_machine.specs.Names.{Learn, LearnsAbort, LearnsCommit, Prepare, PrepareLost, Prepares, Recover, Rise}
+use Rattle.theory_machine.specs.Names.{RiseClient, Rises, SendAppend, State, TakeSnapshot, Vote, after_act, deed_of}
+use Rattle.theory_machine.specs.Names.{deed_of_outcome, epoch_from, put, shut_from, state}
 use Rattle.theory_machine.proofs.Names.{put_case, put_tx_case}
 
 deeds_more : (w : State) (site : ℕ) (d : Deed) → IsPlainDeed d → IsFirst w → (s : ℕ) (e : Deed)

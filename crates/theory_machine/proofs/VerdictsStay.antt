@@ -1,11 +1,11 @@
 -- A verdict that was sent stays sent, whatever happens next.
 use Rattle.std.proofs.Common.{List, [], ◌∷◌, ◌++◌}
-use Rattle.qc_list.specs.Members.{In}
+use Rattle.qc_list.specs.Names.{In}
 use Rattle.qc_list.proofs.Members.{In-second}
-use Rattle.theory_machine.specs.State.{State, Verdict}
-use Rattle.theory_machine.specs.Acts.{Abort, Act, Announce, Begin, Choose, Close, Commit, CommitUnknown, Count, Decide}
-use Rattle.theory_machine.specs.Acts.{Execute, ExecuteAbsent, Grant, Install, Learn, Prepare, PrepareLost, Recover}
-use Rattle.theory_machine.specs.Acts.{Rise, RiseClient, SendAppend, TakeSnapshot, Vote, after_act, state, verdict_of}
+use Rattle.theory_machine.specs.Names.{Abort, Act, Announce, Begin, Choose, Close, Commit, CommitUnknown, Count, Decide}
+use Rattle.theory_machine.specs.Names.{Execute, ExecuteAbsent, Grant, Install, Learn, Prepare, PrepareLost, Recover}
+use Rattle.theory_machine.specs.Names.{Rise, RiseClient, SendAppend, State, TakeSnapshot, Verdict, Vote, after_act}
+use Rattle.theory_machine.specs.Names.{state, verdict_of}
 
 one_more : (now : State) (a : Act) (v : Verdict) → In v now.verdicts → In v (after_act now a).verdicts
 one_more now (Begin tx epoch) v h = h

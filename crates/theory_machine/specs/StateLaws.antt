@@ -6,13 +6,12 @@ use Rattle.qc_stamp.specs.declared.stamp.TxId.{TxId}
 use Rattle.qc_entry.specs.declared.line.Line.{Line}
 use Rattle.qc_entry.specs.declared.record.Commit.{Commit as CommitRecord}
 use Rattle.qc_decl.specs.declared.declaration.Declaration.{Declaration}
-use Rattle.qc_plan.specs.Admitted.{Closes as Closing}
-use Rattle.qc_plan.specs.Weights.{weight}
+use Rattle.qc_plan.specs.Names.{Closes as Closing, weight}
 use Rattle.qc_plan.specs.declared.plan.Plan.{Plan}
-use Rattle.qc_decl.specs.Lookup.{plan_in}
-use Rattle.qc_list.specs.Members.{In}
-use Rattle.theory_onecopy.specs.Executed.{Executed}
-use Rattle.qc_stamp.specs.Order.{same_tx}
+use Rattle.qc_decl.specs.Names.{plan_in}
+use Rattle.qc_list.specs.Names.{In}
+use Rattle.theory_onecopy.specs.Names.{Executed}
+use Rattle.qc_stamp.specs.Names.{same_tx}
 use Rattle.theory_machine.specs.Site.{Promise, Deed, Grants, Prepares, LearnsCommit, LearnsAbort, Closes, Installs}
 use Rattle.theory_machine.specs.Site.{Rises}
 use Rattle.theory_machine.specs.Site.{epoch_from, site_after}

@@ -5,17 +5,16 @@ use Rattle.std.proofs.Common.{refl, sym, ap, ◌∙◌, subst, arith, append_ass
 use Rattle.std.proofs.lemmas.List.{map-append}
 use Rattle.std.specs.declared.cmp.Ordering.TheVariants.{Less}
 use Rattle.qc_stamp.specs.declared.stamp.Stamp.{Stamp}
-use Rattle.qc_stamp.specs.Order.{stamp_cmp}
+use Rattle.qc_stamp.specs.Names.{stamp_cmp}
 use Rattle.qc_entry.specs.declared.line.Line.{Line}
 use Rattle.qc_entry.specs.declared.line.OwnLine.{OwnLine}
-use Rattle.qc_table.specs.Depends.{depends}
-use Rattle.qc_cert.specs.Views.{IsView, inv_of, picked}
+use Rattle.qc_table.specs.Names.{depends}
+use Rattle.qc_cert.specs.Names.{IsView, inv_of, picked}
 use Rattle.qc_decl.specs.declared.declaration.Declaration.{Declaration}
-use Rattle.theory_onecopy.specs.Lists.{IsOrdered}
-use Rattle.qc_list.specs.Members.{In}
-use Rattle.theory_onecopy.specs.Executed.{Placed, IsAnswered, IsEarlier, IsLineBefore, IsOwnBefore, depends_at}
-use Rattle.theory_onecopy.specs.Executed.{events_seen, kind_at, line_of, own_line, committed_line}
-use Rattle.theory_onecopy.specs.Views.{AreFromViews, IsFromView, IsNext, lines_on}
+use Rattle.theory_onecopy.specs.Names.{AreFromViews, IsAnswered, IsEarlier, IsFromView, IsLineBefore, IsNext, IsOrdered}
+use Rattle.theory_onecopy.specs.Names.{IsOwnBefore, Placed, committed_line, depends_at, events_seen, kind_at, line_of}
+use Rattle.theory_onecopy.specs.Names.{lines_on, own_line}
+use Rattle.qc_list.specs.Names.{In}
 use Rattle.theory_onecopy.proofs.Lists.{compared, in_map, in_split, map_in, ordered-append, ordered_across}
 use Rattle.theory_onecopy.proofs.Lists.{ordered_left}
 use Rattle.qc_list.proofs.Members.{In-first, In-second}

@@ -6,17 +6,13 @@ use Rattle.std.proofs.lemmas.List.{map-append}
 use Rattle.qc_entry.specs.declared.line.Line.{Line}
 use Rattle.qc_entry.specs.declared.line.Op.{Op}
 use Rattle.qc_table.specs.declared.kind.Kind.{Kind}
-use Rattle.qc_table.specs.Rules.{Rules, event, event_number, events_of}
-use Rattle.qc_table.specs.Run.{next_in}
-use Rattle.qc_cert.specs.Views.{IsExact, state_after}
+use Rattle.qc_table.specs.Names.{Rules, event, event_number, events_of, next_in}
+use Rattle.qc_cert.specs.Names.{IsExact, IsView, allows, state_after}
 use Rattle.qc_decl.specs.declared.declaration.Declaration.{Declaration}
 use Rattle.std.specs.Prelude.{IsSome, is_some}
-use Rattle.theory_onecopy.specs.Views.{lines_of, lines_on}
+use Rattle.theory_onecopy.specs.Names.{AreFromViews, Goes, IsAnswered, Placed, Replies, Walks, events_seen, kind_at}
+use Rattle.theory_onecopy.specs.Names.{line_of, lines_of, lines_on, start_at, updated}
 use Rattle.theory_onecopy.proofs.Seen.{answers_are_from_views, listed}
-use Rattle.qc_cert.specs.Views.{IsView, allows}
-use Rattle.theory_onecopy.specs.OneCopy.{Goes, Walks, start_at, updated}
-use Rattle.theory_onecopy.specs.Executed.{Placed, IsAnswered, Replies, events_seen, kind_at, line_of}
-use Rattle.theory_onecopy.specs.Views.{AreFromViews}
 use Rattle.theory_onecopy.proofs.Runs.{allows_step, none_of, some_of, state_more, step_is, table_is}
 use Rattle.theory_onecopy.proofs.Lines.{lines_on-append}
 

@@ -2,29 +2,28 @@
 use Rattle.std.proofs.Common.{true, ◌≡◌, ◌<◌, ◌≤◌, ℕ, zero, suc, List, [], ◌∷◌, length, Option, Some, None, option_map, refl, subst, arith, slice_get}
 use Rattle.qc_cert.proofs.Faultless.{inductive}
 use Rattle.qc_cert.proofs.Walk.{exact}
-use Rattle.qc_cert.specs.Inductive.{triple}
+use Rattle.qc_cert.specs.Names.{triple}
 use Rattle.qc_cert.specs.declared.triple.Triple.{Triple}
 use Rattle.qc_decl.proofs.BuiltInRules.{three_accepted}
-use Rattle.qc_decl.specs.Accepted.{AreThresholds, HasNames, HasThresholds, IsAccepted, IsGood, IsRight}
+use Rattle.qc_decl.specs.Names.{AreNames, AreThresholds, HasNames, HasThresholds, IsAccepted, IsGood, IsRight}
+use Rattle.qc_decl.specs.Names.{greatest_threshold, greatest_weight, is_name, kind_at, most_epochs, most_objects}
+use Rattle.qc_decl.specs.Names.{most_sites, register_kind, register_names}
 use Rattle.qc_decl.proofs.Places.{all_differ, differ}
-use Rattle.qc_decl.specs.Limits.{greatest_threshold, greatest_weight, most_epochs, most_objects, most_sites}
-use Rattle.qc_decl.specs.Lookup.{kind_at}
-use Rattle.qc_decl.specs.Names.{AreNames, is_name}
 use Rattle.qc_decl.specs.declared.declaration.KindNames.{KindNames}
-use Rattle.qc_table.specs.Rules.{events_of}
+use Rattle.qc_table.specs.Names.{IsSound, events_of}
 use Rattle.std.specs.Prelude.{All, codes, option_and_then, take}
 use Rattle.std.specs.List.{list_all}
 use Rattle.std.proofs.lemmas.List.Elements.{All-cons, All-nil}
-use Rattle.qc_decl.specs.One.{register_kind, register_names}
 use Rattle.qc_decl.specs.declared.declaration.Declaration.{Declaration}
 use Rattle.qc_plan.proofs.Faultless as plan_proofs
-use Rattle.qc_plan.specs.Faults.{fault_of}
+use Rattle.qc_plan.specs.Names.{fault_of}
 use Rattle.qc_plan.specs.declared.fault.PlanFault.{PlanFault}
 use Rattle.qc_plan.specs.declared.plan.Plan.{Plan}
 use Rattle.theory_witnesses.proofs.Cases.{none_some, one_some}
 use Rattle.theory_witnesses.proofs.Finding.{at_most, below, both, is_true, proof_of, same_number}
-use Rattle.theory_witnesses.specs.Settings.{extra_kind, extra_store, latch, latch_kind, latch_names, latch_store, moving_register, two_registers, store, three_in_two_epochs, ticket, ticket_kind, ticket_names, ticket_store}
-use Rattle.qc_table.specs.Sound.{IsSound}
+use Rattle.theory_witnesses.specs.Names.{extra_kind, extra_store, latch, latch_kind, latch_names, latch_store}
+use Rattle.theory_witnesses.specs.Names.{moving_register, store, three_in_two_epochs, ticket, ticket_kind, ticket_names}
+use Rattle.theory_witnesses.specs.Names.{ticket_store, two_registers}
 use Rattle.qc_table.specs.declared.kind.Kind.{Kind}
 
 register_right : IsRight register_kind

@@ -4,25 +4,23 @@ use Rattle.std.proofs.Common.{option_map, refl, subst}
 use Rattle.qc_stamp.specs.declared.stamp.TxId.{TxId}
 use Rattle.qc_entry.specs.declared.record.Commit.{Commit as CommitRecord}
 use Rattle.qc_plan.specs.declared.plan.Plan.{Plan}
-use Rattle.qc_decl.specs.Lookup.{append_need_of, plan_in}
+use Rattle.qc_decl.specs.Names.{append_need_of, plan_in}
 use Rattle.qc_decl.specs.declared.declaration.Declaration.{Declaration}
-use Rattle.theory_onecopy.specs.Executed.{Executed, own_line}
-use Rattle.qc_list.specs.Members.{In}
-use Rattle.theory_machine.specs.Acts.{Act, Begin, Choose, SendAppend, Execute, ExecuteAbsent, Grant, Count, Prepare}
-use Rattle.theory_machine.specs.Acts.{Vote, PrepareLost, Commit, CommitUnknown, Recover, Abort, RiseClient, Announce}
-use Rattle.theory_machine.specs.Acts.{Learn, Rise, Close, TakeSnapshot, Decide, Install, state}
-use Rattle.theory_machine.specs.Asked.{Guard, Asked, BeginsOnce, BeginsInPlannedEpoch, OperatesWhileActive}
-use Rattle.theory_machine.specs.Asked.{ChoosesOneAtATime, ChosenHasResponse, AppendsWhatIsChosen, AppendQuorumIsMet}
-use Rattle.theory_machine.specs.Asked.{AbsentHasNoResponse, GrantTellsDeeds, GrantTellsLife, GrantsWhatWasRequested}
-use Rattle.theory_machine.specs.Asked.{CountsWhatWasGranted, CountsWhileActive, CountsInItsEpoch, PreparesOnce}
-use Rattle.theory_machine.specs.Asked.{PreparesWhenExecuted, VotesWhenAsked, VotesInGrantedLife}
-use Rattle.theory_machine.specs.Asked.{RecordsPrepareWhenAsked, AbortsBeforeRecord, RisesWithNoneRunning}
-use Rattle.theory_machine.specs.Asked.{RisesPastRecords, LearnsWhatWasAnnounced, SnapshotTellsDeeds}
-use Rattle.theory_machine.specs.Asked.{InstallsWhatWasDecided, InstallsLaterEpoch}
-use Rattle.theory_machine.specs.Guards.{HasQuorum, HasRecord, IsAllowedBy, IsAppendOfBy, IsLive, IsRunBy, MayPrepare}
-use Rattle.theory_machine.specs.Site.{Item, Own, epoch_from}
-use Rattle.theory_machine.specs.State.{AppendRequest, Granted, State, Status, NotBegun, Active, Voting, Pending}
-use Rattle.theory_machine.specs.State.{Committed, Aborted}
+use Rattle.theory_onecopy.specs.Names.{Executed, own_line}
+use Rattle.qc_list.specs.Names.{In}
+use Rattle.theory_machine.specs.Names.{Abort, Aborted, AbortsBeforeRecord, AbsentHasNoResponse, Act, Active, Announce}
+use Rattle.theory_machine.specs.Names.{AppendQuorumIsMet, AppendRequest, AppendsWhatIsChosen, Asked, Begin}
+use Rattle.theory_machine.specs.Names.{BeginsInPlannedEpoch, BeginsOnce, Choose, ChoosesOneAtATime, ChosenHasResponse}
+use Rattle.theory_machine.specs.Names.{Close, Commit, CommitUnknown, Committed, Count, CountsInItsEpoch}
+use Rattle.theory_machine.specs.Names.{CountsWhatWasGranted, CountsWhileActive, Decide, Execute, ExecuteAbsent, Grant}
+use Rattle.theory_machine.specs.Names.{GrantTellsDeeds, GrantTellsLife, Granted, GrantsWhatWasRequested, Guard}
+use Rattle.theory_machine.specs.Names.{HasQuorum, HasRecord, Install, InstallsLaterEpoch, InstallsWhatWasDecided}
+use Rattle.theory_machine.specs.Names.{IsAllowedBy, IsAppendOfBy, IsLive, IsRunBy, Item, Learn, LearnsWhatWasAnnounced}
+use Rattle.theory_machine.specs.Names.{MayPrepare, NotBegun, OperatesWhileActive, Own, Pending, Prepare, PrepareLost}
+use Rattle.theory_machine.specs.Names.{PreparesOnce, PreparesWhenExecuted, RecordsPrepareWhenAsked, Recover, Rise}
+use Rattle.theory_machine.specs.Names.{RiseClient, RisesPastRecords, RisesWithNoneRunning, SendAppend}
+use Rattle.theory_machine.specs.Names.{SnapshotTellsDeeds, State, Status, TakeSnapshot, Vote, VotesInGrantedLife}
+use Rattle.theory_machine.specs.Names.{VotesWhenAsked, Voting, epoch_from, state}
 use Rattle.theory_witnesses.proofs.Alike.{same_decision, same_deed, same_granted, same_list, same_verdict}
 use Rattle.theory_witnesses.proofs.AllowedClients.{append_of, executed_from, is_active, is_new, may_commit}
 use Rattle.theory_witnesses.proofs.AllowedDecisions.{may_decide}
@@ -31,7 +29,7 @@ use Rattle.theory_witnesses.proofs.Begun.{begun, new_or_begun}
 use Rattle.theory_witnesses.proofs.Finding.{where_asked, at_most, below, both, every, member, same_number, where_same}
 use Rattle.theory_witnesses.proofs.Finding.{where_same_tx}
 use Rattle.theory_witnesses.proofs.Quorums.{quorum}
-use Rattle.theory_witnesses.specs.Moves.{Move, acts_from, acts_of}
+use Rattle.theory_witnesses.specs.Names.{Move, acts_from, acts_of}
 
 abbrev none_chosen : (o : Option Executed) → Option (o ≡ None)
 none_chosen None = Some refl

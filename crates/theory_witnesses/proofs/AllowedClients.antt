@@ -7,16 +7,15 @@ use Rattle.qc_entry.specs.declared.line.OwnLine.{OwnLine}
 use Rattle.qc_entry.specs.declared.record.Commit.{Commit as CommitRecord}
 use Rattle.qc_table.specs.declared.kind.Kind.{Kind}
 use Rattle.qc_decl.specs.declared.declaration.Declaration.{Declaration}
-use Rattle.qc_decl.specs.Lookup.{append_need_of, read_need_of}
-use Rattle.theory_onecopy.specs.Executed.{Executed, kind_at, own_line}
-use Rattle.qc_list.specs.Members.{In}
-use Rattle.theory_machine.specs.Asked.{Guard, AnswersFromView, InvocationIsDeclared, OperationsAreNumbered}
-use Rattle.theory_machine.specs.Asked.{OwnLinesAreKept, ViewWasShown, ViewIsWhole, ReadQuorumIsMet, AppendCarriesView}
-use Rattle.theory_machine.specs.Asked.{AppendCarriesOnlyOwnLines, AppendCarriesEarlierLines, CommitsWhenVoting}
-use Rattle.theory_machine.specs.Asked.{AllHaveVoted, StampIsItsClients, StampPassesClock, RecordHasOperations}
-use Rattle.theory_machine.specs.Guards.{IsAppendOfBy, IsExecutedFromBy, IsShown, MayCommitBy, op_of, own_on, read_lock}
-use Rattle.theory_machine.specs.Site.{Item, Lock, Own}
-use Rattle.theory_machine.specs.State.{AppendRequest, Granted, State, Status, NotBegun, Active, Voting, YesVote}
+use Rattle.qc_decl.specs.Names.{append_need_of, read_need_of}
+use Rattle.theory_onecopy.specs.Names.{Executed, kind_at, own_line}
+use Rattle.qc_list.specs.Names.{In}
+use Rattle.theory_machine.specs.Names.{Active, AllHaveVoted, AnswersFromView, AppendCarriesEarlierLines}
+use Rattle.theory_machine.specs.Names.{AppendCarriesOnlyOwnLines, AppendCarriesView, AppendRequest, CommitsWhenVoting}
+use Rattle.theory_machine.specs.Names.{Granted, Guard, InvocationIsDeclared, IsAppendOfBy, IsExecutedFromBy, IsShown}
+use Rattle.theory_machine.specs.Names.{Item, Lock, MayCommitBy, NotBegun, OperationsAreNumbered, Own, OwnLinesAreKept}
+use Rattle.theory_machine.specs.Names.{ReadQuorumIsMet, RecordHasOperations, StampIsItsClients, StampPassesClock, State}
+use Rattle.theory_machine.specs.Names.{Status, ViewIsWhole, ViewWasShown, Voting, YesVote, op_of, own_on, read_lock}
 use Rattle.theory_witnesses.proofs.Cases.{none_some, one_some}
 use Rattle.theory_witnesses.proofs.Alike.{same_item, same_line, same_list, same_op, same_own, same_vote}
 use Rattle.theory_witnesses.proofs.Answered.{is_answered}

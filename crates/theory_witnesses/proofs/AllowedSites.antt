@@ -7,18 +7,16 @@ use Rattle.qc_entry.specs.declared.line.Line.{Line}
 use Rattle.qc_entry.specs.declared.line.OwnLine.{OwnLine}
 use Rattle.qc_entry.specs.declared.line.ReadLock.{ReadLock}
 use Rattle.qc_decl.specs.declared.declaration.Declaration.{Declaration}
-use Rattle.theory_onecopy.specs.Executed.{depends_at}
-use Rattle.qc_list.specs.Members.{In}
+use Rattle.theory_onecopy.specs.Names.{depends_at}
+use Rattle.qc_list.specs.Names.{In}
 use Rattle.qc_stamp.proofs.Orders.{same_tx_is}
-use Rattle.theory_machine.specs.Asked.{Guard, GrantTellsEpoch, GrantsUnlessClosed, GrantPassesInstalls}
-use Rattle.theory_machine.specs.Asked.{GrantsWithoutConflict, GrantPassesDone, GrantPassesLines, SnapshotIsOfClosed}
-use Rattle.theory_machine.specs.Asked.{SnapshotPassesDone, SnapshotPassesInstalls}
-use Rattle.theory_machine.specs.Guards.{Conflict, IsRequested, MayGrantBy, MaySnapshotBy}
-use Rattle.qc_stamp.specs.Order.{same_tx}
-use Rattle.theory_machine.specs.Site.{Deed, DoneRecord, Grants, Prepares, LearnsCommit, LearnsAbort, Closes, Installs}
-use Rattle.theory_machine.specs.Site.{Rises, Held, Item, Lock, Own, done_records, empty_site, epoch_from, items_of}
-use Rattle.theory_machine.specs.Site.{shut_from, site_after}
-use Rattle.theory_machine.specs.State.{AppendRequest, Granted, Snapshot}
+use Rattle.theory_machine.specs.Names.{AppendRequest, Closes, Conflict, Deed, DoneRecord, GrantPassesDone}
+use Rattle.theory_machine.specs.Names.{GrantPassesInstalls, GrantPassesLines, GrantTellsEpoch, Granted, Grants}
+use Rattle.theory_machine.specs.Names.{GrantsUnlessClosed, GrantsWithoutConflict, Guard, Held, Installs, IsRequested}
+use Rattle.theory_machine.specs.Names.{Item, LearnsAbort, LearnsCommit, Lock, MayGrantBy, MaySnapshotBy, Own, Prepares}
+use Rattle.theory_machine.specs.Names.{Rises, Snapshot, SnapshotIsOfClosed, SnapshotPassesDone, SnapshotPassesInstalls}
+use Rattle.theory_machine.specs.Names.{done_records, empty_site, epoch_from, items_of, shut_from, site_after}
+use Rattle.qc_stamp.specs.Names.{same_tx}
 use Rattle.theory_witnesses.proofs.Cases.{IsInstall, one_clock}
 use Rattle.theory_witnesses.proofs.Alike.{same_append}
 use Rattle.theory_witnesses.proofs.Finding.{where_asked, at_most, both, every, is_false, is_true, member, same_number}

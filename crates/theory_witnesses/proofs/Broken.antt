@@ -8,22 +8,18 @@ use Rattle.qc_entry.specs.declared.line.Line.{Line}
 use Rattle.qc_entry.specs.declared.line.Op.{Op}
 use Rattle.qc_entry.specs.declared.record.Commit.{Commit as CommitRecord}
 use Rattle.qc_decl.specs.declared.declaration.Declaration.{Declaration}
-use Rattle.theory_onecopy.specs.Committed.{AreApart, sorted}
-use Rattle.qc_list.specs.Members.{In}
-use Rattle.theory_onecopy.specs.Logged.{IsLogged, IsOperation, event_at}
-use Rattle.theory_onecopy.specs.OneCopy.{Goes, Walks, operations, start_at, step_at, updated}
-use Rattle.theory_machine.specs.Acts.{Act, Commit, state}
-use Rattle.theory_machine.specs.Claims.{HasEarlier, IsVerdictOf, OfSite}
-use Rattle.theory_machine.specs.Guards.{Shows}
-use Rattle.theory_machine.specs.Site.{site_after}
-use Rattle.theory_machine.specs.State.{Granted, State, Verdict}
+use Rattle.theory_onecopy.specs.Names.{AreApart, Goes, IsLogged, IsOperation, Walks, event_at, operations, sorted}
+use Rattle.theory_onecopy.specs.Names.{start_at, step_at, updated}
+use Rattle.qc_list.specs.Names.{In}
+use Rattle.theory_machine.specs.Names.{Act, Commit, Granted, HasEarlier, IsVerdictOf, OfSite, Shows, State, Verdict}
+use Rattle.theory_machine.specs.Names.{site_after, state}
 use Rattle.theory_witnesses.proofs.Cases.{none_some, one_some}
 use Rattle.theory_witnesses.proofs.Alike.{alike_tx, same_stamp}
 use Rattle.theory_witnesses.proofs.Finding.{IsFound, at_most, both, every, some, where_same_tx}
 use Rattle.theory_witnesses.proofs.Quorums.{shows}
-use Rattle.theory_witnesses.specs.Guarantees.{Holds, LastRecordFollowsSeen, LogsHoldOperations, RecordsAreApart}
-use Rattle.theory_witnesses.specs.Guarantees.{RecordsAreOneCopy, VerdictsAgree}
-use Rattle.qc_table.specs.Rules.{event}
+use Rattle.theory_witnesses.specs.Names.{Holds, LastRecordFollowsSeen, LogsHoldOperations, RecordsAreApart}
+use Rattle.theory_witnesses.specs.Names.{RecordsAreOneCopy, VerdictsAgree}
+use Rattle.qc_table.specs.Names.{event}
 
 abbrev pub other_number : (a b : ℕ) → Option (a ≡ b → ⊥)
 other_number a b = by (a == b) refl

@@ -6,13 +6,12 @@ use Rattle.qc_decl.specs.declared.declaration.Declaration.{Declaration}
 use Rattle.qc_stamp.specs.declared.stamp.Stamp.{Stamp}
 use Rattle.qc_entry.specs.declared.line.Line.{Line}
 use Rattle.qc_entry.specs.declared.record.Commit.{Commit as CommitRecord}
-use Rattle.theory_onecopy.specs.Executed.{Executed, committed_line, depends_at, own_line}
-use Rattle.qc_list.specs.Members.{In}
-use Rattle.theory_machine.specs.Acts.{Act, state}
-use Rattle.theory_machine.specs.State.{State}
+use Rattle.theory_onecopy.specs.Names.{Executed, committed_line, depends_at, own_line}
+use Rattle.qc_list.specs.Names.{In}
+use Rattle.theory_machine.specs.Names.{Act, State, state}
 use Rattle.theory_witnesses.proofs.Broken.{other_number}
 use Rattle.theory_witnesses.proofs.Finding.{IsFound, at_most, both, is_true, same_number, some}
-use Rattle.theory_witnesses.specs.Guarantees.{Holds, OperationsAreOrdered}
+use Rattle.theory_witnesses.specs.Names.{Holds, OperationsAreOrdered}
 
 abbrev IsMissed : Declaration → CommitRecord → Executed → CommitRecord → Executed → Type 0
 IsMissed decl c earlier d later =

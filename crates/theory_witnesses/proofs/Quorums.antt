@@ -4,11 +4,10 @@ use Rattle.qc_stamp.specs.declared.stamp.TxId.{TxId}
 use Rattle.qc_entry.specs.declared.line.Line.{Line}
 use Rattle.qc_entry.specs.declared.line.ReadLock.{ReadLock}
 use Rattle.qc_decl.specs.declared.declaration.Declaration.{Declaration}
-use Rattle.qc_list.specs.Members.{In}
-use Rattle.qc_plan.specs.Weights.{weight}
-use Rattle.theory_machine.specs.Guards.{HasGranted, HasQuorum, IsShown, Shows, weights_of}
-use Rattle.theory_machine.specs.Site.{Item, Lock, Own, site_after}
-use Rattle.theory_machine.specs.State.{Granted}
+use Rattle.qc_list.specs.Names.{In}
+use Rattle.qc_plan.specs.Names.{weight}
+use Rattle.theory_machine.specs.Names.{Granted, HasGranted, HasQuorum, IsShown, Item, Lock, Own, Shows, site_after}
+use Rattle.theory_machine.specs.Names.{weights_of}
 use Rattle.theory_witnesses.proofs.Cases.{one_lock, own_lock}
 use Rattle.theory_witnesses.proofs.Alike.{alike_tx, same_item, same_line}
 use Rattle.theory_witnesses.proofs.Finding.{IsFound, at_most, both, every, proof_of, member, same_number, some}

@@ -1,20 +1,16 @@
 -- Epochs that are decided and installed wrongly. Each run is one without the guard that its law names.
 use Rattle.std.proofs.Common.{refl, [], ◌∷◌, ◌++◌, take}
-use Rattle.theory_machine.specs.Acts.{Decide}
-use Rattle.theory_machine.specs.Asked.{DecidesByPlan, DecidesFromSnapshots, DecidesNextEpoch, ClosesEnough}
-use Rattle.theory_machine.specs.Asked.{ClosedSitesAnswered, ResolvesPrepared, MergesEveryEntry, DecidePassesCommitted}
-use Rattle.theory_machine.specs.Asked.{MergesLogs, MergesOnlyCommitted, DecidePassesSnapshots, InstallsWhatWasDecided}
-use Rattle.theory_machine.specs.Asked.{InstallsLaterEpoch}
+use Rattle.theory_machine.specs.Names.{ClosedSitesAnswered, ClosesEnough, Decide, DecidePassesCommitted}
+use Rattle.theory_machine.specs.Names.{DecidePassesSnapshots, DecidesByPlan, DecidesFromSnapshots, DecidesNextEpoch}
+use Rattle.theory_machine.specs.Names.{InstallsLaterEpoch, InstallsWhatWasDecided, MergesEveryEntry, MergesLogs}
+use Rattle.theory_machine.specs.Names.{MergesOnlyCommitted, ResolvesPrepared}
 use Rattle.theory_witnesses.proofs.Accepted.{moving_register_accepted, two_registers_accepted}
 use Rattle.theory_witnesses.proofs.Broken.{not_one_copy}
 use Rattle.theory_witnesses.proofs.Needs.{shows_need}
-use Rattle.theory_witnesses.specs.Guarantees.{RecordsAreOneCopy}
-use Rattle.theory_witnesses.specs.Moves.{begins, closes, commits, decides, decision, installs, announces, prepares}
-use Rattle.theory_witnesses.specs.Moves.{tells, votes}
-use Rattle.theory_witnesses.specs.Needed.{IsNeeded}
-use Rattle.theory_witnesses.specs.Settings.{moving_register, two_registers}
-use Rattle.theory_witnesses.specs.Stories.{commits_at, ends_at, first, invented_line, moves_to, operates, reads}
-use Rattle.theory_witnesses.specs.Stories.{reads_one, reads_only, reads_zero, second, writes, writes_one}
+use Rattle.theory_witnesses.specs.Names.{IsNeeded, RecordsAreOneCopy, announces, begins, closes, commits, commits_at}
+use Rattle.theory_witnesses.specs.Names.{decides, decision, ends_at, first, installs, invented_line, moves_to}
+use Rattle.theory_witnesses.specs.Names.{moving_register, operates, prepares, reads, reads_one, reads_only, reads_zero}
+use Rattle.theory_witnesses.specs.Names.{second, tells, two_registers, votes, writes, writes_one}
 
 -- By a plan without thresholds nothing must close: an epoch is decided from no snapshot.
 pub closes_by_another_plan : IsNeeded DecidesByPlan RecordsAreOneCopy

@@ -1,23 +1,19 @@
 -- Grants that sites give, and clients count, wrongly. Each run is one without the guard that its law names.
 use Rattle.std.proofs.Common.{refl, [], ◌∷◌, ◌++◌}
 use Rattle.qc_decl.proofs.BuiltInRules.{one_accepted}
-use Rattle.qc_decl.specs.One.{one}
-use Rattle.theory_machine.specs.Acts.{Grant, Count}
-use Rattle.theory_machine.specs.Asked.{GrantTellsDeeds, GrantTellsLife, GrantTellsEpoch, GrantsUnlessClosed}
-use Rattle.theory_machine.specs.Asked.{GrantPassesInstalls, GrantsWithoutConflict, GrantPassesDone, GrantPassesLines}
-use Rattle.theory_machine.specs.Asked.{GrantsWhatWasRequested, CountsWhatWasGranted, CountsWhileActive}
-use Rattle.theory_machine.specs.Asked.{CountsInItsEpoch}
-use Rattle.theory_machine.specs.Site.{Own}
+use Rattle.qc_decl.specs.Names.{one}
+use Rattle.theory_machine.specs.Names.{Count, CountsInItsEpoch, CountsWhatWasGranted, CountsWhileActive, Grant}
+use Rattle.theory_machine.specs.Names.{GrantPassesDone, GrantPassesInstalls, GrantPassesLines, GrantTellsDeeds}
+use Rattle.theory_machine.specs.Names.{GrantTellsEpoch, GrantTellsLife, GrantsUnlessClosed, GrantsWhatWasRequested}
+use Rattle.theory_machine.specs.Names.{GrantsWithoutConflict, Own}
 use Rattle.theory_witnesses.proofs.Accepted.{moving_register_accepted}
 use Rattle.theory_witnesses.proofs.Broken.{not_one_copy, wrong_log, wrong_order}
 use Rattle.theory_witnesses.proofs.Needs.{shows_need}
-use Rattle.theory_witnesses.specs.Guarantees.{LastRecordFollowsSeen, LogsHoldOperations, RecordsAreOneCopy}
-use Rattle.theory_witnesses.specs.Moves.{append_grant, begins, chooses, counts, executes, grant_of, grants_append}
-use Rattle.theory_witnesses.specs.Moves.{grants_read, aborts, read_grant, rises, sends}
-use Rattle.theory_witnesses.specs.Needed.{IsNeeded}
-use Rattle.theory_witnesses.specs.Settings.{moving_register}
-use Rattle.theory_witnesses.specs.Stories.{commits_at, ends_at, first, first_line, locks, moves_to, operates}
-use Rattle.theory_witnesses.specs.Stories.{reads_only, reads_zero, second, third, writes, writes_one, writes_zero}
+use Rattle.theory_witnesses.specs.Names.{IsNeeded, LastRecordFollowsSeen, LogsHoldOperations, RecordsAreOneCopy, aborts}
+use Rattle.theory_witnesses.specs.Names.{append_grant, begins, chooses, commits_at, counts, ends_at, executes, first}
+use Rattle.theory_witnesses.specs.Names.{first_line, grant_of, grants_append, grants_read, locks, moves_to}
+use Rattle.theory_witnesses.specs.Names.{moving_register, operates, read_grant, reads_only, reads_zero, rises, second}
+use Rattle.theory_witnesses.specs.Names.{sends, third, writes, writes_one, writes_zero}
 
 -- A site grants a read lock as if it had done nothing.
 pub grants_that_show_an_older_log : IsNeeded GrantTellsDeeds RecordsAreOneCopy

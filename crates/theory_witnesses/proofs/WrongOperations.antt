@@ -1,25 +1,21 @@
 -- Operations that are begun, chosen and answered wrongly. Each run is one without the guard that its law names.
 use Rattle.std.proofs.Common.{refl, [], ◌∷◌, ◌++◌}
 use Rattle.qc_decl.proofs.BuiltInRules.{one_accepted, three_accepted}
-use Rattle.qc_decl.specs.One.{one, three}
-use Rattle.theory_machine.specs.Acts.{Choose}
-use Rattle.theory_machine.specs.Asked.{InvocationIsDeclared, BeginsOnce, BeginsInPlannedEpoch, OperatesWhileActive}
-use Rattle.theory_machine.specs.Asked.{ChoosesOneAtATime, AnswersFromView, OperationsAreNumbered, OwnLinesAreKept}
-use Rattle.theory_machine.specs.Asked.{ViewWasShown, ViewIsWhole, ReadQuorumIsMet, ChosenHasResponse}
-use Rattle.theory_machine.specs.Asked.{AbsentHasNoResponse}
+use Rattle.qc_decl.specs.Names.{one, three}
+use Rattle.theory_machine.specs.Names.{AbsentHasNoResponse, AnswersFromView, BeginsInPlannedEpoch, BeginsOnce, Choose}
+use Rattle.theory_machine.specs.Names.{ChoosesOneAtATime, ChosenHasResponse, InvocationIsDeclared, OperatesWhileActive}
+use Rattle.theory_machine.specs.Names.{OperationsAreNumbered, OwnLinesAreKept, ReadQuorumIsMet, ViewIsWhole}
+use Rattle.theory_machine.specs.Names.{ViewWasShown}
 use Rattle.theory_witnesses.proofs.Accepted.{extra_store_accepted, ticket_store_accepted}
 use Rattle.theory_witnesses.proofs.Broken.{not_apart, not_one_copy, wrong_log}
 use Rattle.theory_witnesses.proofs.Disorder.{not_ordered}
 use Rattle.theory_witnesses.proofs.Needs.{shows_need}
-use Rattle.theory_witnesses.specs.Guarantees.{LogsHoldOperations, OperationsAreOrdered, RecordsAreApart}
-use Rattle.theory_witnesses.specs.Guarantees.{RecordsAreOneCopy}
-use Rattle.theory_witnesses.specs.Moves.{begins, chooses, commits, counts, executes, finds_absent, grants_append}
-use Rattle.theory_witnesses.specs.Moves.{operation, prepares, sends, votes}
-use Rattle.theory_witnesses.specs.Needed.{IsNeeded}
-use Rattle.theory_witnesses.specs.Settings.{extra_store, ticket_store}
-use Rattle.theory_witnesses.specs.Stories.{asks_the_unknown, commits_at, ends_at, first, locks, invented_line, operates}
-use Rattle.theory_witnesses.specs.Stories.{reads_one, reads_only, reads_zero, second, takes, takes_none, writes}
-use Rattle.theory_witnesses.specs.Stories.{writes_one, writes_zero}
+use Rattle.theory_witnesses.specs.Names.{IsNeeded, LogsHoldOperations, OperationsAreOrdered, RecordsAreApart}
+use Rattle.theory_witnesses.specs.Names.{RecordsAreOneCopy, asks_the_unknown, begins, chooses, commits, commits_at}
+use Rattle.theory_witnesses.specs.Names.{counts, ends_at, executes, extra_store, finds_absent, first, grants_append}
+use Rattle.theory_witnesses.specs.Names.{invented_line, locks, operates, operation, prepares, reads_one, reads_only}
+use Rattle.theory_witnesses.specs.Names.{reads_zero, second, sends, takes, takes_none, ticket_store, votes, writes}
+use Rattle.theory_witnesses.specs.Names.{writes_one, writes_zero}
 
 -- A transaction begins again after its commit, and commits again.
 pub transactions_that_begin_twice : IsNeeded BeginsOnce RecordsAreApart

@@ -7,19 +7,17 @@ use Rattle.std.specs.Prelude.{filter, fold, length, Option, None, unwrap_or, fin
 use Rattle.std.specs.List.{list_any}
 use Rattle.qc_stamp.specs.declared.stamp.Stamp.{Stamp}
 use Rattle.qc_stamp.specs.declared.stamp.TxId.{TxId}
-use Rattle.qc_entry.specs.Log.{union}
+use Rattle.qc_entry.specs.Names.{union}
 use Rattle.qc_entry.specs.declared.line.Line.{Line}
 use Rattle.qc_entry.specs.declared.record.Commit.{Commit as CommitRecord}
-use Rattle.theory_onecopy.specs.Executed.{Executed, own_line}
-use Rattle.theory_machine.specs.Acts.{Act, Begin, Choose, SendAppend, Execute, ExecuteAbsent, Grant, Count, Prepare}
-use Rattle.theory_machine.specs.Acts.{Vote}
-use Rattle.theory_machine.specs.Acts.{PrepareLost, Commit, CommitUnknown, Recover, Abort, RiseClient, Announce, Learn}
-use Rattle.theory_machine.specs.Acts.{Rise, Close, TakeSnapshot, Decide, Install, state}
-use Rattle.theory_machine.specs.Guards.{op_of, own_on}
-use Rattle.qc_stamp.specs.Order.{same_tx}
-use Rattle.theory_machine.specs.Site.{Deed, Installs, DoneRecord, Item, Lock, Own, Promise, done_records, empty_site}
-use Rattle.theory_machine.specs.Site.{epoch_from, site_after, stamped_lines}
-use Rattle.theory_machine.specs.State.{AppendRequest, Decision, Granted, Snapshot, State, Verdict}
+use Rattle.theory_onecopy.specs.Names.{Executed, own_line}
+use Rattle.theory_machine.specs.Names.{Abort, Act, Announce, AppendRequest, Begin, Choose, Close, Commit, CommitUnknown}
+use Rattle.theory_machine.specs.Names.{Count, Decide, Decision, Deed, DoneRecord, Execute, ExecuteAbsent, Grant}
+use Rattle.theory_machine.specs.Names.{Granted, Install, Installs, Item, Learn, Lock, Own, Prepare, PrepareLost}
+use Rattle.theory_machine.specs.Names.{Promise, Recover, Rise, RiseClient, SendAppend, Snapshot, State, TakeSnapshot}
+use Rattle.theory_machine.specs.Names.{Verdict, Vote, done_records, empty_site, epoch_from, op_of, own_on, site_after}
+use Rattle.theory_machine.specs.Names.{stamped_lines, state}
+use Rattle.qc_stamp.specs.Names.{same_tx}
 
 -- an act, made from the state
 abbrev pub Move : Type 0

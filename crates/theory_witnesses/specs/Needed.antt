@@ -1,28 +1,24 @@
 -- When a guard is needed: where it isn't asked, and every other guard is, some run breaks a guarantee.
 use Rattle.std.specs.Prelude.{ℕ, ◌==◌, Bool, not, List, [], ◌∷◌}
 use Rattle.qc_decl.specs.declared.declaration.Declaration.{Declaration}
-use Rattle.qc_decl.specs.Accepted.{IsAccepted}
-use Rattle.theory_machine.specs.Acts.{Act}
-use Rattle.theory_machine.specs.Asked.{Guard, BeginsOnce, BeginsInPlannedEpoch, OperatesWhileActive, ChoosesOneAtATime}
-use Rattle.theory_machine.specs.Asked.{AnswersFromView, InvocationIsDeclared, OperationsAreNumbered, OwnLinesAreKept}
-use Rattle.theory_machine.specs.Asked.{ViewWasShown, ViewIsWhole, ReadQuorumIsMet, ChosenHasResponse}
-use Rattle.theory_machine.specs.Asked.{AbsentHasNoResponse}
-use Rattle.theory_machine.specs.Asked.{AppendsWhatIsChosen, AppendCarriesView, AppendCarriesOnlyOwnLines}
-use Rattle.theory_machine.specs.Asked.{AppendCarriesEarlierLines, AppendQuorumIsMet, GrantTellsDeeds, GrantTellsLife}
-use Rattle.theory_machine.specs.Asked.{GrantTellsEpoch, GrantsUnlessClosed, GrantPassesInstalls, GrantsWithoutConflict}
-use Rattle.theory_machine.specs.Asked.{GrantPassesDone, GrantPassesLines, GrantsWhatWasRequested, CountsWhatWasGranted}
-use Rattle.theory_machine.specs.Asked.{CountsWhileActive, CountsInItsEpoch, PreparesOnce, PreparesWhenExecuted}
-use Rattle.theory_machine.specs.Asked.{VotesWhenAsked, VotesInGrantedLife, RecordsPrepareWhenAsked, CommitsWhenVoting}
-use Rattle.theory_machine.specs.Asked.{AllHaveVoted, StampIsItsClients, StampPassesClock, RecordHasOperations}
-use Rattle.theory_machine.specs.Asked.{AbortsBeforeRecord, RisesWithNoneRunning, RisesPastRecords}
-use Rattle.theory_machine.specs.Asked.{LearnsWhatWasAnnounced}
-use Rattle.theory_machine.specs.Asked.{SnapshotTellsDeeds, SnapshotIsOfClosed, SnapshotPassesDone}
-use Rattle.theory_machine.specs.Asked.{SnapshotPassesInstalls}
-use Rattle.theory_machine.specs.Asked.{DecidesByPlan, DecidesFromSnapshots, DecidesNextEpoch, ClosesEnough}
-use Rattle.theory_machine.specs.Asked.{ClosedSitesAnswered, ResolvesPrepared, MergesEveryEntry, DecidePassesCommitted}
-use Rattle.theory_machine.specs.Asked.{MergesLogs, MergesOnlyCommitted, DecidePassesSnapshots, InstallsWhatWasDecided}
-use Rattle.theory_machine.specs.Asked.{InstallsLaterEpoch}
-use Rattle.theory_machine.specs.Guards.{IsRunBy}
+use Rattle.qc_decl.specs.Names.{IsAccepted}
+use Rattle.theory_machine.specs.Names.{AbortsBeforeRecord, AbsentHasNoResponse, Act, AllHaveVoted, AnswersFromView}
+use Rattle.theory_machine.specs.Names.{AppendCarriesEarlierLines, AppendCarriesOnlyOwnLines, AppendCarriesView}
+use Rattle.theory_machine.specs.Names.{AppendQuorumIsMet, AppendsWhatIsChosen, BeginsInPlannedEpoch, BeginsOnce}
+use Rattle.theory_machine.specs.Names.{ChoosesOneAtATime, ChosenHasResponse, ClosedSitesAnswered, ClosesEnough}
+use Rattle.theory_machine.specs.Names.{CommitsWhenVoting, CountsInItsEpoch, CountsWhatWasGranted, CountsWhileActive}
+use Rattle.theory_machine.specs.Names.{DecidePassesCommitted, DecidePassesSnapshots, DecidesByPlan}
+use Rattle.theory_machine.specs.Names.{DecidesFromSnapshots, DecidesNextEpoch, GrantPassesDone, GrantPassesInstalls}
+use Rattle.theory_machine.specs.Names.{GrantPassesLines, GrantTellsDeeds, GrantTellsEpoch, GrantTellsLife}
+use Rattle.theory_machine.specs.Names.{GrantsUnlessClosed, GrantsWhatWasRequested, GrantsWithoutConflict, Guard}
+use Rattle.theory_machine.specs.Names.{InstallsLaterEpoch, InstallsWhatWasDecided, InvocationIsDeclared, IsRunBy}
+use Rattle.theory_machine.specs.Names.{LearnsWhatWasAnnounced, MergesEveryEntry, MergesLogs, MergesOnlyCommitted}
+use Rattle.theory_machine.specs.Names.{OperatesWhileActive, OperationsAreNumbered, OwnLinesAreKept, PreparesOnce}
+use Rattle.theory_machine.specs.Names.{PreparesWhenExecuted, ReadQuorumIsMet, RecordHasOperations}
+use Rattle.theory_machine.specs.Names.{RecordsPrepareWhenAsked, ResolvesPrepared, RisesPastRecords}
+use Rattle.theory_machine.specs.Names.{RisesWithNoneRunning, SnapshotIsOfClosed, SnapshotPassesDone}
+use Rattle.theory_machine.specs.Names.{SnapshotPassesInstalls, SnapshotTellsDeeds, StampIsItsClients, StampPassesClock}
+use Rattle.theory_machine.specs.Names.{ViewIsWhole, ViewWasShown, VotesInGrantedLife, VotesWhenAsked}
 use Rattle.theory_witnesses.specs.Guarantees.{Guarantee, Holds}
 
 -- all guards, in the order of the acts that ask them

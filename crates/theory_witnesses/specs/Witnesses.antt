@@ -1,13 +1,12 @@
 -- Two runs of the protocol, in which it does what it is for: transactions commit, whatever befalls sites, clients and
 -- messages.
 use Rattle.std.specs.Prelude.{◌≡◌, ℕ, true, List, [], ◌∷◌, ◌++◌, Some}
-use Rattle.qc_decl.specs.Accepted.{IsAccepted}
+use Rattle.qc_decl.specs.Names.{IsAccepted}
 use Rattle.qc_decl.specs.declared.declaration.Declaration.{Declaration}
 use Rattle.qc_entry.specs.declared.line.Op.{Op}
 use Rattle.qc_entry.specs.declared.record.Commit.{Commit as CommitRecord}
-use Rattle.theory_onecopy.specs.Committed.{sorted}
-use Rattle.theory_machine.specs.Acts.{state}
-use Rattle.theory_machine.specs.Guards.{IsAllowed, IsRun}
+use Rattle.theory_onecopy.specs.Names.{sorted}
+use Rattle.theory_machine.specs.Names.{IsAllowed, IsRun, state}
 use Rattle.theory_witnesses.specs.Moves.{Move, acts_of, aborts, announces, begins, chooses, closes, decides, executes}
 use Rattle.theory_witnesses.specs.Moves.{falls_committing, grants_append, grants_read, installs, learns, prepares}
 use Rattle.theory_witnesses.specs.Moves.{recovers}

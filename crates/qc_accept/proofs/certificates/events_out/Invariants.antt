@@ -1,9 +1,8 @@
 use Rattle.std.proofs.Common.{◌≡◌, length, drop}
 use Rattle.std.specs.Prelude.{◌==◌}
 use Rattle.std.specs.List.{slice_split}
-use Rattle.qc_accept.specs.Answers.{read_each}
+use Rattle.qc_accept.specs.Names.{events_in, read_each, words_in}
 use Rattle.qc_accept.proofs.Outs.{with_event_of}
-use Rattle.qc_accept.specs.Views.{events_in, words_in}
 use Rattle.qc_accept.proofs.certificates.events_out.Given as goal
 
 abbrev pub invariant-loop-part : goal.invariant-loop-part

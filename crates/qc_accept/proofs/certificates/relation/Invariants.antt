@@ -1,9 +1,7 @@
 use Rattle.std.proofs.Common.{◌≡◌, ◌<◌, All, drop}
 use Rattle.qc_table.specs.declared.relation.Pair.{Pair}
-use Rattle.qc_decl.specs.Limits.{most_events, most_invocations}
-use Rattle.qc_accept.specs.Answers.{read_each}
-use Rattle.qc_accept.specs.Types.{pair_in, pairs_in, with_read}
-use Rattle.qc_accept.specs.Views.{data_of, events_in, words_in}
+use Rattle.qc_decl.specs.Names.{most_events, most_invocations}
+use Rattle.qc_accept.specs.Names.{data_of, events_in, pair_in, pairs_in, read_each, with_read, words_in}
 use Rattle.qc_accept.proofs.certificates.relation.Given as goal
 
 abbrev pub invariant-loop-item : goal.invariant-loop-item

@@ -1,7 +1,5 @@
 use Rattle.std.proofs.Common.{◌≡◌, [], All, drop}
-use Rattle.qc_accept.specs.Answers.{read_each}
-use Rattle.qc_accept.specs.Types.{triple_in, with_read}
-use Rattle.qc_accept.specs.Views.{data_of, events_in, words_in}
+use Rattle.qc_accept.specs.Names.{data_of, events_in, read_each, triple_in, with_read, words_in}
 use Rattle.qc_accept.proofs.Alike.{AreLow}
 use Rattle.qc_accept.proofs.certificates.triples.Given as goal
 

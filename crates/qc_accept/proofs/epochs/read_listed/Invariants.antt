@@ -1,7 +1,5 @@
 use Rattle.std.proofs.Common.{◌≡◌, drop}
-use Rattle.qc_accept.specs.Answers.{read_each}
-use Rattle.qc_accept.specs.Epochs.{entries_in, with_item}
-use Rattle.qc_accept.specs.Views.{data_of, listed_in, store_in}
+use Rattle.qc_accept.specs.Names.{data_of, entries_in, listed_in, read_each, store_in, with_item}
 use Rattle.qc_accept.proofs.epochs.read_listed.Given as goal
 
 abbrev pub invariant-loop-item : goal.invariant-loop-item

@@ -1,7 +1,5 @@
 use Rattle.std.proofs.Common.{◌≡◌, [], length, drop}
-use Rattle.qc_accept.specs.Answers.{each}
-use Rattle.qc_accept.specs.Epochs.{with_plan}
-use Rattle.qc_accept.specs.Views.{data_of, store_in}
+use Rattle.qc_accept.specs.Names.{data_of, each, store_in, with_plan}
 use Rattle.qc_accept.proofs.epochs.read_plans.Given as goal
 
 abbrev pub invariant-loop-item : goal.invariant-loop-item

@@ -1,7 +1,5 @@
 use Rattle.std.proofs.Common.{◌≡◌, [], drop}
-use Rattle.qc_accept.specs.Answers.{read_each}
-use Rattle.qc_accept.specs.Epochs.{with_weight}
-use Rattle.qc_accept.specs.Views.{data_of}
+use Rattle.qc_accept.specs.Names.{data_of, read_each, with_weight}
 use Rattle.qc_accept.proofs.epochs.read_weights.Given as goal
 
 abbrev pub invariant-loop-item : goal.invariant-loop-item

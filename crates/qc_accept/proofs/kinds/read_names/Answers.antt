@@ -1,7 +1,5 @@
 use Rattle.std.proofs.Common.{[], ◌++◌}
-use Rattle.qc_accept.specs.Answers.{read_each}
-use Rattle.qc_accept.specs.Fields.{items, with_name}
-use Rattle.qc_accept.specs.Views.{data_of, names_in, path_in, table_in}
+use Rattle.qc_accept.specs.Names.{data_of, items, names_in, path_in, read_each, table_in, with_name}
 use Rattle.qc_accept.proofs.Told.{then_answers, told_answers}
 use Rattle.qc_accept.proofs.kinds.read_names.Goals as goal
 

@@ -1,9 +1,7 @@
 use Rattle.std.proofs.Common.{◌++◌}
 use Rattle.std.specs.Prelude.{codes, option_map}
-use Rattle.qc_table.specs.Depends.{relation_of}
-use Rattle.qc_accept.specs.Fields.{optional}
-use Rattle.qc_accept.specs.Types.{pairs_in}
-use Rattle.qc_accept.specs.Views.{data_of, events_in, path_in, table_in, words_in}
+use Rattle.qc_table.specs.Names.{relation_of}
+use Rattle.qc_accept.specs.Names.{data_of, events_in, optional, pairs_in, path_in, table_in, words_in}
 use Rattle.qc_accept.proofs.Told.{then_answers, told_answers}
 use Rattle.qc_accept.proofs.kinds.read_relation.Goals as goal
 

@@ -1,7 +1,5 @@
 use Rattle.std.proofs.Common.{◌≡◌, [], drop}
-use Rattle.qc_accept.specs.Answers.{read_each}
-use Rattle.qc_accept.specs.Fields.{with_name}
-use Rattle.qc_accept.specs.Views.{data_of, names_in}
+use Rattle.qc_accept.specs.Names.{data_of, names_in, read_each, with_name}
 use Rattle.qc_accept.proofs.names.read_index.Given as goal
 
 abbrev pub invariant-loop-item : goal.invariant-loop-item

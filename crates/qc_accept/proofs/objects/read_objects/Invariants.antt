@@ -1,7 +1,5 @@
 use Rattle.std.proofs.Common.{◌≡◌, [], length, drop}
-use Rattle.qc_accept.specs.Answers.{each}
-use Rattle.qc_accept.specs.Objects.{with_object}
-use Rattle.qc_accept.specs.Views.{data_of, names_in, objects_in}
+use Rattle.qc_accept.specs.Names.{data_of, each, names_in, objects_in, with_object}
 use Rattle.qc_accept.proofs.objects.read_objects.Given as goal
 
 abbrev pub invariant-loop-item : goal.invariant-loop-item

@@ -1,7 +1,6 @@
 use Rattle.std.proofs.Common.{◌≡◌, ◌<◌, ◌≤◌, ◌^◌, ℕ, None, true, false, length}
-use Rattle.qc_cert.specs.Faults.{taken_fault}
-use Rattle.qc_table.specs.Rules.{events_of}
-use Rattle.qc_table.specs.Sets.{has}
+use Rattle.qc_cert.specs.Names.{taken_fault}
+use Rattle.qc_table.specs.Names.{events_of, has}
 use Rattle.qc_cert.proofs.rules.of_taken.Given as goal
 
 abbrev pub invariant-turns : goal.invariant-turns

@@ -2,7 +2,7 @@ use Rattle.std.proofs.Common.{◌≡◌, ◌<◌, true, false, length, [], refl,
 use Rattle.qc_cert.proofs.Repeats.{length_firsts, fault_of_firsts, fault_more, fault_past, found_here, found_later}
 use Rattle.qc_cert.proofs.rules.of_triples.Goals as goal
 use Rattle.qc_cert.proofs.rules.of_triples.Goals.{then-firsts-place+else-is_some, else-firsts-place}
-use Rattle.qc_cert.specs.Inductive.{triple}
+use Rattle.qc_cert.specs.Names.{triple}
 
 pub bounds-firsts-place : goal.bounds-firsts-place
 bounds-firsts-place c =

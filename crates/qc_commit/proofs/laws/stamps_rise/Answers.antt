@@ -1,5 +1,4 @@
-use Rattle.qc_commit.specs.Calls.{after_calls}
-use Rattle.qc_commit.specs.Desk.{new_desk}
+use Rattle.qc_commit.specs.Names.{after_calls, new_desk}
 use Rattle.qc_commit.proofs.Rising.{all-rise, clock-rises, stamps-apart}
 use Rattle.qc_commit.proofs.laws.stamps_rise.Goals as goal
 

@@ -1,6 +1,5 @@
 use Rattle.std.proofs.Common.{ℕ, ◌<◌}
-use Rattle.qc_lock.specs.Conflict.{IsSmallest}
-use Rattle.qc_lock.specs.Places.{IsPlaced}
+use Rattle.qc_lock.specs.Names.{IsPlaced, IsSmallest}
 use Rattle.qc_lock.proofs.clash.line_clash.Given as goal
 
 abbrev pub invariant-invs : goal.invariant-invs

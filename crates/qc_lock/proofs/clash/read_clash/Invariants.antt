@@ -1,8 +1,7 @@
 use Rattle.std.proofs.Common.{◌≡◌, ◌<◌, ◌≤◌, ◌^◌, ℕ, true}
-use Rattle.qc_lock.specs.Conflict.{IsSmallest}
-use Rattle.qc_lock.specs.Places.{IsPlaced}
+use Rattle.qc_lock.specs.Names.{IsPlaced, IsSmallest}
 use Rattle.qc_lock.proofs.Lowest.{Passed}
-use Rattle.qc_table.specs.Sets.{has}
+use Rattle.qc_table.specs.Names.{has}
 use Rattle.qc_lock.proofs.clash.read_clash.Given as goal
 
 abbrev pub invariant-turns : goal.invariant-turns

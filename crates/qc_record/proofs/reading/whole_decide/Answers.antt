@@ -1,4 +1,4 @@
-use Rattle.qc_record.specs.Records.{body_at, start_form, decide_of}
+use Rattle.qc_record.specs.Names.{body_at, decide_of, start_form}
 use Rattle.qc_record.proofs.reading.whole_decide.Goals as goal
 
 pub returns : goal.returns

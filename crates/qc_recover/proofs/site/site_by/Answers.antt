@@ -1,8 +1,7 @@
 use Rattle.std.proofs.Common.{◌∙◌, sym, ap, subst}
-use Rattle.qc_site.specs.Epochs.{held_by}
-use Rattle.qc_site.specs.Holders.{AreByClients, AreOfClients}
+use Rattle.qc_site.specs.Names.{AreByClients, AreOfClients, held_by}
 use Rattle.qc_site.proofs.Holders.{clients-promised}
-use Rattle.qc_recover.specs.Sites.{Kept}
+use Rattle.qc_recover.specs.Names.{Kept}
 use Rattle.qc_recover.proofs.site.site_by.Goals as goal
 
 pub risen-requires-clause-held : goal.risen-requires-clause-held

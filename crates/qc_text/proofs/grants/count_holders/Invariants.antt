@@ -1,9 +1,7 @@
 use Rattle.std.proofs.Common.{◌≡◌, List, [], drop, map}
 use Rattle.std.specs.Prelude.{fold}
 use Rattle.qc_stamp.specs.declared.stamp.TxId.{TxId}
-use Rattle.qc_text.specs.Deeds.{deed_of}
-use Rattle.qc_text.specs.Holders.{IsSetOf, holders_from, holders_with}
-use Rattle.qc_text.specs.Promises.{promised_at}
+use Rattle.qc_text.specs.Names.{IsSetOf, deed_of, holders_from, holders_with, promised_at}
 use Rattle.qc_text.proofs.grants.count_holders.Given as goal
 
 abbrev pub invariant-deeds : goal.invariant-deeds

@@ -1,13 +1,10 @@
 use Rattle.std.proofs.Common.{◌≡◌, ◌++◌, ℕ, List, ap, ◌∙◌}
 use Rattle.std.specs.Prelude.{Option}
 use Rattle.qc_entry.specs.declared.record.Commit.{Commit}
-use Rattle.qc_msg.specs.Steps.{Entry}
-use Rattle.qc_promise.specs.Committed.{committed}
-use Rattle.qc_text.specs.Log.{log_text}
-use Rattle.qc_text.specs.Replies.{replies_text}
-use Rattle.theory_onecopy.specs.Replay.{replay}
-use Rattle.qc_text.specs.States.{states_text}
-use Rattle.qc_text.specs.Sites.{sites_text}
+use Rattle.qc_msg.specs.Names.{Entry}
+use Rattle.qc_promise.specs.Names.{committed}
+use Rattle.qc_text.specs.Names.{log_text, replies_text, sites_text, states_text}
+use Rattle.theory_onecopy.specs.Names.{replay}
 use Rattle.qc_text.proofs.Sections.{sections}
 use Rattle.qc_text.proofs.report.text.Goals as goal
 

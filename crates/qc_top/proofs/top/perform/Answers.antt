@@ -1,16 +1,13 @@
 use Rattle.std.proofs.Common.{refl, subst, sym, ◌∙◌, List}
-use Rattle.qc_msg.specs.Steps.{Entry}
+use Rattle.qc_msg.specs.Names.{Entry}
 use Rattle.qc_report.specs.declared.cause.Cause.{Cause}
 use Rattle.qc_top.proofs.Blame.{blames}
 use Rattle.qc_top.proofs.Ends.{leaves_refused, refused_full, refused_no_rack, refused_no_usage}
 use Rattle.qc_top.proofs.Idle.{idle_rack, idle_used}
 use Rattle.qc_top.proofs.Runs.{begun_below}
 use Rattle.qc_top.proofs.Right.{work_is}
-use Rattle.qc_top.specs.Racks.{LeavesRack}
-use Rattle.qc_top.specs.Top.{IsFullCause, Leaves}
-use Rattle.qc_top.specs.Words.{folder_of}
-use Rattle.qc_words.specs.Asked.{asked_in}
-use Rattle.qc_top.specs.Work.{Caused, IsRefusal, work_of}
+use Rattle.qc_top.specs.Names.{Caused, IsFullCause, IsRefusal, Leaves, LeavesRack, folder_of, work_of}
+use Rattle.qc_words.specs.Names.{asked_in}
 use Rattle.qc_top.specs.declared.work.Work.{Work}
 use Rattle.qc_top.proofs.top.perform.Goals as goal
 

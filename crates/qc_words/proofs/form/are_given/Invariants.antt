@@ -1,6 +1,5 @@
 use Rattle.std.proofs.Common.{◌≡◌, drop, map}
-use Rattle.qc_words.specs.Forms.{are_given}
-use Rattle.qc_words.specs.Parts.{part_in, texts_of}
+use Rattle.qc_words.specs.Names.{are_given, part_in, texts_of}
 use Rattle.qc_words.proofs.form.are_given.Given as goal
 
 abbrev pub invariant-names : goal.invariant-names

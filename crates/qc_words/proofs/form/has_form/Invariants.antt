@@ -1,6 +1,5 @@
 use Rattle.std.proofs.Common.{◌≡◌, drop}
-use Rattle.qc_words.specs.Forms.{nothing_read, with_words}
-use Rattle.qc_words.specs.Parts.{form_in, texts_of}
+use Rattle.qc_words.specs.Names.{form_in, nothing_read, texts_of, with_words}
 use Rattle.qc_words.proofs.form.has_form.Given as goal
 
 abbrev pub invariant-words : goal.invariant-words

@@ -1,5 +1,5 @@
 -- Numbers keep the client young.
-use Rattle.qc_client.specs.Fits.{ClientFits}
+use Rattle.qc_client.specs.Names.{ClientFits}
 use Rattle.tests_clients.proofs.Young.{after_numbers, young_fits}
 use Rattle.tests_clients.proofs.clients.number.Goals as goal
 

@@ -1,6 +1,6 @@
 -- A client that rises from records with small clocks is young.
 use Rattle.std.proofs.Common.{subst}
-use Rattle.qc_client.specs.Client.{ClientMove}
+use Rattle.qc_client.specs.Names.{ClientMove}
 use Rattle.tests_clients.specs.Young.{IsYoung}
 use Rattle.tests_clients.proofs.Journals.{risen_young}
 use Rattle.tests_clients.proofs.rises.rise.Goals as goal

@@ -1,6 +1,5 @@
 use Rattle.std.proofs.Common.{◌≡◌}
-use Rattle.qc_accept.specs.Epochs.{needs_of}
-use Rattle.qc_accept.specs.Views.{listed_in, store_in}
+use Rattle.qc_accept.specs.Names.{listed_in, needs_of, store_in}
 use Rattle.qc_accept.proofs.epochs.Listed.needs.Given as goal
 
 abbrev pub invariant-loop-object : goal.invariant-loop-object

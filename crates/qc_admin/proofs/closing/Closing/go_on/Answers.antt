@@ -1,10 +1,7 @@
 use Rattle.std.proofs.Common.{List, sym, ap, ◌∙◌, subst}
 use Rattle.qc_plan.specs.declared.standing.Asked.{Asked}
-use Rattle.qc_epoch.specs.Admin.{ShutSite}
-use Rattle.qc_epoch.specs.Deciding.{in_asked_order}
-use Rattle.qc_admin.specs.Fits.{ShutsFit}
-use Rattle.qc_admin.specs.Shown.{closing_of}
-use Rattle.qc_admin.specs.Shuts.{with_last}
+use Rattle.qc_epoch.specs.Names.{ShutSite, in_asked_order}
+use Rattle.qc_admin.specs.Names.{ShutsFit, closing_of, with_last}
 use Rattle.qc_admin.proofs.Moves.{closed_met, ordered_fit}
 use Rattle.qc_admin.proofs.closing.Closing.go_on.Goals as goal
 

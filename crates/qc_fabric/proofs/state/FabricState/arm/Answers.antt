@@ -1,12 +1,9 @@
 use Rattle.std.proofs.Common.{rules, ◌≡◌, ◌+◌, ◌≤◌, ◌∙◌, ◌∷◌, ◌++◌, [], ap, arith, length, refl, sym, subst}
-use Rattle.qc_msg.specs.Steps.{marked}
+use Rattle.qc_msg.specs.Names.{marked}
 use Rattle.qc_msg.specs.declared.step.Control.TheVariants as controls
 use Rattle.qc_msg.specs.declared.step.Step.TheVariants as steps
-use Rattle.qc_pass.specs.Tokens.{Met, all, number, room}
-use Rattle.qc_fabric.specs.ActorLines.{Arms}
-use Rattle.qc_fabric.specs.Controls.{MayDo}
-use Rattle.qc_fabric.specs.Feeds.{HasGrown}
-use Rattle.qc_fabric.specs.FabricStates.{Shown, most_history}
+use Rattle.qc_pass.specs.Names.{Met, all, number, room}
+use Rattle.qc_fabric.specs.Names.{Arms, HasGrown, MayDo, Shown, most_history}
 use Rattle.qc_fabric.proofs.Kept.{other_memory}
 use Rattle.qc_fabric.proofs.Lines.{armed, arms_on}
 use Rattle.qc_fabric.proofs.Ordered.{first_within}

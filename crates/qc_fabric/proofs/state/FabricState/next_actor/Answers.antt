@@ -1,10 +1,9 @@
 use Rattle.std.proofs.Common.{rules, ◌≡◌, ◌≤◌, arith, subst}
-use Rattle.qc_decl.specs.Actors.{actors}
+use Rattle.qc_decl.specs.Names.{actors}
 use Rattle.qc_inbox.proofs.Picking.{picked_kept}
-use Rattle.qc_fabric.specs.Picks.{next_actor}
-use Rattle.qc_fabric.specs.FabricStates.{Shown}
+use Rattle.qc_fabric.specs.Names.{Shown, next_actor}
 use Rattle.qc_fabric.proofs.state.FabricState.next_actor.Goals as goal
-use Rattle.qc_link.specs.Limits.{most_actors}
+use Rattle.qc_link.specs.Names.{most_actors}
 
 pub returns : goal.returns
 returns g c =

@@ -1,7 +1,7 @@
 use Rattle.std.proofs.Common.{rules, ◌≡◌, ◌+◌, ◌≤◌, ◌∙◌, Some, true, arith, length, refl, sym, slice_get}
-use Rattle.qc_inbox.specs.Picks.{is_held}
-use Rattle.qc_pass.specs.Tokens.{number}
-use Rattle.qc_fabric.specs.FabricStates.{most_history}
+use Rattle.qc_inbox.specs.Names.{is_held}
+use Rattle.qc_pass.specs.Names.{number}
+use Rattle.qc_fabric.specs.Names.{most_history}
 use Rattle.qc_fabric.proofs.Fed.{bit_set}
 use Rattle.qc_fabric.proofs.Gains.{saw}
 use Rattle.qc_fabric.proofs.Kept.{other_memory, reserves_on, unarmed_of}

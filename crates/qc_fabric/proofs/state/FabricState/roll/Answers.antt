@@ -1,8 +1,8 @@
 use Rattle.std.proofs.Common.{◌∙◌, sym, subst}
 use Rattle.std.proofs.Common.{List}
-use Rattle.qc_msg.specs.Steps.{Entry}
-use Rattle.qc_fabric.specs.Gains.{ArmsNoneBehind}
-use Rattle.qc_pass.specs.Tokens.{ends}
+use Rattle.qc_msg.specs.Names.{Entry}
+use Rattle.qc_fabric.specs.Names.{ArmsNoneBehind}
+use Rattle.qc_pass.specs.Names.{ends}
 use Rattle.qc_fabric.proofs.state.FabricState.roll.Goals as goal
 
 pub invariant_of-result : goal.invariant_of-result

@@ -1,11 +1,9 @@
 use Rattle.std.proofs.Common.{◌≡◌, ◌==◌, ◌&&◌, ◌<◌, ◌+◌, ◌||◌, Bool, true, false, length, refl, sym, ap, subst, List}
 use Rattle.qc_entry.specs.declared.line.OwnLine.{OwnLine}
 use Rattle.qc_entry.specs.declared.line.ReadLock.{ReadLock}
-use Rattle.qc_lock.specs.Held.{lock_cmp, own_cmp, with_locks, with_owns}
-use Rattle.qc_lock.specs.Sound.{AreSorted}
-use Rattle.qc_list.specs.Order.{Ascends}
+use Rattle.qc_lock.specs.Names.{AreSorted, has_line, has_read, lock_cmp, own_cmp, with_locks, with_owns}
+use Rattle.qc_list.specs.Names.{Ascends}
 use Rattle.qc_lock.proofs.Entries.{entry_some}
-use Rattle.qc_lock.specs.Places.{has_line, has_read}
 use Rattle.qc_lock.proofs.Indexing.{fold_any}
 use Rattle.qc_lock.proofs.Order.{sorted-find, ascends-locks, ascends-owns}
 use Rattle.qc_lock.proofs.locks.Locks.add.Goals as goal

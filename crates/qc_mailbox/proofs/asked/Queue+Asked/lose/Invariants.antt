@@ -1,7 +1,6 @@
 use Rattle.std.proofs.Common.{◌≡◌, ◌+◌, ◌-◌, ◌≤◌, drop, length}
-use Rattle.qc_script.specs.Requests.{requests_to, with_lost}
-use Rattle.qc_mailbox.specs.Asked.{asked}
-use Rattle.qc_mailbox.specs.Queues.{items, spare}
+use Rattle.qc_script.specs.Names.{requests_to, with_lost}
+use Rattle.qc_mailbox.specs.Names.{asked, items, spare}
 use Rattle.qc_mailbox.proofs.asked.Queue+Asked.lose.Given as goal
 
 abbrev pub invariant-requests : goal.invariant-requests

@@ -1,7 +1,6 @@
 use Rattle.std.proofs.Common.{◌≡◌}
-use Rattle.qc_inbox.specs.Picks.{first_of}
-use Rattle.qc_inbox.specs.PicksKept.{rank_in}
-use Rattle.qc_mailbox.specs.Passed.{either}
+use Rattle.qc_inbox.specs.Names.{first_of, rank_in}
+use Rattle.qc_mailbox.specs.Names.{either}
 use Rattle.qc_mailbox.proofs.mailboxes.Mailboxes.pick.Given as goal
 
 abbrev pub invariant-actors : goal.invariant-actors

@@ -1,6 +1,5 @@
 use Rattle.std.proofs.Common.{ℕ, List, [], ◌∷◌, ◌++◌, take, length, length-append, refl, sym, ◌∙◌, ap, arith}
-use Rattle.qc_outside.specs.Images.{Told, Write, IsImage, as_read, wrote, overwritten}
-use Rattle.qc_outside.specs.Memory.{told_by, counts, torn_by, left_by}
+use Rattle.qc_outside.specs.Names.{IsImage, Told, Write, as_read, counts, left_by, overwritten, told_by, torn_by, wrote}
 use Rattle.qc_outside.specs.declared.mem_disk.Change.TheVariants.{Wrote}
 use Rattle.qc_outside.proofs.Memory.{told_write, counts_push, since_step, since_same}
 use Rattle.qc_outside.proofs.Images.{image_wrote}

@@ -1,11 +1,11 @@
 use Rattle.std.proofs.Common.{rules, ◌≡◌, ◌++◌, ◌∷◌, [], ◌+◌, List, None, sym, ◌∙◌, ap, subst}
 use Rattle.std.specs.Map.{values_of}
 use Rattle.qc_entry.specs.declared.record.Prepared.{Prepared}
-use Rattle.qc_lock.specs.Numbered.{number_of, AreNumbered}
+use Rattle.qc_lock.specs.Names.{AreNumbered, number_of}
 use Rattle.qc_lock.proofs.Numbers.{number_none, values_new}
 use Rattle.qc_lock.proofs.Numbering.{numbered_again, numbered_new}
 use Rattle.qc_lock.proofs.Ones.{put_last}
-use Rattle.qc_site.specs.Promise.{prepared_of}
+use Rattle.qc_site.specs.Names.{prepared_of}
 use Rattle.qc_site.proofs.Promised.{promiser}
 use Rattle.qc_site.proofs.promises.Promises.add.Goals as goal
 use Rattle.qc_site.proofs.promises.Promises.add.Goals.{in-Some-1, in-None-1}

@@ -1,0 +1,19 @@
+-- What proofs, and other crates, name of this crate's definitions.
+pub use Rattle.qc_msg.specs.Begun.{decisions, first_epoch, has_granted, life_of, with_life, with_site}
+pub use Rattle.qc_msg.specs.Calls.{calls_from, numbered_from, site_called, with_call, without_call}
+pub use Rattle.qc_msg.specs.Counts.{IsNoRise, Tally, answered, answered_at, answered_in, answered_in_all, carried_at}
+pub use Rattle.qc_msg.specs.Counts.{carried_back, carried_of, commit_in, commit_of, lines_promised, no_tally}
+pub use Rattle.qc_msg.specs.Counts.{operations_of, standing_after, tally_of, tally_with, written}
+pub use Rattle.qc_msg.specs.Deeds.{Deed, Falls, Rises, Sends, Takes, Tells, WasSentTo, Writes, deed_at, deeds, deeds_as}
+pub use Rattle.qc_msg.specs.Deeds.{envelope_at, envelope_of, envelopes, heard, mail, own, sends_of, tells_of}
+pub use Rattle.qc_msg.specs.Deeds.{turn_deeds, writes_of}
+pub use Rattle.qc_msg.specs.Fallen.{commit, risen}
+pub use Rattle.qc_msg.specs.InputReadings.{command_in, decided_in, epoch_in, got_in, heard_in, risen_in, written_in}
+pub use Rattle.qc_msg.specs.Lengths.{epoch_length, prepare_length}
+pub use Rattle.qc_msg.specs.Readings.{Answered, Decided, Finished, Installing, Requested, Shutting, answer_in}
+pub use Rattle.qc_msg.specs.Readings.{asking_in, close_in, closed_in, closing_in, decide_in, decision_in, done_in}
+pub use Rattle.qc_msg.specs.Readings.{granted_in, has_installed, install_in, installing_in, is_life, prepare_in}
+pub use Rattle.qc_msg.specs.Readings.{request_in, shut_in, verdict_in}
+pub use Rattle.qc_msg.specs.Steps.{Entry, HasRecord, IsByDisk, MayEnd, by, fell, marked, posted, posted_as, sends_as}
+pub use Rattle.qc_msg.specs.Steps.{sents, step_of, told, wrote}
+pub use Rattle.qc_msg.specs.Turns.{ending, quiet, says, sending, telling}
