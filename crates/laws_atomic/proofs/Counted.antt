@@ -13,7 +13,7 @@ use Rattle.qc_msg.specs.declared.message.Want.{Want}
 use Rattle.qc_msg.specs.declared.message.Want.TheVariants.{Read, Append, Prepare}
 use Rattle.qc_promise.specs.Names.{Account, ClientRequest, Current, counted, counted_for, granted, is_append, is_open}
 use Rattle.qc_promise.specs.Names.{is_prepare, lived, promised, taken_for, told_by, with_read}
-use Rattle.laws_due.proofs.Requests.{IsFound, found}
+use Rattle.laws_due.proofs.OpenRequests.{IsFound, found}
 
 -- the name of the begun transaction
 abbrev pub name_of : Option Current → Option TxId

@@ -12,8 +12,10 @@ pub mod Runs
 pub mod Counted
 pub mod Stamps
 pub mod Seeing
+pub mod SightsTaken
 pub mod Sights
 pub mod Tellings
+pub mod Waiting
 pub mod Ended
 pub mod Alone
 pub mod Founded

@@ -18,7 +18,8 @@ use Rattle.qc_msg.specs.declared.turn.Turn.{Turn}
 use Rattle.qc_msg.specs.Names.{Deed, Entry, Takes, WasSentTo, by, commit_in, deeds, envelopes, mail, marked, posted}
 use Rattle.qc_msg.specs.Names.{step_of, written}
 use Rattle.qc_msg.proofs.GrownMail.{mail-append, mail-posted, mail-taken}
-use Rattle.qc_msg.proofs.Growth.{deeds-other, deeds-posted, deeds-taken}
+use Rattle.qc_msg.proofs.DeedsGrow.{deeds-other}
+use Rattle.qc_msg.proofs.Growth.{deeds-posted, deeds-taken}
 use Rattle.qc_script.specs.Names.{IsScriptFor, Runs, phase_of, ready}
 use Rattle.qc_script.specs.Runs.{begins, takes, posts, phase, control}
 use Rattle.qc_script.specs.declared.script.Script.{Script}
@@ -33,7 +34,8 @@ use Rattle.laws_turns.proofs.Arrivals.{what_is_ready_was_sent}
 use Rattle.laws_turns.proofs.Numbered.{IsSilent, control_silent, mail-silent, phase_silent}
 use Rattle.laws_turns.proofs.Places.{replicate_at}
 use Rattle.laws_turns.proofs.Proper.{run_proper}
-use Rattle.laws_turns.proofs.Replying.{after_taken, client_replies}
+use Rattle.laws_turns.proofs.TurnReplies.{after_taken}
+use Rattle.laws_turns.proofs.Replying.{client_replies}
 use Rattle.laws_turns.proofs.Running.{what_is_ready_may_be_taken}
 use Rattle.laws_turns.specs.Names.{is_waiting}
 use Rattle.laws_turns.proofs.Waiting.{round_none, votes_none}

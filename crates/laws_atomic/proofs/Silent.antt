@@ -17,7 +17,7 @@ use Rattle.qc_msg.specs.declared.message.Want.TheVariants.{Read, Append, Prepare
 use Rattle.qc_msg.specs.declared.step.Input.{Input}
 use Rattle.qc_msg.specs.declared.step.Input.TheVariants as inputs
 use Rattle.qc_msg.specs.Names.{quiet}
-use Rattle.qc_site.proofs.Cases.{close_rows, install_rows}
+use Rattle.qc_site.proofs.RequestCases.{close_rows, install_rows}
 use Rattle.qc_site.specs.Names.{SiteMove, SiteState, answers as tells, appends_by, fault_of, finishes, grants}
 use Rattle.qc_site.specs.Names.{is_prepared, joins, moved, names_declared, passed, prepare_length, prepared_of}
 use Rattle.qc_site.specs.Names.{promise_of, promised, reads_by, relation_at, requested, site_at, site_takes, votes}

@@ -21,10 +21,12 @@ use Rattle.qc_promise.specs.Names.{new_account, running_row, sight_sent, sight_t
 use Rattle.laws_due.specs.Names.{IsAwaited, Ties, appends, reads, rests, votes}
 use Rattle.laws_due.proofs.Awaited.{open_awaited}
 use Rattle.laws_atomic.proofs.Counted.{IsOpen, counts}
-use Rattle.laws_atomic.proofs.Ended.{Goes, asks_none, counted_goes, goes_of, none_open, unwritten_of}
+use Rattle.laws_atomic.proofs.Waiting.{Goes, goes_of, unwritten_of}
+use Rattle.laws_atomic.proofs.Ended.{asks_none, counted_goes, none_open}
 use Rattle.laws_atomic.proofs.Founded.{AreFounded}
 use Rattle.laws_atomic.proofs.Seeing.{Sees}
-use Rattle.laws_atomic.proofs.Sights.{answer_sees, called_sees, lost_sees}
+use Rattle.laws_atomic.proofs.SightsTaken.{answer_sees, called_sees}
+use Rattle.laws_atomic.proofs.Sights.{lost_sees}
 
 -- nothing is waited for
 abbrev pub IsFree : Sight → Type 0

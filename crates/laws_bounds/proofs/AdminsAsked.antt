@@ -4,7 +4,7 @@ use Rattle.std.proofs.Common.{None, slice_get, refl, sym, ap, ◌∙◌, subst, 
 use Rattle.std.specs.List.{AllByRecursion as Every}
 use Rattle.qc_list.proofs.Members.{every-weaker}
 use Rattle.qc_admin.specs.Names.{sent_each}
-use Rattle.qc_core.proofs.AdminWrites.{IsOfAdmin, IsSentByAdmin}
+use Rattle.qc_core.proofs.AdminTurns.{IsOfAdmin, IsSentByAdmin}
 use Rattle.qc_decl.specs.declared.declaration.Declaration.{Declaration}
 use Rattle.qc_entry.specs.declared.line.Line.{Line}
 use Rattle.qc_entry.specs.declared.record.Prepared.{Prepared}

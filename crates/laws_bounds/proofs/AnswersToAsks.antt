@@ -13,7 +13,8 @@ use Rattle.qc_commit.specs.Names.{known}
 use Rattle.qc_core.specs.declared.actor.Actor.{Actor}
 use Rattle.qc_core.specs.declared.actor.Actor.TheVariants as actors_of
 use Rattle.qc_core.specs.Names.{ActorMove, actor_does, actor_takes, down_takes, moved}
-use Rattle.qc_core.proofs.AdminWrites.{IsSentByAdmin, admin_written, no_answers}
+use Rattle.qc_core.proofs.AdminTurns.{IsSentByAdmin, no_answers}
+use Rattle.qc_core.proofs.AdminWrites.{admin_written}
 use Rattle.qc_core.proofs.SiteWrites.{IsAnsweredTo, IsAnswerTo}
 use Rattle.qc_core.proofs.Written.{NoAnswer, client_answers, client_written}
 use Rattle.qc_decl.specs.declared.declaration.Declaration.{Declaration}

@@ -15,7 +15,7 @@ use Rattle.qc_core.specs.Names.{actor_takes, by_client, down_takes, is_running}
 use Rattle.qc_core.proofs.ByTurns.{after_takes, called_turn}
 use Rattle.qc_core.proofs.ClientLands.{lands}
 use Rattle.qc_core.proofs.ClientStands.{Lands}
-use Rattle.qc_core.proofs.LivesLaws.{rises as after_rises}
+use Rattle.qc_core.proofs.LivesOfActors.{rises as after_rises}
 use Rattle.qc_decl.specs.Names.{IsAccepted, is_client, is_site}
 use Rattle.qc_decl.specs.declared.declaration.Declaration.{Declaration}
 use Rattle.qc_msg.specs.declared.record.Record.{Record}

@@ -9,7 +9,7 @@ use Rattle.qc_msg.specs.declared.record.Record.{Record}
 use Rattle.qc_msg.specs.declared.step.Step.{Step}
 use Rattle.qc_msg.specs.declared.step.Step.TheVariants as steps
 use Rattle.qc_msg.specs.Names.{Entry, own}
-use Rattle.qc_msg.proofs.Growth.{own-append}
+use Rattle.qc_msg.proofs.DeedsGrow.{own-append}
 use Rattle.qc_promise.specs.Names.{IsGivenBack, IsKeptAt, Journal, Kept, journal_of, journal_with, no_journal}
 use Rattle.qc_promise.specs.Names.{pending_with}
 use Rattle.laws_bounds.specs.Names.{RiseWithFew, risen_at}

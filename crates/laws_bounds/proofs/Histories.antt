@@ -5,7 +5,7 @@ use Rattle.std.proofs.lemmas.List.Sums.{fold-append}
 use Rattle.qc_list.proofs.Members.{every-append, every-weaker}
 use Rattle.qc_core.specs.Names.{IsLawfulWithFalls, actor_after, actor_does, with_record}
 use Rattle.qc_core.proofs.ByTurns.{after_takes, called_turn}
-use Rattle.qc_core.proofs.LivesLaws.{falls as after_falls, rises as after_rises}
+use Rattle.qc_core.proofs.LivesOfActors.{falls as after_falls, rises as after_rises}
 use Rattle.qc_decl.specs.Names.{controller}
 use Rattle.qc_decl.specs.declared.declaration.Declaration.{Declaration}
 use Rattle.qc_inbox.proofs.FallMail.{ready_sent}
@@ -27,7 +27,8 @@ use Rattle.qc_msg.specs.declared.turn.Turn.{Turn}
 use Rattle.qc_msg.specs.Names.{Deed, Entry, WasSentTo, by, deeds, deeds_as, envelopes, mail, marked, posted_as}
 use Rattle.qc_msg.specs.Names.{sends_as, step_of}
 use Rattle.qc_msg.proofs.GrownMail.{mail-append, mail-taken}
-use Rattle.qc_msg.proofs.Growth.{deeds-other, deeds-posted_as, deeds-taken, mail-posted_as}
+use Rattle.qc_msg.proofs.DeedsGrow.{deeds-other}
+use Rattle.qc_msg.proofs.Growth.{deeds-posted_as, deeds-taken, mail-posted_as}
 use Rattle.qc_promise.specs.Names.{Kept}
 use Rattle.qc_script.specs.Names.{RunsWithFalls, begins, control, damaged, falls, phase, phase_of, posts, rises, takes}
 use Rattle.qc_script.specs.Names.{unopened}

@@ -10,7 +10,7 @@ use Rattle.qc_msg.specs.declared.record.Record.{Record}
 use Rattle.qc_msg.specs.declared.step.Step.{Step}
 use Rattle.qc_msg.specs.declared.step.Step.TheVariants as steps
 use Rattle.qc_msg.specs.Names.{Entry, own}
-use Rattle.qc_msg.proofs.Growth.{own-append}
+use Rattle.qc_msg.proofs.DeedsGrow.{own-append}
 use Rattle.qc_promise.specs.Names.{IsKeptAt, Kept, journal_of}
 use Rattle.qc_script.specs.Names.{IsScriptFor, RunWithFalls, RunsWithFalls}
 use Rattle.qc_script.specs.declared.script.Script.{Script}

@@ -9,7 +9,8 @@ use Rattle.qc_list.specs.Names.{by_order, inserted}
 use Rattle.qc_admin.specs.Names.{AnswerFits, GivenFits, MessageFits}
 use Rattle.qc_client.specs.declared.client.Client.{Client}
 use Rattle.qc_client.specs.Conduct as clients
-use Rattle.qc_core.proofs.AdminWrites.{admin_written, no_answers}
+use Rattle.qc_core.proofs.AdminTurns.{no_answers}
+use Rattle.qc_core.proofs.AdminWrites.{admin_written}
 use Rattle.qc_core.proofs.SiteReaches.{IsOfClients}
 use Rattle.qc_core.proofs.SiteWrites.{IsAnsweredTo, IsAnswerTo}
 use Rattle.qc_core.proofs.Written.{NoAnswer, client_answers, client_written}
@@ -34,9 +35,9 @@ use Rattle.qc_msg.specs.Names.{answer_in}
 use Rattle.qc_promise.specs.Names.{asks_answer}
 use Rattle.qc_site.specs.Names.{AreByClients, SiteMove, SiteState, answers as answered_with, finishes, grants, moved}
 use Rattle.qc_site.specs.Names.{passed, promise_cmp, site_at, site_takes}
-use Rattle.qc_site.proofs.Cases.{append_cases, close_rows, fault_is, install_rows, join_cases, prepare_cases}
-use Rattle.qc_site.proofs.Cases.{read_cases}
-use Rattle.qc_site.proofs.Cases.{request_cases}
+use Rattle.qc_site.proofs.RequestCases.{append_cases, close_rows, fault_is, install_rows, join_cases, prepare_cases}
+use Rattle.qc_site.proofs.RequestCases.{read_cases}
+use Rattle.qc_site.proofs.RequestCases.{request_cases}
 use Rattle.qc_stamp.specs.declared.stamp.TxId.{TxId}
 
 abbrev pub SendsFit : List Posting → Type 0

@@ -6,7 +6,7 @@ use Rattle.qc_decl.specs.declared.declaration.Declaration.{Declaration}
 use Rattle.qc_msg.specs.Names.{Entry, by, own}
 use Rattle.qc_msg.specs.declared.step.Step.{Step}
 use Rattle.qc_msg.specs.declared.step.Step.TheVariants as steps
-use Rattle.qc_msg.proofs.Growth.{own-append, own-more}
+use Rattle.qc_msg.proofs.DeedsGrow.{own-append, own-more}
 use Rattle.qc_promise.specs.Names.{AreKept, IsKeptAt, IsOfOthers, Journal, journal_of, journal_with, no_journal}
 use Rattle.laws_bounds.specs.Names.{AreKeptOrMisfits, IsKeptOrMisfit, NextAreKeptOrMisfits}
 use Rattle.laws_bounds.proofs.Cuts.{CutIn, cut_in, in_first, in_second, none_cut}

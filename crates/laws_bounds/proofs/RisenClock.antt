@@ -2,7 +2,7 @@
 use Rattle.std.proofs.Common.{◌≡◌, ℕ, ◌-◌, ◌≤◌, max, true, List, [], ◌∷◌, ◌++◌, ◌∙◌, subst, arith}
 use Rattle.qc_core.specs.Names.{actor_after, by_client}
 use Rattle.qc_core.proofs.ByNumber.{client_risen}
-use Rattle.qc_core.proofs.LivesLaws.{rises as after_rises}
+use Rattle.qc_core.proofs.LivesOfActors.{rises as after_rises}
 use Rattle.qc_decl.specs.Names.{is_client}
 use Rattle.qc_decl.specs.declared.declaration.Declaration.{Declaration}
 use Rattle.qc_entry.specs.declared.record.Commit.{Commit}

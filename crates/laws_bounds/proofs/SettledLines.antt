@@ -15,7 +15,7 @@ use Rattle.qc_script.specs.Names.{control_acted, controls_left, copy_taken, does
 use Rattle.qc_script.specs.Names.{inbox_at, is_by_line, is_up, loss_taken, opened, phase_begun, reply_told}
 use Rattle.qc_script.specs.declared.script.PhaseLines.{PhaseLines}
 use Rattle.qc_script.specs.declared.script.Script.{Script}
-use Rattle.qc_script.proofs.Inboxes.{opened_keeps, sends_does}
+use Rattle.qc_script.proofs.InboxesSend.{opened_keeps, sends_does}
 use Rattle.laws_bounds.specs.Names.{AreControlsBelow, IsControlBelow}
 
 -- which of two inboxes, by a test

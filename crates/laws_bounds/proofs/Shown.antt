@@ -21,7 +21,7 @@ use Rattle.qc_list.proofs.Members.{every-weaker}
 use Rattle.laws_turns.proofs.Downs.{tells}
 use Rattle.laws_turns.proofs.Lived.{run_long}
 use Rattle.qc_msg.specs.Names.{Deed, Entry, HasRecord, IsByDisk, Rises, by, deeds, mail, marked, posted_as, sends_as}
-use Rattle.qc_msg.proofs.Growth.{deeds-append, deeds-rose}
+use Rattle.qc_msg.proofs.DeedsGrow.{deeds-append, deeds-rose}
 use Rattle.qc_msg.specs.declared.record.Record.{Record}
 use Rattle.qc_msg.specs.declared.step.Control.{Control}
 use Rattle.qc_msg.specs.declared.step.Control.TheVariants as controls

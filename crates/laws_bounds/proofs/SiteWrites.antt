@@ -15,8 +15,8 @@ use Rattle.qc_msg.specs.declared.step.Input.{Input}
 use Rattle.qc_msg.specs.declared.step.Input.TheVariants as inputs
 use Rattle.qc_msg.specs.declared.turn.Turn.{Turn}
 use Rattle.qc_site.specs.Names.{SiteMove, SiteState, finishes, grants, passed, site_at, site_takes}
-use Rattle.qc_site.proofs.Cases.{append_cases, close_rows, install_rows, join_cases, prepare_cases, read_cases}
-use Rattle.qc_site.proofs.Cases.{request_cases}
+use Rattle.qc_site.proofs.RequestCases.{append_cases, close_rows, install_rows, join_cases, prepare_cases, read_cases}
+use Rattle.qc_site.proofs.RequestCases.{request_cases}
 use Rattle.qc_stamp.specs.declared.stamp.TxId.{TxId}
 use Rattle.laws_turns.specs.Names.{GivenWithin, LinesWithin, MessageWithin, OutcomeWithin, SendsWithin, SiteWithin}
 use Rattle.laws_bounds.specs.Names.{AreWithin}

@@ -31,7 +31,7 @@ use Rattle.qc_site.specs.Names.{IsSiteSorted, SiteMove, SiteState, answers, clas
 use Rattle.qc_site.specs.Names.{finishes, grants, installs, is_prepared, known, learned, lines_of, moved}
 use Rattle.qc_site.specs.Names.{names_declared, names_object, prepares, promise_cmp, promise_of, promised, requested}
 use Rattle.qc_site.specs.Names.{shut_answer, site_at, votes}
-use Rattle.qc_site.proofs.Cases.{append_cases, choose, close_rows, fault_is, join_cases, read_cases}
+use Rattle.qc_site.proofs.RequestCases.{append_cases, choose, close_rows, fault_is, join_cases, read_cases}
 use Rattle.qc_stamp.specs.declared.stamp.TxId.{TxId}
 use Rattle.qc_stamp.specs.Names.{same_tx}
 use Rattle.laws_bounds.proofs.Forms.{AnswerInForm, LineInForm, MessageInForm, OrdinalsInForm, PromiseInForm}

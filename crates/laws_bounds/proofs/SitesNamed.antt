@@ -29,8 +29,8 @@ use Rattle.qc_msg.specs.Names.{quiet}
 use Rattle.qc_site.specs.Names.{SiteMove, SiteState, answers, clashing, closes, fault_of, finishes, grants, installs}
 use Rattle.qc_site.specs.Names.{known, learned, lines_of, moved, names_declared, names_object, passed, promise_cmp}
 use Rattle.qc_site.specs.Names.{promise_of, requested, shut_answer, site_at, site_takes}
-use Rattle.qc_site.proofs.Cases.{append_cases, choose, close_rows, fault_is, install_rows, join_cases, prepare_cases}
-use Rattle.qc_site.proofs.Cases.{read_cases}
+use Rattle.qc_site.proofs.RequestCases.{append_cases, choose, close_rows, fault_is, install_rows, join_cases, prepare_cases}
+use Rattle.qc_site.proofs.RequestCases.{read_cases}
 use Rattle.qc_stamp.specs.declared.stamp.TxId.{TxId}
 use Rattle.qc_stamp.specs.Names.{same_tx}
 use Rattle.laws_bounds.proofs.Names.{AnswerNamed, AreNamed, GivenNamed, LineNamed, LinesNamed, MessageNamed}

@@ -22,7 +22,7 @@ use Rattle.qc_core.proofs.ByTurns.{after_takes, called_turn}
 use Rattle.qc_core.proofs.ClientLands.{lands}
 use Rattle.qc_core.proofs.ClientReaches.{AskedFit, ClientReach, client_reach, new_asked, no_sites, sent_asked}
 use Rattle.qc_core.proofs.ClientStands.{Lands, Stands, new_stands, runs_told}
-use Rattle.qc_core.proofs.LivesLaws.{falls as after_falls, rises as after_rises}
+use Rattle.qc_core.proofs.LivesOfActors.{falls as after_falls, rises as after_rises}
 use Rattle.qc_core.proofs.SiteReaches.{IsOfClients, site_reach}
 use Rattle.qc_decl.specs.Names.{IsAccepted, is_client, is_site, most_clients}
 use Rattle.qc_decl.specs.declared.declaration.Declaration.{Declaration}

@@ -28,7 +28,7 @@ use Rattle.laws_due.proofs.AdminRequests.{sites_of, takes, this_taken, all_taken
 use Rattle.laws_due.proofs.Halves.{drop_last}
 use Rattle.laws_due.proofs.PlainRounds.{ArePlain}
 use Rattle.laws_due.proofs.PlainRounds as rounds
-use Rattle.laws_due.proofs.Step.{apart_cyclic}
+use Rattle.laws_due.proofs.AnswersDue.{apart_cyclic}
 
 pub in_map : {A B : Type 0} (f : A → B) (x : A) (xs : List A) → In x xs → In (f x) (map f xs)
 in_map f x [] among = absurd among

@@ -1,137 +1,61 @@
 -- Where nothing is ready for anybody, no input is open and each control line has acted, no command of the administrator
 -- runs. So his commands and replies are in order through his falls.
-use Rattle.std.proofs.Common.{◌≡◌, ◌⊎◌, ℕ, zero, suc, ◌+◌, ◌≤◌, ◌==◌, Bool, true, false, cond, List, [], ◌∷◌, ◌++◌, length, map, filter, take, inl, inr, Option, Some, None, is_some, refl, sym, ap, ◌∙◌, subst, arith}
-use Rattle.std.specs.Prelude.{fold, option_and_then, slice_get}
-use Rattle.std.specs.List.{AllByRecursion as Every, filter_map}
-use Rattle.std.proofs.lemmas.Bool.{eqb-true}
+use Rattle.std.proofs.Common.{◌≡◌, ◌⊎◌, ℕ, ◌+◌, ◌≤◌, ◌==◌, Bool, true, false, List, ◌∷◌, ◌++◌}
+use Rattle.std.proofs.Common.{length, inl, inr, Option, Some, None, is_some, sym, ap, ◌∙◌}
+use Rattle.std.proofs.Common.{subst, arith}
+use Rattle.std.specs.Prelude.{slice_get}
+use Rattle.std.specs.List.{AllByRecursion as Every}
 use Rattle.qc_list.specs.Names.{In}
 use Rattle.qc_core.specs.declared.actor.Actor.{Actor}
 use Rattle.qc_core.specs.declared.actor.Actor.TheVariants as actors
 use Rattle.qc_core.specs.Names.{ActorMove, IsLawfulWithFalls, actor_after, actor_takes, is_running, with_record}
-use Rattle.qc_core.proofs.AdminWrites.{FaultsAlone, admin_written}
+use Rattle.qc_core.proofs.AdminTurns.{FaultsAlone}
+use Rattle.qc_core.proofs.AdminWrites.{admin_written}
 use Rattle.qc_core.proofs.ByNumber.{admin_no_client, admin_no_site, admin_risen}
 use Rattle.qc_core.proofs.ByTurns.{called_turn}
 use Rattle.qc_decl.specs.Names.{IsAccepted, administrator, controller}
 use Rattle.qc_decl.specs.Actors as numbers
 use Rattle.qc_decl.specs.declared.declaration.Declaration.{Declaration}
 use Rattle.qc_epoch.specs.Names.{Admin}
-use Rattle.laws_turns.specs.Names.{AsksDeclared, IsAtReceiver, IsAwaited, IsQuiet, IsTaken, LivesIn, asked_in_all}
-use Rattle.laws_turns.specs.Names.{call_in, calls_of}
+use Rattle.laws_turns.specs.Names.{AsksDeclared, IsAtReceiver, IsAwaited, IsQuiet, IsTaken, LivesIn}
+use Rattle.laws_turns.specs.Names.{calls_of}
 use Rattle.laws_turns.proofs.Lived.{run_lives}
-use Rattle.laws_turns.proofs.Mailed.{both_all}
-use Rattle.laws_turns.proofs.Proper.{front_part}
+use Rattle.laws_turns.proofs.SoundClients.{front_part}
 use Rattle.qc_link.specs.Names.{most_actors}
-use Rattle.qc_msg.specs.Names.{Deed, Entry, Falls, MayEnd, Rises, Sends, Takes, Tells, Writes, by, deeds, deeds_as}
-use Rattle.qc_msg.specs.Names.{epoch_in, mail, posted_as, sends_of, tells_of, writes_of}
+use Rattle.qc_msg.specs.Names.{Deed, Entry, MayEnd, Rises, Takes, by, deeds, deeds_as}
+use Rattle.qc_msg.specs.Names.{mail, posted_as}
 use Rattle.qc_msg.specs.declared.record.Record.{Record}
 use Rattle.qc_msg.specs.declared.reply.Reply.{Reply}
 use Rattle.qc_msg.specs.declared.step.Command.{Command}
 use Rattle.qc_msg.specs.declared.step.Command.TheVariants as commands
-use Rattle.qc_msg.specs.declared.step.Fall.{Fall}
 use Rattle.qc_msg.specs.declared.step.Fall.TheVariants as causes
 use Rattle.qc_msg.specs.declared.step.Input.{Input}
 use Rattle.qc_msg.specs.declared.step.Input.TheVariants as inputs
 use Rattle.qc_msg.specs.declared.turn.Appended.{Appended}
 use Rattle.qc_msg.specs.declared.turn.Appended.TheVariants.{Done, Failed, Stopped}
-use Rattle.qc_msg.specs.declared.turn.Posting.{Posting}
 use Rattle.qc_msg.specs.declared.turn.Turn.{Turn}
 use Rattle.qc_msg.proofs.Growth.{deeds-posted_as}
-use Rattle.qc_promise.specs.Names.{AdminAccount, AreAdminDeedsDue, IsAdminDue, admin_account_at, admin_row}
-use Rattle.qc_promise.specs.Names.{new_admin_account, pending_next}
-use Rattle.qc_script.specs.Names.{RunsWithFalls, commands_for, controls_left, inbox, phase_of}
-use Rattle.qc_script.specs.declared.script.CommandLine.{CommandLine}
-use Rattle.qc_script.specs.declared.script.PhaseLines.{PhaseLines}
+use Rattle.qc_promise.specs.Names.{AreAdminDeedsDue, IsAdminDue}
+use Rattle.qc_promise.specs.Names.{new_admin_account}
+use Rattle.qc_script.specs.Names.{RunsWithFalls, controls_left, inbox, phase_of}
 use Rattle.qc_script.specs.declared.script.Script.{Script}
 use Rattle.laws_due.specs.Names.{AreInOrder, AsksEpochs, AsksKnown, IsEpoch}
 use Rattle.laws_due.proofs.AdminNumbers.{open_numbers}
 use Rattle.laws_due.proofs.AdminLives.{IsAtInput, admin_lives}
 use Rattle.laws_due.proofs.AdminOpen.{none_commanded}
 use Rattle.laws_due.proofs.AdminReached.{his_receiver, his_unanswered}
-use Rattle.laws_due.proofs.AdminRest.{IsAtRest, Stands, account_is, actor_more, heard_command, running_is, sent_command, written_command}
+use Rattle.laws_due.proofs.AdminRunning.{running_is}
+use Rattle.laws_due.proofs.AdminRest.{IsAtRest, Stands, account_is, actor_more}
 use Rattle.laws_due.proofs.Administrators.{run_admin_due, some_site}
 use Rattle.laws_due.proofs.AwaitedWithFalls.{his_requests_awaited}
 use Rattle.laws_due.proofs.Calling.{run_asked}
 use Rattle.laws_due.proofs.EndsWithFalls.{RestsAtEnds, copies_none, free, idle_of, losts_none, no_members}
-use Rattle.laws_due.proofs.Ordered.{run_in_order, sends_ordered}
+use Rattle.laws_due.proofs.Ordered.{run_in_order}
 use Rattle.laws_due.proofs.Places.{apart, few_actors}
+use Rattle.laws_due.proofs.AdminOrders.{no_command, done_ordered, broken_ordered, due_second, command_of, asked_phases}
 
--- his commands are epochs
-
-abbrev OfEpoch : Option Command → Type 0
-OfEpoch None = Unit {0}
-OfEpoch (Some c) = IsEpoch c
-
-no_command : (o : Option Command) → OfEpoch o → option_and_then epoch_in o ≡ None → is_some o ≡ false
-no_command None is none = refl
-no_command (Some commands.Begin) is none = absurd is
-no_command (Some (commands.Do object inv)) is none = absurd is
-no_command (Some commands.Commit) is none = absurd is
-no_command (Some commands.Abort) is none = absurd is
-no_command (Some (commands.Epoch number)) is none = absurd (let never : ⊥ = cc in never)
-
-module _ (decl : Declaration) where
-  command_of : (ds : List Deed) (d : AdminAccount) → Every IsEpoch (filter_map call_in ds) → OfEpoch d.command → OfEpoch (fold (admin_account_at decl) d ds).command
-  command_of [] d all is = is
-  command_of (Takes (inputs.Called command) ∷ ds) d all is = command_of ds (admin_account_at decl d (Takes (inputs.Called command))) all.1 all.0
-  command_of (Takes (inputs.Got envelope) ∷ ds) d all is = command_of ds (admin_account_at decl d (Takes (inputs.Got envelope))) all (subst OfEpoch (sym (heard_command decl d envelope.message)) is)
-  command_of (Takes (inputs.Lost number) ∷ ds) d all is = command_of ds (admin_account_at decl d (Takes (inputs.Lost number))) all is
-  command_of (Writes r ∷ ds) d all is = command_of ds (admin_account_at decl d (Writes r)) all (subst OfEpoch (sym (written_command decl d r)) is)
-  command_of (Sends number to message ∷ ds) d all is = command_of ds (admin_account_at decl d (Sends number to message)) all (subst OfEpoch (sym (sent_command decl d number to message)) is)
-  command_of (Tells reply ∷ ds) d all is = command_of ds (admin_account_at decl d (Tells reply)) all tt
-  command_of (Falls cause pending ∷ ds) d all is = command_of ds (admin_account_at decl d (Falls cause pending)) all tt
-  command_of (Rises kept ∷ ds) d all is = command_of ds (admin_account_at decl d (Rises kept)) all tt
-
-  asked_line : (lines : List CommandLine) → Every (λ (l : CommandLine). l.actor ≡ administrator decl → IsEpoch l.command) lines → Every IsEpoch (commands_for (administrator decl) lines)
-  asked_line [] all = tt
-  asked_line (l ∷ lines) all = at (l.actor == administrator decl) refl (asked_line lines all.1)
-    where
-      at : (t : Bool) → (l.actor == administrator decl) ≡ t → Every IsEpoch (commands_for (administrator decl) lines)
-          → Every IsEpoch (map (λ (x : CommandLine). x.command) (cond t (l ∷ filter (λ (x : CommandLine). x.actor == administrator decl) lines) (filter (λ (x : CommandLine). x.actor == administrator decl) lines)))
-      at true same rest = (all.0 (eqb-true l.actor (administrator decl) same), rest)
-      at false other rest = rest
-
-  asked_phases : (phases : List PhaseLines) (k : ℕ) → Every (λ (p : PhaseLines). Every (λ (l : CommandLine). l.actor ≡ administrator decl → IsEpoch l.command) p.commands) phases → Every IsEpoch (asked_in_all (administrator decl) (take k phases))
-  asked_phases [] zero all = tt
-  asked_phases [] (suc k) all = tt
-  asked_phases (p ∷ phases) zero all = tt
-  asked_phases (p ∷ phases) (suc k) all = both_all IsEpoch (commands_for (administrator decl) p.commands) (asked_in_all (administrator decl) (take k phases)) (asked_line p.commands all.0) (asked_phases phases k all.1)
-
--- replies that are due are told while a command runs
-
-some_command : (decl : Declaration) (d : AdminAccount) (unwritten : Bool) (reply : Reply) → option_and_then (admin_row decl d unwritten) d.command ≡ Some reply → is_some d.command ≡ true
-some_command decl d unwritten reply is = by d.command is
-  where
-    by : (o : Option Command) → option_and_then (admin_row decl d unwritten) o ≡ Some reply → is_some o ≡ true
-    by None e = absurd (let never : ⊥ = cc in never)
-    by (Some c) e = refl
-
-told_runs : (decl : Declaration) (ps : List Posting) (n : ℕ) (d : AdminAccount) (reply : Reply) (ys : List Deed) → AreAdminDeedsDue decl d (sends_of n ps ++ Tells reply ∷ ys) → is_some d.command ≡ true
-told_runs decl [] n d reply ys dues = some_command decl d (is_some (pending_next ys)) reply (dues.0).0
-told_runs decl (p ∷ ps) n d reply ys dues =
-    ap (λ (o : Option Command). is_some o) (sym (sent_command decl d n p.to p.message)) ∙ told_runs decl ps (n + 1) (admin_account_at decl d (Sends n p.to p.message)) reply ys dues.1
-
-done_ordered : (decl : Declaration) (d : AdminAccount) (n : ℕ) (t : Turn) → AreAdminDeedsDue decl d (deeds_as Done n t) → AreInOrder (is_some d.command) (deeds_as Done n t)
-done_ordered decl d n t dues = at t.write dues
-  where
-    told : (e : AdminAccount) → e.command ≡ d.command → (o : Option Reply) → AreAdminDeedsDue decl e (sends_of n t.sends ++ tells_of o) → AreInOrder (is_some d.command) (sends_of n t.sends ++ tells_of o)
-    told e same None due = sends_ordered (is_some d.command) n t.sends [] tt
-    told e same (Some reply) due = sends_ordered (is_some d.command) n t.sends (Tells reply ∷ []) (ap (λ (o : Option Command). is_some o) (sym same) ∙ told_runs decl t.sends n e reply [] due, tt)
-
-    at : (w : Option Record) → AreAdminDeedsDue decl d (writes_of w ++ (sends_of n t.sends ++ tells_of t.told)) → AreInOrder (is_some d.command) (writes_of w ++ (sends_of n t.sends ++ tells_of t.told))
-    at None due = told d refl t.told due
-    at (Some written) due = (tt, told (admin_account_at decl d (Writes written)) (written_command decl d written) t.told due.1)
-
-broken_ordered : (decl : Declaration) (d : AdminAccount) (n : ℕ) (ps : List Posting) (o : Option Reply) (cause : Fall) (pending : Option Record) → is_some o ≡ true
-    → AreAdminDeedsDue decl d (sends_of n ps ++ (tells_of o ++ Falls cause pending ∷ [])) → AreInOrder (is_some d.command) (sends_of n ps ++ (tells_of o ++ Falls cause pending ∷ []))
-broken_ordered decl d n ps None cause pending some dues = absurd (let never : ⊥ = cc in never)
-broken_ordered decl d n ps (Some reply) cause pending some dues =
-    sends_ordered (is_some d.command) n ps (Tells reply ∷ Falls cause pending ∷ []) (told_runs decl ps n d reply (Falls cause pending ∷ []) dues, (refl, tt))
-
-due_second : (decl : Declaration) (xs ys : List Deed) (d : AdminAccount) → AreAdminDeedsDue decl d (xs ++ ys) → AreAdminDeedsDue decl (fold (admin_account_at decl) d xs) ys
-due_second decl [] ys d dues = dues
-due_second decl (x ∷ xs) ys d dues = due_second decl xs ys (admin_account_at decl d x) dues.1
-
-module _ (decl : Declaration) (script : Script) (accepted : IsAccepted decl) (asks : AsksDeclared decl script) (fits : ℕ → List Record → Type 0) (known : AsksKnown fits decl script) (epochs : AsksEpochs decl script) where
+module _ (decl : Declaration) (script : Script) (accepted : IsAccepted decl) (asks : AsksDeclared decl script)
+    (fits : ℕ → List Record → Type 0) (known : AsksKnown fits decl script) (epochs : AsksEpochs decl script) where
   abbrev IsRun : List Entry → List Bool → Type 0
   IsRun h open_inputs = RunsWithFalls (IsLawfulWithFalls decl) fits decl script h open_inputs
 
@@ -143,44 +67,68 @@ module _ (decl : Declaration) (script : Script) (accepted : IsAccepted decl) (as
 
   -- what he was asked
 
-  epochs_called : (h : List Entry) (open_inputs : List Bool) → IsRun h open_inputs → Every IsEpoch (calls_of (administrator decl) h)
+  epochs_called : (h : List Entry) (open_inputs : List Bool) → IsRun h open_inputs
+      → Every IsEpoch (calls_of (administrator decl) h)
   epochs_called h open_inputs run =
       front_part IsEpoch (calls_of (administrator decl) h) (inbox script (administrator decl) h).commands
-      (subst (Every IsEpoch) (sym (run_asked (IsLawfulWithFalls decl) fits decl script (administrator decl) h open_inputs run)) (asked_phases decl script.phases (phase_of h) epochs))
+      (subst (Every IsEpoch)
+          (sym (run_asked (IsLawfulWithFalls decl) fits decl script (administrator decl) h open_inputs run))
+          (asked_phases decl script.phases (phase_of h) epochs))
 
   -- nothing of his is open at the end
 
-  module _ (h : List Entry) (open_inputs : List Bool) (run : IsRun h open_inputs) (closed : (b : ℕ) → slice_get open_inputs b ≡ Some true → ⊥) (quiet : IsQuiet decl script h) (done : controls_left script h ≡ []) where
+  module _ (h : List Entry) (open_inputs : List Bool) (run : IsRun h open_inputs)
+      (closed : (b : ℕ) → slice_get open_inputs b ≡ Some true → ⊥) (quiet : IsQuiet decl script h)
+      (done : controls_left script h ≡ []) where
     nowhere : (n : ℕ) → IsAtReceiver script h open_inputs (administrator decl) n → ⊥
     nowhere n r = at r.place
       where
         at : In r.envelope (inbox script r.envelope.to h).copies ⊎ IsTaken h open_inputs r.envelope → ⊥
         at (inl there) =
             subst (In r.envelope)
-            (copies_none decl script accepted asks fits h open_inputs run closed quiet done r.envelope.to (his_receiver decl script accepted fits known h open_inputs run r.envelope r.sent r.from r.request)) there
+            (copies_none decl script accepted asks fits h open_inputs run closed quiet done r.envelope.to
+                (his_receiver decl script accepted fits known h open_inputs run r.envelope r.sent r.from r.request))
+                there
         at (inr t) = closed r.envelope.to t.is_open
 
     not_awaited : (n : ℕ) → IsAwaited n (inbox script (administrator decl) h) → ⊥
-    not_awaited n (inl lost) = subst (In n) (losts_none decl script accepted asks fits h open_inputs run closed quiet done (administrator decl) (omega arith)) lost
-    not_awaited n (inr (inl open_still)) = nowhere n (his_unanswered decl script accepted fits known h open_inputs run n open_still)
-    not_awaited n (inr (inr has)) = subst (In has.envelope) (copies_none decl script accepted asks fits h open_inputs run closed quiet done (administrator decl) (omega arith)) has.member
+    not_awaited n (inl lost) =
+        subst (In n)
+        (losts_none decl script accepted asks fits h open_inputs run closed quiet done (administrator decl)
+          (omega arith)) lost
+    not_awaited n (inr (inl open_still)) =
+        nowhere n (his_unanswered decl script accepted fits known h open_inputs run n open_still)
+    not_awaited n (inr (inr has)) =
+        subst (In has.envelope)
+        (copies_none decl script accepted asks fits h open_inputs run closed quiet done (administrator decl)
+          (omega arith)) has.member
 
-    none_open : (m : Admin) → (actor_after decl (administrator decl) (deeds (administrator decl) [] h)).actor ≡ actors.Admin m → open_numbers m.doing ≡ []
-    none_open m is = no_members (open_numbers m.doing) (λ k member. not_awaited k (his_requests_awaited decl script fits few h open_inputs run m is k member))
+    none_open : (m : Admin)
+        → (actor_after decl (administrator decl) (deeds (administrator decl) [] h)).actor ≡ actors.Admin m
+        → open_numbers m.doing ≡ []
+    none_open m is =
+        no_members (open_numbers m.doing)
+        (λ k member. not_awaited k (his_requests_awaited decl script fits few h open_inputs run m is k member))
 
     none_runs : is_running (deeds (administrator decl) [] h) ≡ false
     none_runs = running_is decl (deeds (administrator decl) [] h) ∙ by rest.up rest.stands
       where
         lived : LivesIn decl (administrator decl) h false
-        lived = run_lives decl script fits few h open_inputs run (administrator decl) false (free decl script accepted asks fits h open_inputs run closed quiet done (administrator decl) (omega arith))
+        lived =
+            run_lives decl script fits few h open_inputs run (administrator decl) false
+            (free decl script accepted asks fits h open_inputs run closed quiet done (administrator decl) (omega arith))
 
         rest : IsAtRest decl lived.above (deeds (administrator decl) [] h)
         rest = admin_lives decl his (deeds (administrator decl) [] h) false lived.above lived.lives
 
-        by : (up : Bool) → Stands decl up lived.above (deeds (administrator decl) [] h) → is_some (account_is decl (deeds (administrator decl) [] h)).command ≡ false
+        by : (up : Bool) → Stands decl up lived.above (deeds (administrator decl) [] h)
+            → is_some (account_is decl (deeds (administrator decl) [] h)).command ≡ false
         by true s =
-            no_command (account_is decl (deeds (administrator decl) [] h)).command (command_of decl (deeds (administrator decl) [] h) new_admin_account (epochs_called h open_inputs run) tt)
-            (none_commanded decl lived.above (account_is decl (deeds (administrator decl) [] h)) s.state s.ties (none_open s.state s.actor))
+            no_command (account_is decl (deeds (administrator decl) [] h)).command
+                (command_of decl (deeds (administrator decl) [] h) new_admin_account (epochs_called h open_inputs run)
+                  tt)
+            (none_commanded decl lived.above (account_is decl (deeds (administrator decl) [] h)) s.state s.ties
+                (none_open s.state s.actor))
         by false s = ap (λ (o : Option Command). is_some o) s.command
 
   pub his_none_runs : RestsAtEnds decl script accepted asks fits (administrator decl)
@@ -191,60 +139,91 @@ module _ (decl : Declaration) (script : Script) (accepted : IsAccepted decl) (as
   abbrev Faults : Turn → Type 0
   Faults t = FaultsAlone t.write t.failed_told
 
-  faults_alone : (n : ℕ) (ds : List Deed) (turn : Turn) → IsAtInput decl his n ds → IsLawfulWithFalls decl (administrator decl) ds turn → FaultsAlone turn.write turn.failed_told
-  faults_alone n ds turn at law = whole (subst Faults (called_turn decl (administrator decl) ds turn law) (subst Faults (sym turn_is) (by at.rest.up at.rest.stands)))
+  faults_alone : (n : ℕ) (ds : List Deed) (turn : Turn) → IsAtInput decl his n ds
+      → IsLawfulWithFalls decl (administrator decl) ds turn → FaultsAlone turn.write turn.failed_told
+  faults_alone n ds turn at law =
+      whole (subst Faults (called_turn decl (administrator decl) ds turn law)
+      (subst Faults (sym turn_is) (by at.rest.up at.rest.stands)))
     where
       whole : Faults (with_record turn) → Faults turn
       whole f = f
 
-      turn_is : (actor_after decl (administrator decl) ds).turn ≡ (actor_takes decl (actor_after decl (administrator decl) at.before).actor at.given).turn
-      turn_is = ap (λ (v : List Deed). (actor_after decl (administrator decl) v).turn) at.is ∙ ap (λ (m : ActorMove). m.turn) (actor_more decl at.before (Takes at.given ∷ []))
+      turn_is : (actor_after decl (administrator decl) ds).turn
+          ≡ (actor_takes decl (actor_after decl (administrator decl) at.before).actor at.given).turn
+      turn_is =
+          ap (λ (v : List Deed). (actor_after decl (administrator decl) v).turn) at.is
+          ∙ ap (λ (m : ActorMove). m.turn) (actor_more decl at.before (Takes at.given ∷ []))
 
       down : (g : Input) → Faults (actor_takes decl actors.Down g).turn
       down (inputs.Called command) = tt
       down (inputs.Got e) = tt
       down (inputs.Lost k) = tt
 
-      by : (up : Bool) → Stands decl up n at.before → Faults (actor_takes decl (actor_after decl (administrator decl) at.before).actor at.given).turn
-      by true s = subst (λ (v : Actor). Faults (actor_takes decl v at.given).turn) (sym s.actor) (admin_written decl s.state at.given).fails
+      by : (up : Bool) → Stands decl up n at.before
+          → Faults (actor_takes decl (actor_after decl (administrator decl) at.before).actor at.given).turn
+      by true s =
+          subst (λ (v : Actor). Faults (actor_takes decl v at.given).turn) (sym s.actor)
+          (admin_written decl s.state at.given).fails
       by false s = subst (λ (v : Actor). Faults (actor_takes decl v at.given).turn) (sym s.actor) (down at.given)
 
-  post_in_order : (older : List Entry) (before after : List Bool) (turn : Turn) → IsRun older before → slice_get before (administrator decl) ≡ Some true → IsLawfulWithFalls decl (administrator decl) (deeds (administrator decl) [] older) turn
+  post_in_order : (older : List Entry) (before after : List Bool) (turn : Turn) → IsRun older before
+      → slice_get before (administrator decl) ≡ Some true
+      → IsLawfulWithFalls decl (administrator decl) (deeds (administrator decl) [] older) turn
       → IsRun (older ++ by (administrator decl) (posted_as turn.append (length (mail older)) turn)) after
       → AreInOrder (is_running (deeds (administrator decl) [] older)) (deeds_as turn.append (length (mail older)) turn)
   post_in_order older before after turn run taken law whole =
-      subst (λ (b : Bool). AreInOrder b (deeds_as turn.append (length (mail older)) turn)) (sym (running_is decl (deeds (administrator decl) [] older))) (at turn.append law.may_end dues)
+      subst (λ (b : Bool). AreInOrder b (deeds_as turn.append (length (mail older)) turn))
+          (sym (running_is decl (deeds (administrator decl) [] older))) (at turn.append law.may_end dues)
     where
       lived : LivesIn decl (administrator decl) older true
       lived = run_lives decl script fits few older before run (administrator decl) true taken
 
       faults : FaultsAlone turn.write turn.failed_told
-      faults = faults_alone lived.above (deeds (administrator decl) [] older) turn (admin_lives decl his (deeds (administrator decl) [] older) true lived.above lived.lives) law
+      faults =
+          faults_alone lived.above (deeds (administrator decl) [] older) turn
+          (admin_lives decl his (deeds (administrator decl) [] older) true lived.above lived.lives) law
 
-      dues : AreAdminDeedsDue decl (account_is decl (deeds (administrator decl) [] older)) (deeds_as turn.append (length (mail older)) turn)
+      dues : AreAdminDeedsDue decl (account_is decl (deeds (administrator decl) [] older))
+          (deeds_as turn.append (length (mail older)) turn)
       dues =
-          due_second decl (deeds (administrator decl) [] older) (deeds_as turn.append (length (mail older)) turn) new_admin_account
+          due_second decl (deeds (administrator decl) [] older) (deeds_as turn.append (length (mail older)) turn)
+              new_admin_account
           (subst (IsAdminDue decl) (deeds-posted_as turn.append (administrator decl) (length (mail older)) older turn)
-          (run_admin_due decl script fits accepted.has_site few (older ++ by (administrator decl) (posted_as turn.append (length (mail older)) turn)) after whole))
+          (run_admin_due decl script fits accepted.has_site few
+              (older ++ by (administrator decl) (posted_as turn.append (length (mail older)) turn)) after whole))
 
       some : (w : Option Record) → MayEnd w Failed → FaultsAlone w turn.failed_told → is_some turn.failed_told ≡ true
       some None may f = absurd may
       some (Some r) may f = ap (λ (o : Option Reply). is_some o) f
 
-      at : (end : Appended) → MayEnd turn.write end → AreAdminDeedsDue decl (account_is decl (deeds (administrator decl) [] older)) (deeds_as end (length (mail older)) turn)
-          → AreInOrder (is_some (account_is decl (deeds (administrator decl) [] older)).command) (deeds_as end (length (mail older)) turn)
-      at Done may due = done_ordered decl (account_is decl (deeds (administrator decl) [] older)) (length (mail older)) turn due
-      at Failed may due = broken_ordered decl (account_is decl (deeds (administrator decl) [] older)) (length (mail older)) turn.failed_sends turn.failed_told causes.Disk turn.write (some turn.write may faults) due
-      at Stopped may due = broken_ordered decl (account_is decl (deeds (administrator decl) [] older)) (length (mail older)) [] turn.failed_told causes.Stop turn.write (some turn.write may faults) due
+      at : (end : Appended) → MayEnd turn.write end
+          → AreAdminDeedsDue decl (account_is decl (deeds (administrator decl) [] older))
+            (deeds_as end (length (mail older)) turn)
+          → AreInOrder (is_some (account_is decl (deeds (administrator decl) [] older)).command)
+              (deeds_as end (length (mail older)) turn)
+      at Done may due =
+          done_ordered decl (account_is decl (deeds (administrator decl) [] older)) (length (mail older)) turn due
+      at Failed may due =
+          broken_ordered decl (account_is decl (deeds (administrator decl) [] older)) (length (mail older))
+          turn.failed_sends turn.failed_told causes.Disk turn.write (some turn.write may faults) due
+      at Stopped may due =
+          broken_ordered decl (account_is decl (deeds (administrator decl) [] older)) (length (mail older)) []
+          turn.failed_told causes.Stop turn.write (some turn.write may faults) due
 
-  pub his_order : (h : List Entry) (open_inputs : List Bool) → IsRun h open_inputs → AreInOrder false (deeds (administrator decl) [] h)
+  pub his_order : (h : List Entry) (open_inputs : List Bool) → IsRun h open_inputs
+      → AreInOrder false (deeds (administrator decl) [] h)
   his_order h open_inputs run =
       run_in_order decl script fits (administrator decl) (record {
-        other = apart (controller decl) (administrator decl) (λ same. (let is : decl.sites + decl.clients + 1 ≡ decl.sites + decl.clients = same in omega arith));
-        idle = λ older before r line lines left. idle_of decl script accepted asks fits (administrator decl) his_none_runs older before r line lines left;
+        other =
+            apart (controller decl) (administrator decl)
+            (λ same. (let is : decl.sites + decl.clients + 1 ≡ decl.sites + decl.clients = same in omega arith));
+        idle =
+            λ older before r line lines left. idle_of decl script accepted asks fits (administrator decl) his_none_runs
+            older before r line lines left;
         ordered = post_in_order;
         rising_is = λ ds kept turn law.
-            sym (ap (λ (m : ActorMove). m.turn) (admin_risen decl (administrator decl) (admin_no_site decl) (admin_no_client decl) kept))
+            sym (ap (λ (m : ActorMove). m.turn)
+                (admin_risen decl (administrator decl) (admin_no_site decl) (admin_no_client decl) kept))
             ∙ sym (ap (λ (m : ActorMove). m.turn) (actor_more decl ds (Rises kept ∷ [])))
             ∙ called_turn decl (administrator decl) (ds ++ Rises kept ∷ []) turn law;
       }) h open_inputs run

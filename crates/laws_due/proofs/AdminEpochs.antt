@@ -11,7 +11,7 @@ use Rattle.qc_epoch.specs.Names.{ShutSite, all_taken, decision, first_doubt, in_
 use Rattle.qc_epoch.specs.Names.{new_admin, outcome_in, questions_of, standing_of, taken_for, with_installed}
 use Rattle.qc_epoch.specs.Names.{with_shut_of}
 use Rattle.qc_epoch.specs.Conduct as admins
-use Rattle.laws_turns.proofs.Proper.{IsAskableGiven}
+use Rattle.laws_turns.proofs.SoundClients.{IsAskableGiven}
 use Rattle.qc_msg.specs.Names.{epoch_length, quiet, sending, site_called, without_call}
 use Rattle.qc_msg.specs.declared.call.Call.{Call}
 use Rattle.qc_msg.specs.declared.message.Answer.{Answer}

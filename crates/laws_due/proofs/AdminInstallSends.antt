@@ -20,7 +20,7 @@ use Rattle.laws_due.proofs.AdminInstalls.{installed_more, installed_of}
 use Rattle.laws_due.proofs.AdminStages.{Numbered}
 use Rattle.laws_due.proofs.AdminFrames.{Frame, frame_then, later, length_last, no_more, numbered_more, one_more}
 use Rattle.laws_due.proofs.AdminFrames.{request, requested_frame, same_frame, this_some}
-use Rattle.laws_due.proofs.DoAppends.{all_same, line_itself}
+use Rattle.laws_due.proofs.DoRows.{all_same, line_itself}
 
 module _ (decl : Declaration) where
   -- Installs, to the sites that are left

@@ -27,13 +27,15 @@ use Rattle.qc_msg.proofs.GrownMail.{mail-append}
 use Rattle.qc_msg.proofs.Growth.{mail-posted_as}
 use Rattle.qc_script.specs.Names.{RunsWithFalls, inbox, is_request, request_numbers}
 use Rattle.qc_script.specs.declared.script.Script.{Script}
-use Rattle.qc_site.proofs.Cases.{close_cases, install_cases}
+use Rattle.qc_site.proofs.RequestCases.{close_cases}
+use Rattle.qc_site.proofs.Cases.{install_cases}
 use Rattle.qc_site.specs.Names.{SiteMove, SiteState, passed, site_at}
 use Rattle.laws_due.specs.Names.{AsksKnown, IsKnown}
 use Rattle.laws_due.proofs.AdminSends.{GoesHis, post_goes, rise_goes, run_goes}
 use Rattle.laws_due.proofs.AdminSited.{GoWell, GoesWell}
 use Rattle.laws_due.proofs.Places.{apart, few_actors}
-use Rattle.laws_due.proofs.Reached.{AreReplied, IsReplied, RepliesTo, unanswered_at_receiver}
+use Rattle.laws_due.proofs.Taken.{AreReplied, IsReplied, RepliesTo}
+use Rattle.laws_due.proofs.Reached.{unanswered_at_receiver}
 use Rattle.laws_due.proofs.SiteTurns.{IsSomeClient, IsSomeSite, client_up, site_up}
 use Rattle.laws_due.proofs.Somewhere.{AreToOthers, IsOther}
 

@@ -24,7 +24,7 @@ use Rattle.qc_recover.specs.Names.{admin_by, admin_rises, epoch_by, rising}
 use Rattle.qc_recover.specs.Admins.{keeps, kept_by}
 use Rattle.qc_epoch.specs.Names.{Decided, new_admin}
 use Rattle.laws_due.proofs.Standing.{Follows, no_act}
-use Rattle.laws_due.proofs.Happenings.{as_record}
+use Rattle.laws_due.proofs.Fallings.{as_record}
 use Rattle.laws_due.proofs.AdminDecisions.{started}
 use Rattle.laws_due.proofs.AdminStages.{Ties, epoch_of}
 use Rattle.laws_due.proofs.AdminRest.{IsAtRest, IsFallen, account_is, account_more, actor_more, event_due, up_more}

@@ -7,7 +7,7 @@ use Rattle.qc_list.specs.Names.{In}
 use Rattle.qc_list.proofs.Members.{In-more, In-passes, In-second, In-unfiltered}
 use Rattle.laws_turns.proofs.Answering.{copies_stay, cuts_copies, cuts_unanswered, own_fate, phase_copies}
 use Rattle.laws_turns.proofs.Answering.{phase_unanswered}
-use Rattle.laws_turns.proofs.Awaiting.{at_once}
+use Rattle.laws_turns.proofs.AwaitedCopies.{at_once}
 use Rattle.qc_link.specs.Names.{fate, with_cut, without_cut}
 use Rattle.qc_link.specs.declared.rule.Fate.{Fate}
 use Rattle.qc_msg.specs.declared.message.Envelope.{Envelope}

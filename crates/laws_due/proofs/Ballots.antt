@@ -17,7 +17,8 @@ use Rattle.qc_msg.specs.declared.reply.AbortCause.TheVariants as causes
 use Rattle.qc_msg.specs.Names.{life_of}
 use Rattle.qc_promise.specs.Names.{ClientRequest, Current, against, first_against, is_prepare}
 use Rattle.laws_due.specs.Names.{AreApart, IsPrepare, ballot_of, begun_of}
-use Rattle.laws_due.proofs.Requests.{requests_from, sites_in}
+use Rattle.laws_due.proofs.OpenRequests.{sites_in}
+use Rattle.laws_due.proofs.Requests.{requests_from}
 
 -- lists of requests for promises
 

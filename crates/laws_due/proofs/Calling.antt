@@ -11,7 +11,7 @@ use Rattle.qc_decl.specs.declared.declaration.Declaration.{Declaration}
 use Rattle.qc_decl.specs.Names.{controller}
 use Rattle.laws_turns.specs.Names.{asked_in_all, asked_until, call_in, calls_of}
 use Rattle.laws_turns.proofs.Acted.{deeds-silent}
-use Rattle.laws_turns.proofs.Calling.{phase_taken}
+use Rattle.laws_turns.proofs.PhaseCalls.{phase_taken}
 use Rattle.laws_turns.proofs.Numbered.{phase_silent}
 use Rattle.qc_msg.specs.declared.message.Envelope.{Envelope}
 use Rattle.qc_msg.specs.declared.record.Record.{Record}
@@ -22,15 +22,18 @@ use Rattle.qc_msg.specs.declared.step.Input.TheVariants as inputs
 use Rattle.qc_msg.specs.declared.step.Step.TheVariants as steps
 use Rattle.qc_msg.specs.declared.turn.Turn.{Turn}
 use Rattle.qc_msg.specs.Names.{Deed, Entry, Takes, by, deeds, mail, marked, posted_as, step_of}
-use Rattle.qc_msg.proofs.Growth.{deeds-other, deeds-taken}
+use Rattle.qc_msg.proofs.DeedsGrow.{deeds-other}
+use Rattle.qc_msg.proofs.Growth.{deeds-taken}
 use Rattle.qc_script.specs.Names.{Inbox, RunsWithFalls, after_controls, begins, command_called, command_in}
 use Rattle.qc_script.specs.Names.{commands_for, control, damaged, falls, first_command, first_copy, first_lost, inbox}
 use Rattle.qc_script.specs.Names.{phase, phase_begun, phase_of, posts, ready, ready_in, rises, takes, takes_commands}
 use Rattle.qc_script.specs.Names.{unopened}
 use Rattle.qc_script.specs.declared.script.PhaseLines.{PhaseLines}
 use Rattle.qc_script.specs.declared.script.Script.{Script}
-use Rattle.laws_due.proofs.Plain.{ArePlain, entries_calls, entries_left, entries_phase, inbox_then, line_plain}
-use Rattle.laws_due.proofs.Plain.{opened_left, phase_then, post_plain}
+use Rattle.laws_due.proofs.PlainSteps.{ArePlain, inbox_then, line_plain}
+use Rattle.laws_due.proofs.Plain.{entries_calls, entries_left, entries_phase}
+use Rattle.laws_due.proofs.PlainSteps.{opened_left, post_plain}
+use Rattle.laws_due.proofs.Plain.{phase_then}
 
 -- the command that is ready is the next one
 

@@ -29,7 +29,7 @@ use Rattle.qc_front.proofs.Sending.{called_sent, takes_sent}
 use Rattle.qc_client.specs.declared.client.Client.{Client}
 use Rattle.qc_client.specs.Names.{ClientMove, answered, answered_by, by_desk, by_front, called, client_does}
 use Rattle.qc_client.specs.Names.{client_takes, commits, heard}
-use Rattle.laws_turns.proofs.OwnStamps.{by_two}
+use Rattle.laws_turns.proofs.StampsOwn.{by_two}
 use Rattle.laws_due.proofs.Epochs.{TellPlanned, TellsPlanned}
 
 sent_planned : (decl : Declaration) (front next : Front) (to : ℕ) (m : Message) → IsSent decl front next to m

@@ -28,7 +28,8 @@ use Rattle.laws_due.proofs.Places.{apart, client_past, client_within, few_actors
 use Rattle.laws_due.proofs.Proper.{IsOwnProper, post_sends, rise_sends, run_proper}
 use Rattle.laws_due.proofs.Somewhere.{AreToOthers, IsOther}
 use Rattle.laws_due.proofs.SiteTurns.{IsDeclared, declared_request, site_up}
-use Rattle.laws_due.proofs.Reached.{AreReplied, IsReplied, RepliesTo, unanswered_at_receiver}
+use Rattle.laws_due.proofs.Taken.{AreReplied, IsReplied, RepliesTo}
+use Rattle.laws_due.proofs.Reached.{unanswered_at_receiver}
 
 module _ (decl : Declaration) (script : Script) (accepted : IsAccepted decl) (asks : AsksDeclared decl script)
     (fits : ℕ → List Record → Type 0) (a : ℕ) (client : is_client decl a ≡ true) where

@@ -14,7 +14,7 @@ use Rattle.qc_epoch.specs.Names.{Admin, admin_takes}
 use Rattle.qc_epoch.specs.Conduct as admins
 use Rattle.laws_turns.specs.Names.{IsAwaited, open_calls}
 use Rattle.laws_turns.proofs.Awaiting.{awaited_got, awaited_lost, awaited_request}
-use Rattle.laws_turns.proofs.Covered.{ready_copy, ready_loss}
+use Rattle.laws_turns.proofs.ReadyFirst.{ready_copy, ready_loss}
 use Rattle.laws_turns.proofs.Fewer.{IsNewCall, IsNotFor, Keeps, sent_calls, takes_keeps}
 use Rattle.laws_turns.proofs.FrontAsks.{IsBound}
 use Rattle.qc_msg.specs.declared.call.Call.{Call}
@@ -32,7 +32,8 @@ use Rattle.qc_script.specs.declared.script.Script.{Script}
 use Rattle.qc_script.specs.Names.{Inbox, control_acted, copy_taken, inbox_at, is_request, is_up, loss_taken, ready_in}
 use Rattle.laws_due.proofs.AdminCalls.{KeepsCalls, sent_call, takes_keep}
 use Rattle.laws_due.proofs.AdminNumbers.{DoingPlain, open_numbers}
-use Rattle.laws_due.proofs.Awaiting.{KeepsUp, Spares, awaited_step, keeps_up}
+use Rattle.laws_due.proofs.AwaitedMessages.{KeepsUp}
+use Rattle.laws_due.proofs.Awaiting.{Spares, awaited_step, keeps_up}
 
 -- each open request of a client is awaited, and the client is up by its inbox
 pub record AreAwaited (a : ℕ) (c : Client) (i : Inbox) : Type 0 where

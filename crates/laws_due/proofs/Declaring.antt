@@ -18,7 +18,7 @@ use Rattle.qc_script.specs.Names.{Runs}
 use Rattle.qc_script.specs.declared.script.Script.{Script}
 use Rattle.laws_turns.specs.Names.{AsksDeclared, IsAskable}
 use Rattle.laws_turns.proofs.Places.{slice_get-within}
-use Rattle.laws_turns.proofs.Proper.{IsAskableDeed, run_askable}
+use Rattle.laws_turns.proofs.SoundClients.{IsAskableDeed, run_askable}
 use Rattle.laws_due.proofs.Epochs.{DeedPlanned, TellsPlanned}
 use Rattle.laws_due.proofs.PlannedMail.{deeds_planned, run_planned}
 use Rattle.laws_due.specs.Names.{ArePlanned, Declares, IsDeclaredCommand, IsDeclaredDeed, IsPlanned, epoch_told}

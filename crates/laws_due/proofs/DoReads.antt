@@ -32,7 +32,8 @@ use Rattle.qc_promise.specs.Names.{Account, ClientRequest, Current, answer_of, a
 use Rattle.qc_promise.specs.Names.{doomed_if, is_append, is_next_voter, is_read, read_row, requests_for, standing_of}
 use Rattle.qc_promise.specs.Names.{with_absent}
 use Rattle.laws_due.specs.Names.{Goes, IsOpenIn, Ties, call_of, calls_in, front_of, reads, transaction_of}
-use Rattle.laws_due.proofs.DoAppends.{IsNext, Runs, appends_go, due_do, next_one, next_voter, run}
+use Rattle.laws_due.proofs.DoRows.{IsNext, Runs, due_do, next_one, next_voter, run}
+use Rattle.laws_due.proofs.DoAppends.{appends_go}
 use Rattle.laws_due.proofs.Asks.{asking}
 use Rattle.laws_due.proofs.Halves.{round_asked, round_at, round_from}
 use Rattle.laws_due.proofs.Requests.{calls_half, calls_more, calls_new, every_new, request_at, requests_from}

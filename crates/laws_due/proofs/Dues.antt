@@ -1,16 +1,13 @@
 -- What is by the rows is due, where the client is up and what comes to it is declared.
-use Rattle.std.proofs.Common.{◌≡◌, ◌⊎◌, ◌<◌, ◌≤◌, ℕ, ◌&&◌, max, Bool, true, false, cond, List, [], ◌∷◌, ◌++◌, inl, inr, Option, Some, None, is_some, refl, sym, ap, ◌∙◌, subst, arith}
-use Rattle.std.specs.Prelude.{fold, option_and_then, option_map}
-use Rattle.std.specs.List.{find, AllByRecursion as Every}
-use Rattle.std.proofs.lemmas.Bool.{cases_lt}
+use Rattle.std.proofs.Common.{◌≡◌, ℕ, Bool, true, false, cond, List, ◌∷◌, ◌++◌}
+use Rattle.std.proofs.Common.{Option, Some, None, is_some, refl, sym, ap, ◌∙◌, subst}
+use Rattle.std.specs.Prelude.{fold}
+use Rattle.std.specs.List.{AllByRecursion as Every}
 use Rattle.std.proofs.lemmas.List.{append-nil}
 use Rattle.qc_decl.specs.declared.declaration.Declaration.{Declaration}
-use Rattle.qc_entry.specs.declared.line.Line.{Line}
 use Rattle.qc_msg.specs.declared.message.Answer.{Answer}
-use Rattle.qc_msg.specs.declared.message.Answer.TheVariants as answers
 use Rattle.qc_msg.specs.declared.message.Message.{Message}
 use Rattle.qc_msg.specs.declared.message.Message.TheVariants as messages
-use Rattle.qc_msg.specs.declared.message.Want.{Want}
 use Rattle.qc_msg.specs.declared.message.Want.TheVariants.{Read, Append, Prepare}
 use Rattle.qc_msg.specs.declared.record.Record.{Record}
 use Rattle.qc_msg.specs.declared.record.Record.TheVariants as records
@@ -23,139 +20,14 @@ use Rattle.qc_msg.specs.declared.step.Command.TheVariants as commands
 use Rattle.qc_msg.specs.declared.step.Input.TheVariants as inputs
 use Rattle.qc_msg.specs.Names.{Deed, Falls, Rises, Sends, Takes, Tells, Writes}
 use Rattle.qc_core.specs.Names.{AreSteady, IsSteady}
-use Rattle.qc_promise.specs.Names.{Account, ClientRequest, Current, IsInputDue, IsRecordDue, account_at, answer_of, due}
-use Rattle.qc_promise.specs.Names.{is_asked_for, is_declared_for, new_account, pending_next, reply_to, row_of}
-use Rattle.qc_promise.specs.Names.{running_row}
+use Rattle.qc_promise.specs.Names.{Account, Current, IsInputDue, IsRecordDue, account_at, answer_of, due}
+use Rattle.qc_promise.specs.Names.{is_asked_for, new_account, pending_next}
 use Rattle.qc_promise.specs.Accounting as accounting
 use Rattle.qc_promise.specs.Replies as promise
-use Rattle.laws_due.specs.Names.{AreByRows, Declares, IsByRow, IsDeclaredCommand, IsDeclaredDeed, IsPlanned}
-
--- an account of a client that is up, which knows, has begun and runs what is declared
-
-abbrev HasPlan : Declaration → Option Current → Type 0
-HasPlan decl None = Unit {0}
-HasPlan decl (Some t) = IsPlanned decl t.epoch
-
-abbrev HasTable : Declaration → Option Command → Type 0
-HasTable decl None = Unit {0}
-HasTable decl (Some command) = IsDeclaredCommand decl command
-
-pub record IsWithin (decl : Declaration) (d : Account) : Type 0 where
-  pub up : d.up ≡ true
-  pub known : IsPlanned decl d.known
-  pub current : HasPlan decl d.current
-  pub command : HasTable decl d.command
-
--- there the row is the reply that is due
-
-module _ (decl : Declaration) (d : Account) (w : IsWithin decl d) where
-  both : (x y : Bool) → x ≡ true → y ≡ true → (x && y) ≡ true
-  both x y first second = λ i. first i && second i
-
-  is_declared : (o : Option Current) → HasPlan decl o → (c : Command) → IsDeclaredCommand decl c → is_declared_for decl o c ≡ true
-  is_declared None plan c table = refl
-  is_declared (Some t) plan commands.Begin table = refl
-  is_declared (Some t) plan (commands.Do object inv) table = λ i. plan i && table i
-  is_declared (Some t) plan commands.Commit table = refl
-  is_declared (Some t) plan commands.Abort table = refl
-  is_declared (Some t) plan (commands.Epoch number) table = refl
-
-  pub due_as : (unwritten : Bool) → due decl d unwritten ≡ running_row decl d unwritten
-  due_as unwritten = by d.command w.command
-    where
-      by : (o : Option Command) → HasTable decl o → option_and_then (reply_to decl d unwritten) o ≡ option_and_then (row_of decl d unwritten d.current) o
-      by None table = refl
-      by (Some c) table =
-          ap (λ (b : Bool). cond b (cond (is_declared_for decl d.current c) (row_of decl d unwritten d.current c) None) (Some replies.Down)) w.up
-          ∙ ap (λ (b : Bool). cond b (row_of decl d unwritten d.current c) None) (is_declared d.current w.current c table)
-
-  pub due_is : due decl d false ≡ running_row decl d false
-  due_is = due_as false
-
--- where there is no row nothing is due
-
-pub none_due : (decl : Declaration) (d : Account) → d.up ≡ true → running_row decl d false ≡ None → due decl d false ≡ None
-none_due decl d up none = by d.command none
-  where
-    either : (b : Bool) (o : Option Reply) → o ≡ None → cond b o None ≡ None
-    either true o is = is
-    either false o is = refl
-
-    by : (o : Option Command) → option_and_then (row_of decl d false d.current) o ≡ None → option_and_then (reply_to decl d false) o ≡ None
-    by None is = refl
-    by (Some c) is =
-        ap (λ (b : Bool). cond b (cond (is_declared_for decl d.current c) (row_of decl d false d.current c) None) (Some replies.Down)) up
-        ∙ either (is_declared_for decl d.current c) (row_of decl d false d.current c) is
-
--- each deed leaves it so
-
-planned_max : (decl : Declaration) (m n : ℕ) → IsPlanned decl m → IsPlanned decl n → IsPlanned decl (max m n)
-planned_max decl m n first second = by (cases_lt m n)
-  where
-    by : (m < n) ⊎ (n ≤ m) → IsPlanned decl (max m n)
-    by (inl low) = subst (IsPlanned decl) (let is : n ≡ max m n = omega arith in is) second
-    by (inr high) = subst (IsPlanned decl) (let is : m ≡ max m n = omega arith in is) first
+use Rattle.laws_due.specs.Names.{AreByRows, Declares, IsByRow, IsDeclaredDeed}
+use Rattle.laws_due.proofs.DuesOfDeeds.{IsWithin, due_is, changed, passed, asked, lost, heard}
 
 module _ (decl : Declaration) where
-  changed : (d : Account) (change : Current → Current) → ((t : Current) → (change t).epoch ≡ t.epoch) → IsWithin decl d → IsWithin decl (accounting.with_current d change)
-  changed d change same w = record { up = w.up; known = w.known; current = by d.current w.current; command = w.command }
-    where
-      by : (o : Option Current) → HasPlan decl o → HasPlan decl (option_map change o)
-      by None plan = tt
-      by (Some t) plan = subst (IsPlanned decl) (sym (same t)) plan
-
-  passed : (d : Account) (clock : ℕ) → IsWithin decl d → IsWithin decl (record d { clock = clock })
-  passed d clock w = record { up = w.up; known = w.known; current = w.current; command = w.command }
-
-  granted : (d : Account) (site life clock : ℕ) (log : List Line) (want : Want) → IsWithin decl d → IsWithin decl (accounting.granted d site life clock log want)
-  granted d site life clock log (Read object inv) w = changed (record d { clock = max d.clock clock }) (λ (t : Current). accounting.with_read (accounting.lived t site life) object log) (λ t. refl) (passed d (max d.clock clock) w)
-  granted d site life clock log (Append object view own) w = changed (record d { clock = max d.clock clock }) (λ (t : Current). accounting.lived t site life) (λ t. refl) (passed d (max d.clock clock) w)
-  granted d site life clock log Prepare w = w
-
-  promised : (d : Account) (clock : ℕ) (want : Want) → IsWithin decl d → IsWithin decl (accounting.promised d clock want)
-  promised d clock (Read object inv) w = w
-  promised d clock (Append object view own) w = w
-  promised d clock Prepare w = passed d (max d.clock clock) w
-
-  told_by : (d : Account) (q : ClientRequest) (a : Answer) (to : ℕ) → IsDeclaredDeed decl (Takes (inputs.Got (record { number = 0; from = 0; to = 0; message = messages.Answer to a }))) → IsWithin decl d → IsWithin decl (accounting.told_by d q (Some a))
-  told_by d q (answers.Granted life clock log) to plan w = granted d q.site life clock log q.want w
-  told_by d q (answers.Clash holder inv event) to plan w = w
-  told_by d q (answers.Closed epoch) to plan w = record { up = w.up; known = planned_max decl d.known epoch w.known plan; current = w.current; command = w.command }
-  told_by d q (answers.Behind epoch) to plan w = w
-  told_by d q (answers.Restarted life) to plan w = w
-  told_by d q answers.Stale to plan w = w
-  told_by d q answers.Fault to plan w = w
-  told_by d q (answers.Yes clock) to plan w = promised d clock q.want w
-  told_by d q (answers.Shut clock log prepared) to plan w = w
-  told_by d q answers.Installed to plan w = w
-  told_by d q (answers.Answered verdict) to plan w = w
-
-  asked : (d : Account) (qs : List ClientRequest) → IsWithin decl d → IsWithin decl (record d { requests = qs })
-  asked d qs w = record { up = w.up; known = w.known; current = w.current; command = w.command }
-
-  answered : (d : Account) (to : ℕ) (a : Answer) → IsDeclaredDeed decl (Takes (inputs.Got (record { number = 0; from = 0; to = 0; message = messages.Answer to a }))) → IsWithin decl d → IsWithin decl (accounting.counted d to (Some a))
-  answered d to a plan w = by (find (accounting.is_open to) d.requests)
-    where
-      by : (o : Option ClientRequest) → IsWithin decl (accounting.counted_for d to (Some a) o)
-      by None = w
-      by (Some q) = told_by (record d { requests = accounting.taken_for to (Some a) d.requests }) q a to plan (asked d (accounting.taken_for to (Some a) d.requests) w)
-
-  lost : (d : Account) (number : ℕ) → IsWithin decl d → IsWithin decl (accounting.counted d number None)
-  lost d number w = by (find (accounting.is_open number) d.requests)
-    where
-      by : (o : Option ClientRequest) → IsWithin decl (accounting.counted_for d number None o)
-      by None = w
-      by (Some q) = asked d (accounting.taken_for number None d.requests) w
-
-  heard : (d : Account) (m : Message) → IsDeclaredDeed decl (Takes (inputs.Got (record { number = 0; from = 0; to = 0; message = m }))) → IsWithin decl d → IsWithin decl (accounting.account_heard d m)
-  heard d (messages.Request tx epoch life want) plan w = w
-  heard d (messages.Answer to a) plan w = answered d to a plan w
-  heard d (messages.Decision tx verdict) plan w = w
-  heard d (messages.Inquiry tx) plan w = w
-  heard d (messages.Ask tx) plan w = w
-  heard d (messages.Close epoch) plan w = w
-  heard d (messages.Install epoch clock log) plan w = w
-
   wrote : (d : Account) (r : Record) → IsWithin decl d → IsWithin decl (accounting.account_written d r)
   wrote d records.Life w = record { up = w.up; known = w.known; current = w.current; command = w.command }
   wrote d (records.Prepare prepared) w = w
@@ -165,11 +37,21 @@ module _ (decl : Declaration) where
   wrote d (records.Commit commit) w = record { up = w.up; known = w.known; current = w.current; command = w.command }
   wrote d (records.Decide epoch clock lines) w = w
 
-  sent : (d : Account) (number to : ℕ) (m : Message) → IsWithin decl d → IsWithin decl (accounting.account_sent decl d number to m)
+  sent : (d : Account) (number to : ℕ) (m : Message) → IsWithin decl d
+      → IsWithin decl (accounting.account_sent decl d number to m)
   sent d number to (messages.Request tx epoch life want) w = by (is_asked_for decl d to tx epoch life want)
     where
-      by : (b : Bool) → IsWithin decl (cond b (record d { requests = d.requests ++ record { number = number; site = to; life = life; want = want; taken = None } ∷ [] }) d)
-      by true = asked d (d.requests ++ record { number = number; site = to; life = life; want = want; taken = None } ∷ []) w
+      by : (b : Bool)
+          → IsWithin decl
+            (cond b
+              (record d
+                {
+                    requests = d.requests
+                        ++ record { number = number; site = to; life = life; want = want; taken = None } ∷ []
+                  }) d)
+      by true =
+          asked decl d
+              (d.requests ++ record { number = number; site = to; life = life; want = want; taken = None } ∷ []) w
       by false = w
   sent d number to (messages.Answer request answer) w = w
   sent d number to (messages.Decision tx verdict) w = w
@@ -181,7 +63,9 @@ module _ (decl : Declaration) where
   responded : (d : Account) (o : Option Command) → IsWithin decl d → IsWithin decl (accounting.responded decl d o)
   responded d None w = w
   responded d (Some commands.Begin) w = w
-  responded d (Some (commands.Do object inv)) w = changed d (λ (t : Current). accounting.with_response decl t object inv (answer_of decl t object inv)) (λ t. by t (answer_of decl t object inv)) w
+  responded d (Some (commands.Do object inv)) w =
+      changed decl d (λ (t : Current). accounting.with_response decl t object inv (answer_of decl t object inv))
+      (λ t. by t (answer_of decl t object inv)) w
     where
       by : (t : Current) (event : Option ℕ) → (accounting.with_response decl t object inv event).epoch ≡ t.epoch
       by t None = refl
@@ -193,13 +77,15 @@ module _ (decl : Declaration) where
   absent : (d : Account) (o : Option Command) → IsWithin decl d → IsWithin decl (accounting.found_absent d o)
   absent d None w = w
   absent d (Some commands.Begin) w = w
-  absent d (Some (commands.Do object inv)) w = changed d (λ (t : Current). accounting.with_absent t object inv) (λ t. refl) w
+  absent d (Some (commands.Do object inv)) w =
+      changed decl d (λ (t : Current). accounting.with_absent t object inv) (λ t. refl) w
   absent d (Some commands.Commit) w = w
   absent d (Some commands.Abort) w = w
   absent d (Some (commands.Epoch number)) w = w
 
-  doomed : (d : Account) (b : Bool) → IsWithin decl d → IsWithin decl (accounting.with_current d (accounting.doomed_if b))
-  doomed d b w = changed d (accounting.doomed_if b) (λ t. refl) w
+  doomed : (d : Account) (b : Bool) → IsWithin decl d
+      → IsWithin decl (accounting.with_current d (accounting.doomed_if b))
+  doomed d b w = changed decl d (accounting.doomed_if b) (λ t. refl) w
 
   short : (d : Account) (half : Half) → IsWithin decl d → IsWithin decl (accounting.short_of d half)
   short d halves.Read w = w
@@ -223,7 +109,7 @@ module _ (decl : Declaration) where
   told_in d (replies.Response resp) w = responded d d.command w
   told_in d (replies.Aborted why) w = ended d w
   told_in d replies.Unknown w = ended d w
-  told_in d (replies.Committed stamp) w = passed (accounting.ended d) stamp.clock (ended d w)
+  told_in d (replies.Committed stamp) w = passed decl (accounting.ended d) stamp.clock (ended d w)
   told_in d replies.Dropped w = ended d w
   told_in d (replies.Order current) w = w
   told_in d (replies.InDoubt tx site) w = w
@@ -231,19 +117,24 @@ module _ (decl : Declaration) where
   told_in d (replies.Moved closed installed) w = w
 
   told : (d : Account) (reply : Reply) → IsWithin decl d → IsWithin decl (accounting.account_told decl d reply)
-  told d reply w = let v : IsWithin decl (accounting.account_told_in decl d reply) = told_in d reply w in record { up = v.up; known = v.known; current = v.current; command = tt }
+  told d reply w =
+      let v : IsWithin decl (accounting.account_told_in decl d reply) = told_in d reply w in
+      record { up = v.up; known = v.known; current = v.current; command = tt }
 
-  pub within_at : (d : Account) (x : Deed) → IsSteady x → IsDeclaredDeed decl x → IsWithin decl d → IsWithin decl (account_at decl d x)
-  within_at d (Takes (inputs.Called command)) up is w = record { up = w.up; known = w.known; current = w.current; command = is }
-  within_at d (Takes (inputs.Got envelope)) up is w = heard d envelope.message is w
-  within_at d (Takes (inputs.Lost number)) up is w = lost d number w
+  pub within_at : (d : Account) (x : Deed) → IsSteady x → IsDeclaredDeed decl x → IsWithin decl d
+      → IsWithin decl (account_at decl d x)
+  within_at d (Takes (inputs.Called command)) up is w =
+      record { up = w.up; known = w.known; current = w.current; command = is }
+  within_at d (Takes (inputs.Got envelope)) up is w = heard decl d envelope.message is w
+  within_at d (Takes (inputs.Lost number)) up is w = lost decl d number w
   within_at d (Writes r) up is w = wrote d r w
   within_at d (Sends number to m) up is w = sent d number to m w
   within_at d (Tells reply) up is w = told d reply w
   within_at d (Falls cause pending) up is w = absurd up
   within_at d (Rises kept) up is w = absurd up
 
-  pub within_all : (ds : List Deed) (d : Account) → AreSteady ds → Every (IsDeclaredDeed decl) ds → IsWithin decl d → IsWithin decl (fold (account_at decl) d ds)
+  pub within_all : (ds : List Deed) (d : Account) → AreSteady ds → Every (IsDeclaredDeed decl) ds → IsWithin decl d
+      → IsWithin decl (fold (account_at decl) d ds)
   within_all [] d up all w = w
   within_all (x ∷ ds) d up all w = within_all ds (account_at decl d x) up.1 all.1 (within_at d x up.0 all.0 w)
 
@@ -258,22 +149,30 @@ module _ (decl : Declaration) where
   none_pending (Falls cause pending ∷ after) ys up none = absurd up.0
   none_pending (Rises kept ∷ after) ys up none = absurd up.0
 
-  deed_due : (d : Account) (x : Deed) (after : List Deed) → IsSteady x → pending_next after ≡ None → IsWithin decl d → IsByRow decl d x → promise.IsDeedDue decl d x after
-  deed_due d (Takes g) after up none w is = subst (λ (row : Option Reply). IsInputDue d row g) (sym (due_is decl d w)) is
-  deed_due d (Writes r) after up none w is = subst (λ (row : Option Reply). IsRecordDue d row r) (sym (due_is decl d w)) is
+  deed_due : (d : Account) (x : Deed) (after : List Deed) → IsSteady x → pending_next after ≡ None → IsWithin decl d
+      → IsByRow decl d x → promise.IsDeedDue decl d x after
+  deed_due d (Takes g) after up none w is =
+      subst (λ (row : Option Reply). IsInputDue d row g) (sym (due_is decl d w)) is
+  deed_due d (Writes r) after up none w is =
+      subst (λ (row : Option Reply). IsRecordDue d row r) (sym (due_is decl d w)) is
   deed_due d (Sends number to m) after up none w is = tt
-  deed_due d (Tells reply) after up none w is = (ap (λ (o : Option Record). due decl d (is_some o)) none ∙ due_is decl d w ∙ is.0, is.1, none ∙ is.2)
+  deed_due d (Tells reply) after up none w is =
+      (ap (λ (o : Option Record). due decl d (is_some o)) none ∙ due_is decl d w ∙ is.0, is.1, none ∙ is.2)
   deed_due d (Falls cause pending) after up none w is = absurd up
   deed_due d (Rises kept) after up none w is = absurd up
 
-  pub due_then : (ds ys : List Deed) (d : Account) → AreSteady ds → Every (IsDeclaredDeed decl) ds → pending_next ys ≡ None → IsWithin decl d → AreByRows decl d ds
+  pub due_then : (ds ys : List Deed) (d : Account) → AreSteady ds → Every (IsDeclaredDeed decl) ds
+      → pending_next ys ≡ None → IsWithin decl d → AreByRows decl d ds
       → promise.AreDeedsDue decl (fold (account_at decl) d ds) ys → promise.AreDeedsDue decl d (ds ++ ys)
   due_then [] ys d up all none w is behind = behind
   due_then (x ∷ ds) ys d up all none w is behind =
-      (deed_due d x (ds ++ ys) up.0 (none_pending ds ys up.1 none) w is.0, due_then ds ys (account_at decl d x) up.1 all.1 none (within_at d x up.0 all.0 w) is.1 behind)
+      (deed_due d x (ds ++ ys) up.0 (none_pending ds ys up.1 none) w is.0,
+          due_then ds ys (account_at decl d x) up.1 all.1 none (within_at d x up.0 all.0 w) is.1 behind)
 
-  pub all_due : (ds : List Deed) (d : Account) → AreSteady ds → Every (IsDeclaredDeed decl) ds → IsWithin decl d → AreByRows decl d ds → promise.AreDeedsDue decl d ds
-  all_due ds d up all w is = subst (λ (v : List Deed). promise.AreDeedsDue decl d v) (append-nil ds) (due_then ds [] d up all refl w is tt)
+  pub all_due : (ds : List Deed) (d : Account) → AreSteady ds → Every (IsDeclaredDeed decl) ds → IsWithin decl d
+      → AreByRows decl d ds → promise.AreDeedsDue decl d ds
+  all_due ds d up all w is =
+      subst (λ (v : List Deed). promise.AreDeedsDue decl d v) (append-nil ds) (due_then ds [] d up all refl w is tt)
 
   pub within_first : (client : ℕ) (ds : List Deed) → Declares decl ds → IsWithin decl (new_account client)
   within_first client ds are = record { up = refl; known = are.first; current = tt; command = tt }

@@ -28,8 +28,9 @@ use Rattle.qc_plan.specs.Names.{verdict}
 use Rattle.qc_promise.specs.Names.{Account, Current, is_read, new_current, participants, read_row, running_row, view_of}
 use Rattle.qc_promise.specs.Names.{vote_row}
 use Rattle.laws_due.specs.Names.{Goes, IsIdleDesk, Ties, begun_of, rests, transaction_of}
-use Rattle.laws_due.proofs.Commits.{decides_go, votes_start, voting_desk}
-use Rattle.laws_due.proofs.DoAppends.{run}
+use Rattle.laws_due.proofs.VotesCome.{decides_go, voting_desk}
+use Rattle.laws_due.proofs.Commits.{votes_start}
+use Rattle.laws_due.proofs.DoRows.{run}
 use Rattle.laws_due.proofs.DoReads.{reads_go}
 use Rattle.laws_due.proofs.Halves.{round_at}
 use Rattle.laws_due.proofs.Turns.{client_at, ends_goes, none_ties, rest_ties, still_goes, tells_goes}

@@ -24,14 +24,16 @@ use Rattle.qc_msg.specs.declared.step.Input.{Input}
 use Rattle.qc_msg.specs.declared.step.Input.TheVariants as inputs
 use Rattle.qc_msg.specs.declared.step.Step.TheVariants as steps
 use Rattle.qc_msg.specs.Names.{Entry, by, deeds, mail, marked, posted_as, step_of}
-use Rattle.qc_script.proofs.Inboxes.{InCommon, inboxes_have_in_common}
+use Rattle.qc_script.proofs.InboxesSend.{InCommon}
+use Rattle.qc_script.proofs.Inboxes.{inboxes_have_in_common}
 use Rattle.qc_script.specs.Names.{Inbox, RunsWithFalls, after_controls, begins, command_called, command_in, control}
 use Rattle.qc_script.specs.Names.{controls_left, copy_taken, damaged, falls, first_copy, first_lost, inbox, inbox_at}
 use Rattle.qc_script.specs.Names.{loss_taken, phase, phase_of, posts, ready, rises, takes, unopened}
 use Rattle.qc_script.specs.declared.script.Script.{Script}
 use Rattle.laws_due.proofs.AwaitedWithFalls.{open_requests_awaited}
 use Rattle.laws_due.proofs.Places.{client_within, few_actors}
-use Rattle.laws_due.proofs.Plain.{ArePlain, entries_idle, entries_left, inbox_then, line_plain, post_plain}
+use Rattle.laws_due.proofs.PlainSteps.{ArePlain, inbox_then, line_plain, post_plain}
+use Rattle.laws_due.proofs.Plain.{entries_idle, entries_left}
 use Rattle.laws_due.proofs.ClientReached.{receiver_is_site, unanswered_at_site}
 use Rattle.laws_due.proofs.LifelongWithFalls.{none_runs_down}
 use Rattle.laws_due.proofs.Tied.{IsAtRest, Stands}

@@ -30,8 +30,9 @@ use Rattle.qc_site.specs.Names.{SiteMove, SiteState, appends_by, closed, closed_
 use Rattle.qc_site.specs.Names.{is_prepared, joins, moved, names_declared, passed, prepare_length, prepared_of}
 use Rattle.qc_site.specs.Names.{prepares, promise_of, promises, reads_by, recording, relation_at, requested}
 use Rattle.qc_site.specs.Names.{shut_answer, site_at, site_does, site_on, site_takes}
-use Rattle.qc_site.proofs.Cases.{close_rows, install_rows, state_cases}
-use Rattle.laws_turns.proofs.OwnStamps.{by_two}
+use Rattle.qc_site.proofs.RequestCases.{close_rows, install_rows}
+use Rattle.qc_site.proofs.Cases.{state_cases}
+use Rattle.laws_turns.proofs.StampsOwn.{by_two}
 use Rattle.laws_due.specs.Names.{ArePlanned, IsPlanned, IsRecordPlanned}
 
 -- an epoch that is told has a plan, and so has one that is to be closed for or installed

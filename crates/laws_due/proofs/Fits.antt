@@ -18,7 +18,8 @@ use Rattle.qc_front.specs.Names.{AsksAll, AsksAtOnce, AsksIn, AsksNobody, FrontH
 use Rattle.qc_front.specs.Names.{append_want, ended, is_request, numbered_all, numbered_one, read_want, request_of}
 use Rattle.qc_front.specs.Conduct as fronts
 use Rattle.qc_front.proofs.AtOnce.{called_at_once, takes_at_once}
-use Rattle.qc_front.proofs.Keeping.{called_holds, ended_holds, takes_holds}
+use Rattle.qc_front.proofs.CommandsKeep.{called_holds}
+use Rattle.qc_front.proofs.Keeping.{ended_holds, takes_holds}
 use Rattle.qc_front.proofs.Numbering.{sent_holds}
 use Rattle.qc_client.specs.declared.client.Client.{Client}
 use Rattle.qc_client.specs.Names.{ClientMove, answered, answered_by, by_desk, by_front, called, client_does}

@@ -3,7 +3,7 @@ use Rattle.std.proofs.Common.{◌≡◌, ◌≤◌, ℕ, ◌+◌, ◌==◌, Bool
 use Rattle.std.proofs.Common.{Option, Some, None, inl, inr, refl, sym, ap, ◌∙◌, subst, append_assoc}
 use Rattle.std.specs.Prelude.{fold, option_to_list}
 use Rattle.std.specs.List.{AllByRecursion as Every}
-use Rattle.laws_turns.proofs.Proper.{IsAskableDeed}
+use Rattle.laws_turns.proofs.SoundClients.{IsAskableDeed}
 use Rattle.laws_due.proofs.Commanded.{run_askable}
 use Rattle.qc_list.proofs.Members.{every-weaker}
 use Rattle.qc_core.specs.Names.{IsLawfulWithFalls}
@@ -36,7 +36,8 @@ use Rattle.laws_due.proofs.Declaring.{first_planned}
 use Rattle.laws_due.proofs.PlannedMail.{IsMailPlanned, deeds_planned}
 use Rattle.qc_inbox.proofs.Keeping.{same_mail}
 use Rattle.laws_due.proofs.AllDue.{runs_due}
-use Rattle.laws_due.proofs.MailPlanned.{deeds_risen, lawful_writes, rise_askable, run_planned}
+use Rattle.laws_due.proofs.ActorsPlanned.{lawful_writes}
+use Rattle.laws_due.proofs.MailPlanned.{deeds_risen, rise_askable, run_planned}
 
 module _ (decl : Declaration) where
   -- steps that put records of epochs with plans alone into a journal

@@ -11,7 +11,7 @@ use Rattle.qc_core.specs.Lives as lives
 use Rattle.qc_client.specs.declared.client.Client.{Client}
 use Rattle.qc_decl.specs.declared.declaration.Declaration.{Declaration}
 use Rattle.qc_decl.specs.Names.{is_client}
-use Rattle.laws_turns.proofs.Replying.{running_more}
+use Rattle.laws_turns.proofs.TurnReplies.{running_more}
 use Rattle.qc_msg.specs.declared.record.Record.{Record}
 use Rattle.qc_msg.specs.declared.record.Record.TheVariants as records
 use Rattle.qc_msg.specs.declared.reply.Reply.TheVariants as replies

@@ -33,7 +33,8 @@ use Rattle.qc_site.specs.Names.{SiteMove, SiteState, answers, appends_by, fault_
 use Rattle.qc_site.specs.Names.{joins, moved, names_declared, new_site, passed, prepare_length, prepared_of, prepares}
 use Rattle.qc_site.specs.Names.{promise_of, promised, reads_by, relation_at, requested, site_at, site_does, site_takes}
 use Rattle.qc_site.specs.Names.{votes}
-use Rattle.qc_site.proofs.Cases.{close_cases, install_cases}
+use Rattle.qc_site.proofs.RequestCases.{close_cases}
+use Rattle.qc_site.proofs.Cases.{install_cases}
 
 abbrev pub NoCommit : Record → Type 0
 NoCommit records.Life = Unit {0}

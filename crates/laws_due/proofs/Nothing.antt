@@ -13,7 +13,7 @@ use Rattle.qc_promise.specs.Names.{Account, Current, answer_row, append_row, is_
 use Rattle.qc_promise.specs.Names.{row_of, running_row}
 use Rattle.laws_due.specs.Names.{Appends, Holds, IsDo, NoneRuns, Reads, Ties, Votes, appends, calls_in, reads, rests}
 use Rattle.laws_due.specs.Names.{votes}
-use Rattle.laws_due.proofs.Commits.{votes_out}
+use Rattle.laws_due.proofs.VotesCome.{votes_out}
 use Rattle.laws_due.proofs.Halves.{waiting_verdict}
 
 -- the row of a `do` that nothing refuses at once

@@ -7,7 +7,7 @@ use Rattle.std.specs.List.{filter_map}
 use Rattle.std.proofs.lemmas.Bool.{eqb-true}
 use Rattle.std.proofs.lemmas.List.Sums.{fold-append}
 use Rattle.qc_core.specs.Names.{IsLawfulWithFalls, MayTake, is_running, runs_at, with_record}
-use Rattle.laws_due.proofs.Happenings.{as_record}
+use Rattle.laws_due.proofs.Fallings.{as_record}
 use Rattle.qc_decl.specs.Names.{IsAccepted, controller, is_client}
 use Rattle.qc_decl.specs.declared.declaration.Declaration.{Declaration}
 use Rattle.qc_inbox.proofs.FallMail.{ready_sent}
@@ -31,7 +31,8 @@ use Rattle.qc_msg.specs.declared.turn.Posting.{Posting}
 use Rattle.qc_msg.specs.declared.turn.Turn.{Turn}
 use Rattle.qc_msg.specs.Names.{Deed, Entry, Falls, MayEnd, Rises, Sends, Takes, Tells, Writes, by, deeds, deeds_as}
 use Rattle.qc_msg.specs.Names.{mail, marked, posted_as, sends_of, step_of, tells_of, writes_of}
-use Rattle.qc_msg.proofs.Growth.{deeds-other, deeds-posted_as, deeds-taken}
+use Rattle.qc_msg.proofs.DeedsGrow.{deeds-other}
+use Rattle.qc_msg.proofs.Growth.{deeds-posted_as, deeds-taken}
 use Rattle.qc_recover.specs.Names.{rising}
 use Rattle.qc_script.specs.Names.{RunsWithFalls, begins, control, controls_left, damaged, falls, phase, phase_of, posts}
 use Rattle.qc_script.specs.Names.{ready, rises, takes, unopened}

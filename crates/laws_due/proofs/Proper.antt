@@ -16,7 +16,7 @@ use Rattle.qc_decl.specs.declared.declaration.Declaration.{Declaration}
 use Rattle.laws_due.proofs.Commanded.{run_askable}
 use Rattle.laws_turns.specs.Names.{AsksDeclared}
 use Rattle.laws_turns.proofs.Mailed.{both_all}
-use Rattle.laws_turns.proofs.Proper.{IsAskableDeed, IsAskableGiven, Sound, SoundMove, sent_sound, takes_sound}
+use Rattle.laws_turns.proofs.SoundClients.{IsAskableDeed, IsAskableGiven, Sound, SoundMove, sent_sound, takes_sound}
 use Rattle.laws_turns.proofs.Rounds.{AreProper, IsProper}
 use Rattle.laws_turns.proofs.Lived.{deeds-rise}
 use Rattle.qc_msg.specs.declared.message.Envelope.{Envelope}

@@ -1,10 +1,11 @@
 -- Where whoever gets an actor's requests answers them at once, an unanswered request is at its receiver.
-use Rattle.std.proofs.Common.{◌≡◌, ℕ, ◌+◌, ◌<◌, ◌≤◌, ◌==◌, ◌⊎◌, Bool, true, false, if◌then◌else◌, inl, inr, List, [], ◌∷◌, ◌++◌, drop, length, Some, None, slice_get, refl, sym, ap, ◌∙◌, subst, append_assoc}
+use Rattle.std.proofs.Common.{◌≡◌, ℕ, ◌+◌, ◌<◌, ◌≤◌, ◌==◌, Bool, true, false, List}
+use Rattle.std.proofs.Common.{◌∷◌, ◌++◌, length, Some, None, slice_get, refl, sym, ap, ◌∙◌, subst, append_assoc}
 use Rattle.std.specs.Prelude.{fold, slice_set}
 use Rattle.std.proofs.lemmas.Bool.{eq-eqb, eqb-true}
 use Rattle.std.proofs.lemmas.List.Sums.{fold-append}
 use Rattle.qc_list.specs.Names.{In}
-use Rattle.qc_core.specs.Names.{ActorMove, IsLawfulWithFalls, MayReach, actor_after, actor_takes, up_at, with_record}
+use Rattle.qc_core.specs.Names.{ActorMove, IsLawfulWithFalls, actor_after, actor_takes, with_record}
 use Rattle.qc_core.specs.Lives as lives
 use Rattle.qc_core.proofs.ByTurns.{after_takes, called_turn}
 use Rattle.qc_decl.specs.Names.{actors, controller}
@@ -12,8 +13,7 @@ use Rattle.qc_decl.specs.declared.declaration.Declaration.{Declaration}
 use Rattle.qc_inbox.proofs.FallLaws.{lines_close}
 use Rattle.qc_inbox.proofs.FallMail.{ready_sent}
 use Rattle.laws_turns.specs.Names.{IsAtReceiver, IsTaken, LivesIn}
-use Rattle.laws_turns.proofs.Covered.{ready_copy}
-use Rattle.laws_turns.proofs.Places.{slice_get-set_other, slice_get-set_same}
+use Rattle.laws_turns.proofs.Places.{slice_get-set_other}
 use Rattle.qc_link.specs.Names.{most_actors}
 use Rattle.laws_turns.proofs.Lived.{run_lives}
 use Rattle.qc_msg.specs.declared.message.Envelope.{Envelope}
@@ -23,160 +23,43 @@ use Rattle.qc_msg.specs.declared.record.Record.{Record}
 use Rattle.qc_msg.specs.declared.step.Control.{Control}
 use Rattle.qc_msg.specs.declared.step.Control.TheVariants as controls
 use Rattle.qc_msg.specs.declared.step.Fall.TheVariants as causes
-use Rattle.qc_msg.specs.declared.step.Input.{Input}
 use Rattle.qc_msg.specs.declared.step.Input.TheVariants as inputs
 use Rattle.qc_msg.specs.declared.step.Step.{Step}
 use Rattle.qc_msg.specs.declared.step.Step.TheVariants as steps
 use Rattle.qc_msg.specs.declared.turn.Appended.{Appended}
 use Rattle.qc_msg.specs.declared.turn.Appended.TheVariants.{Done, Failed, Stopped}
-use Rattle.qc_msg.specs.declared.turn.Posting.{Posting}
 use Rattle.qc_msg.specs.declared.turn.Turn.{Turn}
-use Rattle.qc_msg.specs.Names.{Deed, Entry, Takes, by, deeds, fell, mail, marked, posted, posted_as, sends_as, sents}
-use Rattle.qc_msg.specs.Names.{step_of, told}
-use Rattle.qc_msg.proofs.GrownMail.{mail-taken}
-use Rattle.qc_msg.proofs.Growth.{deeds-other, deeds-taken}
+use Rattle.qc_msg.specs.Names.{Deed, Entry, Takes, by, deeds, fell, mail, marked, posted, posted_as, sents}
+use Rattle.qc_msg.specs.Names.{told}
+use Rattle.qc_msg.proofs.DeedsGrow.{deeds-other}
+use Rattle.qc_msg.proofs.Growth.{deeds-taken}
 use Rattle.qc_script.specs.declared.script.Script.{Script}
-use Rattle.qc_script.specs.Names.{Inbox, RunsWithFalls, SentRequest, begins, command_called, control, controller_step}
-use Rattle.qc_script.specs.Names.{controls_left, copy_taken, damaged, empty_inbox, falls, inbox, inbox_at, is_request}
-use Rattle.qc_script.specs.Names.{loss_taken, phase, phase_of, posts, ready, ready_in, request_numbers, rises, takes}
+use Rattle.qc_script.specs.Names.{Inbox, RunsWithFalls, SentRequest, begins, control, controller_step}
+use Rattle.qc_script.specs.Names.{controls_left, damaged, empty_inbox, falls, inbox}
+use Rattle.qc_script.specs.Names.{phase, phase_of, posts, request_numbers, rises, takes}
 use Rattle.qc_script.specs.Names.{unopened}
-use Rattle.laws_due.proofs.Answering.{IsSpared, copies_left}
-use Rattle.laws_due.proofs.Places.{apart}
-use Rattle.laws_due.proofs.Plain.{inbox_then}
-use Rattle.laws_due.proofs.Somewhere.{AreSomewhere, AreToOthers, IsOther, IsSomewhere, MayAllFollow, MayFollow, all_follow, post_follows}
+use Rattle.laws_due.proofs.Somewhere.{AreSomewhere, IsSomewhere, MayAllFollow, MayFollow}
+use Rattle.laws_due.proofs.Somewhere.{all_follow, post_follows}
 use Rattle.laws_due.proofs.SiteTurns.{fell_last, step_on, took_up, turn_ends}
+use Rattle.laws_due.proofs.Taken.{in_numbers, of_number, RepliesTo, IsReplied, AreReplied, moved_to, taken_stays}
+use Rattle.laws_due.proofs.Taken.{take_kept}
 
--- requests and their numbers
-
-in_numbers : (r : SentRequest) (rs : List SentRequest) → In r rs → In r.number (request_numbers rs)
-in_numbers r [] member = absurd member
-in_numbers r (x ∷ rs) (inl same) = inl (ap (λ (y : SentRequest). y.number) same)
-in_numbers r (x ∷ rs) (inr later) = inr (in_numbers r rs later)
-
-of_number : (n : ℕ) (rs : List SentRequest) → In n (request_numbers rs) → (r : SentRequest) × (In r rs × (r.number ≡ n))
-of_number n [] member = absurd member
-of_number n (r ∷ rs) (inl same) = (r, (inl refl, sym same))
-of_number n (r ∷ rs) (inr later) = let found : (r : SentRequest) × (In r rs × (r.number ≡ n)) = of_number n rs later in (found.0, (inr found.1.0, found.1.1))
-
--- an input
-
-same_if : (t : Bool) (i j : Inbox) (rs : List SentRequest) → i.unanswered ≡ rs → j.unanswered ≡ rs → (if t then i else j).unanswered ≡ rs
-same_if true i j rs here there = here
-same_if false i j rs here there = there
-
-same_unanswered : (script : Script) (a : ℕ) (i : Inbox) (b : ℕ) (g : Input) → (inbox_at script a i b (step_of g)).unanswered ≡ i.unanswered
-same_unanswered script a i b (inputs.Called command) = same_if (b == a) (command_called i) i i.unanswered refl refl
-same_unanswered script a i b (inputs.Got e) = same_if (b == a) (copy_taken i) i i.unanswered refl refl
-same_unanswered script a i b (inputs.Lost n) = same_if (b == a) (loss_taken i) i i.unanswered refl refl
-
-input_spares : (s b : ℕ) (g : Input) → (s == b) ≡ false → IsSpared s b (step_of g)
-input_spares s b (inputs.Called command) other = tt
-input_spares s b (inputs.Got e) other = other
-input_spares s b (inputs.Lost n) other = tt
-
--- what the taker has ready is what it takes, or is ready still
-own_copies : (script : Script) (decl : Declaration) (b : ℕ) (i : Inbox) (g : Input) (x : Envelope) → ready_in decl b i ≡ Some g → In x i.copies → (g ≡ inputs.Got x) ⊎ In x (inbox_at script b i b (step_of g)).copies
-own_copies script decl b i (inputs.Called command) x rdy there = inr (subst (λ (t : Bool). In x (if t then command_called i else i).copies) (sym (eq-eqb b b refl)) there)
-own_copies script decl b i (inputs.Lost n) x rdy there = inr (subst (λ (t : Bool). In x (if t then loss_taken i else i).copies) (sym (eq-eqb b b refl)) there)
-own_copies script decl b i (inputs.Got e) x rdy there = at (subst (In x) (ready_copy decl b i e rdy) there)
-  where
-    at : In x (e ∷ drop 1 i.copies) → (inputs.Got e ≡ inputs.Got x) ⊎ In x (if b == b then copy_taken i else i).copies
-    at (inl same) = inl (ap (λ (v : Envelope). inputs.Got v) (sym same))
-    at (inr later) = inr (subst (λ (t : Bool). In x (if t then copy_taken i else i).copies) (sym (eq-eqb b b refl)) later)
-
--- the answer to a request comes first
-
-pub record RepliesTo (e : Envelope) (t : Turn) : Type 0 where
-  pub answer : Answer
-  pub rest : List Posting
-  pub sends : t.sends ≡ record { to = e.from; message = messages.Answer e.number answer } ∷ rest
-
--- whoever gets a request of actor a is another, and answers it at once where it is up
-pub record IsReplied (decl : Declaration) (a : ℕ) (e : Envelope) : Type 0 where
-  pub other : IsOther a e.to
-  pub replies : (ds : List Deed) → lives.is_up ds ≡ true → RepliesTo e (actor_takes decl (actor_after decl e.to ds).actor (inputs.Got e)).turn
-
--- so it is with each request of actor a in each run, and with what it sends
-pub record AreReplied (decl : Declaration) (script : Script) (fits : ℕ → List Record → Type 0) (a : ℕ) : Type 0 where
-  pub replied : (h : List Entry) (open_inputs : List Bool) → RunsWithFalls (IsLawfulWithFalls decl) fits decl script h open_inputs → (e : Envelope) → In e (mail h) → e.from ≡ a → is_request e.message ≡ true → IsReplied decl a e
-  pub posts : (older : List Entry) (before after : List Bool) → RunsWithFalls (IsLawfulWithFalls decl) fits decl script older before → (b : ℕ) (turn : Turn)
-      → RunsWithFalls (IsLawfulWithFalls decl) fits decl script (older ++ by b (posted_as turn.append (length (mail older)) turn)) after
-      → IsLawfulWithFalls decl b (deeds b [] older) turn → b ≡ a → AreToOthers a (sends_as turn.append turn)
-  pub rises : (older : List Entry) (before after : List Bool) → RunsWithFalls (IsLawfulWithFalls decl) fits decl script older before → (b : ℕ) (kept : List Record) (turn : Turn)
-      → RunsWithFalls (IsLawfulWithFalls decl) fits decl script (older ++ by b (steps.Rose kept ∷ posted_as turn.append (length (mail older)) turn)) after
-      → IsLawfulWithFalls decl b (deeds b [] (older ++ marked b (steps.Rose kept) ∷ [])) turn → b ≡ a → AreToOthers a (sends_as turn.append turn)
-
-module _ (decl : Declaration) (script : Script) (fits : ℕ → List Record → Type 0) (few : actors decl ≤ most_actors) (a : ℕ) (a_low : a < most_actors) (are_replied : AreReplied decl script fits a) where
+module _ (decl : Declaration) (script : Script) (fits : ℕ → List Record → Type 0) (few : actors decl ≤ most_actors)
+    (a : ℕ) (a_low : a < most_actors) (are_replied : AreReplied decl script fits a) where
   abbrev IsRun : List Entry → List Bool → Type 0
   IsRun h open_inputs = RunsWithFalls (IsLawfulWithFalls decl) fits decl script h open_inputs
 
   abbrev IsKept : List Entry → List Bool → Type 0
   IsKept h open_inputs = AreSomewhere script (IsTaken h open_inputs) h a
 
-  -- where else it may be, as that becomes another
-  moved_to : (X Y : Envelope → Type 0) (h : List Entry) → ((r : SentRequest) (s : IsSomewhere script X h a r) → In r (inbox script a h).unanswered → X s.envelope → Y s.envelope) → AreSomewhere script X h a → AreSomewhere script Y h a
-  moved_to X Y h change are r member = at (are r member)
-    where
-      at : IsSomewhere script X h a r → IsSomewhere script Y h a r
-      at s = record { envelope = s.envelope; number = s.number; to = s.to; from = s.from; request = s.request; sent = s.sent; place = on s.place }
-        where
-          on : In s.envelope (inbox script s.envelope.to h).copies ⊎ X s.envelope → In s.envelope (inbox script s.envelope.to h).copies ⊎ Y s.envelope
-          on (inl there) = inl there
-          on (inr taken) = inr (change r s member taken)
-
-  -- another's entries leave the open input of an actor
-  taken_stays : (older k : List Entry) (before after : List Bool) (e : Envelope) → deeds e.to [] (older ++ k) ≡ deeds e.to [] older → slice_get after e.to ≡ slice_get before e.to → IsTaken older before e → IsTaken (older ++ k) after e
-  taken_stays older k before after e same place t = record { is_open = place ∙ t.is_open; before = t.before; last = same ∙ t.last }
-
-  take_kept : (b : ℕ) (g : Input) (before : List Bool) (older : List Entry) → slice_get before b ≡ Some false → ready decl script b older ≡ Some g
-      → deeds b [] (older ++ marked b (step_of g) ∷ []) ≡ deeds b [] older ++ Takes g ∷ [] → IsKept older before → IsKept (older ++ marked b (step_of g) ∷ []) (slice_set before b true)
-  take_kept b g before older free rdy grown are r member =
-      on (are r (subst (In r) (ap (λ (i : Inbox). i.unanswered) (inbox_then script a older (marked b (step_of g))) ∙ same_unanswered script a (inbox script a older) b g) member))
-    where
-      on : IsSomewhere script (IsTaken older before) older a r → IsSomewhere script (IsTaken (older ++ marked b (step_of g) ∷ []) (slice_set before b true)) (older ++ marked b (step_of g) ∷ []) a r
-      on s = record {
-        envelope = s.envelope;
-        number = s.number;
-        to = s.to;
-        from = s.from;
-        request = s.request;
-        sent = subst (In s.envelope) (sym (mail-taken older b g)) s.sent;
-        place = spot s.place;
-      }
-        where
-          copied : In s.envelope (inbox_at script s.envelope.to (inbox script s.envelope.to older) b (step_of g)).copies → In s.envelope (inbox script s.envelope.to (older ++ marked b (step_of g) ∷ [])).copies
-          copied there = subst (λ (i : Inbox). In s.envelope i.copies) (sym (inbox_then script s.envelope.to older (marked b (step_of g)))) there
-
-          here : b ≡ s.envelope.to → In s.envelope (inbox script s.envelope.to older).copies
-              → In s.envelope (inbox script s.envelope.to (older ++ marked b (step_of g) ∷ [])).copies ⊎ IsTaken (older ++ marked b (step_of g) ∷ []) (slice_set before b true) s.envelope
-          here is there = by (own_copies script decl b (inbox script b older) g s.envelope rdy (subst (λ (k : ℕ). In s.envelope (inbox script k older).copies) (sym is) there))
-            where
-              by : (g ≡ inputs.Got s.envelope) ⊎ In s.envelope (inbox_at script b (inbox script b older) b (step_of g)).copies
-                  → In s.envelope (inbox script s.envelope.to (older ++ marked b (step_of g) ∷ [])).copies ⊎ IsTaken (older ++ marked b (step_of g) ∷ []) (slice_set before b true) s.envelope
-              by (inl it) = inr (record {
-                is_open = subst (λ (k : ℕ). slice_get (slice_set before b true) k ≡ Some true) is (slice_get-set_same before b true false free);
-                before = deeds b [] older;
-                last = subst (λ (k : ℕ). deeds k [] (older ++ marked b (step_of g) ∷ []) ≡ deeds b [] older ++ Takes (inputs.Got s.envelope) ∷ []) is (grown ∙ ap (λ (x : Input). deeds b [] older ++ Takes x ∷ []) it);
-              })
-              by (inr still) = inl (copied (subst (λ (k : ℕ). In s.envelope (inbox_at script k (inbox script k older) b (step_of g)).copies) is still))
-
-          spot : In s.envelope (inbox script s.envelope.to older).copies ⊎ IsTaken older before s.envelope
-              → In s.envelope (inbox script s.envelope.to (older ++ marked b (step_of g) ∷ [])).copies ⊎ IsTaken (older ++ marked b (step_of g) ∷ []) (slice_set before b true) s.envelope
-          spot (inl there) = at (s.envelope.to == b) refl
-            where
-              at : (t : Bool) → (s.envelope.to == b) ≡ t
-                  → In s.envelope (inbox script s.envelope.to (older ++ marked b (step_of g) ∷ [])).copies ⊎ IsTaken (older ++ marked b (step_of g) ∷ []) (slice_set before b true) s.envelope
-              at true mine = here (sym (eqb-true s.envelope.to b mine)) there
-              at false other = inl (copied (copies_left script s.envelope.to (inbox script s.envelope.to older) b (step_of g) (input_spares s.envelope.to b g other) s.envelope there))
-          spot (inr t) =
-              let differs : b ≡ s.envelope.to → ⊥ = λ is. (let one : slice_get before s.envelope.to ≡ Some false = subst (λ (k : ℕ). slice_get before k ≡ Some false) is free in let two : slice_get before s.envelope.to ≡ Some true = t.is_open in let never : ⊥ = cc in never) in
-              inr (taken_stays older (marked b (step_of g) ∷ []) before (slice_set before b true) s.envelope (deeds-other b s.envelope.to [] older (step_of g ∷ []) (apart b s.envelope.to differs)) (slice_get-set_other before b s.envelope.to true differs) t)
-
   -- who has taken a request and posts answers it, or falls
 
-  post_over : (older : List Entry) (before : List Bool) (b n : ℕ) (turn : Turn) → IsRun older before → slice_get before b ≡ Some true → IsLawfulWithFalls decl b (deeds b [] older) turn
-      → (first : List Deed) (e : Envelope) → IsReplied decl a e → e.to ≡ b → e.from ≡ a → deeds b [] older ≡ first ++ Takes (inputs.Got e) ∷ []
-      → (r : SentRequest) → r.number ≡ e.number → r.to ≡ b → In r (inbox script a (older ++ by b (posted_as turn.append n turn))).unanswered → ⊥
+  post_over : (older : List Entry) (before : List Bool) (b n : ℕ) (turn : Turn) → IsRun older before
+      → slice_get before b ≡ Some true → IsLawfulWithFalls decl b (deeds b [] older) turn
+      → (first : List Deed) (e : Envelope) → IsReplied decl a e → e.to ≡ b → e.from ≡ a
+          → deeds b [] older ≡ first ++ Takes (inputs.Got e) ∷ []
+      → (r : SentRequest) → r.number ≡ e.number → r.to ≡ b
+          → In r (inbox script a (older ++ by b (posted_as turn.append n turn))).unanswered → ⊥
   post_over older before b n turn run open_b law first e d to from last r number to_b = ends turn.append
     where
       not_a : (b == a) ≡ false
@@ -189,13 +72,20 @@ module _ (decl : Declaration) (script : Script) (fits : ℕ → List Record → 
       up = took_up decl b (deeds b [] older) lived.above lived.lives first e last
 
       reply : RepliesTo e (actor_takes decl (actor_after decl b first).actor (inputs.Got e)).turn
-      reply = subst (λ (k : ℕ). RepliesTo e (actor_takes decl (actor_after decl k first).actor (inputs.Got e)).turn) to (d.replies first up)
+      reply =
+          subst (λ (k : ℕ). RepliesTo e (actor_takes decl (actor_after decl k first).actor (inputs.Got e)).turn) to
+          (d.replies first up)
 
       turn_is : with_record turn ≡ (actor_takes decl (actor_after decl b first).actor (inputs.Got e)).turn
-      turn_is = sym (called_turn decl b (deeds b [] older) turn law) ∙ ap (λ (ds : List Deed). (actor_after decl b ds).turn) last ∙ ap (λ (m : ActorMove). m.turn) (after_takes decl b first (inputs.Got e))
+      turn_is =
+          sym (called_turn decl b (deeds b [] older) turn law)
+          ∙ ap (λ (ds : List Deed). (actor_after decl b ds).turn) last
+          ∙ ap (λ (m : ActorMove). m.turn) (after_takes decl b first (inputs.Got e))
 
       sends : turn.sends ≡ record { to = a; message = messages.Answer e.number reply.answer } ∷ reply.rest
-      sends = ap (λ (t : Turn). t.sends) turn_is ∙ reply.sends ∙ ap (λ (k : ℕ). record { to = k; message = messages.Answer e.number reply.answer } ∷ reply.rest) from
+      sends =
+          ap (λ (t : Turn). t.sends) turn_is ∙ reply.sends
+          ∙ ap (λ (k : ℕ). record { to = k; message = messages.Answer e.number reply.answer } ∷ reply.rest) from
 
       gone : (r.to == b) ≡ false → ⊥
       gone other = let yes : (r.to == b) ≡ true = eq-eqb r.to b to_b in let never : ⊥ = cc in never
@@ -203,67 +93,133 @@ module _ (decl : Declaration) (script : Script) (fits : ℕ → List Record → 
       ends : (end : Appended) → In r (inbox script a (older ++ by b (posted_as end n turn))).unanswered → ⊥
       ends Done member =
           turn_ends script a b not_a (inbox script a older) n turn e.number reply.answer reply.rest sends
-          (subst (λ (k : ℕ). In k (request_numbers (fold (step_on script a b not_a) (inbox script a older) (by b (posted n turn))).unanswered)) number
-          (in_numbers r _ (subst (λ (i : Inbox). In r i.unanswered) (fold-append (step_on script a b not_a) empty_inbox older (by b (posted n turn))) member)))
+          (subst (λ (k : ℕ). In k
+              (request_numbers
+                (fold (step_on script a b not_a) (inbox script a older) (by b (posted n turn))).unanswered)) number
+          (in_numbers r _
+              (subst (λ (i : Inbox). In r i.unanswered)
+                (fold-append (step_on script a b not_a) empty_inbox older (by b (posted n turn))) member)))
       ends Failed member = gone (fell_last script a b older (sents n turn.failed_sends ++ told turn.failed_told) causes.Disk turn.write r
-          (subst (λ (xs : List Step). In r (inbox script a (older ++ by b xs)).unanswered) (sym (append_assoc (sents n turn.failed_sends) (told turn.failed_told) (fell causes.Disk turn.write))) member))
+          (subst (λ (xs : List Step). In r (inbox script a (older ++ by b xs)).unanswered)
+              (sym (append_assoc (sents n turn.failed_sends) (told turn.failed_told) (fell causes.Disk turn.write)))
+              member))
       ends Stopped member = gone (fell_last script a b older (told turn.failed_told) causes.Stop turn.write r member)
 
-  post_kept : (b : ℕ) (turn : Turn) (before : List Bool) (older : List Entry) → IsRun older before → slice_get before b ≡ Some true → IsLawfulWithFalls decl b (deeds b [] older) turn
-      → IsRun (older ++ by b (posted_as turn.append (length (mail older)) turn)) (slice_set before b false) → IsKept older before → IsKept (older ++ by b (posted_as turn.append (length (mail older)) turn)) (slice_set before b false)
+  post_kept : (b : ℕ) (turn : Turn) (before : List Bool) (older : List Entry) → IsRun older before
+      → slice_get before b ≡ Some true → IsLawfulWithFalls decl b (deeds b [] older) turn
+      → IsRun (older ++ by b (posted_as turn.append (length (mail older)) turn)) (slice_set before b false)
+          → IsKept older before
+          → IsKept (older ++ by b (posted_as turn.append (length (mail older)) turn)) (slice_set before b false)
   post_kept b turn before older run open_b law whole are =
-      moved_to (IsTaken older before) (IsTaken (older ++ by b (posted_as turn.append (length (mail older)) turn)) (slice_set before b false)) (older ++ by b (posted_as turn.append (length (mail older)) turn)) change
+      moved_to decl script fits few a a_low are_replied (IsTaken older before)
+          (IsTaken (older ++ by b (posted_as turn.append (length (mail older)) turn)) (slice_set before b false))
+          (older ++ by b (posted_as turn.append (length (mail older)) turn)) change
       (all_follow script (IsTaken older before) a a_low older (by b (posted_as turn.append (length (mail older)) turn))
-      (post_follows a b (length (mail older)) turn.append turn (are_replied.posts older before (slice_set before b false) run b turn whole law)) are)
+      (post_follows a b (length (mail older)) turn.append turn
+          (are_replied.posts older before (slice_set before b false) run b turn whole law)) are)
     where
-      change : (r : SentRequest) (s : IsSomewhere script (IsTaken older before) (older ++ by b (posted_as turn.append (length (mail older)) turn)) a r) → In r (inbox script a (older ++ by b (posted_as turn.append (length (mail older)) turn))).unanswered
-          → IsTaken older before s.envelope → IsTaken (older ++ by b (posted_as turn.append (length (mail older)) turn)) (slice_set before b false) s.envelope
+      change : (r : SentRequest)
+          (s : IsSomewhere script (IsTaken older before)
+            (older ++ by b (posted_as turn.append (length (mail older)) turn)) a r)
+          → In r (inbox script a (older ++ by b (posted_as turn.append (length (mail older)) turn))).unanswered
+          → IsTaken older before s.envelope
+              → IsTaken (older ++ by b (posted_as turn.append (length (mail older)) turn)) (slice_set before b false)
+                s.envelope
       change r s member t = on (b == s.envelope.to) refl
         where
-          on : (same : Bool) → (b == s.envelope.to) ≡ same → IsTaken (older ++ by b (posted_as turn.append (length (mail older)) turn)) (slice_set before b false) s.envelope
+          on : (same : Bool) → (b == s.envelope.to) ≡ same
+              → IsTaken (older ++ by b (posted_as turn.append (length (mail older)) turn)) (slice_set before b false)
+                s.envelope
           on false other =
-              taken_stays older (by b (posted_as turn.append (length (mail older)) turn)) before (slice_set before b false) s.envelope (deeds-other b s.envelope.to [] older (posted_as turn.append (length (mail older)) turn) other)
-              (slice_get-set_other before b s.envelope.to false (λ is. (let yes : (b == s.envelope.to) ≡ true = eq-eqb b s.envelope.to is in let never : ⊥ = cc in never))) t
+              taken_stays decl script fits few a a_low are_replied older
+                  (by b (posted_as turn.append (length (mail older)) turn)) before
+                  (slice_set before b false) s.envelope
+                  (deeds-other b s.envelope.to [] older (posted_as turn.append (length (mail older)) turn) other)
+              (slice_get-set_other before b s.envelope.to false
+                  (λ is.
+                    (let yes : (b == s.envelope.to) ≡ true = eq-eqb b s.envelope.to is in let never : ⊥ = cc in never)))
+                  t
           on true mine =
               let is : b ≡ s.envelope.to = eqb-true b s.envelope.to mine in
               absurd (post_over older before b (length (mail older)) turn run open_b law t.before s.envelope
-              (are_replied.replied (older ++ by b (posted_as turn.append (length (mail older)) turn)) (slice_set before b false) whole s.envelope s.sent s.from s.request)
-              (sym is) s.from (subst (λ (k : ℕ). deeds k [] older ≡ t.before ++ Takes (inputs.Got s.envelope) ∷ []) (sym is) t.last) r (sym s.number) (sym s.to ∙ sym is) member)
+              (are_replied.replied (older ++ by b (posted_as turn.append (length (mail older)) turn))
+                  (slice_set before b false) whole s.envelope s.sent s.from s.request)
+              (sym is) s.from
+                  (subst (λ (k : ℕ). deeds k [] older ≡ t.before ++ Takes (inputs.Got s.envelope) ∷ []) (sym is) t.last)
+                  r (sym s.number) (sym s.to ∙ sym is) member)
 
   -- events where no input is open
-  closed_kept : (older k : List Entry) (before : List Bool) → ((b : ℕ) → slice_get before b ≡ Some true → ⊥) → MayAllFollow a k → IsKept older before → IsKept (older ++ k) before
+  closed_kept : (older k : List Entry) (before : List Bool) → ((b : ℕ) → slice_get before b ≡ Some true → ⊥)
+      → MayAllFollow a k → IsKept older before → IsKept (older ++ k) before
   closed_kept older k before none may are =
-      moved_to (IsTaken older before) (IsTaken (older ++ k) before) (older ++ k) (λ r s member t. absurd (none s.envelope.to t.is_open)) (all_follow script (IsTaken older before) a a_low older k may are)
+      moved_to decl script fits few a a_low are_replied (IsTaken older before) (IsTaken (older ++ k) before)
+          (older ++ k)
+          (λ r s member t. absurd (none s.envelope.to t.is_open))
+          (all_follow script (IsTaken older before) a a_low older k may are)
 
-  line_kept : (older k : List Entry) (before : List Bool) → IsRun older before → (line : Control) (lines : List Control) → controls_left script older ≡ line ∷ lines → MayAllFollow a k → IsKept older before → IsKept (older ++ k) before
-  line_kept older k before run line lines left may are = closed_kept older k before (lines_close (IsLawfulWithFalls decl) fits decl script older before few run line lines left) may are
+  line_kept : (older k : List Entry) (before : List Bool) → IsRun older before → (line : Control) (lines : List Control)
+      → controls_left script older ≡ line ∷ lines → MayAllFollow a k → IsKept older before → IsKept (older ++ k) before
+  line_kept older k before run line lines left may are =
+      closed_kept older k before
+      (lines_close (IsLawfulWithFalls decl) fits decl script older before few run line lines left) may are
 
   control_follows : (c : ℕ) (line : Control) (step : Step) → controller_step line ≡ Some step → MayFollow a c step
   control_follows c (controls.Phase k) step is = absurd (let never : ⊥ = cc in never)
   control_follows c (controls.Cut x y) step is = subst (MayFollow a c) (let same : steps.Cut x y ≡ step = cc in same) tt
-  control_follows c (controls.Heal x y) step is = subst (MayFollow a c) (let same : steps.Heal x y ≡ step = cc in same) tt
-  control_follows c (controls.Armed r kind place) step is = subst (MayFollow a c) (let same : steps.Armed r kind place ≡ step = cc in same) tt
+  control_follows c (controls.Heal x y) step is =
+      subst (MayFollow a c) (let same : steps.Heal x y ≡ step = cc in same) tt
+  control_follows c (controls.Armed r kind place) step is =
+      subst (MayFollow a c) (let same : steps.Armed r kind place ≡ step = cc in same) tt
   control_follows c (controls.Crash x) step is = absurd (let never : ⊥ = cc in never)
   control_follows c (controls.Restart x) step is = absurd (let never : ⊥ = cc in never)
 
   pub run_kept : (h : List Entry) (open_inputs : List Bool) → IsRun h open_inputs → IsKept h open_inputs
   run_kept h open_inputs begins = λ r member. absurd member
-  run_kept h open_inputs (takes b g before older run free rdy) = take_kept b g before older free rdy (deeds-taken b older g (ready_sent (IsLawfulWithFalls decl) fits decl script older before run b g rdy)) (run_kept older before run)
-  run_kept h open_inputs (posts b turn before older run open_b law) = post_kept b turn before older run open_b law (posts b turn before older run open_b law) (run_kept older before run)
-  run_kept h open_inputs (phase before older run none done quiet_all more) = closed_kept older (marked (controller decl) (steps.Phase (phase_of older + 1)) ∷ []) before none (tt, tt) (run_kept older before run)
-  run_kept h open_inputs (control line lines step before older run left is) = line_kept older (marked (controller decl) step ∷ []) before run line lines left (control_follows (controller decl) line step is, tt) (run_kept older before run)
-  run_kept h open_inputs (falls b lines before older run left) = line_kept older (marked b (steps.Fell causes.Script None) ∷ []) before run (controls.Crash b) lines left (tt, tt) (run_kept older before run)
+  run_kept h open_inputs (takes b g before older run free rdy) =
+      take_kept decl script fits few a a_low are_replied b g before older free rdy
+      (deeds-taken b older g (ready_sent (IsLawfulWithFalls decl) fits decl script older before run b g rdy))
+      (run_kept older before run)
+  run_kept h open_inputs (posts b turn before older run open_b law) =
+      post_kept b turn before older run open_b law (posts b turn before older run open_b law)
+      (run_kept older before run)
+  run_kept h open_inputs (phase before older run none done quiet_all more) =
+      closed_kept older (marked (controller decl) (steps.Phase (phase_of older + 1)) ∷ []) before none (tt, tt)
+      (run_kept older before run)
+  run_kept h open_inputs (control line lines step before older run left is) =
+      line_kept older (marked (controller decl) step ∷ []) before run line lines left
+      (control_follows (controller decl) line step is, tt) (run_kept older before run)
+  run_kept h open_inputs (falls b lines before older run left) =
+      line_kept older (marked b (steps.Fell causes.Script None) ∷ []) before run (controls.Crash b) lines left (tt, tt)
+      (run_kept older before run)
   run_kept h open_inputs (rises b kept turn lines before older run left fit has law) =
-      line_kept older (by b (steps.Rose kept ∷ posted_as turn.append (length (mail older)) turn)) before run (controls.Restart b) lines left
-      (tt, post_follows a b (length (mail older)) turn.append turn (are_replied.rises older before before run b kept turn (rises b kept turn lines before older run left fit has law) law)) (run_kept older before run)
-  run_kept h open_inputs (damaged b offset lines before older run left) = line_kept older (marked b (steps.Damaged offset) ∷ []) before run (controls.Restart b) lines left (tt, tt) (run_kept older before run)
-  run_kept h open_inputs (unopened b cause lines before older run left disk) = line_kept older (marked b (steps.Fell cause None) ∷ []) before run (controls.Restart b) lines left (tt, tt) (run_kept older before run)
+      line_kept older (by b (steps.Rose kept ∷ posted_as turn.append (length (mail older)) turn)) before run
+          (controls.Restart b) lines left
+      (tt,
+          post_follows a b (length (mail older)) turn.append turn
+            (are_replied.rises older before before run b kept turn
+              (rises b kept turn lines before older run left fit has law) law)) (run_kept older before run)
+  run_kept h open_inputs (damaged b offset lines before older run left) =
+      line_kept older (marked b (steps.Damaged offset) ∷ []) before run (controls.Restart b) lines left (tt, tt)
+      (run_kept older before run)
+  run_kept h open_inputs (unopened b cause lines before older run left disk) =
+      line_kept older (marked b (steps.Fell cause None) ∷ []) before run (controls.Restart b) lines left (tt, tt)
+      (run_kept older before run)
 
   -- an unanswered request is at its receiver
-  pub unanswered_at_receiver : (h : List Entry) (open_inputs : List Bool) → IsRun h open_inputs → (n : ℕ) → In n (request_numbers (inbox script a h).unanswered) → IsAtReceiver script h open_inputs a n
+  pub unanswered_at_receiver : (h : List Entry) (open_inputs : List Bool) → IsRun h open_inputs → (n : ℕ)
+      → In n (request_numbers (inbox script a h).unanswered) → IsAtReceiver script h open_inputs a n
   unanswered_at_receiver h open_inputs run n member = at (of_number n (inbox script a h).unanswered member)
     where
-      at : (r : SentRequest) × (In r (inbox script a h).unanswered × (r.number ≡ n)) → IsAtReceiver script h open_inputs a n
+      at : (r : SentRequest) × (In r (inbox script a h).unanswered × (r.number ≡ n))
+          → IsAtReceiver script h open_inputs a n
       at found =
-          let s : IsSomewhere script (IsTaken h open_inputs) h a found.0 = run_kept h open_inputs run found.0 found.1.0 in
-          record { envelope = s.envelope; number = s.number ∙ found.1.1; from = s.from; request = s.request; sent = s.sent; place = s.place }
+          let s : IsSomewhere script (IsTaken h open_inputs) h a found.0 =
+                  run_kept h open_inputs run found.0 found.1.0 in
+          record {
+                envelope = s.envelope;
+                number = s.number ∙ found.1.1;
+                from = s.from;
+                request = s.request;
+                sent = s.sent;
+                place = s.place
+              }

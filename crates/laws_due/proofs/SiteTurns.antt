@@ -40,7 +40,7 @@ use Rattle.qc_script.specs.Names.{Inbox, SentRequest, inbox, inbox_at, is_reques
 use Rattle.qc_site.specs.Names.{SiteState, new_site, site_at, site_takes}
 use Rattle.qc_recover.specs.Names.{client_rises, site_rises}
 use Rattle.laws_due.proofs.Answering.{after_fall}
-use Rattle.laws_due.proofs.Plain.{inbox_then}
+use Rattle.laws_due.proofs.PlainSteps.{inbox_then}
 
 -- a site answers each request that names what is declared
 

@@ -25,7 +25,8 @@ use Rattle.qc_script.specs.Names.{Inbox, SentRequest, comes_at_once, count_of, i
 use Rattle.laws_due.proofs.Answering.{IsNew, IsSpared, IsStill, copies_left, copy_made, others_fewer, own_new}
 use Rattle.laws_due.proofs.Answering.{silent_fewer, still_left}
 use Rattle.laws_due.proofs.Places.{apart}
-use Rattle.laws_due.proofs.Plain.{entries, inbox_then}
+use Rattle.laws_due.proofs.PlainSteps.{inbox_then}
+use Rattle.laws_due.proofs.Plain.{entries}
 
 pub record IsSomewhere (script : Script) (X : Envelope → Type 0) (h : List Entry) (a : ℕ)
     (r : SentRequest) : Type 0 where

@@ -21,7 +21,7 @@ use Rattle.qc_msg.specs.Names.{writes_of}
 use Rattle.qc_promise.specs.Names.{Account, AreDeedsDue, account_at, account_of, new_account, pending_first}
 use Rattle.qc_promise.specs.Names.{pending_next, posted_next}
 use Rattle.laws_due.specs.Names.{Holds, IsDeclaredDeed, Ties}
-use Rattle.laws_due.proofs.Dues.{IsWithin}
+use Rattle.laws_due.proofs.DuesOfDeeds.{IsWithin}
 
 -- deeds behind others: of one that is up they begin with no act of its post, and of one that is down with no record
 -- pending

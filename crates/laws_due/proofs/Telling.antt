@@ -10,7 +10,7 @@ use Rattle.qc_client.specs.Names.{ClientMove, client_does, client_takes}
 use Rattle.qc_decl.specs.declared.declaration.Declaration.{Declaration}
 use Rattle.qc_decl.specs.Names.{is_client}
 use Rattle.laws_turns.specs.Names.{IsAskable, is_waiting}
-use Rattle.laws_turns.proofs.Proper.{IsAskableGiven}
+use Rattle.laws_turns.proofs.SoundClients.{IsAskableGiven}
 use Rattle.laws_turns.proofs.Waiting.{Ends, IsClients, IsNoCall, called_ends, sent_waits, takes_ends, takes_rests}
 use Rattle.qc_msg.specs.declared.record.Record.{Record}
 use Rattle.qc_msg.specs.declared.reply.Reply.{Reply}

@@ -16,8 +16,8 @@ use Rattle.qc_client.specs.Names.{ClientMove, client_does, client_takes, new_cli
 use Rattle.qc_decl.specs.declared.declaration.Declaration.{Declaration}
 use Rattle.qc_decl.specs.Names.{is_client}
 use Rattle.laws_turns.specs.Names.{is_waiting}
-use Rattle.laws_turns.proofs.Proper.{IsAskableDeed}
-use Rattle.laws_turns.proofs.Replying.{running_more, running_turn}
+use Rattle.laws_turns.proofs.SoundClients.{IsAskableDeed}
+use Rattle.laws_turns.proofs.TurnReplies.{running_more, running_turn}
 use Rattle.qc_msg.specs.declared.record.Record.{Record}
 use Rattle.qc_msg.specs.declared.record.Record.TheVariants as records
 use Rattle.qc_msg.specs.declared.step.Command.{Command}

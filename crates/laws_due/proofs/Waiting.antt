@@ -3,7 +3,7 @@
 use Rattle.std.proofs.Common.{◌≡◌, ◌⊎◌, ℕ, ◌≤◌, Bool, true, false, List, [], Some, None, inl, sym, subst, slice_get}
 use Rattle.laws_due.specs.Names.{Declares, IsWaiting, NoneRuns}
 use Rattle.laws_due.proofs.Awaits.{tied_waits}
-use Rattle.laws_due.proofs.Happenings.{input_free}
+use Rattle.laws_due.proofs.Fallings.{input_free}
 use Rattle.laws_due.proofs.Lifelong as lives
 use Rattle.qc_core.specs.Names.{IsLawfulWithFalls, is_running, is_up}
 use Rattle.qc_decl.specs.Names.{actors, is_client}

@@ -19,7 +19,8 @@ use Rattle.laws_due.proofs.AdminIdle.{run_admin_due}
 use Rattle.laws_due.proofs.Awaits.{clients_owe_nothing, commands_wait_for_requests}
 use Rattle.laws_due.proofs.Courses.{clients_due, turns_tell}
 use Rattle.laws_due.proofs.Declaring.{run_declares}
-use Rattle.laws_due.proofs.Dues.{all_due, due_is, none_due, within_all, within_first}
+use Rattle.laws_due.proofs.DuesOfDeeds.{due_is, none_due}
+use Rattle.laws_due.proofs.Dues.{all_due, within_all, within_first}
 use Rattle.laws_due.proofs.StaysUp.{stays_up}
 
 module _ (decl : Declaration) (a : ℕ) (client : is_client decl a ≡ true) where

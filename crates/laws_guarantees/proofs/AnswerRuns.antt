@@ -1,12 +1,12 @@
 -- In each undisturbed run each answer fits its request, by what its site was sent before.
-use Rattle.std.proofs.Common.{◌≡◌, ℕ, zero, suc, ◌+◌, ◌-◌, ◌<◌, ◌≤◌, ◌==◌, inl, inr, Bool, true, false, cond, List, [], ◌∷◌, ◌++◌, length, Some, slice_get, refl, sym, ap, ◌∙◌, subst, arith, eqb-true}
-use Rattle.std.specs.Prelude.{filter, take}
+use Rattle.std.proofs.Common.{◌≡◌, ℕ, ◌+◌, ◌-◌, ◌==◌, Bool, true, List}
+use Rattle.std.proofs.Common.{◌∷◌, ◌++◌, length, Some, slice_get, refl, sym, ap, ◌∙◌, subst, arith, eqb-true}
 use Rattle.std.specs.List.{AllByRecursion as Every}
-use Rattle.std.proofs.lemmas.List.{append_assoc, take-append-le}
+use Rattle.std.proofs.lemmas.List.{append_assoc}
 use Rattle.std.proofs.lemmas.List.Elements.{filter_map-append}
 use Rattle.std.proofs.lemmas.List.Sums.{fold-append}
 use Rattle.qc_list.specs.Names.{In}
-use Rattle.qc_list.proofs.Members.{In-first, In-last, In-passes, In-second, In-unfiltered, every-append, every-weaker}
+use Rattle.qc_list.proofs.Members.{In-last, In-passes, every-append, every-weaker}
 use Rattle.qc_core.specs.Names.{IsLawful}
 use Rattle.qc_decl.specs.Names.{controller}
 use Rattle.qc_decl.specs.declared.declaration.Declaration.{Declaration}
@@ -34,7 +34,8 @@ use Rattle.laws_guarantees.specs.Names.{AnswersFit, Arrives, Fits, IfAnswered, I
 use Rattle.laws_guarantees.specs.Names.{sent_before, sent_to, taken, taken_by, taken_in}
 use Rattle.laws_guarantees.proofs.ClientWords.{AreClientWords, IsClientWord, client_words}
 use Rattle.laws_turns.proofs.Served.{first_part}
-use Rattle.laws_guarantees.proofs.FirstAccounts.{FirstGiven, TakesFirst}
+use Rattle.laws_guarantees.proofs.FirstDeeds.{FirstGiven}
+use Rattle.laws_guarantees.proofs.FirstAccounts.{TakesFirst}
 use Rattle.laws_guarantees.proofs.FirstRuns.{given_first, run_first, takes_first}
 use Rattle.laws_guarantees.proofs.FirstSites.{deeds_calm}
 use Rattle.laws_guarantees.proofs.Fitting.{AnswersTo, FitsMessage, IfAnswers, fits_on}
@@ -42,109 +43,8 @@ use Rattle.laws_guarantees.proofs.Held.{held_open}
 use Rattle.laws_guarantees.proofs.Mailed.{taken_mail}
 use Rattle.laws_guarantees.proofs.Opened.{IsAtTake, opened}
 use Rattle.laws_guarantees.proofs.Passing.{no_request_is_lost}
-
--- numbers are places: what stands before a message in a part of a list is the same part of what stands before it
-
-pub number_from : (k : ℕ) (xs : List Envelope) (e : Envelope) → AreNumbered k xs → In e xs → (k ≤ e.number) × (e.number < k + length xs)
-number_from k [] e are among = absurd among
-number_from k (x ∷ xs) e are (inl same) =
-    let here : e.number ≡ k = ap (λ (v : Envelope). v.number) same ∙ are.0 in
-    (omega arith, omega arith)
-number_from k (x ∷ xs) e are (inr later) =
-    let r : (k + 1 ≤ e.number) × (e.number < (k + 1) + length xs) = number_from (k + 1) xs e are.1 later in
-    let low : k + 1 ≤ e.number = r.0 in
-    let high : e.number < (k + 1) + length xs = r.1 in
-    (omega arith, omega arith)
-
-no_more : (A B : List Envelope) (e : Envelope) → [] ≡ A ++ e ∷ B → ⊥
-no_more [] B e is = let never : ⊥ = cc in never
-no_more (y ∷ A) B e is = let never : ⊥ = cc in never
-
-in_middle : (A B : List Envelope) (e : Envelope) (xs : List Envelope) → xs ≡ A ++ e ∷ B → In e xs
-in_middle A B e xs is = subst (In e) (sym is) (In-second e A (e ∷ B) (inl refl))
-
-abbrev Splits : (Envelope → Bool) → List Envelope → ℕ → List Envelope → Envelope → Type 0
-Splits p xs k B e = (m : ℕ) (C : List Envelope) → filter p xs ≡ C ++ e ∷ B → e.number ≡ k + m → filter p (take m xs) ≡ C
-
-split_at : (p : Envelope → Bool) (xs : List Envelope) (k n : ℕ) (A B : List Envelope) (e : Envelope) → AreNumbered k xs → filter p xs ≡ A ++ e ∷ B → e.number ≡ k + n → filter p (take n xs) ≡ A
-split_at p [] k n A B e are is number = absurd (no_more A B e is)
-split_at p (x ∷ xs) k n A B e are is number = by (p x) refl is (λ (m : ℕ) (C : List Envelope). split_at p xs (k + 1) m C B e are.1) n number
-  where
-    later : (C : List Envelope) → filter p xs ≡ C ++ e ∷ B → k + 1 ≤ e.number
-    later C found = (number_from (k + 1) xs e are.1 (In-unfiltered p e xs (in_middle C B e (filter p xs) found))).0
-
-    taken_one : (C : List Envelope) → p x ≡ true → x ∷ filter p xs ≡ C ++ e ∷ B → Splits p xs (k + 1) B e → (n : ℕ) → e.number ≡ k + n → filter p (take n (x ∷ xs)) ≡ C
-    taken_one [] here found rest zero number = refl
-    taken_one [] here found rest (suc m) number =
-        let same : x ≡ e = cc in
-        let first : e.number ≡ k = ap (λ (v : Envelope). v.number) (sym same) ∙ are.0 in
-        absurd (omega arith)
-    taken_one (y ∷ C) here found rest zero number =
-        let more : filter p xs ≡ C ++ e ∷ B = cc in
-        let low : k + 1 ≤ e.number = later C more in
-        absurd (omega arith)
-    taken_one (y ∷ C) here found rest (suc m) number =
-        let more : filter p xs ≡ C ++ e ∷ B = cc in
-        let same : x ≡ y = cc in
-        ap (λ (t : Bool). cond t (x ∷ filter p (take m xs)) (filter p (take m xs))) here ∙ (λ i. same i ∷ rest m C more (omega arith) i)
-
-    passed_one : (C : List Envelope) → p x ≡ false → filter p xs ≡ C ++ e ∷ B → Splits p xs (k + 1) B e → (n : ℕ) → e.number ≡ k + n → filter p (take n (x ∷ xs)) ≡ C
-    passed_one C other found rest zero number = absurd (let low : k + 1 ≤ e.number = later C found in omega arith)
-    passed_one C other found rest (suc m) number = ap (λ (t : Bool). cond t (x ∷ filter p (take m xs)) (filter p (take m xs))) other ∙ rest m C found (omega arith)
-
-    by : (t : Bool) → p x ≡ t → cond t (x ∷ filter p xs) (filter p xs) ≡ A ++ e ∷ B → Splits p xs (k + 1) B e → (n : ℕ) → e.number ≡ k + n → filter p (take n (x ∷ xs)) ≡ A
-    by true here found rest = taken_one A here found rest
-    by false other found rest = passed_one A other found rest
-
--- what fits still does after more mail
-
-module _ (ms more : List Envelope) (numbered : AreNumbered 0 ms) where
-  answered_later : (site number : ℕ) (answer : Answer) → IsAnswered ms site number answer → IsAnswered (ms ++ more) site number answer
-  answered_later site number answer r = record {
-    request = r.request;
-    among = In-first r.request ms more r.among;
-    number_is = r.number_is;
-    site_is = r.site_is;
-    tx = r.tx;
-    epoch = r.epoch;
-    life = r.life;
-    want = r.want;
-    is = r.is;
-    fits = subst (λ (v : List Envelope). Fits (sent_to site v) r.tx r.want answer) (sym (take-append-le number ms more low)) r.fits;
-  } where
-    low : number ≤ length ms
-    low =
-        let within : r.request.number < 0 + length ms = (number_from 0 ms r.request numbered r.among).1 in
-        let same : r.request.number ≡ number = r.number_is in
-        omega arith
-
-  if_later : (from : ℕ) (m : Message) → IfAnswered ms from m → IfAnswered (ms ++ more) from m
-  if_later from (messages.Request tx epoch life want) r = tt
-  if_later from (messages.Answer to answer) r = answered_later from to answer r
-  if_later from (messages.Decision tx verdict) r = tt
-  if_later from (messages.Inquiry tx) r = tt
-  if_later from (messages.Ask tx) r = tt
-  if_later from (messages.Close epoch) r = tt
-  if_later from (messages.Install epoch clock log) r = tt
-
-  all_later : (es : List Envelope) → Every (λ (e : Envelope). IfAnswered ms e.from e.message) es → Every (λ (e : Envelope). IfAnswered (ms ++ more) e.from e.message) es
-  all_later es = every-weaker (λ (e : Envelope). IfAnswered ms e.from e.message) (λ (e : Envelope). IfAnswered (ms ++ more) e.from e.message) (λ e. if_later e.from e.message) es
-
-abbrev SayFitting : List Envelope → ℕ → List Posting → Type 0
-SayFitting ms from ps = Every (λ (p : Posting). IfAnswered ms from p.message) ps
-
-fitting_envelopes : (ms : List Envelope) (a n : ℕ) (ps : List Posting) → SayFitting ms a ps → Every (λ (e : Envelope). IfAnswered ms e.from e.message) (envelopes a n ps)
-fitting_envelopes ms a n [] all = tt
-fitting_envelopes ms a n (p ∷ ps) all = (all.0, fitting_envelopes ms a (n + 1) ps all.1)
-
-word_fits : (ms : List Envelope) (from : ℕ) (m : Message) → IsClientWord m → IfAnswered ms from m
-word_fits ms from (messages.Request tx epoch life want) word = tt
-word_fits ms from (messages.Answer to answer) never = absurd never
-word_fits ms from (messages.Decision tx verdict) word = tt
-word_fits ms from (messages.Inquiry tx) word = tt
-word_fits ms from (messages.Ask tx) word = tt
-word_fits ms from (messages.Close epoch) word = tt
-word_fits ms from (messages.Install epoch clock log) word = tt
+use Rattle.laws_guarantees.proofs.AnswersLater.{in_middle, split_at, SayFitting, fitting_envelopes, word_fits}
+use Rattle.laws_guarantees.proofs.AnswersLater.{all_later}
 
 module _ (decl : Declaration) (script : Script) (calm : IsUndisturbed script) where
   module _ (older : List Entry) (before : List Bool) (run : Runs (IsLawful decl) decl script older before) (b : ℕ) (turn : Turn) (is_opened : slice_get before b ≡ Some true) (lawful : IsLawful decl b (deeds b [] older) turn) where
@@ -152,10 +52,15 @@ module _ (decl : Declaration) (script : Script) (calm : IsUndisturbed script) wh
     at = opened decl script older before run b is_opened
 
     hears_first : FirstGiven at.given
-    hears_first = given_first older b at.given (run_first decl script older before run) (subst (In (Takes at.given)) (sym at.is) (In-last (Takes at.given) at.before))
+    hears_first =
+        given_first older b at.given (run_first decl script older before run)
+        (subst (In (Takes at.given)) (sym at.is) (In-last (Takes at.given) at.before))
 
     before_calm : Every TakesCalm at.before
-    before_calm = deeds_calm at.before (first_part TakesFirst at.before (Takes at.given ∷ []) (subst (Every TakesFirst) at.is (takes_first older b (run_first decl script older before run))))
+    before_calm =
+        deeds_calm at.before
+        (first_part TakesFirst at.before (Takes at.given ∷ [])
+          (subst (Every TakesFirst) at.is (takes_first older b (run_first decl script older before run))))
 
     arrives : Arrives script b older
     arrives = no_request_is_lost decl script older before calm run b
@@ -163,7 +68,10 @@ module _ (decl : Declaration) (script : Script) (calm : IsUndisturbed script) wh
     -- the open input: what the site took before it is what was sent to it before
     module _ (e : Envelope) (got : at.given ≡ inputs.Got e) where
       sent : In e (mail older)
-      sent = taken_mail b [] older e (subst (In (Takes (inputs.Got e))) (sym (at.is ∙ ap (λ (g : Input). at.before ++ Takes g ∷ []) got)) (In-last (Takes (inputs.Got e)) at.before))
+      sent =
+          taken_mail b [] older e
+          (subst (In (Takes (inputs.Got e))) (sym (at.is ∙ ap (λ (g : Input). at.before ++ Takes g ∷ []) got))
+            (In-last (Takes (inputs.Got e)) at.before))
 
       split : sent_to b (mail older) ≡ taken_in at.before ++ e ∷ arrives.ready
       split =
@@ -174,18 +82,28 @@ module _ (decl : Declaration) (script : Script) (calm : IsUndisturbed script) wh
           ∙ append_assoc (taken_in at.before) (e ∷ []) arrives.ready
 
       earlier : sent_before b e.number (mail older) ≡ taken_in at.before
-      earlier = split_at (λ (x : Envelope). x.to == b) (mail older) 0 e.number (taken_in at.before) arrives.ready e (run_numbered (IsLawful decl) decl script older before run) split (let same : e.number ≡ 0 + e.number = omega arith in same)
+      earlier =
+          split_at (λ (x : Envelope). x.to == b) (mail older) 0 e.number (taken_in at.before) arrives.ready e
+          (run_numbered (IsLawful decl) decl script older before run) split
+          (let same : e.number ≡ 0 + e.number = omega arith in same)
 
       own : e.to ≡ b
-      own = eqb-true e.to b (In-passes (λ (x : Envelope). x.to == b) e (mail older) (in_middle (taken_in at.before) arrives.ready e (sent_to b (mail older)) split))
+      own =
+          eqb-true e.to b
+          (In-passes (λ (x : Envelope). x.to == b) e (mail older)
+            (in_middle (taken_in at.before) arrives.ready e (sent_to b (mail older)) split))
 
       first : IsFirst e.message
       first = subst FirstGiven got hears_first
 
-      fits : AnswersTo (taken_in at.before) e.number e.message (site_takes decl (site_after decl b at.before).site (inputs.Got e))
-      fits = fits_on decl (taken_in at.before) b (site_after decl b at.before).site e (after_at_first decl b at.before before_calm) (held_open decl b at.before before_calm) first
+      fits : AnswersTo (taken_in at.before) e.number e.message
+          (site_takes decl (site_after decl b at.before).site (inputs.Got e))
+      fits =
+          fits_on decl (taken_in at.before) b (site_after decl b at.before).site e
+          (after_at_first decl b at.before before_calm) (held_open decl b at.before before_calm) first
 
-      answered : (answer : Answer) (number : ℕ) → number ≡ e.number → (m : Message) → e.message ≡ m → FitsMessage (taken_in at.before) m answer → IsAnswered (mail older) b number answer
+      answered : (answer : Answer) (number : ℕ) → number ≡ e.number → (m : Message) → e.message ≡ m
+          → FitsMessage (taken_in at.before) m answer → IsAnswered (mail older) b number answer
       answered answer number same (messages.Request tx epoch life want) is fit = record {
         request = e;
         among = sent;
@@ -196,7 +114,9 @@ module _ (decl : Declaration) (script : Script) (calm : IsUndisturbed script) wh
         life = life;
         want = want;
         is = is;
-        fits = subst (λ (v : List Envelope). Fits v tx want answer) (sym (ap (λ (k : ℕ). sent_before b k (mail older)) same ∙ earlier)) fit;
+        fits =
+            subst (λ (v : List Envelope). Fits v tx want answer)
+            (sym (ap (λ (k : ℕ). sent_before b k (mail older)) same ∙ earlier)) fit;
       }
       answered answer number same (messages.Answer to other) is never = absurd never
       answered answer number same (messages.Decision tx verdict) is never = absurd never
@@ -215,42 +135,65 @@ module _ (decl : Declaration) (script : Script) (calm : IsUndisturbed script) wh
       one (messages.Install epoch clock log) r = tt
 
       hears : SayFitting (mail older) b (site_takes decl (site_after decl b at.before).site (inputs.Got e)).turn.sends
-      hears = every-weaker (λ (p : Posting). IfAnswers (taken_in at.before) e.number e.message p.message) (λ (p : Posting). IfAnswered (mail older) b p.message) (λ p. one p.message) (site_takes decl (site_after decl b at.before).site (inputs.Got e)).turn.sends fits
+      hears =
+          every-weaker (λ (p : Posting). IfAnswers (taken_in at.before) e.number e.message p.message)
+          (λ (p : Posting). IfAnswered (mail older) b p.message) (λ p. one p.message)
+          (site_takes decl (site_after decl b at.before).site (inputs.Got e)).turn.sends fits
 
-    by_input : (g : Input) → at.given ≡ g → SayFitting (mail older) b (site_takes decl (site_after decl b at.before).site g).turn.sends
+    by_input : (g : Input) → at.given ≡ g
+        → SayFitting (mail older) b (site_takes decl (site_after decl b at.before).site g).turn.sends
     by_input (inputs.Called command) is = tt
     by_input (inputs.Got e) is = hears e is
     by_input (inputs.Lost number) is = tt
 
     by_site : SayFitting (mail older) b (site_after decl b (deeds b [] older)).turn.sends
     by_site =
-        subst (λ (m : SiteMove). SayFitting (mail older) b m.turn.sends) (sym (ap (site_after decl b) at.is ∙ fold-append (site_does decl) (sites.moved (new_site b) quiet) at.before (Takes at.given ∷ [])))
+        subst (λ (m : SiteMove). SayFitting (mail older) b m.turn.sends)
+            (sym (ap (site_after decl b) at.is
+              ∙ fold-append (site_does decl) (sites.moved (new_site b) quiet) at.before (Takes at.given ∷ [])))
         (by_input at.given refl)
 
     by_client : SayFitting (mail older) b (client_after decl (b - decl.sites) (deeds b [] older)).turn.sends
     by_client =
-        every-weaker (λ (p : Posting). IsClientWord p.message) (λ (p : Posting). IfAnswered (mail older) b p.message) (λ p. word_fits (mail older) b p.message) (client_after decl (b - decl.sites) (deeds b [] older)).turn.sends
-        (subst (λ (m : ClientMove). AreClientWords m.turn.sends) (sym (ap (client_after decl (b - decl.sites)) at.is ∙ fold-append (client_does decl) (moved (new_client (b - decl.sites)) quiet) at.before (Takes at.given ∷ [])))
+        every-weaker (λ (p : Posting). IsClientWord p.message) (λ (p : Posting). IfAnswered (mail older) b p.message)
+            (λ p. word_fits (mail older) b p.message) (client_after decl (b - decl.sites) (deeds b [] older)).turn.sends
+        (subst (λ (m : ClientMove). AreClientWords m.turn.sends)
+            (sym (ap (client_after decl (b - decl.sites)) at.is
+              ∙ fold-append (client_does decl) (moved (new_client (b - decl.sites)) quiet) at.before
+                (Takes at.given ∷ [])))
         (client_words decl (client_after decl (b - decl.sites) at.before).client at.given hears_first))
 
     says : SayFitting (mail older) b turn.sends
-    says = lawful_turn (λ (t : Turn). SayFitting (mail older) b t.sends) decl b (deeds b [] older) turn lawful (λ is. by_site) (λ is named. by_client)
+    says =
+        lawful_turn (λ (t : Turn). SayFitting (mail older) b t.sends) decl b (deeds b [] older) turn lawful
+        (λ is. by_site) (λ is named. by_client)
 
-  pub run_answered : (h : List Entry) (open_inputs : List Bool) → Runs (IsLawful decl) decl script h open_inputs → AnswersFit (mail h)
+  pub run_answered : (h : List Entry) (open_inputs : List Bool) → Runs (IsLawful decl) decl script h open_inputs
+      → AnswersFit (mail h)
   run_answered h open_inputs begins = tt
-  run_answered h open_inputs (takes a taken before older run free ready) = subst AnswersFit (sym (mail-taken older a taken)) (run_answered older before run)
+  run_answered h open_inputs (takes a taken before older run free ready) =
+      subst AnswersFit (sym (mail-taken older a taken)) (run_answered older before run)
   run_answered h open_inputs (posts a turn before older run taken lawful) =
       let numbered : AreNumbered 0 (mail older) = run_numbered (IsLawful decl) decl script older before run in
       let new : List Envelope = envelopes a (length (mail older)) turn.sends in
-      subst AnswersFit (sym (mail-append older (by a (posted (length (mail older)) turn)) ∙ ap (λ (v : List Envelope). mail older ++ v) (mail-posted a (length (mail older)) turn)))
-      (every-append (λ (e : Envelope). IfAnswered (mail older ++ envelopes a (length (mail older)) turn.sends) e.from e.message) (mail older) (envelopes a (length (mail older)) turn.sends)
-      (all_later (mail older) (envelopes a (length (mail older)) turn.sends) numbered (mail older) (run_answered older before run))
-      (all_later (mail older) (envelopes a (length (mail older)) turn.sends) numbered (envelopes a (length (mail older)) turn.sends)
+      subst AnswersFit
+          (sym (mail-append older (by a (posted (length (mail older)) turn))
+            ∙ ap (λ (v : List Envelope). mail older ++ v) (mail-posted a (length (mail older)) turn)))
+      (every-append (λ (e : Envelope). IfAnswered (mail older ++ envelopes a (length (mail older)) turn.sends) e.from
+          e.message) (mail older) (envelopes a (length (mail older)) turn.sends)
+      (all_later (mail older) (envelopes a (length (mail older)) turn.sends) numbered (mail older)
+          (run_answered older before run))
+      (all_later (mail older) (envelopes a (length (mail older)) turn.sends) numbered
+          (envelopes a (length (mail older)) turn.sends)
       (fitting_envelopes (mail older) a (length (mail older)) turn.sends (says older before run a turn taken lawful))))
   run_answered h open_inputs (phase before older run none done rests more) =
-      subst AnswersFit (sym (mail-silent older (controller decl) (steps.Phase (phase_of older + 1)) (phase_silent (phase_of older + 1)))) (run_answered older before run)
+      subst AnswersFit
+          (sym (mail-silent older (controller decl) (steps.Phase (phase_of older + 1))
+            (phase_silent (phase_of older + 1)))) (run_answered older before run)
   run_answered h open_inputs (control line lines step before older run left is) =
-      subst AnswersFit (sym (mail-silent older (controller decl) step (control_silent line step is))) (run_answered older before run)
+      subst AnswersFit (sym (mail-silent older (controller decl) step (control_silent line step is)))
+          (run_answered older before run)
 
-pub answers_fit : (decl : Declaration) (script : Script) → IsUndisturbed script → (h : List Entry) (open_inputs : List Bool) → Runs (IsLawful decl) decl script h open_inputs → AnswersFit (mail h)
+pub answers_fit : (decl : Declaration) (script : Script) → IsUndisturbed script
+    → (h : List Entry) (open_inputs : List Bool) → Runs (IsLawful decl) decl script h open_inputs → AnswersFit (mail h)
 answers_fit decl script calm h open_inputs run = run_answered decl script calm h open_inputs run

@@ -28,9 +28,10 @@ use Rattle.qc_client.specs.declared.client.Client.{Client}
 use Rattle.qc_client.specs.Names.{ClientMove, answered_by, by_desk, by_front, called, client_takes, commits, heard}
 use Rattle.qc_client.specs.Names.{outcome_of}
 use Rattle.laws_turns.specs.Names.{begun_in}
-use Rattle.laws_turns.proofs.DealtClients.{IsInHand}
+use Rattle.laws_turns.proofs.DealtCommands.{IsInHand}
 use Rattle.laws_guarantees.specs.Names.{open_said}
-use Rattle.laws_guarantees.proofs.AskedSites.{Keeps, called_keeps, decision_less, ends, open_posted, silent, spoken}
+use Rattle.laws_guarantees.proofs.SitesTold.{Keeps, decision_less, ends, open_posted, silent, spoken}
+use Rattle.laws_guarantees.proofs.AskedSites.{called_keeps}
 use Rattle.laws_guarantees.proofs.AskedSites.{takes_keeps}
 
 module _ (s : ℕ) (x : TxId) where

@@ -32,7 +32,7 @@ use Rattle.qc_promise.specs.Names.{is_final, is_of, is_open, new_account, taken_
 use Rattle.laws_due.specs.Names.{AreByRows, IsSendDue}
 use Rattle.laws_guarantees.specs.Names.{asks_to_hold, name_of, open_said, sent_to}
 use Rattle.laws_guarantees.proofs.Accounts.{IsTakenNow, after_taken, told_requests}
-use Rattle.laws_guarantees.proofs.Grounds.{asked_current}
+use Rattle.laws_guarantees.proofs.RequestGrounds.{asked_current}
 use Rattle.laws_guarantees.proofs.Names.{sends_stay, stays_named, writes_stay}
 
 -- a request after an input was there before it

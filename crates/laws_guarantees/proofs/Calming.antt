@@ -4,13 +4,13 @@ use Rattle.std.proofs.Common.{slice_get, refl, sym, ap, ◌∙◌, subst, arith,
 use Rattle.std.proofs.lemmas.Bool.{cases_lt}
 use Rattle.qc_core.specs.Names.{Acts, AreSteady, IsLawful, IsLawfulWithFalls}
 use Rattle.qc_core.specs.Acts as acts
-use Rattle.qc_core.proofs.LivesLaws.{same_turn}
+use Rattle.qc_core.proofs.LivesOfActors.{same_turn}
 use Rattle.qc_decl.specs.Names.{actors, administrator, controller}
 use Rattle.qc_decl.specs.declared.declaration.Declaration.{Declaration}
 use Rattle.laws_turns.specs.Names.{ActsIn, AreCalm, IsCalm}
 use Rattle.laws_turns.proofs.Acted.{has_place, run_acts}
 use Rattle.laws_turns.proofs.Up.{run_up}
-use Rattle.qc_msg.proofs.Growth.{deeds-append}
+use Rattle.qc_msg.proofs.DeedsGrow.{deeds-append}
 use Rattle.qc_msg.specs.declared.record.Record.{Record}
 use Rattle.qc_msg.specs.declared.step.Control.{Control}
 use Rattle.qc_msg.specs.declared.step.Control.TheVariants as controls

@@ -22,7 +22,8 @@ use Rattle.qc_msg.specs.declared.turn.Turn.{Turn}
 use Rattle.qc_msg.specs.Names.{Deed, Entry, Takes, WasSentTo, by, deeds, envelopes, mail, marked, posted, step_of}
 use Rattle.qc_msg.specs.Names.{turn_deeds}
 use Rattle.qc_msg.proofs.GrownMail.{mail-append, mail-posted, mail-taken}
-use Rattle.qc_msg.proofs.Growth.{deeds-other, deeds-posted, deeds-taken}
+use Rattle.qc_msg.proofs.DeedsGrow.{deeds-other}
+use Rattle.qc_msg.proofs.Growth.{deeds-posted, deeds-taken}
 use Rattle.qc_script.specs.Names.{Runs, phase_of}
 use Rattle.qc_script.specs.Runs.{begins, takes, posts, phase, control}
 use Rattle.qc_script.specs.declared.script.Script.{Script}
@@ -38,9 +39,10 @@ use Rattle.qc_promise.specs.Names.{Account, ClientRequest, Current, account, acc
 use Rattle.laws_guarantees.specs.Names.{IsStill, IsUndisturbed, begun_by, is_open, is_open_at, name_of, open_said}
 use Rattle.laws_guarantees.specs.Names.{sent_before, sent_to}
 use Rattle.laws_guarantees.proofs.Accounts.{HasGrounds, WasSent}
-use Rattle.laws_guarantees.proofs.AnswerRuns.{number_from}
+use Rattle.laws_guarantees.proofs.AnswersLater.{number_from}
 use Rattle.laws_guarantees.proofs.Asking.{IsFrom, IsNamed, due_second, is_busy, less_open, taken_from, told_clears, turn_named}
-use Rattle.laws_guarantees.proofs.Grounds.{has_grounds, turn_old}
+use Rattle.laws_guarantees.proofs.RequestGrounds.{has_grounds}
+use Rattle.laws_guarantees.proofs.Grounds.{turn_old}
 use Rattle.laws_guarantees.proofs.Mailed.{sent_as, sent_mail}
 use Rattle.laws_guarantees.proofs.Names.{stays_named, taken_named, untold_stays}
 use Rattle.laws_guarantees.proofs.OwnWords.{client_is, open_begun}

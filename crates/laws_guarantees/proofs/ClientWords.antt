@@ -25,9 +25,10 @@ use Rattle.qc_front.specs.Conduct as fronts
 use Rattle.qc_front.specs.Names.{FrontMove}
 use Rattle.qc_client.specs.declared.client.Client.{Client}
 use Rattle.qc_client.specs.Names.{ClientMove, answered_by, by_desk, by_front, called, client_takes, commits, heard}
-use Rattle.laws_turns.proofs.FrontKinds.{FrontKind, IsRequestFor, called-kind, takes-kind}
+use Rattle.laws_turns.proofs.FrontGoesOn.{FrontKind, IsRequestFor}
+use Rattle.laws_turns.proofs.FrontKinds.{called-kind, takes-kind}
 use Rattle.laws_turns.proofs.HandMoves.{IsHandMove, prepare-it, vote-it}
-use Rattle.laws_guarantees.proofs.FirstAccounts.{FirstGiven}
+use Rattle.laws_guarantees.proofs.FirstDeeds.{FirstGiven}
 
 abbrev pub IsClientWord : Message → Type 0
 IsClientWord (messages.Request tx epoch life want) = Unit {0}

@@ -30,7 +30,7 @@ use Rattle.qc_promise.specs.Names.{Account, ClientRequest, Current, account, aga
 use Rattle.qc_promise.specs.Names.{first_against, is_prepare, next_stamp, requests_for, row_of, running_row, vote_row}
 use Rattle.laws_due.proofs.Courses.{turns_tell}
 use Rattle.laws_due.proofs.AccountDeclared.{asks_declared}
-use Rattle.laws_guarantees.proofs.Counted.{counted_remembered}
+use Rattle.laws_guarantees.proofs.Remembered.{counted_remembered}
 use Rattle.laws_guarantees.specs.Names.{CommitOf, CommitSucceeds, CommitsSucceed, EachReply, IsCommitted, IsUndisturbed}
 use Rattle.laws_guarantees.specs.Names.{OfRunning}
 use Rattle.laws_guarantees.proofs.UndisturbedCounted.{GoodTaken, taken_good}

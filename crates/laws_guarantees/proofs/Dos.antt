@@ -15,7 +15,8 @@ use Rattle.qc_msg.specs.declared.step.Command.{Command}
 use Rattle.qc_msg.specs.declared.step.Command.TheVariants as commands
 use Rattle.qc_msg.specs.declared.turn.Turn.{Turn}
 use Rattle.qc_msg.specs.Names.{Deed, Entry, by, deeds, mail, posted, turn_deeds}
-use Rattle.qc_msg.proofs.Growth.{deeds-other, deeds-posted}
+use Rattle.qc_msg.proofs.DeedsGrow.{deeds-other}
+use Rattle.qc_msg.proofs.Growth.{deeds-posted}
 use Rattle.qc_script.specs.Names.{Runs}
 use Rattle.qc_script.specs.declared.script.Script.{Script}
 use Rattle.laws_turns.specs.Names.{ActsIn, AsksDeclared}

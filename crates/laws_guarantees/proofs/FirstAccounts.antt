@@ -1,20 +1,16 @@
 -- A client that hears of no other life or epoch than the first names no other in its requests.
-use Rattle.std.proofs.Common.{◌≡◌, ℕ, ◌==◌, ◌&&◌, ◌⊎◌, inl, inr, not, max, Bool, true, false, cond, List, [], ◌∷◌, ◌++◌, fold, length, Option, Some, None, option_map, refl, ◌∙◌, eqb-true}
+use Rattle.std.proofs.Common.{◌≡◌, ℕ, ◌==◌, ◌&&◌, ◌⊎◌, inl, inr, not, Bool, true, false, cond, List, ◌∷◌}
+use Rattle.std.proofs.Common.{fold, length, Option, Some, None, refl, ◌∙◌, eqb-true}
 use Rattle.std.specs.List.{AllByRecursion as Every, find}
 use Rattle.std.specs.Option.{option_map_or}
-use Rattle.qc_list.proofs.Members.{every-append}
 use Rattle.qc_stamp.specs.declared.stamp.TxId.{TxId}
 use Rattle.qc_stamp.specs.Names.{first_life, same_tx}
-use Rattle.qc_entry.specs.declared.line.Line.{Line}
 use Rattle.qc_decl.specs.declared.declaration.Declaration.{Declaration}
 use Rattle.qc_msg.specs.declared.begun.LifeAt.{LifeAt}
 use Rattle.qc_msg.specs.declared.message.Answer.{Answer}
-use Rattle.qc_msg.specs.declared.message.Answer.TheVariants as answers
 use Rattle.qc_msg.specs.declared.message.Message.{Message}
 use Rattle.qc_msg.specs.declared.message.Message.TheVariants as messages
 use Rattle.qc_msg.specs.declared.message.Want.{Want}
-use Rattle.qc_msg.specs.declared.message.Want.TheVariants as wants
-use Rattle.qc_msg.specs.declared.record.Record.{Record}
 use Rattle.qc_msg.specs.declared.record.Record.TheVariants as records
 use Rattle.qc_msg.specs.declared.reply.Half.TheVariants as halves
 use Rattle.qc_msg.specs.declared.reply.Half.{Half}
@@ -22,145 +18,23 @@ use Rattle.qc_msg.specs.declared.reply.Reply.{Reply}
 use Rattle.qc_msg.specs.declared.reply.Reply.TheVariants as replies
 use Rattle.qc_msg.specs.declared.step.Command.{Command}
 use Rattle.qc_msg.specs.declared.step.Command.TheVariants as commands
-use Rattle.qc_msg.specs.declared.step.Input.{Input}
-use Rattle.qc_msg.specs.declared.step.Input.TheVariants as inputs
-use Rattle.qc_msg.specs.Names.{Deed, Falls, Rises, Sends, Takes, Tells, Writes, first_epoch, has_granted, life_of}
-use Rattle.qc_msg.specs.Names.{with_life}
-use Rattle.qc_promise.specs.Names.{Account, ClientRequest, Current, account_at, account_fallen, account_heard}
+use Rattle.qc_msg.specs.Names.{Deed, Falls, Rises, Sends, Takes, Tells, Writes, life_of}
+use Rattle.qc_promise.specs.Names.{Account, Current, account_at, account_fallen}
 use Rattle.qc_promise.specs.Names.{account_sent, account_taken, account_told, account_told_in, account_with}
-use Rattle.qc_promise.specs.Names.{account_written, answer_of, command_asks, counted, counted_for, doomed_if}
-use Rattle.qc_promise.specs.Names.{found_absent, granted, is_append, is_asked_for, is_of, is_open, lived, new_account}
-use Rattle.qc_promise.specs.Names.{promised, refused, requests_for, responded, short_of, taken_for, told_by}
-use Rattle.qc_promise.specs.Names.{with_absent, with_current, with_read, with_response}
+use Rattle.qc_promise.specs.Names.{account_written, command_asks, doomed_if}
+use Rattle.qc_promise.specs.Names.{found_absent, is_append, is_asked_for, is_of, lived, new_account}
+use Rattle.qc_promise.specs.Names.{refused, requests_for, short_of}
+use Rattle.qc_promise.specs.Names.{with_absent}
 use Rattle.laws_due.specs.Names.{AreByRows, IsSendDue}
-use Rattle.laws_guarantees.specs.Names.{IsFirst, IsFirstAnswer}
-
-abbrev pub FirstLives : List LifeAt → Type 0
-FirstLives lives = Every (λ (l : LifeAt). l.life ≡ first_life) lives
-
-abbrev pub FirstTransaction : Current → Type 0
-FirstTransaction t = (t.epoch ≡ first_epoch) × FirstLives t.lives
-
-abbrev pub FirstCurrent : Option Current → Type 0
-FirstCurrent None = Unit {0}
-FirstCurrent (Some t) = FirstTransaction t
-
-pub record IsFirstAccount (d : Account) : Type 0 where
-  pub known : d.known ≡ first_epoch
-  pub current : FirstCurrent d.current
-
--- the begun transaction changes
-
-changed : (d : Account) (change : Current → Current) → ((t : Current) → FirstTransaction t → FirstTransaction (change t)) → IsFirstAccount d → IsFirstAccount (with_current d change)
-changed d change keeps f = record { known = f.known; current = by d.current f.current }
-  where
-    by : (o : Option Current) → FirstCurrent o → FirstCurrent (option_map change o)
-    by None first = tt
-    by (Some t) first = keeps t first
-
-one_life : (lives : List LifeAt) (site life : ℕ) → life ≡ first_life → FirstLives lives → FirstLives (with_life lives site life)
-one_life lives site life is first = by (has_granted lives site)
-  where
-    by : (t : Bool) → FirstLives (cond t lives (lives ++ record { site = site; life = life } ∷ []))
-    by true = first
-    by false = every-append (λ (l : LifeAt). l.life ≡ first_life) lives (record { site = site; life = life } ∷ []) first (is, tt)
-
-granted_first : (d : Account) (site life clock : ℕ) (log : List Line) (want : Want) → life ≡ first_life → IsFirstAccount d → IsFirstAccount (granted d site life clock log want)
-granted_first d site life clock log (wants.Read object inv) is f =
-    changed (record d { clock = max d.clock clock }) (λ (t : Current). with_read (lived t site life) object log) (λ t first. (first.0, one_life t.lives site life is first.1)) (record { known = f.known; current = f.current })
-granted_first d site life clock log (wants.Append object view own) is f =
-    changed (record d { clock = max d.clock clock }) (λ (t : Current). lived t site life) (λ t first. (first.0, one_life t.lives site life is first.1)) (record { known = f.known; current = f.current })
-granted_first d site life clock log wants.Prepare is f = f
-
-promised_first : (d : Account) (clock : ℕ) (want : Want) → IsFirstAccount d → IsFirstAccount (promised d clock want)
-promised_first d clock (wants.Read object inv) f = f
-promised_first d clock (wants.Append object view own) f = f
-promised_first d clock wants.Prepare f = record { known = f.known; current = f.current }
-
-abbrev pub FirstTaken : Option Answer → Type 0
-FirstTaken None = Unit {0}
-FirstTaken (Some answer) = IsFirstAnswer answer
-
-told_first : (d : Account) (q : ClientRequest) (answer : Option Answer) → FirstTaken answer → IsFirstAccount d → IsFirstAccount (told_by d q answer)
-told_first d q None first f = f
-told_first d q (Some (answers.Granted life clock log)) first f = granted_first d q.site life clock log q.want first f
-told_first d q (Some (answers.Clash holder inv event)) first f = f
-told_first d q (Some (answers.Closed epoch)) never f = absurd never
-told_first d q (Some (answers.Behind epoch)) never f = absurd never
-told_first d q (Some (answers.Restarted life)) never f = absurd never
-told_first d q (Some answers.Stale) first f = f
-told_first d q (Some answers.Fault) never f = absurd never
-told_first d q (Some (answers.Yes clock)) first f = promised_first d clock q.want f
-told_first d q (Some (answers.Shut clock log prepared)) never f = absurd never
-told_first d q (Some answers.Installed) never f = absurd never
-told_first d q (Some (answers.Answered verdict)) never f = absurd never
-
-counted_first : (d : Account) (number : ℕ) (answer : Option Answer) → FirstTaken answer → IsFirstAccount d → IsFirstAccount (counted d number answer)
-counted_first d number answer first f = by (find (is_open number) d.requests)
-  where
-    by : (o : Option ClientRequest) → IsFirstAccount (counted_for d number answer o)
-    by None = f
-    by (Some q) = told_first (record d { requests = taken_for number answer d.requests }) q answer first (record { known = f.known; current = f.current })
-
-heard_first : (d : Account) (m : Message) → IsFirst m → IsFirstAccount d → IsFirstAccount (account_heard d m)
-heard_first d (messages.Request tx epoch life want) first f = f
-heard_first d (messages.Answer to answer) first f = counted_first d to (Some answer) first f
-heard_first d (messages.Decision tx verdict) first f = f
-heard_first d (messages.Inquiry tx) first f = f
-heard_first d (messages.Ask tx) first f = f
-heard_first d (messages.Close epoch) first f = f
-heard_first d (messages.Install epoch clock log) first f = f
-
-abbrev pub FirstGiven : Input → Type 0
-FirstGiven (inputs.Called command) = Unit {0}
-FirstGiven (inputs.Got e) = IsFirst e.message
-FirstGiven (inputs.Lost number) = Unit {0}
-
-taken_first : (d : Account) (g : Input) → FirstGiven g → IsFirstAccount d → IsFirstAccount (account_taken d g)
-taken_first d (inputs.Called command) first f = record { known = f.known; current = f.current }
-taken_first d (inputs.Got e) first f = heard_first d e.message first f
-taken_first d (inputs.Lost number) first f = counted_first d number None tt f
-
--- what is written, sent and told
-
-written_first : (d : Account) (w : Record) → IsFirstAccount d → IsFirstAccount (account_written d w)
-written_first d records.Life f = record { known = f.known; current = f.current }
-written_first d (records.Prepare prepared) f = f
-written_first d (records.Done tx clock) f = f
-written_first d (records.Close epoch) f = f
-written_first d (records.Install epoch clock lines) f = f
-written_first d (records.Commit commit) f = record { known = f.known; current = f.current }
-written_first d (records.Decide epoch clock lines) f = f
-
-sent_first : (decl : Declaration) (d : Account) (number to : ℕ) (m : Message) → IsFirstAccount d → IsFirstAccount (account_sent decl d number to m)
-sent_first decl d number to (messages.Request tx epoch life want) f = by (is_asked_for decl d to tx epoch life want)
-  where
-    by : (t : Bool) → IsFirstAccount (cond t (record d { requests = d.requests ++ record { number = number; site = to; life = life; want = want; taken = None } ∷ [] }) d)
-    by true = record { known = f.known; current = f.current }
-    by false = f
-sent_first decl d number to (messages.Answer request answer) f = f
-sent_first decl d number to (messages.Decision tx verdict) f = f
-sent_first decl d number to (messages.Inquiry tx) f = f
-sent_first decl d number to (messages.Ask tx) f = f
-sent_first decl d number to (messages.Close epoch) f = f
-sent_first decl d number to (messages.Install epoch clock log) f = f
-
-response_first : (decl : Declaration) (t : Current) (object inv : ℕ) (o : Option ℕ) → FirstTransaction t → FirstTransaction (with_response decl t object inv o)
-response_first decl t object inv None first = first
-response_first decl t object inv (Some event) first = first
-
-responded_first : (decl : Declaration) (d : Account) (o : Option Command) → IsFirstAccount d → IsFirstAccount (responded decl d o)
-responded_first decl d None f = f
-responded_first decl d (Some commands.Begin) f = f
-responded_first decl d (Some (commands.Do object inv)) f = changed d (λ (t : Current). with_response decl t object inv (answer_of decl t object inv)) (λ t first. response_first decl t object inv (answer_of decl t object inv) first) f
-responded_first decl d (Some commands.Commit) f = f
-responded_first decl d (Some commands.Abort) f = f
-responded_first decl d (Some (commands.Epoch number)) f = f
+use Rattle.laws_guarantees.specs.Names.{IsFirst}
+use Rattle.laws_guarantees.proofs.FirstDeeds.{FirstLives, FirstCurrent, IsFirstAccount, changed, FirstGiven}
+use Rattle.laws_guarantees.proofs.FirstDeeds.{taken_first, written_first, sent_first, responded_first}
 
 absent_first : (d : Account) (o : Option Command) → IsFirstAccount d → IsFirstAccount (found_absent d o)
 absent_first d None f = f
 absent_first d (Some commands.Begin) f = f
-absent_first d (Some (commands.Do object inv)) f = changed d (λ (t : Current). with_absent t object inv) (λ t first. first) f
+absent_first d (Some (commands.Do object inv)) f =
+    changed d (λ (t : Current). with_absent t object inv) (λ t first. first) f
 absent_first d (Some commands.Commit) f = f
 absent_first d (Some commands.Abort) f = f
 absent_first d (Some (commands.Epoch number)) f = f
@@ -173,7 +47,8 @@ short_first d halves.Close f = f
 refused_first : (d : Account) → IsFirstAccount d → IsFirstAccount (refused d)
 refused_first d f = changed d (doomed_if (not (length (requests_for is_append d) == 0))) (λ t first. first) f
 
-told_in_first : (decl : Declaration) (d : Account) (r : Reply) → IsFirstAccount d → IsFirstAccount (account_told_in decl d r)
+told_in_first : (decl : Declaration) (d : Account) (r : Reply) → IsFirstAccount d
+    → IsFirstAccount (account_told_in decl d r)
 told_in_first decl d replies.Down f = f
 told_in_first decl d (replies.Already tx) f = f
 told_in_first decl d (replies.Began tx) f = record { known = f.known; current = (f.known, tt) }
@@ -195,16 +70,21 @@ told_in_first decl d replies.Fault f = f
 told_in_first decl d (replies.Moved closed installed) f = f
 
 reply_first : (decl : Declaration) (d : Account) (r : Reply) → IsFirstAccount d → IsFirstAccount (account_told decl d r)
-reply_first decl d r f = let g : IsFirstAccount (account_told_in decl d r) = told_in_first decl d r f in record { known = g.known; current = g.current }
+reply_first decl d r f =
+    let g : IsFirstAccount (account_told_in decl d r) = told_in_first decl d r f in
+    record { known = g.known; current = g.current }
 
 -- a request of the running command
 
-life_first : (lives : List LifeAt) (site : ℕ) → FirstLives lives → (life_of lives site ≡ 0) ⊎ (life_of lives site ≡ first_life)
+life_first : (lives : List LifeAt) (site : ℕ) → FirstLives lives
+    → (life_of lives site ≡ 0) ⊎ (life_of lives site ≡ first_life)
 life_first [] site first = inl refl
 life_first (l ∷ lives) site first = by (l.site == site) (life_first lives site first.1)
   where
     by : (t : Bool) → (life_of lives site ≡ 0) ⊎ (life_of lives site ≡ first_life)
-        → (option_map_or (λ (l : LifeAt). l.life) (cond t (Some l) (find (λ (l : LifeAt). l.site == site) lives)) 0 ≡ 0) ⊎ (option_map_or (λ (l : LifeAt). l.life) (cond t (Some l) (find (λ (l : LifeAt). l.site == site) lives)) 0 ≡ first_life)
+        → (option_map_or (λ (l : LifeAt). l.life) (cond t (Some l) (find (λ (l : LifeAt). l.site == site) lives)) 0 ≡ 0)
+            ⊎ (option_map_or (λ (l : LifeAt). l.life) (cond t (Some l) (find (λ (l : LifeAt). l.site == site) lives)) 0
+              ≡ first_life)
     by true rest = inr first.0
     by false rest = rest
 
@@ -212,19 +92,26 @@ both : (x y : Bool) → (x && y) ≡ true → (x ≡ true) × (y ≡ true)
 both true y is = (refl, is)
 both false y is = absurd (let never : ⊥ = cc in never)
 
-asked_first : (decl : Declaration) (d : Account) (to : ℕ) (tx : TxId) (epoch life : ℕ) (want : Want) → IsFirstAccount d → is_asked_for decl d to tx epoch life want ≡ true → IsFirst (messages.Request tx epoch life want)
+asked_first : (decl : Declaration) (d : Account) (to : ℕ) (tx : TxId) (epoch life : ℕ) (want : Want) → IsFirstAccount d
+    → is_asked_for decl d to tx epoch life want ≡ true → IsFirst (messages.Request tx epoch life want)
 asked_first decl d to tx epoch life want f is = by d.current f.current is
   where
-    by : (o : Option Current) → FirstCurrent o → option_map_or (λ (t : Current). is_of t to tx epoch life && command_asks decl d t to want d.command) o false ≡ true → IsFirst (messages.Request tx epoch life want)
+    by : (o : Option Current) → FirstCurrent o
+        → option_map_or (λ (t : Current). is_of t to tx epoch life && command_asks decl d t to want d.command) o false
+          ≡ true → IsFirst (messages.Request tx epoch life want)
     by None first never = absurd (let no : ⊥ = cc in no)
     by (Some t) first now =
-        let mine : (is_of t to tx epoch life ≡ true) × (command_asks decl d t to want d.command ≡ true) = both (is_of t to tx epoch life) (command_asks decl d t to want d.command) now in
-        let rest : (same_tx t.tx tx ≡ true) × (((epoch == t.epoch) && (life == life_of t.lives to)) ≡ true) = both (same_tx t.tx tx) ((epoch == t.epoch) && (life == life_of t.lives to)) mine.0 in
-        let named : ((epoch == t.epoch) ≡ true) × ((life == life_of t.lives to) ≡ true) = both (epoch == t.epoch) (life == life_of t.lives to) rest.1 in
+        let mine : (is_of t to tx epoch life ≡ true) × (command_asks decl d t to want d.command ≡ true) =
+                both (is_of t to tx epoch life) (command_asks decl d t to want d.command) now in
+        let rest : (same_tx t.tx tx ≡ true) × (((epoch == t.epoch) && (life == life_of t.lives to)) ≡ true) =
+                both (same_tx t.tx tx) ((epoch == t.epoch) && (life == life_of t.lives to)) mine.0 in
+        let named : ((epoch == t.epoch) ≡ true) × ((life == life_of t.lives to) ≡ true) =
+                both (epoch == t.epoch) (life == life_of t.lives to) rest.1 in
         let lived : life ≡ life_of t.lives to = eqb-true life (life_of t.lives to) named.1 in
         (eqb-true epoch t.epoch named.0 ∙ first.0, known lived (life_first t.lives to first.1))
       where
-        known : life ≡ life_of t.lives to → (life_of t.lives to ≡ 0) ⊎ (life_of t.lives to ≡ first_life) → (life ≡ 0) ⊎ (life ≡ first_life)
+        known : life ≡ life_of t.lives to → (life_of t.lives to ≡ 0) ⊎ (life_of t.lives to ≡ first_life)
+            → (life ≡ 0) ⊎ (life ≡ first_life)
         known same (inl none) = inl (same ∙ none)
         known same (inr one) = inr (same ∙ one)
 
@@ -255,7 +142,8 @@ SendsFirst (Tells reply) = Unit {0}
 SendsFirst (Falls cause pending) = Unit {0}
 SendsFirst (Rises records) = Unit {0}
 
-sent_is : (decl : Declaration) (d : Account) (to : ℕ) (m : Message) → IsFirstAccount d → IsSendDue decl d to m → RequestIsFirst m
+sent_is : (decl : Declaration) (d : Account) (to : ℕ) (m : Message) → IsFirstAccount d → IsSendDue decl d to m
+    → RequestIsFirst m
 sent_is decl d to (messages.Request tx epoch life want) f due = asked_first decl d to tx epoch life want f due
 sent_is decl d to (messages.Answer number answer) f due = tt
 sent_is decl d to (messages.Decision tx verdict) f due = tt
@@ -264,23 +152,33 @@ sent_is decl d to (messages.Ask tx) f due = tt
 sent_is decl d to (messages.Close epoch) f due = tt
 sent_is decl d to (messages.Install epoch clock log) f due = tt
 
-pub deeds_first : (decl : Declaration) (d : Account) (ds : List Deed) → IsFirstAccount d → AreByRows decl d ds → Every TakesFirst ds → Every SendsFirst ds
+pub deeds_first : (decl : Declaration) (d : Account) (ds : List Deed) → IsFirstAccount d → AreByRows decl d ds
+    → Every TakesFirst ds → Every SendsFirst ds
 deeds_first decl d [] f due all = tt
-deeds_first decl d (Takes g ∷ ds) f due all = (tt, deeds_first decl (account_taken d g) ds (taken_first d g all.0 f) due.1 all.1)
-deeds_first decl d (Writes w ∷ ds) f due all = (tt, deeds_first decl (account_written d w) ds (written_first d w f) due.1 all.1)
-deeds_first decl d (Sends n to m ∷ ds) f due all = (sent_is decl d to m f due.0, deeds_first decl (account_sent decl d n to m) ds (sent_first decl d n to m f) due.1 all.1)
-deeds_first decl d (Tells r ∷ ds) f due all = (tt, deeds_first decl (account_told decl d r) ds (reply_first decl d r f) due.1 all.1)
+deeds_first decl d (Takes g ∷ ds) f due all =
+    (tt, deeds_first decl (account_taken d g) ds (taken_first d g all.0 f) due.1 all.1)
+deeds_first decl d (Writes w ∷ ds) f due all =
+    (tt, deeds_first decl (account_written d w) ds (written_first d w f) due.1 all.1)
+deeds_first decl d (Sends n to m ∷ ds) f due all =
+    (sent_is decl d to m f due.0,
+    deeds_first decl (account_sent decl d n to m) ds (sent_first decl d n to m f) due.1 all.1)
+deeds_first decl d (Tells r ∷ ds) f due all =
+    (tt, deeds_first decl (account_told decl d r) ds (reply_first decl d r f) due.1 all.1)
 deeds_first decl d (Falls cause pending ∷ ds) f due all = absurd due.0
 deeds_first decl d (Rises kept ∷ ds) f due all = absurd due.0
 
-pub account_first : (decl : Declaration) (d : Account) (ds : List Deed) → IsFirstAccount d → Every TakesFirst ds → IsFirstAccount (fold (account_at decl) d ds)
+pub account_first : (decl : Declaration) (d : Account) (ds : List Deed) → IsFirstAccount d → Every TakesFirst ds
+    → IsFirstAccount (fold (account_at decl) d ds)
 account_first decl d [] f all = f
 account_first decl d (Takes g ∷ ds) f all = account_first decl (account_taken d g) ds (taken_first d g all.0 f) all.1
 account_first decl d (Writes w ∷ ds) f all = account_first decl (account_written d w) ds (written_first d w f) all.1
-account_first decl d (Sends n to m ∷ ds) f all = account_first decl (account_sent decl d n to m) ds (sent_first decl d n to m f) all.1
+account_first decl d (Sends n to m ∷ ds) f all =
+    account_first decl (account_sent decl d n to m) ds (sent_first decl d n to m f) all.1
 account_first decl d (Tells r ∷ ds) f all = account_first decl (account_told decl d r) ds (reply_first decl d r f) all.1
-account_first decl d (Falls cause pending ∷ ds) f all = account_first decl (account_fallen d) ds (record { known = f.known; current = tt }) all.1
-account_first decl d (Rises kept ∷ ds) f all = account_first decl (account_with d.client kept) ds (record { known = refl; current = tt }) all.1
+account_first decl d (Falls cause pending ∷ ds) f all =
+    account_first decl (account_fallen d) ds (record { known = f.known; current = tt }) all.1
+account_first decl d (Rises kept ∷ ds) f all =
+    account_first decl (account_with d.client kept) ds (record { known = refl; current = tt }) all.1
 
 pub new_first : (client : ℕ) → IsFirstAccount (new_account client)
 new_first client = record { known = refl; current = tt }

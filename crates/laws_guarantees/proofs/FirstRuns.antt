@@ -40,7 +40,8 @@ use Rattle.laws_turns.proofs.Bounding.{lawful_turn, turn-posts}
 use Rattle.laws_turns.proofs.ClientsWithin.{IsPost}
 use Rattle.laws_guarantees.specs.Names.{AreFirst, IsFirst}
 use Rattle.laws_guarantees.proofs.ClientWords.{AreClientWords, IsClientWord, client_words}
-use Rattle.laws_guarantees.proofs.FirstAccounts.{FirstGiven, RequestIsFirst, SendsFirst, TakesFirst, deeds_first}
+use Rattle.laws_guarantees.proofs.FirstDeeds.{FirstGiven}
+use Rattle.laws_guarantees.proofs.FirstAccounts.{RequestIsFirst, SendsFirst, TakesFirst, deeds_first}
 use Rattle.laws_guarantees.proofs.FirstAccounts.{new_first}
 use Rattle.laws_guarantees.proofs.FirstSites.{deeds_calm, site_first}
 use Rattle.laws_guarantees.proofs.Mailed.{taken_mail}

@@ -16,10 +16,11 @@ use Rattle.qc_msg.specs.declared.turn.Posting.{Posting}
 use Rattle.qc_msg.specs.Names.{Deed, Falls, Rises, Sends, Takes, Tells, Writes, first_epoch}
 use Rattle.qc_site.specs.Names.{SiteMove, SiteState, closed_fault, fault_of, grants, life_fault, passed, site_at}
 use Rattle.qc_site.specs.Names.{site_takes}
-use Rattle.qc_site.proofs.Cases.{append_cases, join_cases, prepare_cases, read_cases, request_cases}
+use Rattle.qc_site.proofs.RequestCases.{append_cases, join_cases, prepare_cases, read_cases, request_cases}
 use Rattle.laws_atomic.proofs.FirstSites.{IsAtFirst, IsCalmGiven, IsCalmMessage, TakesCalm}
 use Rattle.laws_guarantees.specs.Names.{IsFirst}
-use Rattle.laws_guarantees.proofs.FirstAccounts.{FirstGiven, TakesFirst}
+use Rattle.laws_guarantees.proofs.FirstDeeds.{FirstGiven}
+use Rattle.laws_guarantees.proofs.FirstAccounts.{TakesFirst}
 
 -- a request of the first epoch, which names the first life or none, isn't refused for them
 pub first_free : (n : ℕ) (s : SiteState) (epoch life : ℕ) → IsAtFirst n s → epoch ≡ first_epoch

@@ -36,7 +36,8 @@ use Rattle.laws_guarantees.proofs.Clear.{IsElsewhere}
 use Rattle.laws_guarantees.proofs.UndisturbedCounted.{GoodHold, GoodTaken, taken_good}
 use Rattle.laws_guarantees.proofs.Verdicts.{AreGood, GoodStanding, GoodVerdict, append_light, good_verdict}
 use Rattle.laws_guarantees.proofs.Verdicts.{granted_sites, order_heavy, read_light}
-use Rattle.laws_guarantees.proofs.Voters.{IsHalf, count_in, in_order, of_appends, of_reads, order, sites_in}
+use Rattle.laws_guarantees.proofs.AskingOrder.{IsHalf, count_in, order, sites_in}
+use Rattle.laws_guarantees.proofs.Voters.{in_order, of_appends, of_reads}
 
 -- a half's requests with their answers
 

@@ -29,7 +29,7 @@ use Rattle.qc_promise.specs.Names.{is_final}
 use Rattle.laws_atomic.proofs.FirstSites.{IsCalmGiven, IsCalmMessage, TakesCalm}
 use Rattle.qc_site.specs.Names.{SiteMove, SiteState, grants, moved, new_site, passed, site_after, site_at, site_does}
 use Rattle.qc_site.specs.Names.{site_takes}
-use Rattle.qc_site.proofs.Cases.{append_cases, join_cases, prepare_cases, read_cases, request_cases}
+use Rattle.qc_site.proofs.RequestCases.{append_cases, join_cases, prepare_cases, read_cases, request_cases}
 use Rattle.laws_turns.proofs.SitesAsk.{held-more}
 use Rattle.laws_guarantees.specs.Names.{asks_to_hold, is_open, message_in, open_said, taken_in}
 

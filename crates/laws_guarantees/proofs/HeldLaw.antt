@@ -1,13 +1,12 @@
 -- What a site granted to a transaction that committed it holds until the Decision comes.
-use Rattle.std.proofs.Common.{◌≡◌, ◌≤◌, ◌&&◌, ◌||◌, not, ℕ, suc, ◌+◌, Bool, true, false, cond, List, [], ◌∷◌, ◌++◌, inl, inr, length, Some, refl, sym, ap, ◌∙◌, subst, arith}
+use Rattle.std.proofs.Common.{◌≡◌, ◌≤◌, ◌&&◌, not, ℕ, suc, ◌+◌, Bool, true, false, cond, List, ◌∷◌, inl}
+use Rattle.std.proofs.Common.{inr, length, Some, refl, sym, ap, ◌∙◌, subst, arith}
 use Rattle.std.specs.Prelude.{fold}
 use Rattle.std.specs.Option.{option_map_or}
 use Rattle.qc_stamp.specs.declared.stamp.TxId.{TxId}
-use Rattle.qc_stamp.specs.Names.{same_tx}
-use Rattle.qc_stamp.proofs.Orders.{same_tx_is}
 use Rattle.qc_list.specs.Names.{In}
 use Rattle.qc_list.proofs.Members.{In-first, In-second}
-use Rattle.theory_onecopy.proofs.Lists.{in_map, in_split}
+use Rattle.theory_onecopy.proofs.Lists.{in_map}
 use Rattle.qc_entry.specs.declared.line.Line.{Line}
 use Rattle.qc_entry.specs.declared.line.OwnLine.{OwnLine}
 use Rattle.qc_entry.specs.declared.record.Commit.{Commit as CommitRecord}
@@ -15,7 +14,7 @@ use Rattle.qc_core.specs.Names.{IsLawful}
 use Rattle.qc_decl.specs.declared.declaration.Declaration.{Declaration}
 use Rattle.qc_decl.specs.Names.{IsAccepted}
 use Rattle.qc_lock.specs.declared.held.Held.{Held}
-use Rattle.qc_lock.specs.Names.{held_of, with_held}
+use Rattle.qc_lock.specs.Names.{held_of}
 use Rattle.qc_msg.specs.declared.message.Envelope.{Envelope}
 use Rattle.qc_msg.specs.declared.message.Message.{Message}
 use Rattle.qc_msg.specs.declared.message.Message.TheVariants as messages
@@ -24,10 +23,10 @@ use Rattle.qc_msg.specs.declared.message.Outcome.TheVariants as outcomes
 use Rattle.qc_msg.specs.declared.message.Want.{Want}
 use Rattle.qc_msg.specs.declared.message.Want.TheVariants.{Read, Append, Prepare}
 use Rattle.qc_msg.specs.declared.step.Input.TheVariants as inputs
-use Rattle.qc_msg.specs.Names.{Decided, Deed, Entry, Falls, Rises, Sends, Takes, Tells, Writes, decision_in, deeds}
-use Rattle.qc_msg.specs.Names.{got_in, mail, request_in, written}
+use Rattle.qc_msg.specs.Names.{Deed, Entry, Takes, deeds}
+use Rattle.qc_msg.specs.Names.{mail, request_in, written}
 use Rattle.theory_onecopy.specs.Names.{Executed, own_line}
-use Rattle.qc_promise.specs.Names.{Grant, held_shown, holding, is_decision, is_ended, is_final, is_granted, standing}
+use Rattle.qc_promise.specs.Names.{Grant, held_shown, holding, is_ended, is_final, is_granted, standing}
 use Rattle.qc_promise.specs.Names.{standing_as, standing_by, stands}
 use Rattle.theory_machine.specs.Names.{IsExecutedOrChosen, IsOwnClosedAt, Item, Lock, LogLaws, Own, state}
 use Rattle.theory_machine.proofs.LogKeeps.{log_laws}
@@ -35,178 +34,86 @@ use Rattle.theory_machine.proofs.Places.{at}
 use Rattle.qc_script.specs.Names.{IsScriptFor, Runs}
 use Rattle.qc_script.specs.declared.script.Script.{Script}
 use Rattle.laws_refinement.specs.Names.{Backed, IsHeld, own_item, own_items}
-use Rattle.laws_refinement.proofs.Held.{given_keeps, lock_given_here, own_given_here}
 use Rattle.laws_atomic.proofs.Runs.{decisions_tell_the_records}
 use Rattle.laws_guarantees.specs.Names.{HasWanted, IsGrantedSince}
 use Rattle.laws_guarantees.proofs.Mailed.{taken_mail}
 use Rattle.laws_guarantees.proofs.Room.{numbered_within}
 use Rattle.laws_guarantees.proofs.Uncut.{held_from_first}
 use Rattle.laws_guarantees.proofs.Voted.{mirror, stood}
+use Rattle.laws_guarantees.proofs.Standing.{undecided, not_ended, standing_more, WasTakenFor, was_taken, own_wanted}
+use Rattle.laws_guarantees.proofs.Standing.{Agrees, IsWanted, standing_held}
 
--- a transaction that no final Decision ends among deeds
-
-undecided : (tx : TxId) (m : Message) → ((verdict : Outcome) → m ≡ messages.Decision tx verdict → is_final verdict ≡ true → ⊥)
-    → option_map_or (λ (x : Decided). same_tx x.tx tx && is_final x.verdict) (decision_in m) false ≡ false
-undecided tx (messages.Request t epoch life want) none = refl
-undecided tx (messages.Answer to answer) none = refl
-undecided tx (messages.Decision t verdict) none = by (same_tx t tx) refl (is_final verdict) refl
-  where
-    by : (b : Bool) → same_tx t tx ≡ b → (f : Bool) → is_final verdict ≡ f → (b && f) ≡ false
-    by true same true final = absurd (none verdict (ap (λ (u : TxId). messages.Decision u verdict) (same_tx_is t tx same)) final)
-    by true same false final = refl
-    by false other f final = refl
-undecided tx (messages.Inquiry t) none = refl
-undecided tx (messages.Ask t) none = refl
-undecided tx (messages.Close epoch) none = refl
-undecided tx (messages.Install epoch clock log) none = refl
-
-pub not_ended : (tx : TxId) (ds : List Deed) → ((e : Envelope) (verdict : Outcome) → In (Takes (inputs.Got e)) ds → e.message ≡ messages.Decision tx verdict → is_final verdict ≡ true → ⊥) → is_ended tx ds ≡ false
-not_ended tx [] none = refl
-not_ended tx (d ∷ ds) none = by (is_decision is_final tx d) (one d (λ e verdict same. none e verdict (inl (sym same)))) (not_ended tx ds (λ e verdict there. none e verdict (inr there)))
-  where
-    by : (b : Bool) → b ≡ false → is_ended tx ds ≡ false → (b || is_ended tx ds) ≡ false
-    by true is rest = absurd (let never : ⊥ = cc in never)
-    by false is rest = rest
-
-    one : (d : Deed) → ((e : Envelope) (verdict : Outcome) → d ≡ Takes (inputs.Got e) → e.message ≡ messages.Decision tx verdict → is_final verdict ≡ true → ⊥) → is_decision is_final tx d ≡ false
-    one (Takes (inputs.Called command)) n = refl
-    one (Takes (inputs.Got e)) n = undecided tx e.message (λ verdict is final. n e verdict refl is final)
-    one (Takes (inputs.Lost number)) n = refl
-    one (Writes w) n = refl
-    one (Sends number to m) n = refl
-    one (Tells reply) n = refl
-    one (Falls cause pending) n = refl
-    one (Rises records) n = refl
-
--- what stands among later deeds stands among all
-pub standing_more : (before ds : List Deed) (g : Grant) → In g (standing ds) → In g (standing (before ++ ds))
-standing_more [] ds g among = among
-standing_more (d ∷ before) ds g among = In-second g (option_map_or (standing_by (before ++ ds)) (got_in d) []) (standing (before ++ ds)) (standing_more before ds g among)
-
--- each that stands was taken
-pub record WasTakenFor (ds : List Deed) (g : Grant) : Type 0 where
-  pub envelope : Envelope
-  pub taken : In (Takes (inputs.Got envelope)) ds
-  pub epoch : ℕ
-  pub life : ℕ
-  pub content : envelope.message ≡ messages.Request g.tx epoch life g.want
-
-later_taken : (d : Deed) (ds : List Deed) (g : Grant) → WasTakenFor ds g → WasTakenFor (d ∷ ds) g
-later_taken d ds g w = record { envelope = w.envelope; taken = inr w.taken; epoch = w.epoch; life = w.life; content = w.content }
-
-pub was_taken : (ds : List Deed) (g : Grant) → In g (standing ds) → WasTakenFor ds g
-was_taken [] g among = absurd among
-was_taken (d ∷ ds) g among = elim (in_split g (option_map_or (standing_by ds) (got_in d) []) (standing ds) among) [
-  | inl here ↦ at_deed d here
-  | inr there ↦ later_taken d ds g (was_taken ds g there)
-]
-  where
-    by_test : (b : Bool) (x : Grant) → In g (cond b (x ∷ []) []) → g ≡ x
-    by_test true x (inl same) = same
-    by_test true x (inr never) = absurd never
-    by_test false x never = absurd never
-
-    at_message : (e : Envelope) (m : Message) → e.message ≡ m → In g (option_map_or (standing_as e.number ds) (request_in m) []) → WasTakenFor (Takes (inputs.Got e) ∷ ds) g
-    at_message e (messages.Request tx epoch life want) is here =
-        let same : g ≡ record { tx = tx; want = want } = by_test (stands e.number tx ds) (record { tx = tx; want = want }) here in
-        record { envelope = e; taken = inl refl; epoch = epoch; life = life; content = is ∙ (λ i. messages.Request (sym same i).tx epoch life (sym same i).want) }
-    at_message e (messages.Answer to answer) is here = absurd here
-    at_message e (messages.Decision tx verdict) is here = absurd here
-    at_message e (messages.Inquiry tx) is here = absurd here
-    at_message e (messages.Ask tx) is here = absurd here
-    at_message e (messages.Close epoch) is here = absurd here
-    at_message e (messages.Install epoch clock log) is here = absurd here
-
-    at_deed : (d : Deed) → In g (option_map_or (standing_by ds) (got_in d) []) → WasTakenFor (d ∷ ds) g
-    at_deed (Takes (inputs.Called command)) here = absurd here
-    at_deed (Takes (inputs.Got e)) here = at_message e e.message refl here
-    at_deed (Takes (inputs.Lost number)) here = absurd here
-    at_deed (Writes w) here = absurd here
-    at_deed (Sends number to m) here = absurd here
-    at_deed (Tells reply) here = absurd here
-    at_deed (Falls cause pending) here = absurd here
-    at_deed (Rises records) here = absurd here
-
--- what stands is held
-
-abbrev pub own_wanted : Want → List OwnLine
-own_wanted (Read object inv) = []
-own_wanted (Append object view own) = own
-own_wanted Prepare = []
-
--- own lines of one operation are one
-abbrev pub Agrees : List Grant → TxId → Item → Type 0
-Agrees gs tx x = (o l : OwnLine) (g : Grant) → x ≡ Own o → In g gs → g.tx ≡ tx → In l (own_wanted g.want) → o.op ≡ l.op → o ≡ l
-
-holding_keeps : (held : List Held) (u : TxId) (w : Want) (tx : TxId) (x : Item) → ((o l : OwnLine) → x ≡ Own o → u ≡ tx → In l (own_wanted w) → o.op ≡ l.op → o ≡ l) → IsHeld (held_of held tx) x → IsHeld (held_of (holding held u w) tx) x
-holding_keeps held u (Read object inv) tx x agree h = given_keeps held u tx (record { object = object; inv = inv } ∷ []) [] x (λ o l is same never. absurd never) h
-holding_keeps held u (Append object view own) tx x agree h = given_keeps held u tx [] own x agree h
-holding_keeps held u Prepare tx x agree h = h
-
-pub kept : (gs : List Grant) (held : List Held) (tx : TxId) (x : Item) → Agrees gs tx x → IsHeld (held_of held tx) x → IsHeld (held_of (fold (λ (hs : List Held) (g : Grant). holding hs g.tx g.want) held gs) tx) x
-kept [] held tx x agree h = h
-kept (g ∷ gs) held tx x agree h = kept gs (holding held g.tx g.want) tx x (λ o l k is among. agree o l k is (inr among)) (holding_keeps held g.tx g.want tx x (λ o l is. agree o l g is (inl refl)) h)
-
-abbrev pub IsWanted : Want → Item → Type 0
-IsWanted (Read object inv) x = x ≡ Lock (record { object = object; inv = inv })
-IsWanted (Append object view own) x = (o : OwnLine) × (x ≡ Own o) × In o own
-IsWanted Prepare x = ⊥
-
-holding_has : (held : List Held) (tx : TxId) (w : Want) (x : Item) → ((o l : OwnLine) → x ≡ Own o → In l (own_wanted w) → o.op ≡ l.op → o ≡ l) → IsWanted w x → IsHeld (held_of (holding held tx w) tx) x
-holding_has held tx (Read object inv) x agree is = subst (λ (y : Item). IsHeld (held_of (with_held held tx (record { object = object; inv = inv } ∷ []) []) tx) y) (sym is) (lock_given_here held tx (record { object = object; inv = inv }))
-holding_has held tx (Append object view own) x agree is = subst (λ (y : Item). IsHeld (held_of (with_held held tx [] own) tx) y) (sym is.1) (own_given_here held tx own is.0 (λ l among. agree is.0 l is.1 among) is.2)
-holding_has held tx Prepare x agree is = absurd is
-
-pub standing_held : (gs : List Grant) (held : List Held) (g : Grant) (x : Item) → In g gs → Agrees gs g.tx x → IsWanted g.want x → IsHeld (held_of (fold (λ (hs : List Held) (k : Grant). holding hs k.tx k.want) held gs) g.tx) x
-standing_held [] held g x among agree is = absurd among
-standing_held (k ∷ gs) held g x (inl same) agree is =
-    kept gs (holding held k.tx k.want) g.tx x (λ o l j e there. agree o l j e (inr there))
-    (subst (λ (y : Grant). IsHeld (held_of (holding held y.tx y.want) g.tx) x) same (holding_has held g.tx g.want x (λ o l e. agree o l g e (inl same) refl) is))
-standing_held (k ∷ gs) held g x (inr there) agree is = standing_held gs (holding held k.tx k.want) g x there (λ o l j e more. agree o l j e (inr more)) is
-
-module _ (decl : Declaration) (script : Script) (accepted : IsAccepted decl) (sound : IsScriptFor decl script) (h : List Entry) (open_inputs : List Bool) (run : Runs (IsLawful decl) decl script h open_inputs) where
+module _ (decl : Declaration) (script : Script) (accepted : IsAccepted decl) (sound : IsScriptFor decl script)
+    (h : List Entry) (open_inputs : List Bool) (run : Runs (IsLawful decl) decl script h open_inputs) where
   laws_now : LogLaws decl (state (mirror decl script accepted sound h open_inputs run).acts)
-  laws_now = log_laws decl accepted (mirror decl script accepted sound h open_inputs run).acts (mirror decl script accepted sound h open_inputs run).run
+  laws_now =
+      log_laws decl accepted (mirror decl script accepted sound h open_inputs run).acts
+      (mirror decl script accepted sound h open_inputs run).run
 
   -- an own line that was sent is a known operation's
-  own_known : (e : Envelope) (tx : TxId) (epoch life object : ℕ) (view : List Line) (own : List OwnLine) (o : OwnLine) → In e (mail h) → e.message ≡ messages.Request tx epoch life (Append object view own) → In o own
-      → (d : Executed) × IsExecutedOrChosen ((state (mirror decl script accepted sound h open_inputs run).acts).executed tx) ((state (mirror decl script accepted sound h open_inputs run).acts).chosen tx) d × (o ≡ own_line d)
+  own_known : (e : Envelope) (tx : TxId) (epoch life object : ℕ) (view : List Line) (own : List OwnLine) (o : OwnLine)
+      → In e (mail h) → e.message ≡ messages.Request tx epoch life (Append object view own) → In o own
+      → (d : Executed)
+          × IsExecutedOrChosen ((state (mirror decl script accepted sound h open_inputs run).acts).executed tx)
+            ((state (mirror decl script accepted sound h open_inputs run).acts).chosen tx) d × (o ≡ own_line d)
   own_known e tx epoch life object view own o sent is among =
-      let here : In e (stood decl script accepted sound h open_inputs run).net.mail = subst (λ (ms : List Envelope). In e ms) (sym (stood decl script accepted sound h open_inputs run).mail_is) sent in
+      let here : In e (stood decl script accepted sound h open_inputs run).net.mail =
+              subst (λ (ms : List Envelope). In e ms) (sym (stood decl script accepted sound h open_inputs run).mail_is)
+                sent in
       let b : Backed decl (state (mirror decl script accepted sound h open_inputs run).acts) (stood decl script accepted sound h open_inputs run).net.mail e.from e.to (messages.Request tx epoch life (Append object view own)) =
-      subst (λ (m : Message). Backed decl (state (mirror decl script accepted sound h open_inputs run).acts) (stood decl script accepted sound h open_inputs run).net.mail e.from e.to m) is ((mirror decl script accepted sound h open_inputs run).agrees.mail e here) in
+      subst (λ (m : Message). Backed decl (state (mirror decl script accepted sound h open_inputs run).acts)
+          (stood decl script accepted sound h open_inputs run).net.mail e.from e.to m) is
+          ((mirror decl script accepted sound h open_inputs run).agrees.mail e here) in
       let c : IsOwnClosedAt decl (state (mirror decl script accepted sound h open_inputs run).acts).executed (state (mirror decl script accepted sound h open_inputs run).acts).chosen tx view (own_items own) o =
-      (laws_now.appends (record { tx = tx; items = own_items own; view = view }) b.3.0).own_closed o (in_map own_item o own among) in
+      (laws_now.appends (record { tx = tx; items = own_items own; view = view }) b.3.0).own_closed o
+          (in_map own_item o own among) in
       (c.operation, c.known, c.is)
 
-  one_operation : (tx : TxId) (c d : Executed) → IsExecutedOrChosen ((state (mirror decl script accepted sound h open_inputs run).acts).executed tx) ((state (mirror decl script accepted sound h open_inputs run).acts).chosen tx) c
-      → IsExecutedOrChosen ((state (mirror decl script accepted sound h open_inputs run).acts).executed tx) ((state (mirror decl script accepted sound h open_inputs run).acts).chosen tx) d → c.number ≡ d.number → c ≡ d
-  one_operation tx c d (inl x) (inl y) same = (at ((state (mirror decl script accepted sound h open_inputs run).acts).executed tx) (laws_now.order tx) d y).one c x same
+  one_operation : (tx : TxId) (c d : Executed)
+      → IsExecutedOrChosen ((state (mirror decl script accepted sound h open_inputs run).acts).executed tx)
+        ((state (mirror decl script accepted sound h open_inputs run).acts).chosen tx) c
+      → IsExecutedOrChosen ((state (mirror decl script accepted sound h open_inputs run).acts).executed tx)
+          ((state (mirror decl script accepted sound h open_inputs run).acts).chosen tx) d → c.number ≡ d.number → c ≡ d
+  one_operation tx c d (inl x) (inl y) same =
+      (at ((state (mirror decl script accepted sound h open_inputs run).acts).executed tx) (laws_now.order tx) d y).one
+      c x same
   one_operation tx c d (inl x) (inr y) same = absurd (past c d x (laws_now.next tx d y).0.numbered same)
     where
-      past : (c d : Executed) → In c ((state (mirror decl script accepted sound h open_inputs run).acts).executed tx) → d.number ≡ suc (length ((state (mirror decl script accepted sound h open_inputs run).acts).executed tx)) → c.number ≡ d.number → ⊥
+      past : (c d : Executed) → In c ((state (mirror decl script accepted sound h open_inputs run).acts).executed tx)
+          → d.number ≡ suc (length ((state (mirror decl script accepted sound h open_inputs run).acts).executed tx))
+          → c.number ≡ d.number → ⊥
       past c d x n same = let low : c.number ≤ 0 + length ((state (mirror decl script accepted sound h open_inputs run).acts).executed tx) = numbered_within ((state (mirror decl script accepted sound h open_inputs run).acts).executed tx) [] c (laws_now.order tx) x in omega arith
   one_operation tx c d (inr x) (inl y) same = absurd (past c d y (laws_now.next tx c x).0.numbered same)
     where
-      past : (c d : Executed) → In d ((state (mirror decl script accepted sound h open_inputs run).acts).executed tx) → c.number ≡ suc (length ((state (mirror decl script accepted sound h open_inputs run).acts).executed tx)) → c.number ≡ d.number → ⊥
+      past : (c d : Executed) → In d ((state (mirror decl script accepted sound h open_inputs run).acts).executed tx)
+          → c.number ≡ suc (length ((state (mirror decl script accepted sound h open_inputs run).acts).executed tx))
+          → c.number ≡ d.number → ⊥
       past c d y n same = let low : d.number ≤ 0 + length ((state (mirror decl script accepted sound h open_inputs run).acts).executed tx) = numbered_within ((state (mirror decl script accepted sound h open_inputs run).acts).executed tx) [] d (laws_now.order tx) y in omega arith
   one_operation tx c d (inr x) (inr y) same = let both_are : Some c ≡ Some d = sym x ∙ y in cc
 
-  module _ (c : CommitRecord) (committed : In c (written h)) (site : ℕ) (want : Want) (g : IsGrantedSince (deeds site [] h) c.tx want) where
+  module _ (c : CommitRecord) (committed : In c (written h)) (site : ℕ) (want : Want)
+      (g : IsGrantedSince (deeds site [] h) c.tx want) where
     abbrev asked : Grant
     asked = record { tx = c.tx; want = want }
 
-    never_ended : (e : Envelope) (verdict : Outcome) → In (Takes (inputs.Got e)) g.since → e.message ≡ messages.Decision c.tx verdict → is_final verdict ≡ true → ⊥
+    never_ended : (e : Envelope) (verdict : Outcome) → In (Takes (inputs.Got e)) g.since
+        → e.message ≡ messages.Decision c.tx verdict → is_final verdict ≡ true → ⊥
     never_ended e (outcomes.Committed stamp) taken is final = g.undecided e stamp taken is
     never_ended e outcomes.Aborted taken is final =
-        let here : In (Takes (inputs.Got e)) (deeds site [] h) = subst (λ (ds : List Deed). In (Takes (inputs.Got e)) ds) (sym g.stands) (In-second (Takes (inputs.Got e)) g.before (Takes (inputs.Got g.request) ∷ g.since) (inr taken)) in
-        decisions_tell_the_records decl script h open_inputs accepted sound run e c.tx outcomes.Aborted (taken_mail site [] h e here) is c committed refl
+        let here : In (Takes (inputs.Got e)) (deeds site [] h) =
+                subst (λ (ds : List Deed). In (Takes (inputs.Got e)) ds) (sym g.stands)
+                  (In-second (Takes (inputs.Got e)) g.before (Takes (inputs.Got g.request) ∷ g.since) (inr taken)) in
+        decisions_tell_the_records decl script h open_inputs accepted sound run e c.tx outcomes.Aborted
+            (taken_mail site [] h e here) is c committed refl
     never_ended e outcomes.Active taken is final = let never : ⊥ = cc in never
 
     it_stands : In asked (standing (deeds site [] h))
     it_stands = subst (λ (ds : List Deed). In asked (standing ds)) (sym g.stands) (standing_more g.before (Takes (inputs.Got g.request) ∷ g.since) asked
         (In-first asked (standing_by g.since g.request) (standing g.since)
-        (subst (λ (m : Message). In asked (option_map_or (standing_as g.request.number g.since) (request_in m) [])) (sym g.content) (by (is_granted g.request.number g.since) (is_ended c.tx g.since) g.granted (not_ended c.tx g.since never_ended)))))
+        (subst (λ (m : Message). In asked (option_map_or (standing_as g.request.number g.since) (request_in m) []))
+            (sym g.content)
+            (by (is_granted g.request.number g.since) (is_ended c.tx g.since) g.granted
+              (not_ended c.tx g.since never_ended)))))
       where
         by : (x y : Bool) → x ≡ true → y ≡ false → In asked (cond (x && not y) (asked ∷ []) [])
         by true true is none = absurd (let never : ⊥ = cc in never)
@@ -214,50 +121,69 @@ module _ (decl : Declaration) (script : Script) (accepted : IsAccepted decl) (so
         by false y is none = absurd (let never : ⊥ = cc in never)
 
     abbrev IsKnown : OwnLine → Type 0
-    IsKnown o = (d : Executed) × IsExecutedOrChosen ((state (mirror decl script accepted sound h open_inputs run).acts).executed c.tx) ((state (mirror decl script accepted sound h open_inputs run).acts).chosen c.tx) d × (o ≡ own_line d)
+    IsKnown o =
+        (d : Executed)
+        × IsExecutedOrChosen ((state (mirror decl script accepted sound h open_inputs run).acts).executed c.tx)
+          ((state (mirror decl script accepted sound h open_inputs run).acts).chosen c.tx) d × (o ≡ own_line d)
 
     request_sent : In g.request (mail h)
-    request_sent = taken_mail site [] h g.request (subst (λ (ds : List Deed). In (Takes (inputs.Got g.request)) ds) (sym g.stands) (In-second (Takes (inputs.Got g.request)) g.before (Takes (inputs.Got g.request) ∷ g.since) (inl refl)))
+    request_sent =
+        taken_mail site [] h g.request
+        (subst (λ (ds : List Deed). In (Takes (inputs.Got g.request)) ds) (sym g.stands)
+          (In-second (Takes (inputs.Got g.request)) g.before (Takes (inputs.Got g.request) ∷ g.since) (inl refl)))
 
     wanted_known : (x : Item) (o : OwnLine) → x ≡ Own o → IsWanted want x → IsKnown o
     wanted_known x o e is = by want refl is
       where
         by : (w : Want) → want ≡ w → IsWanted w x → IsKnown o
-        by (Read object inv) same locked = absurd (let clash : Own o ≡ Lock (record { object = object; inv = inv }) = sym e ∙ locked in let never : ⊥ = cc in never)
+        by (Read object inv) same locked =
+            absurd (let clash : Own o ≡ Lock (record { object = object; inv = inv }) = sym e ∙ locked in
+                    let never : ⊥ = cc in never)
         by (Append object view own) same has =
             let one : o ≡ has.0 = (let both_are : Own o ≡ Own has.0 = sym e ∙ has.1 in cc) in
-            own_known g.request c.tx g.epoch g.life object view own o request_sent (g.content ∙ ap (λ (w : Want). messages.Request c.tx g.epoch g.life w) same) (subst (λ (y : OwnLine). In y own) (sym one) has.2)
+            own_known g.request c.tx g.epoch g.life object view own o request_sent
+                (g.content ∙ ap (λ (w : Want). messages.Request c.tx g.epoch g.life w) same)
+                (subst (λ (y : OwnLine). In y own) (sym one) has.2)
         by Prepare same never = absurd never
 
-    standing_known : (k : Grant) (l : OwnLine) → In k (standing (deeds site [] h)) → k.tx ≡ c.tx → In l (own_wanted k.want) → IsKnown l
+    standing_known : (k : Grant) (l : OwnLine) → In k (standing (deeds site [] h)) → k.tx ≡ c.tx
+        → In l (own_wanted k.want) → IsKnown l
     standing_known k l among same there = by (was_taken (deeds site [] h) k among)
       where
-        by_want : (e : Envelope) (epoch life : ℕ) (w : Want) → In e (mail h) → e.message ≡ messages.Request c.tx epoch life w → In l (own_wanted w) → IsKnown l
+        by_want : (e : Envelope) (epoch life : ℕ) (w : Want) → In e (mail h)
+            → e.message ≡ messages.Request c.tx epoch life w → In l (own_wanted w) → IsKnown l
         by_want e epoch life (Read object inv) sent is member = absurd member
-        by_want e epoch life (Append object view own) sent is member = own_known e c.tx epoch life object view own l sent is member
+        by_want e epoch life (Append object view own) sent is member =
+            own_known e c.tx epoch life object view own l sent is member
         by_want e epoch life Prepare sent is member = absurd member
 
         by : WasTakenFor (deeds site [] h) k → IsKnown l
-        by w = by_want w.envelope w.epoch w.life k.want (taken_mail site [] h w.envelope w.taken) (w.content ∙ ap (λ (t : TxId). messages.Request t w.epoch w.life k.want) same) there
+        by w =
+            by_want w.envelope w.epoch w.life k.want (taken_mail site [] h w.envelope w.taken)
+            (w.content ∙ ap (λ (t : TxId). messages.Request t w.epoch w.life k.want) same) there
 
     agrees : (x : Item) → IsWanted want x → Agrees (standing (deeds site [] h)) c.tx x
     agrees x is o l k e among same there ops =
         let a : IsKnown o = wanted_known x o e is in
         let b : IsKnown l = standing_known k l among same there in
-        let numbers : a.0.number ≡ b.0.number = sym (ap (λ (y : OwnLine). y.op) a.2) ∙ ops ∙ ap (λ (y : OwnLine). y.op) b.2 in
+        let numbers : a.0.number ≡ b.0.number =
+                sym (ap (λ (y : OwnLine). y.op) a.2) ∙ ops ∙ ap (λ (y : OwnLine). y.op) b.2 in
         a.2 ∙ ap own_line (one_operation c.tx a.0 b.0 a.1 b.1 numbers) ∙ sym b.2
 
     wanted_held : (x : Item) → IsWanted want x → IsHeld (held_of (held_shown (deeds site [] h)) c.tx) x
     wanted_held x is =
-        subst (λ (held : List Held). IsHeld (held_of held c.tx) x) (sym held_is) (standing_held (standing (deeds site [] h)) [] asked x it_stands (agrees x is) is)
+        subst (λ (held : List Held). IsHeld (held_of held c.tx) x) (sym held_is)
+            (standing_held (standing (deeds site [] h)) [] asked x it_stands (agrees x is) is)
       where
-        held_is : held_shown (deeds site [] h) ≡ fold (λ (held : List Held) (k : Grant). holding held k.tx k.want) [] (standing (deeds site [] h))
+        held_is : held_shown (deeds site [] h)
+            ≡ fold (λ (held : List Held) (k : Grant). holding held k.tx k.want) [] (standing (deeds site [] h))
         held_is = held_from_first decl script accepted sound h open_inputs run site
 
     pub granted_items_are_held : HasWanted (held_of (held_shown (deeds site [] h)) c.tx) want
     granted_items_are_held = by want wanted_held
       where
-        by : (w : Want) → ((x : Item) → IsWanted w x → IsHeld (held_of (held_shown (deeds site [] h)) c.tx) x) → HasWanted (held_of (held_shown (deeds site [] h)) c.tx) w
+        by : (w : Want) → ((x : Item) → IsWanted w x → IsHeld (held_of (held_shown (deeds site [] h)) c.tx) x)
+            → HasWanted (held_of (held_shown (deeds site [] h)) c.tx) w
         by (Read object inv) held = held (Lock (record { object = object; inv = inv })) refl
         by (Append object view own) held = λ o among. held (Own o) (o, refl, among)
         by Prepare held = tt

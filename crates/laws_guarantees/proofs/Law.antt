@@ -18,7 +18,7 @@ use Rattle.qc_decl.specs.declared.declaration.Declaration.{Declaration}
 use Rattle.qc_decl.specs.Names.{IsAccepted, actors, is_client}
 use Rattle.qc_msg.specs.declared.record.Record.TheVariants as records
 use Rattle.qc_msg.specs.Names.{Deed, Entry, Writes, commit_in, deeds, envelope_of, mail, written}
-use Rattle.qc_msg.proofs.Growth.{deeds-append}
+use Rattle.qc_msg.proofs.DeedsGrow.{deeds-append}
 use Rattle.theory_onecopy.specs.Names.{IsOperation}
 use Rattle.theory_onecopy.proofs.Lists.{in_split}
 use Rattle.qc_promise.specs.Names.{Account, Current, account, account_at, commit_of, new_account, view_of}

@@ -27,7 +27,8 @@ use Rattle.theory_machine.proofs.Decided.{IsOfEpoch, kept_lines, of_epoch, passe
 use Rattle.theory_machine.proofs.Epochs.{rising-left}
 use Rattle.theory_machine.proofs.Keeps.{laws}
 use Rattle.theory_machine.proofs.LogKeeps.{log_laws}
-use Rattle.theory_machine.proofs.Order.{between, ended, first_done_recorded, holds_granted, site_laws, spares_front}
+use Rattle.theory_machine.proofs.Grants.{between, holds_granted, site_laws, spares_front}
+use Rattle.theory_machine.proofs.Order.{ended, first_done_recorded}
 use Rattle.theory_machine.proofs.PlacedOperations.{le_cases, some_resp}
 use Rattle.theory_machine.proofs.Quorums.{IsHeavy, closed_last, closed_read, heavy, needed, number_within, read_needed}
 use Rattle.theory_machine.proofs.Quorums.{shared, some_site}

@@ -27,7 +27,7 @@ use Rattle.laws_turns.proofs.ClientsWithin.{IsPost}
 use Rattle.laws_turns.proofs.InRuns.{IsResting, deals_acts}
 use Rattle.laws_guarantees.specs.Names.{name_of}
 use Rattle.laws_guarantees.proofs.AskedClients.{input_keeps}
-use Rattle.laws_guarantees.proofs.AskedSites.{HasAsked, open_posted, open_sent}
+use Rattle.laws_guarantees.proofs.SitesTold.{HasAsked, open_posted, open_sent}
 use Rattle.laws_guarantees.proofs.Names.{front_name, taken_named, tied_named}
 
 -- whether a transaction is open at a site, by what a client sent

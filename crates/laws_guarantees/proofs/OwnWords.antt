@@ -37,7 +37,7 @@ use Rattle.laws_turns.proofs.RunsGood.{all_good}
 use Rattle.laws_turns.proofs.StatusActs.{HasPage, pages}
 use Rattle.laws_guarantees.proofs.Mailed.{mail_sent}
 use Rattle.laws_guarantees.specs.Names.{asks_to_hold, begun_by, is_open_at, open_said, sent_to}
-use Rattle.laws_guarantees.proofs.AskedSites.{open_sent}
+use Rattle.laws_guarantees.proofs.SitesTold.{open_sent}
 use Rattle.laws_guarantees.proofs.OpenDeeds.{open_did, open_done, open_named}
 
 -- a message that changes whether a transaction is open

@@ -24,7 +24,8 @@ use Rattle.qc_msg.specs.declared.turn.Turn.{Turn}
 use Rattle.qc_msg.specs.Names.{Deed, Entry, Takes, by, deeds, envelopes, mail, marked, posted, sends_of, step_of}
 use Rattle.qc_msg.specs.Names.{tells_of, turn_deeds, writes_of}
 use Rattle.qc_msg.proofs.GrownMail.{mail-append, mail-posted, mail-taken}
-use Rattle.qc_msg.proofs.Growth.{deeds-other, deeds-posted, deeds-taken}
+use Rattle.qc_msg.proofs.DeedsGrow.{deeds-other}
+use Rattle.qc_msg.proofs.Growth.{deeds-posted, deeds-taken}
 use Rattle.qc_script.specs.Names.{Inbox, Runs, command_called, commands_for, copy_taken, empty_inbox, if_up, inbox}
 use Rattle.qc_script.specs.Names.{inbox_at, is_up, opened, phase_begun, phase_of, ready}
 use Rattle.qc_script.specs.Runs.{begins, takes, posts, phase, control}
@@ -32,7 +33,7 @@ use Rattle.qc_script.specs.declared.script.PhaseLines.{PhaseLines}
 use Rattle.qc_script.specs.declared.script.Script.{Script}
 use Rattle.laws_turns.proofs.Acted.{deeds-silent}
 use Rattle.laws_turns.proofs.Arrivals.{what_is_ready_was_sent}
-use Rattle.laws_turns.proofs.Covered.{ready_copy, ready_loss}
+use Rattle.laws_turns.proofs.ReadyFirst.{ready_copy, ready_loss}
 use Rattle.laws_turns.proofs.Numbered.{mail-silent, phase_silent}
 use Rattle.laws_guarantees.specs.Names.{Arrives, IsCalm, IsUndisturbed, message_in, sent_to, taken, taken_by, taken_in}
 use Rattle.laws_guarantees.proofs.Calm.{after, turn_calm}

@@ -12,7 +12,7 @@ use Rattle.qc_msg.specs.declared.reply.Reply.TheVariants as replies
 use Rattle.qc_msg.specs.declared.step.Command.{Command}
 use Rattle.qc_msg.specs.declared.step.Step.TheVariants as steps
 use Rattle.qc_msg.specs.Names.{Entry, Tells, deeds, envelope_of, mail, marked}
-use Rattle.qc_msg.proofs.Growth.{deeds-append}
+use Rattle.qc_msg.proofs.DeedsGrow.{deeds-append}
 use Rattle.qc_promise.specs.Names.{Account, Current, account, account_at, account_told, answer_of, found_absent}
 use Rattle.qc_promise.specs.Names.{new_account, responded, with_absent, with_response}
 use Rattle.laws_due.specs.Names.{AreByRows, IsByRow}

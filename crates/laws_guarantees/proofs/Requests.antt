@@ -22,7 +22,7 @@ use Rattle.qc_promise.specs.Names.{new_account, next_own, own_appended, same_lin
 use Rattle.laws_due.specs.Names.{AreByRows, IsByRow}
 use Rattle.laws_refinement.specs.Names.{IsNamed}
 use Rattle.laws_guarantees.proofs.Accounts.{HasGrounds, and_first, and_second}
-use Rattle.laws_guarantees.proofs.Grounds.{has_grounds}
+use Rattle.laws_guarantees.proofs.RequestGrounds.{has_grounds}
 use Rattle.laws_guarantees.proofs.Room.{IsNamedWant}
 use Rattle.laws_guarantees.proofs.SiteMoves.{IsFull}
 

@@ -24,7 +24,8 @@ use Rattle.qc_msg.specs.declared.turn.Posting.{Posting}
 use Rattle.qc_msg.specs.declared.turn.Turn.{Turn}
 use Rattle.qc_msg.specs.Names.{Deed, Entry, Sends, Takes, by as by_actor, deeds, mail, marked, posted, sends_of}
 use Rattle.qc_msg.specs.Names.{step_of, tells_of, turn_deeds, writes_of}
-use Rattle.qc_msg.proofs.Growth.{deeds-other, deeds-posted, deeds-taken}
+use Rattle.qc_msg.proofs.DeedsGrow.{deeds-other}
+use Rattle.qc_msg.proofs.Growth.{deeds-posted, deeds-taken}
 use Rattle.qc_script.specs.Names.{IsScriptFor, Runs, phase_of}
 use Rattle.qc_script.specs.Runs.{begins, takes, posts, phase, control}
 use Rattle.qc_script.specs.declared.script.Script.{Script}

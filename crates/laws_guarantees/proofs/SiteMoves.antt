@@ -1,14 +1,14 @@
 -- What a site's step says of grants, of what is held, and of the answers to a Prepare.
-use Rattle.std.proofs.Common.{◌≡◌, ◌⊎◌, ◌<◌, ℕ, ◌==◌, ◌&&◌, nat_le, nat_lt, not, Bool, true, false, cond, List, [], ◌∷◌, inl, inr, length, Option, Some, None, is_some, refl, sym, ap, ◌∙◌, subst, arith, eqb-true, ltb-true}
+use Rattle.std.proofs.Common.{◌≡◌, ◌⊎◌, ◌<◌, ℕ, ◌==◌, ◌&&◌, nat_le, nat_lt, not, Bool, true, false, cond, List, ◌∷◌}
+use Rattle.std.proofs.Common.{inl, inr, length, Option, Some, None, is_some, refl, sym, ap, ◌∙◌, subst, arith, eqb-true}
+use Rattle.std.proofs.Common.{ltb-true}
 use Rattle.qc_stamp.specs.declared.stamp.TxId.{TxId}
 use Rattle.qc_stamp.specs.Names.{same_tx}
 use Rattle.qc_stamp.proofs.Orders.{same_tx_is}
 use Rattle.qc_list.specs.Names.{In}
 use Rattle.qc_entry.specs.declared.line.Line.{Line}
-use Rattle.qc_entry.specs.Names.{of_object}
 use Rattle.qc_entry.specs.declared.line.OwnLine.{OwnLine}
 use Rattle.qc_entry.specs.declared.line.ReadLock.{ReadLock}
-use Rattle.qc_entry.specs.declared.record.Prepared.{Prepared}
 use Rattle.qc_decl.specs.declared.declaration.Declaration.{Declaration}
 use Rattle.qc_decl.specs.Names.{most_record_bytes}
 use Rattle.qc_lock.specs.declared.held.Held.{Held}
@@ -16,147 +16,70 @@ use Rattle.qc_lock.specs.Names.{held_of, is_held, with_entry, with_held, with_lo
 use Rattle.qc_lock.proofs.Entries.{entry-put, entry-without_other, others_stay}
 use Rattle.qc_msg.specs.declared.message.Answer.{Answer}
 use Rattle.qc_msg.specs.declared.message.Answer.TheVariants as answers
-use Rattle.qc_msg.specs.declared.message.Envelope.{Envelope}
 use Rattle.qc_msg.specs.declared.message.Message.{Message}
 use Rattle.qc_msg.specs.declared.message.Message.TheVariants as messages
 use Rattle.qc_msg.specs.declared.message.Outcome.{Outcome}
-use Rattle.qc_msg.specs.declared.message.Outcome.TheVariants.{Committed, Aborted, Active}
+use Rattle.qc_msg.specs.declared.message.Outcome.TheVariants.{Committed}
 use Rattle.qc_msg.specs.declared.message.Want.{Want}
 use Rattle.qc_msg.specs.declared.message.Want.TheVariants.{Read, Append, Prepare}
-use Rattle.qc_msg.specs.declared.step.Input.{Input}
-use Rattle.qc_msg.specs.declared.step.Input.TheVariants as inputs
 use Rattle.qc_msg.specs.declared.turn.Posting.{Posting}
-use Rattle.qc_msg.specs.declared.record.Record.TheVariants as records
-use Rattle.qc_site.specs.Names.{SiteMove, SiteState, answering, answers as answering_turn, appends, clashing, closed}
-use Rattle.qc_site.specs.Names.{closed_fault, closes, fault_of, finishes, grants, installed, installs, is_final}
-use Rattle.qc_site.specs.Names.{is_prepared, joins, known, moved, passed, prepare_length, prepared_of, prepares}
-use Rattle.qc_site.specs.Names.{promise_of, promised, reads, recording, shut_answer, site_at, site_takes, votes}
-use Rattle.qc_lock.specs.declared.clash.Clash.{Clash as Conflict}
+use Rattle.qc_site.specs.Names.{SiteMove, SiteState, answers as answering_turn, clashing}
+use Rattle.qc_site.specs.Names.{closed_fault, fault_of, grants, is_final}
+use Rattle.qc_site.specs.Names.{is_prepared, moved, prepare_length, prepares}
+use Rattle.qc_site.specs.Names.{promise_of, promised, site_at, votes}
 use Rattle.qc_msg.specs.Names.{quiet}
-use Rattle.qc_stamp.specs.declared.stamp.Stamp.{Stamp}
-use Rattle.qc_site.proofs.Cases.{append_cases, choose, close_cases, fault_is, install_cases, prepare_cases, read_cases, request_cases, state_cases}
+use Rattle.qc_site.proofs.RequestCases.{append_cases, choose, fault_is, prepare_cases, read_cases}
+use Rattle.qc_site.proofs.RequestCases.{request_cases}
+use Rattle.qc_site.proofs.Cases.{state_cases}
 use Rattle.laws_atomic.proofs.FirstSites.{IsCalmMessage}
-use Rattle.laws_guarantees.proofs.ForgettingAnswers.{Forgets, same_answer}
-
--- each answer of a move is to this number, and has this
-abbrev Says : ℕ → (Answer → Type 0) → SiteMove → Type 0
-Says number P m = (p : Posting) (k : ℕ) (x : Answer) → In p m.turn.sends → p.message ≡ messages.Answer k x → (number ≡ k) × P x
-
-says_one : (P : Answer → Type 0) (m : SiteMove) (from number : ℕ) (answer : Answer) → m.turn.sends ≡ answering from number answer ∷ [] → P answer → Says number P m
-says_one P m from number answer turn has p k x among is = by (subst (λ (ps : List Posting). In p ps) turn among)
-  where
-    by : In p (answering from number answer ∷ []) → (number ≡ k) × P x
-    by (inl same) = let s : (number ≡ k) × (answer ≡ x) = same_answer number k answer x (sym (ap (λ (q : Posting). q.message) same) ∙ is) in (s.0, subst P s.1 has)
-    by (inr never) = absurd never
-
-says_clash : (P : Answer → Type 0) (decl : Declaration) (m : SiteMove) (from number : ℕ) (c : Conflict) → m.turn.sends ≡ (clashing decl from number c).sends → P (answers.Clash c.holder c.inv c.event) → Says number P m
-says_clash P decl m from number c turn has p k x among is = by (subst (λ (ps : List Posting). In p ps) turn among)
-  where
-    by : In p (clashing decl from number c).sends → (number ≡ k) × P x
-    by (inl same) = let s : (number ≡ k) × (answers.Clash c.holder c.inv c.event ≡ x) = same_answer number k (answers.Clash c.holder c.inv c.event) x (sym (ap (λ (q : Posting). q.message) same) ∙ is) in (s.0, subst P s.1 has)
-    by (inr (inl same)) = absurd (let s : messages.Inquiry c.holder ≡ messages.Answer k x = sym (ap (λ (q : Posting). q.message) same) ∙ is in let never : ⊥ = cc in never)
-    by (inr (inr never)) = absurd never
-
-says_nothing : (P : Answer → Type 0) (number : ℕ) (m : SiteMove) → m.turn.sends ≡ [] → Says number P m
-says_nothing P number m none p k x among is = absurd (subst (λ (ps : List Posting). In p ps) none among)
-
--- every answer is to the request that was taken
-
-abbrev Anything : Answer → Type 0
-Anything x = Unit {0}
-
-request_says : (decl : Declaration) (s : SiteState) (from number : ℕ) (tx : TxId) (epoch life : ℕ) (want : Want) → Says number Anything (site_at decl s from number (messages.Request tx epoch life want))
-request_says decl s from number tx epoch life want =
-    request_cases (Says number Anything) decl s from number tx epoch life want (says_nothing Anything number (moved s quiet) refl)
-    (λ fault is. says_one Anything (moved s (answering_turn from number fault)) from number fault refl tt) (λ is. by want)
-  where
-    by : (w : Want) → Says number Anything (grants decl s from number tx w)
-    by (Read object inv) = read_cases (Says number Anything) decl s from number tx object inv
-        (λ free. says_one Anything (reads s from number tx object inv) from number (answers.Granted s.life s.clock (of_object (known s) object)) refl tt) (λ c clash. says_clash Anything decl (moved s (clashing decl from number c)) from number c refl tt)
-    by (Append object view own) = append_cases (Says number Anything) decl s from number tx object view own
-        (λ free. says_one Anything (appends s from number tx view own) from number (answers.Granted s.life s.clock []) refl tt) (λ c clash. says_clash Anything decl (moved s (clashing decl from number c)) from number c refl tt)
-    by Prepare = prepare_cases (Says number Anything) s from number tx (says_one Anything (moved s (answering_turn from number answers.Stale)) from number answers.Stale refl tt)
-        (λ held stands. says_one Anything (moved s (answering_turn from number (answers.Yes s.clock))) from number (answers.Yes s.clock) refl tt)
-        (λ held made. says_one Anything (moved (promised s (promise_of s tx)) (votes s from number (promise_of s tx))) from number (answers.Yes s.clock) refl tt)
-
-close_says : (s : SiteState) (from number k : ℕ) → Says number Anything (closes s from number k)
-close_says s from number k =
-    close_cases (Says number Anything) s from number k
-    (λ answer. says_one Anything (moved s (answering_turn from number answer)) from number answer refl tt)
-    (λ near later. says_one Anything (moved (closed s k) (recording from number (records.Close k) (shut_answer (closed s k)))) from number (shut_answer (closed s k)) refl tt)
-
-install_says : (s : SiteState) (from number k clock : ℕ) (lines : List Line) → Says number Anything (installs s from number k clock lines)
-install_says s from number k clock lines =
-    install_cases (Says number Anything) s from number k clock lines
-    (λ answer. says_one Anything (moved s (answering_turn from number answer)) from number answer refl tt)
-    (λ later fits. says_one Anything (moved (installed s k clock lines) (recording from number (records.Install k clock lines) answers.Installed)) from number answers.Installed refl tt)
-
--- what is answered under a number was taken under it
-pub record IsAnswering (input : Input) (number : ℕ) : Type 0 where
-  pub envelope : Envelope
-  pub is : input ≡ inputs.Got envelope
-  pub numbered : envelope.number ≡ number
-
--- the request that an answer is to
-pub record IsAnsweringTo (input : Input) (number : ℕ) : Type 0 where
-  pub envelope : Envelope
-  pub is : input ≡ inputs.Got envelope
-  pub numbered : envelope.number ≡ number
-  pub tx : TxId
-  pub epoch : ℕ
-  pub life : ℕ
-  pub want : Want
-  pub content : envelope.message ≡ messages.Request tx epoch life want
-
-pub answers_inputs : (decl : Declaration) (s : SiteState) (g : Input) (p : Posting) (k : ℕ) (x : Answer) → In p (site_takes decl s g).turn.sends → p.message ≡ messages.Answer k x → IsAnswering g k
-answers_inputs decl s (inputs.Called command) p k x among is = absurd among
-answers_inputs decl s (inputs.Lost number) p k x among is = absurd among
-answers_inputs decl s (inputs.Got e) p k x among is = by e.message among
-  where
-    none_joins : (tx : TxId) (stamp : Stamp) (o : Option Prepared) → In p (joins (passed s e.message) tx stamp o).turn.sends → ⊥
-    none_joins tx stamp None there = there
-    none_joins tx stamp (Some q) there = there
-
-    none : (tx : TxId) (verdict : Outcome) → In p (finishes (passed s e.message) tx verdict).turn.sends → ⊥
-    none tx (Committed stamp) there = none_joins tx stamp (prepared_of s.prepared tx) there
-    none tx Aborted there = there
-    none tx Active there = there
-
-    numbered : e.number ≡ k → IsAnswering (inputs.Got e) k
-    numbered same = record { envelope = e; is = refl; numbered = same }
-
-    by : (m : Message) → In p (site_at decl (passed s e.message) e.from e.number m).turn.sends → IsAnswering (inputs.Got e) k
-    by (messages.Request tx epoch life want) there = numbered (request_says decl (passed s e.message) e.from e.number tx epoch life want p k x there is).0
-    by (messages.Answer to answer) there = absurd there
-    by (messages.Decision tx verdict) there = absurd (none tx verdict there)
-    by (messages.Inquiry tx) there = absurd there
-    by (messages.Ask tx) there = absurd there
-    by (messages.Close epoch) there = numbered (close_says (passed s e.message) e.from e.number epoch p k x there is).0
-    by (messages.Install epoch clock log) there = numbered (install_says (passed s e.message) e.from e.number epoch clock log p k x there is).0
-
--- where a request was sent under the number, it is the request that is answered
-pub answers_request : (g : Input) (k : ℕ) (r : IsAnswering g k) (tx : TxId) (epoch life : ℕ) (want : Want) → r.envelope.message ≡ messages.Request tx epoch life want → IsAnsweringTo g k
-answers_request g k r tx epoch life want same =
-    record { envelope = r.envelope; is = r.is; numbered = r.numbered; tx = tx; epoch = epoch; life = life; want = want; content = same }
+use Rattle.laws_guarantees.proofs.ForgettingAnswers.{Forgets}
+use Rattle.laws_guarantees.proofs.AnswersToInputs.{Says, says_one, says_clash, says_nothing}
 
 -- what is given is held
 
-given_now : (held : List Held) (tx : TxId) (locks : List ReadLock) (own : List OwnLine) → ((length locks == 0) && (length own == 0)) ≡ false → is_held (with_held held tx locks own) tx ≡ true
+given_now : (held : List Held) (tx : TxId) (locks : List ReadLock) (own : List OwnLine)
+    → ((length locks == 0) && (length own == 0)) ≡ false → is_held (with_held held tx locks own) tx ≡ true
 given_now held tx locks own some = by ((length locks == 0) && (length own == 0)) some
   where
-    by : (t : Bool) → t ≡ false → is_held (cond t held (with_entry held (record { tx = tx; locks = with_locks (held_of held tx).locks locks; own = with_owns (held_of held tx).own own }))) tx ≡ true
+    by : (t : Bool) → t ≡ false
+        → is_held
+          (cond t held
+            (with_entry held
+              (record {
+                  tx = tx;
+                  locks = with_locks (held_of held tx).locks locks;
+                  own = with_owns (held_of held tx).own own
+                }))) tx ≡ true
     by true is = absurd (let never : ⊥ = cc in never)
-    by false is = ap is_some (entry-put held (record { tx = tx; locks = with_locks (held_of held tx).locks locks; own = with_owns (held_of held tx).own own }))
+    by false is =
+        ap is_some
+        (entry-put held
+          (record {
+              tx = tx;
+              locks = with_locks (held_of held tx).locks locks;
+              own = with_owns (held_of held tx).own own
+            }))
 
-held_given : (held : List Held) (tx t : TxId) (locks : List ReadLock) (own : List OwnLine) → is_held held t ≡ true → is_held (with_held held tx locks own) t ≡ true
+held_given : (held : List Held) (tx t : TxId) (locks : List ReadLock) (own : List OwnLine) → is_held held t ≡ true
+    → is_held (with_held held tx locks own) t ≡ true
 held_given held tx t locks own is = by (same_tx tx t) refl
   where
-    here : (b : Bool) → ((length locks == 0) && (length own == 0)) ≡ b → is_held held tx ≡ true → is_held (with_held held tx locks own) tx ≡ true
+    here : (b : Bool) → ((length locks == 0) && (length own == 0)) ≡ b → is_held held tx ≡ true
+        → is_held (with_held held tx locks own) tx ≡ true
     here false some was = given_now held tx locks own some
-    here true none was = subst (λ (b : Bool). is_held (cond b held (with_entry held (record { tx = tx; locks = with_locks (held_of held tx).locks locks; own = with_owns (held_of held tx).own own }))) tx ≡ true) (sym none) was
+    here true none was =
+        subst (λ (b : Bool). is_held (cond b held
+        (with_entry held
+          (record {
+              tx = tx;
+              locks = with_locks (held_of held tx).locks locks;
+              own = with_owns (held_of held tx).own own
+            }))) tx ≡ true) (sym none) was
 
     by : (b : Bool) → same_tx tx t ≡ b → is_held (with_held held tx locks own) t ≡ true
-    by true same = subst (λ (u : TxId). is_held held u ≡ true → is_held (with_held held tx locks own) u ≡ true) (same_tx_is tx t same) (here ((length locks == 0) && (length own == 0)) refl) is
+    by true same =
+        subst (λ (u : TxId). is_held held u ≡ true → is_held (with_held held tx locks own) u ≡ true)
+        (same_tx_is tx t same) (here ((length locks == 0) && (length own == 0)) refl) is
     by false other = ap is_some (others_stay held tx t locks own other) ∙ is
 
 -- an Append has own lines
@@ -179,15 +102,21 @@ IsNoGrant answers.Installed = Unit {0}
 IsNoGrant (answers.Answered verdict) = Unit {0}
 
 abbrev HoldsGranted : TxId → SiteMove → Type 0
-HoldsGranted tx m = (p : Posting) (k life clock : ℕ) (log : List Line) → In p m.turn.sends → p.message ≡ messages.Answer k (answers.Granted life clock log) → is_held m.site.held tx ≡ true
+HoldsGranted tx m =
+    (p : Posting) (k life clock : ℕ) (log : List Line) → In p m.turn.sends
+    → p.message ≡ messages.Answer k (answers.Granted life clock log) → is_held m.site.held tx ≡ true
 
 no_grant : (tx : TxId) (number : ℕ) (m : SiteMove) → Says number IsNoGrant m → HoldsGranted tx m
 no_grant tx number m says p k life clock log among is = absurd (says p k (answers.Granted life clock log) among is).1
 
-pub granted_is_held : (decl : Declaration) (s : SiteState) (from number : ℕ) (tx : TxId) (epoch life : ℕ) (want : Want) → IsFull want → HoldsGranted tx (site_at decl s from number (messages.Request tx epoch life want))
+pub granted_is_held : (decl : Declaration) (s : SiteState) (from number : ℕ) (tx : TxId) (epoch life : ℕ) (want : Want)
+    → IsFull want → HoldsGranted tx (site_at decl s from number (messages.Request tx epoch life want))
 granted_is_held decl s from number tx epoch life want full =
-    request_cases (HoldsGranted tx) decl s from number tx epoch life want (no_grant tx number (moved s quiet) (says_nothing IsNoGrant number (moved s quiet) refl))
-    (λ fault is. no_grant tx number (moved s (answering_turn from number fault)) (says_one IsNoGrant (moved s (answering_turn from number fault)) from number fault refl (fault_is IsNoGrant s epoch life tt (λ other. tt) tt fault is))) (λ is. by want full)
+    request_cases (HoldsGranted tx) decl s from number tx epoch life want
+        (no_grant tx number (moved s quiet) (says_nothing IsNoGrant number (moved s quiet) refl))
+    (λ fault is. no_grant tx number (moved s (answering_turn from number fault))
+        (says_one IsNoGrant (moved s (answering_turn from number fault)) from number fault refl
+          (fault_is IsNoGrant s epoch life tt (λ other. tt) tt fault is))) (λ is. by want full)
   where
     some : (own : List OwnLine) → 0 < length own → (length own == 0) ≡ false
     some [] more = absurd (omega arith)
@@ -199,26 +128,39 @@ granted_is_held decl s from number tx epoch life want full =
 
     by : (w : Want) → IsFull w → HoldsGranted tx (grants decl s from number tx w)
     by (Read object inv) full = read_cases (HoldsGranted tx) decl s from number tx object inv
-        (λ free p k life clock log among is. given_now s.held tx (record { object = object; inv = inv } ∷ []) [] refl) (λ c clash. no_grant tx number (moved s (clashing decl from number c)) (says_clash IsNoGrant decl (moved s (clashing decl from number c)) from number c refl tt))
+        (λ free p k life clock log among is. given_now s.held tx (record { object = object; inv = inv } ∷ []) [] refl)
+            (λ c clash. no_grant tx number (moved s (clashing decl from number c))
+              (says_clash IsNoGrant decl (moved s (clashing decl from number c)) from number c refl tt))
     by (Append object view own) full = append_cases (HoldsGranted tx) decl s from number tx object view own
-        (λ free p k life clock log among is. given_now s.held tx [] own (some own full)) (λ c clash. no_grant tx number (moved s (clashing decl from number c)) (says_clash IsNoGrant decl (moved s (clashing decl from number c)) from number c refl tt))
-    by Prepare full = prepare_cases (HoldsGranted tx) s from number tx (no_grant tx number (moved s (answering_turn from number answers.Stale)) (says_one IsNoGrant (moved s (answering_turn from number answers.Stale)) from number answers.Stale refl tt))
-        (λ held stands. no_grant tx number (moved s (answering_turn from number (answers.Yes s.clock))) (says_one IsNoGrant (moved s (answering_turn from number (answers.Yes s.clock))) from number (answers.Yes s.clock) refl tt))
-        (λ held made. no_grant tx number (moved (promised s (promise_of s tx)) (votes s from number (promise_of s tx))) (says_one IsNoGrant (moved (promised s (promise_of s tx)) (votes s from number (promise_of s tx))) from number (answers.Yes s.clock) refl tt))
+        (λ free p k life clock log among is. given_now s.held tx [] own (some own full))
+            (λ c clash. no_grant tx number (moved s (clashing decl from number c))
+              (says_clash IsNoGrant decl (moved s (clashing decl from number c)) from number c refl tt))
+    by Prepare full =
+        prepare_cases (HoldsGranted tx) s from number tx
+        (no_grant tx number (moved s (answering_turn from number answers.Stale))
+          (says_one IsNoGrant (moved s (answering_turn from number answers.Stale)) from number answers.Stale refl tt))
+        (λ held stands. no_grant tx number (moved s (answering_turn from number (answers.Yes s.clock)))
+            (says_one IsNoGrant (moved s (answering_turn from number (answers.Yes s.clock))) from number
+              (answers.Yes s.clock) refl tt))
+        (λ held made. no_grant tx number (moved (promised s (promise_of s tx)) (votes s from number (promise_of s tx)))
+            (says_one IsNoGrant (moved (promised s (promise_of s tx)) (votes s from number (promise_of s tx))) from
+              number (answers.Yes s.clock) refl tt))
 
 -- what is held stays, or its transaction ends
 
 abbrev pub EndsBy : Message → TxId → Type 0
 EndsBy m tx = (verdict : Outcome) × (m ≡ messages.Decision tx verdict) × (is_final verdict ≡ true)
 
-held_drops : (held : List Held) (u tx : TxId) (m : Message) (verdict : Outcome) → m ≡ messages.Decision u verdict → is_final verdict ≡ true → is_held held tx ≡ true → (is_held (without_held held u) tx ≡ true) ⊎ EndsBy m tx
+held_drops : (held : List Held) (u tx : TxId) (m : Message) (verdict : Outcome) → m ≡ messages.Decision u verdict
+    → is_final verdict ≡ true → is_held held tx ≡ true → (is_held (without_held held u) tx ≡ true) ⊎ EndsBy m tx
 held_drops held u tx m verdict is final was = by (same_tx u tx) refl
   where
     by : (b : Bool) → same_tx u tx ≡ b → (is_held (without_held held u) tx ≡ true) ⊎ EndsBy m tx
     by true same = inr (verdict, is ∙ ap (λ (t : TxId). messages.Decision t verdict) (same_tx_is u tx same), final)
     by false other = inl (ap is_some (entry-without_other held u tx other) ∙ was)
 
-pub held_stays : (decl : Declaration) (s : SiteState) (from number : ℕ) (m : Message) (tx : TxId) → IsCalmMessage m → is_held s.held tx ≡ true → (is_held (site_at decl s from number m).site.held tx ≡ true) ⊎ EndsBy m tx
+pub held_stays : (decl : Declaration) (s : SiteState) (from number : ℕ) (m : Message) (tx : TxId) → IsCalmMessage m
+    → is_held s.held tx ≡ true → (is_held (site_at decl s from number m).site.held tx ≡ true) ⊎ EndsBy m tx
 held_stays decl s from number m tx calm was =
     state_cases (λ (x : SiteState). (is_held x.held tx ≡ true) ⊎ EndsBy m tx) decl s from number m (inl was)
     (λ t epoch life object inv same. inl (held_given s.held t tx (record { object = object; inv = inv } ∷ []) [] was))
@@ -231,34 +173,51 @@ held_stays decl s from number m tx calm was =
 
 -- what a Prepare is answered where something is held, and a promise fits a record
 
-is_not_behind : (s : SiteState) (epoch life : ℕ) (fault : Answer) → epoch ≡ s.epoch → fault_of s epoch life ≡ Some fault → Forgets fault → ⊥
-is_not_behind s epoch life fault same = choose (λ (o : Option Answer). o ≡ Some fault → Forgets fault → ⊥) (nat_lt s.epoch epoch) _ _
-    (λ later is forgets. (let low : s.epoch < epoch = ltb-true s.epoch epoch later in let never : ⊥ = omega arith in never))
+is_not_behind : (s : SiteState) (epoch life : ℕ) (fault : Answer) → epoch ≡ s.epoch → fault_of s epoch life ≡ Some fault
+    → Forgets fault → ⊥
+is_not_behind s epoch life fault same =
+    choose (λ (o : Option Answer). o ≡ Some fault → Forgets fault → ⊥) (nat_lt s.epoch epoch) _ _
+    (λ later is forgets.
+        (let low : s.epoch < epoch = ltb-true s.epoch epoch later in let never : ⊥ = omega arith in never))
     (λ later. choose (λ (o : Option Answer). o ≡ Some fault → Forgets fault → ⊥) (nat_lt epoch s.epoch) _ _
-    (λ earlier is forgets. subst Forgets (sym (let e : answers.Closed s.epoch ≡ fault = cc in e)) forgets) (λ earlier. by s.closed_for))
+    (λ earlier is forgets. subst Forgets (sym (let e : answers.Closed s.epoch ≡ fault = cc in e)) forgets)
+        (λ earlier. by s.closed_for))
   where
     by : (shut : Option ℕ) → closed_fault s life shut ≡ Some fault → Forgets fault → ⊥
     by (Some other) is forgets = subst Forgets (sym (let e : answers.Closed other ≡ fault = cc in e)) forgets
-    by None is forgets = choose (λ (o : Option Answer). o ≡ Some fault → Forgets fault → ⊥) (life == 0) _ _ (λ none is. absurd (let never : ⊥ = cc in never))
-        (λ some. choose (λ (o : Option Answer). o ≡ Some fault → Forgets fault → ⊥) (life == s.life) _ _ (λ own is. absurd (let never : ⊥ = cc in never))
+    by None is forgets =
+        choose (λ (o : Option Answer). o ≡ Some fault → Forgets fault → ⊥) (life == 0) _ _
+        (λ none is. absurd (let never : ⊥ = cc in never))
+        (λ some. choose (λ (o : Option Answer). o ≡ Some fault → Forgets fault → ⊥) (life == s.life) _ _
+            (λ own is. absurd (let never : ⊥ = cc in never))
         (λ other is forgets. subst Forgets (sym (let e : answers.Restarted s.life ≡ fault = cc in e)) forgets)) is forgets
 
 abbrev Remembers : Answer → Type 0
 Remembers x = Forgets x → ⊥
 
-prepare_says : (s : SiteState) (from number : ℕ) (tx : TxId) → is_held s.held tx ≡ true → nat_le (prepare_length (promise_of s tx)) most_record_bytes ≡ true → Says number Remembers (prepares s from number tx)
+prepare_says : (s : SiteState) (from number : ℕ) (tx : TxId) → is_held s.held tx ≡ true
+    → nat_le (prepare_length (promise_of s tx)) most_record_bytes ≡ true
+    → Says number Remembers (prepares s from number tx)
 prepare_says s from number tx held fits =
     choose (Says number Remembers) (not (is_held s.held tx)) _ _
-    (λ none. absurd (let n : not true ≡ true = subst (λ (b : Bool). not b ≡ true) held none in let never : ⊥ = cc in never))
+    (λ none. absurd
+        (let n : not true ≡ true = subst (λ (b : Bool). not b ≡ true) held none in let never : ⊥ = cc in never))
     (λ some. choose (Says number Remembers) (is_prepared s.prepared tx) _ _
-    (λ stands. says_one Remembers (moved s (answering_turn from number (answers.Yes s.clock))) from number (answers.Yes s.clock) refl (λ never. never))
+    (λ stands. says_one Remembers (moved s (answering_turn from number (answers.Yes s.clock))) from number
+        (answers.Yes s.clock) refl (λ never. never))
     (λ made. choose (Says number Remembers) (nat_le (prepare_length (promise_of s tx)) most_record_bytes) _ _
-    (λ short. says_one Remembers (moved (promised s (promise_of s tx)) (votes s from number (promise_of s tx))) from number (answers.Yes s.clock) refl (λ never. never))
+    (λ short. says_one Remembers (moved (promised s (promise_of s tx)) (votes s from number (promise_of s tx))) from
+        number (answers.Yes s.clock) refl (λ never. never))
     (λ long. absurd (let never : ⊥ = cc in never))))
 
-pub prepares_remembered : (decl : Declaration) (s : SiteState) (from number : ℕ) (tx : TxId) (epoch life : ℕ) → epoch ≡ s.epoch → is_held s.held tx ≡ true → nat_le (prepare_length (promise_of s tx)) most_record_bytes ≡ true
-    → (p : Posting) (k : ℕ) (x : Answer) → In p (site_at decl s from number (messages.Request tx epoch life Prepare)).turn.sends → p.message ≡ messages.Answer k x → Forgets x → ⊥
+pub prepares_remembered : (decl : Declaration) (s : SiteState) (from number : ℕ) (tx : TxId) (epoch life : ℕ)
+    → epoch ≡ s.epoch → is_held s.held tx ≡ true → nat_le (prepare_length (promise_of s tx)) most_record_bytes ≡ true
+    → (p : Posting) (k : ℕ) (x : Answer)
+        → In p (site_at decl s from number (messages.Request tx epoch life Prepare)).turn.sends
+        → p.message ≡ messages.Answer k x → Forgets x → ⊥
 prepares_remembered decl s from number tx epoch life same held fits p k x among is =
-    (request_cases (Says number Remembers) decl s from number tx epoch life Prepare (says_nothing Remembers number (moved s quiet) refl)
-    (λ fault it. says_one Remembers (moved s (answering_turn from number fault)) from number fault refl (is_not_behind s epoch life fault same it))
+    (request_cases (Says number Remembers) decl s from number tx epoch life Prepare
+        (says_nothing Remembers number (moved s quiet) refl)
+    (λ fault it. says_one Remembers (moved s (answering_turn from number fault)) from number fault refl
+        (is_not_behind s epoch life fault same it))
     (λ none. prepare_says s from number tx held fits) p k x among is).1

@@ -24,7 +24,8 @@ use Rattle.qc_msg.specs.declared.turn.Posting.{Posting}
 use Rattle.qc_msg.specs.declared.turn.Turn.{Turn}
 use Rattle.qc_msg.specs.Names.{Deed, Entry, WasSentTo, answered, by as by_actor, deeds, first_epoch, mail}
 use Rattle.qc_msg.specs.Names.{operations_of, posted, written}
-use Rattle.qc_msg.proofs.Growth.{deeds-other, deeds-posted}
+use Rattle.qc_msg.proofs.DeedsGrow.{deeds-other}
+use Rattle.qc_msg.proofs.Growth.{deeds-posted}
 use Rattle.qc_promise.specs.Names.{ClientRequest, account, account_at, new_account}
 use Rattle.theory_machine.specs.Names.{state}
 use Rattle.qc_script.specs.Names.{IsScriptFor, Runs}
@@ -43,7 +44,7 @@ use Rattle.laws_guarantees.specs.Names.{IsOpenVote}
 use Rattle.laws_guarantees.proofs.NetMessages.{both}
 use Rattle.laws_guarantees.proofs.NeverRisen.{operations_written}
 use Rattle.laws_guarantees.proofs.ForgettingAnswers.{Forgets}
-use Rattle.laws_guarantees.proofs.SiteMoves.{IsAnswering, IsAnsweringTo, answers_inputs, answers_request}
+use Rattle.laws_guarantees.proofs.AnswersToInputs.{IsAnswering, IsAnsweringTo, answers_inputs, answers_request}
 use Rattle.laws_guarantees.proofs.SiteMoves.{prepares_remembered}
 use Rattle.laws_guarantees.proofs.Voted.{asked, granted, granted_first, mirror, one_request, site_has_room, site_holds}
 use Rattle.laws_guarantees.proofs.Voted.{stood, tie}

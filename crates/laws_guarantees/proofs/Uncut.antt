@@ -34,7 +34,7 @@ use Rattle.qc_promise.specs.Names.{Account, AreDeedsDue, AreRepliesDue, Grant, H
 use Rattle.qc_promise.specs.Names.{held_of_promises, held_shown, holding, new_account, prepared_shown, standing}
 use Rattle.qc_script.specs.Names.{IsScriptFor, Runs}
 use Rattle.qc_script.specs.declared.script.Script.{Script}
-use Rattle.qc_site.proofs.Cases.{append_cases, join_cases, prepare_cases, read_cases, request_cases}
+use Rattle.qc_site.proofs.RequestCases.{append_cases, join_cases, prepare_cases, read_cases, request_cases}
 use Rattle.qc_site.specs.Names.{SiteMove, SiteState, finishes, grants, moved, new_site, passed, site_after, site_at}
 use Rattle.qc_site.specs.Names.{site_does, site_takes}
 use Rattle.laws_turns.specs.Names.{ActsIn, AsksDeclared}

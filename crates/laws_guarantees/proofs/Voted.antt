@@ -47,7 +47,7 @@ use Rattle.laws_atomic.proofs.RunsStand.{runs_stand}
 use Rattle.laws_atomic.proofs.Stood.{Stood}
 use Rattle.laws_guarantees.specs.Names.{IsOpenVote}
 use Rattle.laws_guarantees.proofs.Accounts.{HasGrounds, WasGranted, WasSent}
-use Rattle.laws_guarantees.proofs.Grounds.{has_grounds}
+use Rattle.laws_guarantees.proofs.RequestGrounds.{has_grounds}
 use Rattle.laws_guarantees.proofs.NeverRisen.{operations_written}
 use Rattle.laws_guarantees.proofs.Mailed.{sent_as, sent_mail, taken_mail}
 use Rattle.laws_guarantees.proofs.NetMessages.{AreFullMessages, IsGrantedBy, WasEnded, same_request}

@@ -25,7 +25,8 @@ use Rattle.theory_machine.proofs.Names.{put_here}
 use Rattle.laws_atomic.proofs.Stood.{may_come}
 use Rattle.laws_reach.specs.Names.{HasTaken, TakesInputs}
 use Rattle.laws_reach.proofs.Growing.{actor_posted, all_sent, ended_journal, ended_up}
-use Rattle.laws_reach.proofs.Posting.{client_posts, down_posts, fails_shows, site_posts, takes_inputs, to_net}
+use Rattle.laws_reach.proofs.PostedTurns.{takes_inputs}
+use Rattle.laws_reach.proofs.Posting.{client_posts, down_posts, fails_shows, site_posts, to_net}
 use Rattle.laws_reach.proofs.Stood.{Stands, Stood, in_admin}
 
 module _ (decl : Declaration) (h : List Entry) (inputs : List Bool) (old : Stood decl h inputs) (turn : Turn) where

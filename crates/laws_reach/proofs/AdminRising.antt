@@ -23,7 +23,7 @@ use Rattle.theory_machine.proofs.Names.{put_here}
 use Rattle.qc_recover.specs.Names.{admin_rises}
 use Rattle.laws_reach.specs.Names.{TakesInputs}
 use Rattle.laws_reach.proofs.Growing.{actor_posted, all_sent}
-use Rattle.laws_reach.proofs.Posting.{takes_inputs}
+use Rattle.laws_reach.proofs.PostedTurns.{takes_inputs}
 use Rattle.laws_reach.proofs.Rising as rising
 use Rattle.laws_reach.proofs.Rising.{client_up, site_up}
 use Rattle.laws_reach.proofs.Stood.{Stands, Stood, in_admin}

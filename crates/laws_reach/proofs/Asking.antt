@@ -9,7 +9,8 @@ use Rattle.qc_core.specs.declared.actor.Actor.{Actor}
 use Rattle.qc_core.specs.declared.actor.Actor.TheVariants as actors
 use Rattle.qc_core.specs.Names.{ActorMove, IsLawfulWithFalls, actor_does, actor_rises, actor_sends, actor_takes, moved}
 use Rattle.qc_core.specs.Names.{new_actor, with_record}
-use Rattle.qc_core.proofs.AdminWrites.{IsAdminTurn, IsOfAdmin, IsSentByAdmin, WritesDecision, admin_written}
+use Rattle.qc_core.proofs.AdminTurns.{IsAdminTurn, IsOfAdmin, IsSentByAdmin, WritesDecision}
+use Rattle.qc_core.proofs.AdminWrites.{admin_written}
 use Rattle.qc_core.proofs.ByNumber.{new_by, rises_by}
 use Rattle.qc_core.proofs.ByTurns.{called_turn}
 use Rattle.qc_core.proofs.Written.{client_written}
@@ -29,7 +30,7 @@ use Rattle.qc_msg.specs.declared.turn.Posting.{Posting}
 use Rattle.qc_msg.specs.declared.turn.Turn.{Turn}
 use Rattle.qc_msg.specs.Names.{Deed, Falls, Rises, Sends, Takes, Tells, Writes, quiet, sends_as}
 use Rattle.qc_recover.specs.Names.{site_rises}
-use Rattle.laws_turns.proofs.RightTurns.{IsNoInquiry, NoInquiries}
+use Rattle.laws_turns.proofs.TurnsGoOn.{IsNoInquiry, NoInquiries}
 use Rattle.laws_turns.proofs.SitesAsk.{GivenTells, HeldFor, PreparedFor}
 use Rattle.qc_stamp.specs.declared.stamp.TxId.{TxId}
 use Rattle.laws_due.proofs.Writing.{IsClientTurn, takes_turn}

@@ -29,16 +29,17 @@ use Rattle.qc_front.specs.Names.{FrontMove, ended, next_tx}
 use Rattle.qc_client.specs.declared.client.Client.{Client}
 use Rattle.qc_client.specs.Names.{ClientMove, answered, answered_by, by_desk, by_front, called, client_does}
 use Rattle.qc_client.specs.Names.{client_takes, commits, heard, moved, sent_one}
-use Rattle.laws_turns.proofs.Dealing.{IsAbort}
+use Rattle.laws_turns.proofs.DealingParts.{IsAbort}
 use Rattle.laws_turns.proofs.HandMoves.{IsHandMove, prepare-it, vote-it}
-use Rattle.laws_turns.proofs.FrontKinds.{FrontKind, IsRequestFor, ToldNeutral, called-kind, takes-kind}
-use Rattle.laws_turns.proofs.RightTurns.{IsNoInquiry, NoInquiries}
+use Rattle.laws_turns.proofs.FrontGoesOn.{FrontKind, IsRequestFor, ToldNeutral}
+use Rattle.laws_turns.proofs.FrontKinds.{called-kind, takes-kind}
+use Rattle.laws_turns.proofs.TurnsGoOn.{IsNoInquiry, NoInquiries}
 use Rattle.qc_list.proofs.Members.{every-weaker}
 use Rattle.qc_msg.specs.declared.message.Outcome.{Outcome}
 use Rattle.qc_msg.specs.declared.message.Outcome.TheVariants as outcomes
 use Rattle.qc_msg.specs.declared.turn.Posting.{Posting}
 use Rattle.std.specs.Prelude.{fold, map}
-use Rattle.laws_turns.proofs.StatusActs.{page_of}
+use Rattle.laws_turns.proofs.StatusInputs.{page_of}
 use Rattle.laws_turns.proofs.Statuses.{Page}
 
 pub record WritesOne (p q : Page) (turn : Turn) : Type 0 where

@@ -26,7 +26,8 @@ use Rattle.qc_msg.specs.declared.step.Input.TheVariants as inputs
 use Rattle.qc_msg.specs.declared.turn.Turn.{Turn}
 use Rattle.qc_msg.specs.Names.{Deed, Falls, Rises, Sends, Takes, Tells, Writes}
 use Rattle.laws_turns.proofs.ClientsWithin.{IsPost}
-use Rattle.laws_turns.proofs.FrontKinds.{FrontKind, called-kind, takes-kind}
+use Rattle.laws_turns.proofs.FrontGoesOn.{FrontKind}
+use Rattle.laws_turns.proofs.FrontKinds.{called-kind, takes-kind}
 use Rattle.laws_turns.proofs.HandMoves.{IsHandMove, prepare-it, vote-it}
 
 pub record StampsNone (before after : ℕ) (turn : Turn) : Type 0 where

@@ -23,7 +23,8 @@ use Rattle.qc_msg.specs.Names.{Deed, Falls, MayEnd, Rises, Takes, Tells, deeds_a
 use Rattle.qc_msg.specs.declared.reply.Reply.TheVariants as replies
 use Rattle.qc_recover.specs.Names.{client_rises, rising}
 use Rattle.laws_due.specs.Names.{IsDeclaredDeed, IsPlanned}
-use Rattle.laws_due.proofs.Happenings.{as_record, takes_to}
+use Rattle.laws_due.proofs.Fallings.{as_record}
+use Rattle.laws_due.proofs.Happenings.{takes_to}
 use Rattle.laws_due.proofs.Lifelong.{client_lives}
 use Rattle.laws_due.proofs.Standing.{IsAtRest, IsFallen, IsTied, Stands, actor_more, turn_is}
 

@@ -10,10 +10,11 @@ use Rattle.qc_msg.specs.Names.{Deed, Falls, Rises, Sends, Takes, Tells, Writes, 
 use Rattle.qc_promise.specs.Names.{Account, AreByTurns, AreDeedsDue, AreRepliesDue, Dealing, Idle, IsDeedDue, Journal}
 use Rattle.qc_promise.specs.Names.{Place, account_at, deal, dealing_in, goes, goes_on, new_account, no_dealing}
 use Rattle.qc_promise.specs.Names.{no_journal, pending_next, saying_of}
-use Rattle.laws_reach.proofs.Steps.{none_some}
+use Rattle.laws_reach.proofs.Bases.{none_some}
 use Rattle.laws_reach.proofs.DealingsTurning.{CameTo, FellTo, RoseTo, ToldTo, WroteTo, comes, falls, is_off, rises}
 use Rattle.laws_reach.proofs.DealingsTurning.{sends, tells, writes}
-use Rattle.laws_reach.proofs.Carrying.{Known, Ongoing, fell, rose, sent, takes, wrote}
+use Rattle.laws_reach.proofs.CarriedRecords.{Known, Ongoing, sent, takes, wrote}
+use Rattle.laws_reach.proofs.Carrying.{fell, rose}
 use Rattle.laws_reach.proofs.DealingsTelling.{tells_on}
 
 module _ (decl : Declaration) (c : CommitRecord) where

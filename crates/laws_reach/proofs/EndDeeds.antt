@@ -24,11 +24,12 @@ use Rattle.laws_reach.proofs.EndTies.{AwaitsReply, IsOver, closed_life, closed_o
 use Rattle.laws_reach.proofs.EndTies.{goes_on as moves_on}
 use Rattle.laws_reach.proofs.EndReplies.{Ending, ends_on, recorded_begun}
 use Rattle.laws_reach.proofs.Gists.{counted_same, finished, gist, heard_same, sent_same, with_call}
-use Rattle.laws_reach.proofs.Steps.{none_some}
+use Rattle.laws_reach.proofs.Bases.{none_some}
 use Rattle.laws_reach.proofs.DealingsTurning.{CameTo, FellTo, RoseTo, ToldTo, WroteTo, comes, falls, is_failing, is_off}
 use Rattle.laws_reach.proofs.DealingsTurning.{rises, sends, tells, writes}
-use Rattle.laws_reach.proofs.Carrying.{Known, Ongoing, commit_or, fallen_known, known_still, lives_up, risen_known}
-use Rattle.laws_reach.proofs.Carrying.{written_known}
+use Rattle.laws_reach.proofs.CarriedRecords.{Known, Ongoing, commit_or, known_still}
+use Rattle.laws_reach.proofs.Carrying.{fallen_known, lives_up, risen_known}
+use Rattle.laws_reach.proofs.CarriedRecords.{written_known}
 use Rattle.laws_reach.proofs.Deeds.{new, one, stuck}
 use Rattle.laws_reach.proofs.Owners.{same_client}
 

@@ -22,9 +22,9 @@ use Rattle.laws_reach.specs.Names.{Finds, HasRecord, IsToldOf, Responds, Says, T
 use Rattle.laws_reach.proofs.EndTies.{AwaitsReply, IsOver, EndTie, IsGoing, closed_begin, finishes, goes_on, going_one}
 use Rattle.laws_reach.proofs.EndTies.{told_of}
 use Rattle.laws_reach.proofs.Gists.{Gist, Going, finished, gist, going, refused_same, replied, short_same}
-use Rattle.laws_reach.proofs.Steps.{Base, none_some, some_is}
+use Rattle.laws_reach.proofs.Bases.{Base, none_some, some_is}
 use Rattle.laws_reach.proofs.DealingsTurning.{IsSaid, is_off}
-use Rattle.laws_reach.proofs.Carrying.{Known, Ongoing, commit_or, said}
+use Rattle.laws_reach.proofs.CarriedRecords.{Known, Ongoing, commit_or, said}
 use Rattle.laws_reach.proofs.DealingsTelling.{absent_gist, neither_up, response_gist, some_current, still}
 
 -- the record of the account: its stamp, and its transaction

@@ -31,7 +31,7 @@ use Rattle.qc_front.specs.declared.doing.Doing.{Doing}
 use Rattle.qc_front.specs.declared.doing.Doing.TheVariants.{Idle, Reading, Appending}
 use Rattle.laws_turns.proofs.Downs.{due}
 use Rattle.laws_turns.specs.Names.{is_waiting}
-use Rattle.laws_turns.proofs.Replying.{running_more, running_turn}
+use Rattle.laws_turns.proofs.TurnReplies.{running_more, running_turn}
 use Rattle.laws_turns.proofs.Waiting.{IsNoCall, called_ends, epoch_rests, round_none, sent_waits, takes_ends}
 use Rattle.laws_turns.proofs.Waiting.{takes_rests, votes_none}
 

@@ -1,7 +1,9 @@
 pub mod Rows
 pub mod Gists
 pub mod DealingsTurning
+pub mod Bases
 pub mod Steps
+pub mod CarriedRecords
 pub mod Carrying
 pub mod DealingsTelling
 pub mod Deeds
@@ -14,6 +16,7 @@ pub mod Free
 pub mod Asked
 pub mod Growing
 pub mod Stood
+pub mod PostedTurns
 pub mod Posting
 pub mod AdminPosting
 pub mod Rising
@@ -43,6 +46,7 @@ pub mod Rises
 pub mod KeptBack
 pub mod Changes
 pub mod Unborn
+pub mod StatusFalls
 pub mod VerdictsStanding
 pub mod VerdictsPosting
 pub mod VerdictsLifelong
@@ -54,9 +58,11 @@ pub mod Asking
 pub mod Putting
 pub mod Questions
 pub mod Sent
+pub mod VerdictPosts
 pub mod VerdictLaw
 pub mod Clocks
 pub mod RisingStamps
+pub mod StampsUp
 pub mod Stamped
 pub mod Agreeing
 pub mod WrongVerdicts

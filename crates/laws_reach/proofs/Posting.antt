@@ -1,6 +1,7 @@
 -- A site or a client posts its turn: the net takes and posts in one step, or falls in it. One that is down only tells a
 -- reply, which is nothing to the net.
-use Rattle.std.proofs.Common.{◌≡◌, ◌≢◌, ℕ, ◌==◌, not, Bool, true, false, cond, List, [], ◌++◌, length, Option, Some, None, option_to_list, slice_get, inl, inr, refl, sym, ap, ◌∙◌, subst, eqb-true}
+use Rattle.std.proofs.Common.{◌≡◌, ℕ, not, Bool, true, false, List, ◌++◌, length, Option, Some}
+use Rattle.std.proofs.Common.{None, option_to_list, slice_get, inl, inr, refl, sym, ap, ◌∙◌, subst}
 use Rattle.std.specs.Prelude.{slice_set}
 use Rattle.std.proofs.lemmas.List.{append-nil}
 use Rattle.qc_core.specs.declared.actor.Actor.{Actor}
@@ -8,7 +9,7 @@ use Rattle.qc_core.specs.declared.actor.Actor.TheVariants as actor
 use Rattle.qc_core.specs.Names.{ActorMove, IsLawfulWithFalls, actor_after, actor_takes, by_client, by_site, is_up}
 use Rattle.qc_core.specs.Names.{journal_after, with_record}
 use Rattle.qc_decl.specs.declared.declaration.Declaration.{Declaration}
-use Rattle.qc_decl.specs.Names.{administrator, is_administrator, is_client, is_site}
+use Rattle.qc_decl.specs.Names.{is_client, is_site}
 use Rattle.qc_client.specs.Names.{ClientMove, client_takes}
 use Rattle.qc_inbox.specs.Names.{is_down}
 use Rattle.laws_turns.proofs.Downs.{due, tells, up_is}
@@ -18,10 +19,11 @@ use Rattle.qc_msg.specs.declared.turn.Appended.{Appended}
 use Rattle.qc_msg.specs.declared.turn.Appended.TheVariants.{Done, Failed, Stopped}
 use Rattle.qc_msg.specs.declared.turn.Posting.{Posting}
 use Rattle.qc_msg.specs.declared.turn.Turn.{Turn}
-use Rattle.qc_msg.specs.Names.{Deed, Entry, HasRecord, MayEnd, WasSentTo, by, deeds, deeds_as, envelopes, mail}
+use Rattle.qc_msg.specs.Names.{Deed, Entry, HasRecord, MayEnd, WasSentTo, by, deeds, envelopes, mail}
 use Rattle.qc_msg.specs.Names.{posted_as, sends_as}
 use Rattle.qc_msg.proofs.GrownMail.{mail-append}
-use Rattle.qc_msg.proofs.Growth.{deeds-other, deeds-posted_as, mail-posted_as}
+use Rattle.qc_msg.proofs.DeedsGrow.{deeds-other}
+use Rattle.qc_msg.proofs.Growth.{deeds-posted_as, mail-posted_as}
 use Rattle.laws_refinement.specs.Names.{MayCome, Net, Reaches, after_client, after_fall, after_site, sent_all}
 use Rattle.laws_refinement.specs.Net as nets
 use Rattle.laws_refinement.proofs.Machine.{put_other}
@@ -29,78 +31,15 @@ use Rattle.qc_promise.specs.Names.{Journal, pending_with}
 use Rattle.theory_machine.proofs.Names.{put_here}
 use Rattle.qc_site.specs.Names.{SiteMove, site_takes}
 use Rattle.laws_atomic.proofs.Stood.{may_come, not_now, false_true, slot_other}
-use Rattle.laws_reach.specs.Names.{HasTaken, TakesInputs, actor_in}
-use Rattle.laws_reach.proofs.Growing.{actor_posted, all_sent, ended_journal, ended_up, journal_posted, up_posted}
-use Rattle.laws_reach.proofs.Stood.{Leaves, Stands, Stood, in_client, in_site, itself, moves}
-
--- an actor falls in the net
-
-pub fell_leaves : (decl : Declaration) (net : Net) (a : ℕ) (pending : Option Record) (sends : List Posting) (b : ℕ) → b ≢ a → Leaves decl net (after_fall net a pending sends) b
-fell_leaves decl net a pending sends b other = record {
-  up = put_other net.up a false b other;
-  records = refl;
-  pending = put_other net.pending a pending b other;
-  sites = refl;
-  clients = refl;
-  admin = λ at. refl;
-}
-
-pub never_up : (u : Bool) → u ≡ false → u ≡ true → ⊥
-never_up u down up = let no : ⊥ = cc in no
-
--- who has a lawful turn takes inputs
-pub takes_inputs : (decl : Declaration) (a : ℕ) (ds : List Deed) (turn : Turn) → IsLawfulWithFalls decl a ds turn → TakesInputs decl a
-takes_inputs decl a ds turn law = by (is_site decl a) (is_client decl a) (is_administrator decl a) refl refl refl law.called_for
-  where
-    by : (t c m : Bool) → is_site decl a ≡ t → is_client decl a ≡ c → is_administrator decl a ≡ m → cond t (Some (actor_after decl a ds).turn) (cond c (Some (actor_after decl a ds).turn) (cond m (Some (actor_after decl a ds).turn) None)) ≡ Some (with_record turn) → TakesInputs decl a
-    by true c m site client admin is = inl site
-    by false true m none client admin is = inr (inl client)
-    by false false true none no_client admin is = inr (inr (eqb-true a (administrator decl) admin))
-    by false false false none no_client no_admin is = absurd (let no : ⊥ = cc in no)
-
--- a turn that ends so, after these deeds of its actor, makes another history of a history
-
-module _ (decl : Declaration) (h : List Entry) (inputs later : List Bool) (old : Stood decl h inputs) (a : ℕ) (turn : Turn) (end : Appended) (k : List Entry) (ds : List Deed)
-    (deeds_are : deeds a [] k ≡ ds ++ deeds_as end (length (mail h)) turn) (mail_is : mail k ≡ mail h ++ envelopes a (length (mail h)) (sends_as end turn))
-    (others : (b : ℕ) → (a == b) ≡ false → deeds b [] k ≡ deeds b [] h) (slots : (b : ℕ) → (a == b) ≡ false → slice_get later b ≡ slice_get inputs b) (shut : slice_get later a ≡ Some true → ⊥) where
-  abbrev pub journal_then : Journal
-  journal_then = ended_journal end turn.write (journal_after ds)
-
-  up_then : is_up (deeds a [] k) ≡ ended_up end (is_up ds)
-  up_then = ap is_up deeds_are ∙ up_posted ds end (length (mail h)) turn
-
-  journal_is : journal_after (deeds a [] k) ≡ journal_then
-  journal_is = ap journal_after deeds_are ∙ journal_posted ds end (length (mail h)) turn
-
-  -- what the next net has to show
-  pub record Shows (next : Net) : Type 0 where
-    pub reached : Reaches decl next
-    pub sent : next.mail ≡ old.net.mail ++ envelopes a (length old.net.mail) (sends_as end turn)
-    pub leaves : (b : ℕ) → b ≢ a → Leaves decl old.net next b
-    pub up : next.up a ≡ ended_up end (is_up ds)
-    pub records : next.records a ≡ journal_then.records
-    pub pending : next.pending a ≡ journal_then.pending
-    pub clear : ended_up end (is_up ds) ≡ true → journal_then.pending ≡ None
-    pub state : ended_up end (is_up ds) ≡ true → (actor_after decl a (ds ++ deeds_as end (length (mail h)) turn)).actor ≡ actor_in decl next a
-
-  pub turned : (next : Net) → Shows next → Stood decl k later
-  turned next s =
-      moves decl h k inputs later old a next (envelopes a (length (mail h)) (sends_as end turn)) s.reached
-      (s.sent ∙ ap (λ (ms : List Envelope). ms ++ envelopes a (length ms) (sends_as end turn)) old.mail_is ∙ sym mail_is) mail_is s.leaves others slots (λ is. here)
-    where
-      here : Stands decl next a k (slice_get later a)
-      here = record {
-        up = s.up ∙ sym up_then;
-        records = s.records ∙ ap (λ (j : Journal). j.records) (sym journal_is);
-        pending = s.pending ∙ ap (λ (j : Journal). j.pending) (sym journal_is);
-        clear = λ up. ap (λ (j : Journal). j.pending) journal_is ∙ s.clear (sym up_then ∙ up);
-        closed = λ up slot. ap (λ (v : List Deed). (actor_after decl a v).actor) deeds_are ∙ s.state (sym up_then ∙ up);
-        opened = λ up slot. absurd (shut slot);
-      }
+use Rattle.laws_reach.specs.Names.{HasTaken}
+use Rattle.laws_reach.proofs.Growing.{actor_posted, all_sent, ended_journal, ended_up}
+use Rattle.laws_reach.proofs.Stood.{Stands, Stood, in_client, in_site, itself}
+use Rattle.laws_reach.proofs.PostedTurns.{fell_leaves, never_up, Shows, turned}
 
 -- a post
 
-module _ (decl : Declaration) (h : List Entry) (inputs : List Bool) (old : Stood decl h inputs) (a : ℕ) (turn : Turn) (taken : slice_get inputs a ≡ Some true) (law : IsLawfulWithFalls decl a (deeds a [] h) turn) where
+module _ (decl : Declaration) (h : List Entry) (inputs : List Bool) (old : Stood decl h inputs) (a : ℕ) (turn : Turn)
+    (taken : slice_get inputs a ≡ Some true) (law : IsLawfulWithFalls decl a (deeds a [] h) turn) where
   abbrev ds : List Deed
   ds = deeds a [] h
 
@@ -114,16 +53,25 @@ module _ (decl : Declaration) (h : List Entry) (inputs : List Bool) (old : Stood
   now = slice_set inputs a false
 
   pub mail_now : (end : Appended) → mail (after end) ≡ mail h ++ envelopes a n (sends_as end turn)
-  mail_now end = mail-append h (by a (posted_as end n turn)) ∙ ap (λ (ms : List Envelope). mail h ++ ms) (mail-posted_as end a n turn)
+  mail_now end =
+      mail-append h (by a (posted_as end n turn))
+      ∙ ap (λ (ms : List Envelope). mail h ++ ms) (mail-posted_as end a n turn)
 
   -- the net after it
   pub to_net : (end : Appended) (next : Net)
-      → Shows decl h inputs now old a turn end (after end) ds (deeds-posted_as end a n h turn) (mail_now end) (λ b other. deeds-other a b [] h (posted_as end n turn) other) (λ b other. slot_other inputs a b false other) (not_now inputs a false true true taken false_true) next
+      → Shows decl h inputs now old a turn end (after end) ds (deeds-posted_as end a n h turn) (mail_now end)
+          (λ b other. deeds-other a b [] h (posted_as end n turn) other) (λ b other. slot_other inputs a b false other)
+          (not_now inputs a false true true taken false_true) next
       → Stood decl (after end) now
   to_net end next shows =
-      turned decl h inputs now old a turn end (after end) ds (deeds-posted_as end a n h turn) (mail_now end) (λ b other. deeds-other a b [] h (posted_as end n turn) other) (λ b other. slot_other inputs a b false other) (not_now inputs a false true true taken false_true) next shows
+      turned decl h inputs now old a turn end (after end) ds (deeds-posted_as end a n h turn) (mail_now end)
+          (λ b other. deeds-other a b [] h (posted_as end n turn) other) (λ b other. slot_other inputs a b false other)
+          (not_now inputs a false true true taken false_true) next shows
 
-  pub fails_shows : (end : Appended) (r : Record) → Stands decl old.net a h (Some true) → turn.write ≡ Some r → ended_up end true ≡ false → ended_journal end turn.write (journal_after ds) ≡ record (journal_after ds) { pending = pending_with (journal_after ds).pending turn.write }
+  pub fails_shows : (end : Appended) (r : Record) → Stands decl old.net a h (Some true) → turn.write ≡ Some r
+      → ended_up end true ≡ false
+      → ended_journal end turn.write (journal_after ds)
+        ≡ record (journal_after ds) { pending = pending_with (journal_after ds).pending turn.write }
       → Reaches decl (after_fall old.net a (Some r) (sends_as end turn)) → is_up ds ≡ true → Stood decl (after end) now
   fails_shows end r s wrote falls journal reached up =
       let down : ended_up end (is_up ds) ≡ false = ap (ended_up end) up ∙ falls in
@@ -133,7 +81,9 @@ module _ (decl : Declaration) (h : List Entry) (inputs : List Bool) (old : Stood
         leaves = fell_leaves decl old.net a (Some r) (sends_as end turn);
         up = put_here old.net.up a false ∙ sym down;
         records = s.records ∙ ap (λ (j : Journal). j.records) (sym journal);
-        pending = put_here old.net.pending a (Some r) ∙ ap (pending_with (journal_after ds).pending) (sym wrote) ∙ ap (λ (j : Journal). j.pending) (sym journal);
+        pending =
+            put_here old.net.pending a (Some r) ∙ ap (pending_with (journal_after ds).pending) (sym wrote)
+            ∙ ap (λ (j : Journal). j.pending) (sym journal);
         clear = λ is. absurd (never_up (ended_up end (is_up ds)) down is);
         state = λ is. absurd (never_up (ended_up end (is_up ds)) down is);
       })
@@ -156,11 +106,14 @@ module _ (decl : Declaration) (h : List Entry) (inputs : List Bool) (old : Stood
     turn_is : move.turn ≡ with_record turn
     turn_is = ap (λ (m : ActorMove). m.turn) (sym moved_is) ∙ due decl a ds turn law
 
-    site_fails : (end : Appended) (r : Record) → turn.write ≡ Some r → ended_up end true ≡ false → ended_journal end turn.write (journal_after ds) ≡ record (journal_after ds) { pending = pending_with (journal_after ds).pending turn.write }
+    site_fails : (end : Appended) (r : Record) → turn.write ≡ Some r → ended_up end true ≡ false
+        → ended_journal end turn.write (journal_after ds)
+          ≡ record (journal_after ds) { pending = pending_with (journal_after ds).pending turn.write }
         → nets.AreFailedSends turn (sends_as end turn) → Stood decl (after end) now
     site_fails end r wrote falls journal failed =
         fails_shows end r s wrote falls journal
-        (nets.site_fails a x.given r (sends_as end turn) old.net old.reached site (s.up ∙ up) came (ap (λ (t : Turn). t.write) turn_is ∙ wrote)
+        (nets.site_fails a x.given r (sends_as end turn) old.net old.reached site (s.up ∙ up) came
+            (ap (λ (t : Turn). t.write) turn_is ∙ wrote)
         (elim failed [ inl same ↦ inl (same ∙ ap (λ (t : Turn). t.failed_sends) (sym turn_is)) | inr none ↦ inr none ])) up
 
     pub site_posts : (end : Appended) → MayEnd turn.write end → Stood decl (after end) now
@@ -176,12 +129,16 @@ module _ (decl : Declaration) (h : List Entry) (inputs : List Bool) (old : Stood
         admin = λ at. refl;
       };
       up = s.up;
-      records = put_here old.net.records a (old.net.records a ++ option_to_list move.turn.write) ∙ (λ i. s.records i ++ option_to_list (turn_is i).write);
+      records =
+          put_here old.net.records a (old.net.records a ++ option_to_list move.turn.write)
+          ∙ (λ i. s.records i ++ option_to_list (turn_is i).write);
       pending = s.pending;
       clear = s.clear;
       state = λ is.
           actor_posted decl a ds n turn ∙ ap (λ (m : ActorMove). all_sent m.actor n turn.sends) moved_is
-          ∙ sym (in_site decl (after_site old.net a move) a site ∙ ap (λ (v : _). actor.Site v) (put_here old.net.sites a move.site));
+          ∙ sym
+              (in_site decl (after_site old.net a move) a site
+                ∙ ap (λ (v : _). actor.Site v) (put_here old.net.sites a move.site));
     })
     site_posts Failed may = by turn.write refl may
       where
@@ -212,11 +169,14 @@ module _ (decl : Declaration) (h : List Entry) (inputs : List Bool) (old : Stood
     turn_was : step.turn ≡ with_record turn
     turn_was = ap (λ (m : ActorMove). m.turn) (sym step_is) ∙ due decl a ds turn law
 
-    client_fails : (end : Appended) (r : Record) → turn.write ≡ Some r → ended_up end true ≡ false → ended_journal end turn.write (journal_after ds) ≡ record (journal_after ds) { pending = pending_with (journal_after ds).pending turn.write }
+    client_fails : (end : Appended) (r : Record) → turn.write ≡ Some r → ended_up end true ≡ false
+        → ended_journal end turn.write (journal_after ds)
+          ≡ record (journal_after ds) { pending = pending_with (journal_after ds).pending turn.write }
         → nets.AreFailedSends turn (sends_as end turn) → Stood decl (after end) now
     client_fails end r wrote falls journal failed =
         fails_shows end r s wrote falls journal
-        (nets.client_fails a y.given r (sends_as end turn) old.net old.reached client (s.up ∙ up) comes (y.may client) (ap (λ (t : Turn). t.write) turn_was ∙ wrote)
+        (nets.client_fails a y.given r (sends_as end turn) old.net old.reached client (s.up ∙ up) comes (y.may client)
+            (ap (λ (t : Turn). t.write) turn_was ∙ wrote)
         (elim failed [ inl same ↦ inl (same ∙ ap (λ (t : Turn). t.failed_sends) (sym turn_was)) | inr none ↦ inr none ])) up
 
     pub client_posts : (end : Appended) → MayEnd turn.write end → Stood decl (after end) now
@@ -232,13 +192,18 @@ module _ (decl : Declaration) (h : List Entry) (inputs : List Bool) (old : Stood
         admin = λ at. refl;
       };
       up = s.up;
-      records = put_here old.net.records a (old.net.records a ++ option_to_list step.turn.write) ∙ (λ i. s.records i ++ option_to_list (turn_was i).write);
+      records =
+          put_here old.net.records a (old.net.records a ++ option_to_list step.turn.write)
+          ∙ (λ i. s.records i ++ option_to_list (turn_was i).write);
       pending = s.pending;
       clear = s.clear;
       state = λ is.
           actor_posted decl a ds n turn ∙ ap (λ (m : ActorMove). all_sent m.actor n turn.sends) step_is
           ∙ (λ i. actor.Client (sent_all step.client (length (sym old.mail_is i)) (sym turn_was i).sends))
-          ∙ sym (in_client decl (after_client old.net a step) a client ∙ ap (λ (v : _). actor.Client v) (put_here old.net.clients a (sent_all step.client (length old.net.mail) step.turn.sends)));
+          ∙ sym
+              (in_client decl (after_client old.net a step) a client
+                ∙ ap (λ (v : _). actor.Client v)
+                  (put_here old.net.clients a (sent_all step.client (length old.net.mail) step.turn.sends)));
     })
     client_posts Failed may = by turn.write refl may
       where
@@ -260,13 +225,20 @@ module _ (decl : Declaration) (h : List Entry) (inputs : List Bool) (old : Stood
   fallen : is_up ds ≡ false → is_down ds ≡ true
   fallen down = is_fallen (is_down ds) (up_is ds) down
 
-  pub down_posts : Stands decl old.net a h (Some true) → is_up ds ≡ false → (end : Appended) → MayEnd turn.write end → Stood decl (after end) now
+  pub down_posts : Stands decl old.net a h (Some true) → is_up ds ≡ false → (end : Appended) → MayEnd turn.write end
+      → Stood decl (after end) now
   down_posts s down Done may = to_net Done old.net (record {
     reached = old.reached;
-    sent = sym (ap (λ (ps : List Posting). old.net.mail ++ envelopes a (length old.net.mail) ps) ((tells decl).sends_none a ds turn law (fallen down)) ∙ append-nil old.net.mail);
+    sent =
+        sym (ap (λ (ps : List Posting). old.net.mail ++ envelopes a (length old.net.mail) ps)
+        ((tells decl).sends_none a ds turn law (fallen down)) ∙ append-nil old.net.mail);
     leaves = λ b other. itself decl old.net b;
     up = s.up;
-    records = s.records ∙ sym (ap (λ (o : Option Record). (journal_after ds).records ++ option_to_list o) ((tells decl).writes_none a ds turn law (fallen down)) ∙ append-nil (journal_after ds).records);
+    records =
+        s.records
+        ∙ sym
+          (ap (λ (o : Option Record). (journal_after ds).records ++ option_to_list o)
+            ((tells decl).writes_none a ds turn law (fallen down)) ∙ append-nil (journal_after ds).records);
     pending = s.pending;
     clear = s.clear;
     state = λ is. absurd (never_up (is_up ds) down is);

@@ -15,7 +15,7 @@ use Rattle.qc_msg.specs.Names.{Deed, Falls, Rises, Takes, Tells, deeds_as, first
 use Rattle.qc_promise.specs.Names.{AreRight, Committed, Journal, Unborn, no_journal, status, status_at}
 use Rattle.laws_turns.proofs.KnownDeeds.{IsKnown, KnownFrom, known-first, known-second, right-append}
 use Rattle.qc_recover.specs.Names.{rising}
-use Rattle.laws_turns.proofs.StatusActs.{page_of}
+use Rattle.laws_turns.proofs.StatusInputs.{page_of}
 use Rattle.qc_list.proofs.Members.{every-In}
 use Rattle.qc_msg.specs.declared.record.Record.TheVariants as records
 use Rattle.qc_stamp.specs.declared.stamp.Stamp.{Stamp}
@@ -32,7 +32,7 @@ use Rattle.laws_reach.proofs.VerdictsFalling.{turn_rests, unopened_rests}
 use Rattle.qc_core.proofs.KeptBack.{back_first}
 use Rattle.laws_reach.proofs.VerdictsLifelong.{Rests, up_here}
 use Rattle.laws_reach.proofs.Rises.{IsShown, all_right}
-use Rattle.laws_reach.proofs.VerdictsStanding.{Down, up_down}
+use Rattle.laws_reach.proofs.StatusFalls.{Down, up_down}
 
 module _ (decl : Declaration) (a : ℕ) (client : is_client decl a ≡ true) (tx : TxId) where
   -- it stands so where each rise gives back its journal and its questions are of begun transactions

@@ -9,7 +9,7 @@ use Rattle.qc_core.specs.Names.{ActorMove, IsLawfulWithFalls, actor_after, actor
 use Rattle.qc_core.specs.Names.{journal_after, journal_at, up_at, with_record}
 use Rattle.qc_core.proofs.ByNumber.{client_risen, site_risen}
 use Rattle.qc_core.proofs.LivesLaws.{journal}
-use Rattle.qc_core.proofs.LivesLaws as actor_laws
+use Rattle.qc_core.proofs.LivesOfActors as actor_laws
 use Rattle.qc_decl.specs.declared.declaration.Declaration.{Declaration}
 use Rattle.qc_decl.specs.Names.{is_client, is_site}
 use Rattle.qc_client.specs.declared.client.Client.{Client}
@@ -24,7 +24,8 @@ use Rattle.qc_msg.specs.declared.turn.Turn.{Turn}
 use Rattle.qc_msg.specs.Names.{Deed, Entry, Rises, by, deeds, deeds_as, envelopes, mail, marked, own, posted_as}
 use Rattle.qc_msg.specs.Names.{sends_as}
 use Rattle.qc_msg.proofs.GrownMail.{mail-append}
-use Rattle.qc_msg.proofs.Growth.{deeds-append, deeds-other, deeds-posted_as, deeds-rose, mail-posted_as}
+use Rattle.qc_msg.proofs.DeedsGrow.{deeds-append, deeds-other, deeds-rose}
+use Rattle.qc_msg.proofs.Growth.{deeds-posted_as, mail-posted_as}
 use Rattle.laws_turns.proofs.Downs.{due}
 use Rattle.laws_refinement.specs.Names.{Net, Reaches, after_client_rise, after_site_rise, after_vain_rise}
 use Rattle.laws_refinement.specs.Net as nets
@@ -34,7 +35,7 @@ use Rattle.theory_machine.proofs.Names.{put_here}
 use Rattle.qc_recover.specs.Names.{client_rises, site_rises}
 use Rattle.qc_site.specs.Names.{SiteState}
 use Rattle.laws_reach.proofs.Growing.{actor_posted, all_sent, ended_journal, ended_up}
-use Rattle.laws_reach.proofs.Posting.{Shows, never_up, turned}
+use Rattle.laws_reach.proofs.PostedTurns.{Shows, never_up, turned}
 use Rattle.laws_reach.proofs.Stood.{Stands, Stood, in_client, in_site}
 
 -- what is given back: the records, and the pending one or none

@@ -35,7 +35,8 @@ use Rattle.qc_msg.specs.declared.step.Step.TheVariants as steps
 use Rattle.qc_msg.specs.declared.turn.Turn.{Turn}
 use Rattle.qc_msg.specs.Names.{Entry, Falls, Takes, WasSentTo, by, deeds, mail, marked, own, posted_as, step_of}
 use Rattle.qc_msg.proofs.GrownMail.{mail-append, mail-taken}
-use Rattle.qc_msg.proofs.Growth.{deeds-other, deeds-taken}
+use Rattle.qc_msg.proofs.DeedsGrow.{deeds-other}
+use Rattle.qc_msg.proofs.Growth.{deeds-taken}
 use Rattle.laws_refinement.specs.Names.{IsNamed, MayAdminister, MayCommand, Net, Reaches, after_fall, first_net}
 use Rattle.laws_refinement.specs.Net as nets
 use Rattle.qc_promise.specs.Names.{IsGivenBack, Journal, Kept, journal_of, no_journal}
@@ -49,8 +50,8 @@ use Rattle.laws_atomic.proofs.Stood.{not_now, slot_other, true_false}
 use Rattle.laws_reach.specs.Names.{TakesInputs}
 use Rattle.laws_reach.proofs.Asked.{ready_named}
 use Rattle.laws_reach.proofs.Free.{client_free}
-use Rattle.laws_reach.proofs.Posting.{fell_leaves, never_up}
-use Rattle.laws_reach.proofs.Posting as post
+use Rattle.laws_reach.proofs.PostedTurns.{fell_leaves, never_up}
+use Rattle.laws_reach.proofs.PostedTurns as post
 use Rattle.laws_reach.proofs.AdminPosting as posting
 use Rattle.laws_reach.proofs.AdminRising as rise
 use Rattle.laws_reach.proofs.Stood.{Leaves, Stands, Stood, in_client, itself, moves, stays}

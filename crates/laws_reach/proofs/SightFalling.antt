@@ -19,7 +19,7 @@ use Rattle.qc_msg.specs.declared.step.Input.TheVariants as inputs
 use Rattle.qc_msg.specs.Names.{Falls, Rises, Takes, Tells, Writes, commit_of}
 use Rattle.qc_promise.specs.Names.{Account, IsGivenBack, Journal, Sight, account_at, account_fallen, clock_with}
 use Rattle.qc_promise.specs.Names.{is_begun, life_with}
-use Rattle.laws_reach.proofs.Carrying.{life_up}
+use Rattle.laws_reach.proofs.CarriedRecords.{life_up}
 use Rattle.laws_atomic.proofs.Counted.{IsOpen, name_of}
 use Rattle.laws_atomic.proofs.Seeing.{IsUpTo, in_split}
 use Rattle.laws_reach.proofs.Making.{IsHad, given_back}

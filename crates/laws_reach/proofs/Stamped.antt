@@ -1,6 +1,7 @@
 -- Over all of a client's deeds, through its falls and rises, the stamps of its commit records rise, and its clock has
 -- passed them.
-use Rattle.std.proofs.Common.{◌≡◌, ◌<◌, ℕ, ◌-◌, Bool, true, false, List, [], ◌∷◌, ◌++◌, fold, inl, inr, Option, Some, None, option_to_list, refl, sym, ap, ◌∙◌, subst, append_assoc, arith}
+use Rattle.std.proofs.Common.{◌≡◌, ◌<◌, ℕ, ◌-◌, Bool, true, false, List, ◌∷◌, ◌++◌, fold, inl, inr, Option, Some}
+use Rattle.std.proofs.Common.{None, refl, sym, ap, ◌∙◌, subst, append_assoc, arith}
 use Rattle.std.specs.List.{AllByRecursion as Every}
 use Rattle.std.proofs.lemmas.List.{append-nil}
 use Rattle.std.proofs.lemmas.List.Sums.{fold-append}
@@ -27,7 +28,7 @@ use Rattle.qc_msg.specs.declared.turn.Appended.{Appended}
 use Rattle.qc_msg.specs.declared.turn.Appended.TheVariants.{Done, Failed, Stopped}
 use Rattle.qc_msg.specs.Names.{Deed, Falls, MayEnd, Rises, Takes, Tells, Writes, deeds_as, first_epoch, sends_of}
 use Rattle.qc_msg.specs.Names.{tells_of, turn_deeds, writes_of}
-use Rattle.qc_promise.specs.Names.{IsGivenBack, Journal, no_journal}
+use Rattle.qc_promise.specs.Names.{Journal, no_journal}
 use Rattle.laws_turns.proofs.Bounding.{turn-posts}
 use Rattle.qc_recover.specs.Names.{client_rises, rising}
 use Rattle.qc_recover.specs.Clients.{nothing_kept}
@@ -39,33 +40,8 @@ use Rattle.laws_reach.proofs.Courses.{IsNow, Lasts, course, rises_to}
 use Rattle.qc_core.proofs.KeptBack.{back_first, back_second}
 use Rattle.laws_reach.proofs.VerdictsLifelong.{same_client}
 use Rattle.laws_reach.proofs.VerdictsPosting.{turn_journal}
-use Rattle.laws_reach.proofs.RisingStamps.{IsUpTo, Rise, all_passed, commits_more, commits_of, low_later, rise_first, rise_more}
-
--- while it is up its clock has passed its records, and none is pending; while it is down the pending one is above them
-
-pub record UpTo (j : Journal) (n : ℕ) : Type 0 where
-  pub passed : Every (IsUpTo n) (commits_of j.records)
-  pub rise : Rise (commits_of j.records)
-  pub none : j.pending ≡ None
-
-abbrev pub WithPending : Journal → Type 0
-WithPending j = Rise (commits_of (j.records ++ option_to_list j.pending))
-
--- it falls, with none pending, or with one above its clock
-
-none_pending : (j : Journal) (n : ℕ) → UpTo j n → WithPending j
-none_pending j n u = subst (λ (o : Option Record). Rise (commits_of (j.records ++ option_to_list o))) (sym u.none) (subst (λ (rs : List Record). Rise (commits_of rs)) (sym (append-nil j.records)) u.rise)
-
-one_above : (j : Journal) (n : ℕ) → UpTo j n → (c : Commit) → n < c.stamp.clock → Rise (commits_of (j.records ++ records.Commit c ∷ []))
-one_above j n u c above = subst Rise (sym (commits_more j.records (records.Commit c ∷ []))) (rise_more n (commits_of j.records) c u.rise u.passed above)
-
--- what rises of it
-back_rise : (j : Journal) (kept : List Record) → IsGivenBack j kept → WithPending j → Rise (commits_of kept)
-back_rise j kept (inl same) up = subst (λ (rs : List Record). Rise (commits_of rs)) (sym same) (rise_first (commits_of j.records) (commits_of (option_to_list j.pending)) (subst Rise (commits_more j.records (option_to_list j.pending)) up))
-back_rise j kept (inr more) up = subst (λ (rs : List Record). Rise (commits_of rs)) (sym more) up
-
-with_life : (kept : List Record) → commits_of (kept ++ records.Life ∷ []) ≡ commits_of kept
-with_life kept = commits_more kept (records.Life ∷ []) ∙ append-nil (commits_of kept)
+use Rattle.laws_reach.proofs.RisingStamps.{IsUpTo, Rise, all_passed, commits_more, commits_of, low_later}
+use Rattle.laws_reach.proofs.StampsUp.{UpTo, WithPending, none_pending, one_above, back_rise, with_life}
 
 module _ (decl : Declaration) (a : ℕ) (client : is_client decl a ≡ true) where
   abbrev number : ℕ
@@ -87,19 +63,24 @@ module _ (decl : Declaration) (a : ℕ) (client : is_client decl a ≡ true) whe
   journal_more : (ds more : List Deed) → journal_after (ds ++ more) ≡ fold journal_at (journal_after ds) more
   journal_more ds more = fold-append journal_at no_journal ds more
 
-  timed_more : (ds more : List Deed) (up : Bool) → is_up (ds ++ more) ≡ up → HereWith up (fold journal_at (journal_after ds) more) (actor_after decl a (ds ++ more)).actor → WithPending (fold journal_at (journal_after ds) more)
+  timed_more : (ds more : List Deed) (up : Bool) → is_up (ds ++ more) ≡ up
+      → HereWith up (fold journal_at (journal_after ds) more) (actor_after decl a (ds ++ more)).actor
+      → WithPending (fold journal_at (journal_after ds) more)
       → Timed (ds ++ more)
   timed_more ds more up is here whole = record {
     up = up;
     is = is;
-    here = subst (λ (j : Journal). HereWith up j (actor_after decl a (ds ++ more)).actor) (sym (journal_more ds more)) here;
+    here = subst (λ (j : Journal). HereWith up j (actor_after decl a (ds ++ more)).actor) (sym (journal_more ds more))
+        here;
     whole = subst WithPending (sym (journal_more ds more)) whole;
   }
 
-  timed_down : (ds more : List Deed) → is_up (ds ++ more) ≡ false → WithPending (fold journal_at (journal_after ds) more) → Timed (ds ++ more)
+  timed_down : (ds more : List Deed) → is_up (ds ++ more) ≡ false
+      → WithPending (fold journal_at (journal_after ds) more) → Timed (ds ++ more)
   timed_down ds more is whole = timed_more ds more false is whole whole
 
-  up_here : (b : Bool) (j : Journal) (x : Actor) (c : Client) → HereWith b j x → b ≡ true → x ≡ actors.Client c → UpTo j c.desk.clock.value
+  up_here : (b : Bool) (j : Journal) (x : Actor) (c : Client) → HereWith b j x → b ≡ true → x ≡ actors.Client c
+      → UpTo j c.desk.clock.value
   up_here true j x c here same is = here c is
   up_here false j x c here same is = absurd (let never : ⊥ = cc in never)
 
@@ -120,32 +101,49 @@ module _ (decl : Declaration) (a : ℕ) (client : is_client decl a ≡ true) whe
 
     module _ (r : IsAtRest decl a ds) (same : r.up ≡ true) (t : IsTied decl a ds) where
       now : UpTo (journal_after ds) t.state.desk.clock.value
-      now = up_here w.up (journal_after ds) (actor_after decl a ds).actor t.state w.here (sym w.is ∙ r.is ∙ same) t.actor
+      now =
+          up_here w.up (journal_after ds) (actor_after decl a ds).actor t.state w.here (sym w.is ∙ r.is ∙ same) t.actor
 
       crashed_timed : Timed (ds ++ Falls causes.Script None ∷ [])
-      crashed_timed = timed_down ds (Falls causes.Script None ∷ []) (up_more decl a ds (Falls causes.Script None ∷ [])) (none_pending (journal_after ds) t.state.desk.clock.value now)
+      crashed_timed =
+          timed_down ds (Falls causes.Script None ∷ []) (up_more decl a ds (Falls causes.Script None ∷ []))
+          (none_pending (journal_after ds) t.state.desk.clock.value now)
 
       module _ (g : Input) where
         abbrev move : ClientMove
         move = client_takes decl t.state g
 
-        written : (o : Stamps t.state move) → UpTo (fold journal_at (journal_after ds) (writes_of move.turn.write)) move.client.desk.clock.value
-        written (inl none) = subst (λ (o : Option Record). UpTo (fold journal_at (journal_after ds) (writes_of o)) move.client.desk.clock.value) (sym none.write) (record {
-          passed = low_later t.state.desk.clock.value move.client.desk.clock.value none.on (commits_of (journal_after ds).records) now.passed;
+        written : (o : Stamps t.state move)
+            → UpTo (fold journal_at (journal_after ds) (writes_of move.turn.write)) move.client.desk.clock.value
+        written (inl none) =
+            subst (λ (o : Option Record). UpTo (fold journal_at (journal_after ds) (writes_of o))
+            move.client.desk.clock.value) (sym none.write) (record {
+          passed =
+              low_later t.state.desk.clock.value move.client.desk.clock.value none.on
+              (commits_of (journal_after ds).records) now.passed;
           rise = now.rise;
           none = now.none;
         })
-        written (inr one) = subst (λ (o : Option Record). UpTo (fold journal_at (journal_after ds) (writes_of o)) move.client.desk.clock.value) (sym one.write) (record {
-          passed = subst (λ (n : ℕ). Every (IsUpTo n) (commits_of ((journal_after ds).records ++ records.Commit one.commit ∷ []))) (sym one.passed)
-              (subst (Every (IsUpTo one.commit.stamp.clock)) (sym (commits_more (journal_after ds).records (records.Commit one.commit ∷ [])))
+        written (inr one) =
+            subst (λ (o : Option Record). UpTo (fold journal_at (journal_after ds) (writes_of o))
+            move.client.desk.clock.value) (sym one.write) (record {
+          passed =
+              subst (λ (n : ℕ). Every (IsUpTo n)
+              (commits_of ((journal_after ds).records ++ records.Commit one.commit ∷ []))) (sym one.passed)
+              (subst (Every (IsUpTo one.commit.stamp.clock))
+                  (sym (commits_more (journal_after ds).records (records.Commit one.commit ∷ [])))
               (every-append (IsUpTo one.commit.stamp.clock) (commits_of (journal_after ds).records) (one.commit ∷ [])
-              (low_later t.state.desk.clock.value one.commit.stamp.clock (let l : t.state.desk.clock.value < one.commit.stamp.clock = one.above in omega arith) (commits_of (journal_after ds).records) now.passed)
+              (low_later t.state.desk.clock.value one.commit.stamp.clock
+                  (let l : t.state.desk.clock.value < one.commit.stamp.clock = one.above in omega arith)
+                  (commits_of (journal_after ds).records) now.passed)
               (omega arith, tt)));
           rise = one_above (journal_after ds) t.state.desk.clock.value now one.commit one.above;
           none = now.none;
         })
 
-        is_after : (first : ℕ) (c : Client) → (actor_after decl a (ds ++ Takes g ∷ turn_deeds first move.turn)).actor ≡ actors.Client c → (fold (client_does decl) move (turn_deeds first move.turn)).client ≡ c
+        is_after : (first : ℕ) (c : Client)
+            → (actor_after decl a (ds ++ Takes g ∷ turn_deeds first move.turn)).actor ≡ actors.Client c
+            → (fold (client_does decl) move (turn_deeds first move.turn)).client ≡ c
         is_after first c is =
             same_client (fold (client_does decl) move (turn_deeds first move.turn)).client c
             (sym (ap (λ (m : ActorMove). m.actor) (actor_more decl a ds (Takes g ∷ turn_deeds first move.turn)
@@ -156,26 +154,41 @@ module _ (decl : Declaration) (a : ℕ) (client : is_client decl a ≡ true) whe
         done_timed first =
             subst Timed (sym (append_assoc ds (Takes g ∷ []) (turn_deeds first move.turn)))
             (timed_more ds (Takes g ∷ turn_deeds first move.turn) true
-            (up_more decl a ds (Takes g ∷ turn_deeds first move.turn) ∙ steady_up (is_up ds) (turn_deeds first move.turn) (turn_steady first move.turn) ∙ r.is ∙ same)
-            (λ c is. subst (λ (j : Journal). UpTo j c.desk.clock.value) (sym (turn_journal (journal_after ds) first move.turn))
-            (subst (UpTo (fold journal_at (journal_after ds) (writes_of move.turn.write))) (sym (clock_posts decl move (turn_deeds first move.turn) (turn-posts first move.turn)) ∙ ap (λ (x : Client). x.desk.clock.value) (is_after first c is))
+            (up_more decl a ds (Takes g ∷ turn_deeds first move.turn)
+                ∙ steady_up (is_up ds) (turn_deeds first move.turn) (turn_steady first move.turn) ∙ r.is ∙ same)
+            (λ c is. subst (λ (j : Journal). UpTo j c.desk.clock.value)
+                (sym (turn_journal (journal_after ds) first move.turn))
+            (subst (UpTo (fold journal_at (journal_after ds) (writes_of move.turn.write)))
+                (sym (clock_posts decl move (turn_deeds first move.turn) (turn-posts first move.turn))
+                  ∙ ap (λ (x : Client). x.desk.clock.value) (is_after first c is))
             (written (takes_stamps decl t.state g))))
-            (subst WithPending (sym (turn_journal (journal_after ds) first move.turn)) (none_pending (fold journal_at (journal_after ds) (writes_of move.turn.write)) move.client.desk.clock.value (written (takes_stamps decl t.state g)))))
+            (subst WithPending (sym (turn_journal (journal_after ds) first move.turn))
+                (none_pending (fold journal_at (journal_after ds) (writes_of move.turn.write))
+                  move.client.desk.clock.value (written (takes_stamps decl t.state g)))))
 
         above : (w : IsCommitTurn move.turn) → Stamps t.state move → t.state.desk.clock.value < w.commit.stamp.clock
-        above w (inl none) = absurd (let no : None ≡ Some (records.Commit w.commit) = sym none.write ∙ w.write in let never : ⊥ = cc in never)
+        above w (inl none) =
+            absurd (let no : None ≡ Some (records.Commit w.commit) = sym none.write ∙ w.write in
+                    let never : ⊥ = cc in never)
         above w (inr one) =
             let both : Some (records.Commit one.commit) ≡ Some (records.Commit w.commit) = sym one.write ∙ w.write in
             let one_is : one.commit ≡ w.commit = cc in
             subst (λ (c : Commit). t.state.desk.clock.value < c.stamp.clock) one_is one.above
 
-        unknown_timed : (cause : Fall) (w : IsCommitTurn move.turn) → Timed ((ds ++ Takes g ∷ []) ++ Tells replies.Unknown ∷ Falls cause (Some (records.Commit w.commit)) ∷ [])
+        unknown_timed : (cause : Fall) (w : IsCommitTurn move.turn)
+            → Timed ((ds ++ Takes g ∷ []) ++ Tells replies.Unknown ∷ Falls cause (Some (records.Commit w.commit)) ∷ [])
         unknown_timed cause w =
-            let more : List Deed = Takes g ∷ Tells replies.Unknown ∷ Falls cause (Some (records.Commit w.commit)) ∷ [] in
-            subst Timed (sym (append_assoc ds (Takes g ∷ []) (Tells replies.Unknown ∷ Falls cause (Some (records.Commit w.commit)) ∷ [])))
-            (timed_down ds more (up_more decl a ds more) (one_above (journal_after ds) t.state.desk.clock.value now w.commit (above w (takes_stamps decl t.state g))))
+            let more : List Deed =
+                    Takes g ∷ Tells replies.Unknown ∷ Falls cause (Some (records.Commit w.commit)) ∷ [] in
+            subst Timed
+                (sym (append_assoc ds (Takes g ∷ [])
+                  (Tells replies.Unknown ∷ Falls cause (Some (records.Commit w.commit)) ∷ [])))
+            (timed_down ds more (up_more decl a ds more)
+                (one_above (journal_after ds) t.state.desk.clock.value now w.commit
+                  (above w (takes_stamps decl t.state g))))
 
-        turn_timed : (end : Appended) (first : ℕ) → MayEnd move.turn.write end → Timed ((ds ++ Takes g ∷ []) ++ deeds_as end first move.turn)
+        turn_timed : (end : Appended) (first : ℕ) → MayEnd move.turn.write end
+            → Timed ((ds ++ Takes g ∷ []) ++ deeds_as end first move.turn)
         turn_timed Done first ends = done_timed first
         turn_timed Failed first ends = by (takes_turn decl t.state g)
           where
@@ -183,7 +196,8 @@ module _ (decl : Declaration) (a : ℕ) (client : is_client decl a ≡ true) whe
             by (inl none) = absurd (subst (λ (w : Option Record). MayEnd w Failed) none ends)
             by (inr w) =
                 subst (λ (v : List Deed). Timed ((ds ++ Takes g ∷ []) ++ v))
-                (λ i. sends_of first (sym w.failed_sends i) ++ (tells_of (sym w.failed_told i) ++ Falls causes.Disk (sym w.write i) ∷ []))
+                (λ i. sends_of first (sym w.failed_sends i)
+                    ++ (tells_of (sym w.failed_told i) ++ Falls causes.Disk (sym w.write i) ∷ []))
                 (unknown_timed causes.Disk w)
         turn_timed Stopped first ends = by (takes_turn decl t.state g)
           where
@@ -206,7 +220,8 @@ module _ (decl : Declaration) (a : ℕ) (client : is_client decl a ≡ true) whe
       called_timed : (command : Command) → Timed ((ds ++ Takes (inputs.Called command) ∷ []) ++ Tells replies.Down ∷ [])
       called_timed command =
           let more : List Deed = Takes (inputs.Called command) ∷ Tells replies.Down ∷ [] in
-          subst Timed (sym (append_assoc ds (Takes (inputs.Called command) ∷ []) (Tells replies.Down ∷ []))) (timed_down ds more (up_more decl a ds more ∙ down) fallen)
+          subst Timed (sym (append_assoc ds (Takes (inputs.Called command) ∷ []) (Tells replies.Down ∷ [])))
+              (timed_down ds more (up_more decl a ds more ∙ down) fallen)
 
       module _ (kept : List Record) (back : AreGivenBack no_journal (ds ++ Rises kept ∷ [])) where
         rise_kept : Rise (commits_of kept)
@@ -220,15 +235,22 @@ module _ (decl : Declaration) (a : ℕ) (client : is_client decl a ≡ true) whe
             let more : List Deed = Rises kept ∷ Writes records.Life ∷ [] in
             subst Timed (sym (append_assoc ds (Rises kept ∷ []) (Writes records.Life ∷ [])))
             (timed_more ds more true (up_more decl a ds more)
-            (λ c is. subst (λ (x : Client). UpTo (record { records = kept ++ records.Life ∷ []; pending = None }) x.desk.clock.value)
-            (same_client (client_rises number kept).client c (sym (ap (λ (m : ActorMove). m.actor) (actor_more decl a ds more ∙ ap (λ (m : ActorMove). actor_does decl a m (Writes records.Life)) (sym (actor_more decl a ds (Rises kept ∷ [])) ∙ rises_to decl a client ds kept))) ∙ is))
+            (λ c is. subst (λ (x : Client). UpTo (record { records = kept ++ records.Life ∷ []; pending = None })
+                x.desk.clock.value)
+            (same_client (client_rises number kept).client c
+                (sym (ap (λ (m : ActorMove). m.actor)
+                  (actor_more decl a ds more
+                    ∙ ap (λ (m : ActorMove). actor_does decl a m (Writes records.Life))
+                      (sym (actor_more decl a ds (Rises kept ∷ [])) ∙ rises_to decl a client ds kept))) ∙ is))
             (record { passed = all_passed nothing_kept (kept ++ records.Life ∷ []); rise = rise_whole; none = refl }))
-            (subst (λ (rs : List Record). Rise (commits_of rs)) (sym (append-nil (kept ++ records.Life ∷ []))) rise_whole))
+            (subst (λ (rs : List Record). Rise (commits_of rs)) (sym (append-nil (kept ++ records.Life ∷ [])))
+                rise_whole))
 
         in_vain_timed : (cause : Fall) → Timed ((ds ++ Rises kept ∷ []) ++ Falls cause (Some records.Life) ∷ [])
         in_vain_timed cause =
             let more : List Deed = Rises kept ∷ Falls cause (Some records.Life) ∷ [] in
-            subst Timed (sym (append_assoc ds (Rises kept ∷ []) (Falls cause (Some records.Life) ∷ []))) (timed_down ds more (up_more decl a ds more) rise_whole)
+            subst Timed (sym (append_assoc ds (Rises kept ∷ []) (Falls cause (Some records.Life) ∷ [])))
+                (timed_down ds more (up_more decl a ds more) rise_whole)
 
         risen_timed : (end : Appended) (first : ℕ) → Timed ((ds ++ Rises kept ∷ []) ++ deeds_as end first (rising []))
         risen_timed Done first = written_timed
@@ -243,19 +265,31 @@ module _ (decl : Declaration) (a : ℕ) (client : is_client decl a ≡ true) whe
     turn = λ ds r same t g end first ends rest back.
         turn_timed ds (rest (back_first no_journal ds (Takes g ∷ []) (back_first no_journal (ds ++ Takes g ∷ []) (deeds_as end first (client_takes decl t.state g).turn) back))) r same t g end first ends;
     called = λ ds down command rest back.
-        called_timed ds (rest (back_first no_journal ds (Takes (inputs.Called command) ∷ []) (back_first no_journal (ds ++ Takes (inputs.Called command) ∷ []) (Tells replies.Down ∷ []) back))) down command;
-    crashed = λ ds r same t rest back. crashed_timed ds (rest (back_first no_journal ds (Falls causes.Script None ∷ []) back)) r same t;
+        called_timed ds
+            (rest (back_first no_journal ds (Takes (inputs.Called command) ∷ [])
+              (back_first no_journal (ds ++ Takes (inputs.Called command) ∷ []) (Tells replies.Down ∷ []) back))) down
+            command;
+    crashed =
+        λ ds r same t rest back. crashed_timed ds (rest (back_first no_journal ds (Falls causes.Script None ∷ []) back))
+        r same t;
     risen = λ ds down kept end first rest back. (
-        let risen_back : AreGivenBack no_journal (ds ++ Rises kept ∷ []) = back_first no_journal (ds ++ Rises kept ∷ []) (deeds_as end first (rising [])) back in
+        let risen_back : AreGivenBack no_journal (ds ++ Rises kept ∷ []) =
+                back_first no_journal (ds ++ Rises kept ∷ []) (deeds_as end first (rising [])) back in
         risen_timed ds (rest (back_first no_journal ds (Rises kept ∷ []) risen_back)) down kept risen_back end first);
-    unopened = λ ds down cause rest back. unopened_timed ds (rest (back_first no_journal ds (Falls cause None ∷ []) back)) down cause;
+    unopened =
+        λ ds down cause rest back. unopened_timed ds (rest (back_first no_journal ds (Falls cause None ∷ []) back)) down
+        cause;
   }
 
-  pub course_rises : IsPlanned decl first_epoch → (ds : List Deed) (b : Bool) (n : ℕ) → Lives decl a ds b n → Every (IsDeclaredDeed decl) ds → AreGivenBack no_journal ds → WithPending (journal_after ds)
+  pub course_rises : IsPlanned decl first_epoch → (ds : List Deed) (b : Bool) (n : ℕ) → Lives decl a ds b n
+      → Every (IsDeclaredDeed decl) ds → AreGivenBack no_journal ds → WithPending (journal_after ds)
   course_rises planned ds b n life all back = by b (course decl a client planned Keeps lasting ds b n life all)
     where
       by : (x : Bool) → IsNow decl a client planned Keeps lasting ds x → WithPending (journal_after ds)
       by true at =
-          let t : Timed at.before = at.rest (back_first no_journal at.before (Takes at.given ∷ []) (subst (AreGivenBack no_journal) at.is back)) in
-          subst (λ (v : List Deed). WithPending (journal_after v)) (sym at.is) (subst WithPending (sym (journal_more at.before (Takes at.given ∷ []))) t.whole)
+          let t : Timed at.before =
+                  at.rest (back_first no_journal at.before (Takes at.given ∷ [])
+                    (subst (AreGivenBack no_journal) at.is back)) in
+          subst (λ (v : List Deed). WithPending (journal_after v)) (sym at.is)
+              (subst WithPending (sym (journal_more at.before (Takes at.given ∷ []))) t.whole)
       by false rest = (rest back).whole

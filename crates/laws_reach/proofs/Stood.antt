@@ -16,7 +16,7 @@ use Rattle.qc_msg.specs.declared.step.Input.{Input}
 use Rattle.qc_msg.specs.declared.step.Input.TheVariants as given
 use Rattle.qc_msg.specs.Names.{Deed, Entry, WasSentTo, deeds, mail}
 use Rattle.laws_refinement.specs.Names.{MayCommand, Net, Reaches}
-use Rattle.laws_refinement.proofs.Nets.{place}
+use Rattle.laws_refinement.proofs.SiteNets.{place}
 use Rattle.laws_turns.proofs.Places.{slice_get-more}
 use Rattle.qc_epoch.specs.Names.{Admin}
 use Rattle.qc_site.specs.Names.{SiteState}

@@ -33,7 +33,7 @@ use Rattle.qc_promise.specs.Names.{new_account, no_journal, no_sight, running_ro
 use Rattle.qc_recover.specs.Names.{client_rises, rising}
 use Rattle.laws_due.specs.Names.{AreByRows, Goes}
 use Rattle.laws_due.proofs.Commands.{free_for}
-use Rattle.laws_due.proofs.Happenings.{as_record}
+use Rattle.laws_due.proofs.Fallings.{as_record}
 use Rattle.laws_due.proofs.Standing.{IsFallen, IsTied, account_is, actor_more, steady_up, turn_is, up_more}
 use Rattle.laws_due.proofs.Step.{inputs_are_answered_as_is_due}
 use Rattle.laws_due.proofs.Writing.{IsClientTurn, IsCommitTurn, takes_turn}

@@ -27,8 +27,8 @@ use Rattle.qc_msg.specs.Names.{turn_deeds, writes_of}
 use Rattle.qc_promise.specs.Names.{AreRightFrom, IsGivenBack, IsRightRecord, Journal, Status, Unborn, no_journal}
 use Rattle.qc_promise.specs.Names.{status, status_risen}
 use Rattle.laws_turns.proofs.KnownDeeds.{IsKnown}
-use Rattle.laws_turns.proofs.RightTurns.{TurnRight}
-use Rattle.laws_turns.proofs.StatusActs.{input_right, page_of}
+use Rattle.laws_turns.proofs.TurnsGoOn.{TurnRight}
+use Rattle.laws_turns.proofs.StatusInputs.{input_right, page_of}
 use Rattle.laws_turns.proofs.Statuses.{new_status}
 use Rattle.qc_recover.specs.Names.{client_rises, rising}
 use Rattle.qc_stamp.specs.declared.stamp.TxId.{TxId}
@@ -40,7 +40,8 @@ use Rattle.laws_reach.proofs.Courses.{rises_to}
 use Rattle.qc_core.proofs.KeptBack.{back_first, back_second}
 use Rattle.laws_reach.proofs.VerdictsLifelong.{HereWith, Rests, in_hand, posted_rests, rests_more, same_client, up_here}
 use Rattle.laws_reach.proofs.Rises.{Goes, IsShown, all_right, goes}
-use Rattle.laws_reach.proofs.VerdictsStanding.{Down, Risen, Up, falls_again, rises_back, risen_up, up_down}
+use Rattle.laws_reach.proofs.StatusFalls.{Down, Risen, Up, falls_again, rises_back, up_down}
+use Rattle.laws_reach.proofs.VerdictsStanding.{risen_up}
 
 module _ (decl : Declaration) (a : ℕ) (client : is_client decl a ≡ true) (tx : TxId) where
   abbrev IsResting : List Deed → Type 0

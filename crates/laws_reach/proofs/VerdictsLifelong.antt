@@ -18,10 +18,10 @@ use Rattle.qc_msg.specs.declared.step.Input.{Input}
 use Rattle.qc_msg.specs.Names.{Deed, Takes, turn_deeds}
 use Rattle.qc_promise.specs.Names.{Account, Journal, Status, Unborn, no_journal, status, status_at}
 use Rattle.laws_turns.proofs.Bounding.{turn-posts}
-use Rattle.laws_turns.proofs.DealtClients.{IsInHand}
+use Rattle.laws_turns.proofs.DealtCommands.{IsInHand}
 use Rattle.laws_turns.proofs.KnownDeeds.{IsKnown}
-use Rattle.laws_turns.proofs.RightTurns.{TurnRight}
-use Rattle.laws_turns.proofs.StatusActs.{input_right, page_of}
+use Rattle.laws_turns.proofs.TurnsGoOn.{TurnRight}
+use Rattle.laws_turns.proofs.StatusInputs.{input_right, page_of}
 use Rattle.laws_turns.proofs.Statuses.{Page}
 use Rattle.laws_due.specs.Names.{Ties, appends, reads, rests, votes}
 use Rattle.laws_due.proofs.Standing.{IsAtRest, IsTied, actor_more, steady_client, steady_up, up_more}
@@ -29,7 +29,7 @@ use Rattle.qc_stamp.specs.declared.stamp.TxId.{TxId}
 use Rattle.laws_reach.specs.Names.{AreRightButWritten}
 use Rattle.laws_reach.proofs.Changes.{input_changes, page_posts}
 use Rattle.laws_reach.proofs.VerdictsPosting.{but_append, but_steady, posts_up}
-use Rattle.laws_reach.proofs.VerdictsStanding.{Down, Up}
+use Rattle.laws_reach.proofs.StatusFalls.{Down, Up}
 
 -- a tied client votes on its begun transaction alone
 pub in_hand : (decl : Declaration) (d : Account) (c : Client) → Ties decl d c

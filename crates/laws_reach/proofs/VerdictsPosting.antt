@@ -13,7 +13,7 @@ use Rattle.qc_msg.specs.declared.turn.Turn.{Turn}
 use Rattle.qc_msg.specs.Names.{Deed, Falls, Rises, Sends, Takes, Tells, Writes, sends_of, tells_of, turn_deeds}
 use Rattle.qc_msg.specs.Names.{writes_of}
 use Rattle.qc_promise.specs.Names.{AreRightFrom, Journal, Status, Unborn, status_at}
-use Rattle.laws_turns.proofs.RightTurns.{TurnRight}
+use Rattle.laws_turns.proofs.TurnsGoOn.{TurnRight}
 use Rattle.laws_turns.proofs.Statuses.{Page}
 use Rattle.qc_recover.specs.Clients.{Kept, keeps, nothing_kept}
 use Rattle.std.proofs.lemmas.List.Sums.{fold-append}
@@ -21,7 +21,7 @@ use Rattle.qc_stamp.specs.declared.stamp.TxId.{TxId}
 use Rattle.qc_stamp.proofs.Orders.{same_tx_is}
 use Rattle.laws_reach.specs.Names.{AreRightButWritten}
 use Rattle.laws_reach.proofs.Changes.{Changes, WritesNone, WritesOne}
-use Rattle.laws_reach.proofs.VerdictsStanding.{Up}
+use Rattle.laws_reach.proofs.StatusFalls.{Up}
 use Rattle.laws_reach.proofs.Unborn.{turn_unborn}
 
 talk_journal : (j : Journal) (n : ℕ) (ps : List Posting) (o : Option Reply)

@@ -1,5 +1,6 @@
 -- How a transaction stands at its client, while that is up and while it is down, and as it rises.
-use Rattle.std.proofs.Common.{◌≡◌, ◌≢◌, ℕ, ◌<◌, ◌≤◌, ◌⊎◌, not, inl, inr, Bool, true, false, cond, List, [], ◌∷◌, ◌++◌, filter, fold, Option, Some, None, option_to_list, refl, sym, ap, ◌∙◌, subst, arith}
+use Rattle.std.proofs.Common.{◌≡◌, ℕ, ◌<◌, ◌⊎◌, not, inl, inr, Bool, true, false, List, ◌∷◌, ◌++◌}
+use Rattle.std.proofs.Common.{filter, fold, None, refl, sym, ap, ◌∙◌, subst, arith}
 use Rattle.std.specs.List.{AllByRecursion as Every}
 use Rattle.std.proofs.lemmas.List.Sums.{fold-append}
 use Rattle.qc_list.specs.Names.{In}
@@ -7,10 +8,10 @@ use Rattle.qc_list.proofs.Members.{In-filter, In-first, In-last, In-more, In-unf
 use Rattle.qc_entry.specs.declared.record.Commit.{Commit}
 use Rattle.qc_msg.specs.declared.record.Record.{Record}
 use Rattle.qc_msg.specs.declared.record.Record.TheVariants as records
-use Rattle.qc_promise.specs.Names.{AreRightKept, Begun, Committed, Dead, IsGivenBack, IsRightKept, IsRightRecord}
-use Rattle.qc_promise.specs.Names.{Journal, Status, Unborn, given_up, status_risen, status_written}
-use Rattle.laws_turns.proofs.Dealing.{HasRecord}
-use Rattle.laws_turns.proofs.Statuses.{IsStatus, Page}
+use Rattle.qc_promise.specs.Names.{Committed}
+use Rattle.qc_promise.specs.Names.{Status}
+use Rattle.laws_turns.proofs.DealingParts.{HasRecord}
+use Rattle.laws_turns.proofs.Statuses.{Page}
 use Rattle.qc_recover.specs.Clients.{Kept, keeps, kept_by, nothing_kept}
 use Rattle.qc_stamp.specs.declared.stamp.Stamp.{Stamp}
 use Rattle.qc_stamp.specs.declared.stamp.TxId.{TxId}
@@ -18,166 +19,27 @@ use Rattle.qc_stamp.specs.Names.{same_tx}
 use Rattle.qc_stamp.proofs.Orders.{same_tx_is, same_tx_itself}
 use Rattle.laws_reach.specs.Names.{IsRecorded}
 use Rattle.laws_reach.proofs.Rises.{IsShown}
-
-pub listed_more : (tx : TxId) (stamp : Stamp) (xs ys : List Record) → IsRecorded tx stamp xs → IsRecorded tx stamp (xs ++ ys)
-listed_more tx stamp xs ys l = record { commit = l.commit; listed = In-first (records.Commit l.commit) xs ys l.listed; named = l.named; stamped = l.stamped }
-
-pub record Up (tx : TxId) (s : Status) (j : Journal) (k : ℕ) (p : Page) : Type 0 where
-  pub status : IsStatus tx s p
-  pub listed : (c : Commit) → In c p.commits → In (records.Commit c) j.records
-  pub life : p.life ≡ (kept_by j.records).life
-  pub own : p.client ≡ k
-  pub later : tx.client ≡ k → p.life < tx.life → s ≡ Unborn
-  pub none : j.pending ≡ None
-
-pub record Down (tx : TxId) (s : Status) (j : Journal) (k : ℕ) : Type 0 where
-  pub listed : (stamp : Stamp) → s ≡ Committed stamp → IsRecorded tx stamp j.records
-  pub pending : Every (IsRightRecord tx s) (option_to_list j.pending)
-  pub later : tx.client ≡ k → (kept_by j.records).life < tx.life → s ≡ Unborn
-  pub mine : s ≢ Unborn → tx.client ≡ k
-
--- it falls
-pub up_down : (tx : TxId) (s : Status) (j : Journal) (k : ℕ) (p : Page) (o : Option Record) → Up tx s j k p → Every (IsRightRecord tx s) (option_to_list o) → Down tx s (record j { pending = o }) k
-up_down tx s j k p o u pending = record {
-  listed = λ stamp is. (let r : HasRecord p.commits tx stamp = u.status.is_committed stamp is in
-      record { commit = r.commit; listed = u.listed r.commit r.listed; named = r.named; stamped = r.stamped });
-  pending = pending;
-  later = λ mine low. u.later mine (subst (λ (n : ℕ). n < tx.life) (sym u.life) low);
-  mine = λ born. u.status.mine born ∙ u.own;
-}
-
--- lives only grow
-
-grows : (k : Kept) (rs : List Record) → k.life ≤ (fold keeps k rs).life
-grows k [] = omega arith
-grows k (r ∷ rs) = by r (grows (keeps k r) rs) where
-  by : (r : Record) → (keeps k r).life ≤ (fold keeps (keeps k r) rs).life → k.life ≤ (fold keeps (keeps k r) rs).life
-  by records.Life less = omega arith
-  by (records.Prepare p) less = less
-  by (records.Done other clock) less = less
-  by (records.Close epoch) less = less
-  by (records.Install epoch clock lines) less = less
-  by (records.Commit c) less = less
-  by (records.Decide epoch clock lines) less = less
-
-pub lives_grow : (xs ys : List Record) → (kept_by xs).life ≤ (kept_by (xs ++ ys)).life
-lives_grow xs ys = subst (λ (k : Kept). (kept_by xs).life ≤ k.life) (sym (fold-append keeps nothing_kept xs ys)) (grows (kept_by xs) ys)
-
--- what rises leaves the status, or it committed by one of the records
+use Rattle.laws_reach.proofs.StatusFalls.{Up, Risen, _}
 
 module _ (tx : TxId) where
-  record Rose (rs : List Record) (s : Status) : Type 0 where
-    stamp : Stamp
-    is : s ≡ Committed stamp
-    listed : IsRecorded tx stamp rs
-
-  rose : (s : Status) (rs : List Record) → (fold (status_written tx) s rs ≡ s) ⊎ Rose rs (fold (status_written tx) s rs)
-  rose s [] = inl refl
-  rose s (w ∷ rs) = by w (rose (status_written tx s w) rs) where
-    later : (w : Record) (v : Status) → Rose rs v → Rose (w ∷ rs) v
-    later w v r = record { stamp = r.stamp; is = r.is; listed = record { commit = r.listed.commit; listed = inr r.listed.listed; named = r.listed.named; stamped = r.listed.stamped } }
-
-    same : (w : Record) → status_written tx s w ≡ s → (fold (status_written tx) (status_written tx s w) rs ≡ status_written tx s w) ⊎ Rose rs (fold (status_written tx) (status_written tx s w) rs)
-        → (fold (status_written tx) (status_written tx s w) rs ≡ s) ⊎ Rose (w ∷ rs) (fold (status_written tx) (status_written tx s w) rs)
-    same w is (inl still) = inl (still ∙ is)
-    same w is (inr r) = inr (later w (fold (status_written tx) (status_written tx s w) rs) r)
-
-    commits : (c : Commit) (t : Bool) → same_tx c.tx tx ≡ t → (fold (status_written tx) (cond t (Committed c.stamp) s) rs ≡ cond t (Committed c.stamp) s) ⊎ Rose rs (fold (status_written tx) (cond t (Committed c.stamp) s) rs)
-        → (fold (status_written tx) (cond t (Committed c.stamp) s) rs ≡ s) ⊎ Rose (records.Commit c ∷ rs) (fold (status_written tx) (cond t (Committed c.stamp) s) rs)
-    commits c true its (inl still) = inr (record { stamp = c.stamp; is = still; listed = record { commit = c; listed = inl refl; named = same_tx_is c.tx tx its; stamped = refl } })
-    commits c true its (inr r) = inr (later (records.Commit c) (fold (status_written tx) (Committed c.stamp) rs) r)
-    commits c false other (inl still) = inl still
-    commits c false other (inr r) = inr (later (records.Commit c) (fold (status_written tx) s rs) r)
-
-    by : (w : Record) → (fold (status_written tx) (status_written tx s w) rs ≡ status_written tx s w) ⊎ Rose rs (fold (status_written tx) (status_written tx s w) rs)
-        → (fold (status_written tx) (status_written tx s w) rs ≡ s) ⊎ Rose (w ∷ rs) (fold (status_written tx) (status_written tx s w) rs)
-    by records.Life rest = same records.Life refl rest
-    by (records.Prepare p) rest = same (records.Prepare p) refl rest
-    by (records.Done other clock) rest = same (records.Done other clock) refl rest
-    by (records.Close epoch) rest = same (records.Close epoch) refl rest
-    by (records.Install epoch clock lines) rest = same (records.Install epoch clock lines) refl rest
-    by (records.Commit c) rest = commits c (same_tx c.tx tx) refl rest
-    by (records.Decide epoch clock lines) rest = same (records.Decide epoch clock lines) refl rest
-
-  given_committed : (s : Status) (stamp : Stamp) → given_up s ≡ Committed stamp → s ≡ Committed stamp
-  given_committed Unborn stamp is = absurd (let never : ⊥ = cc in never)
-  given_committed Begun stamp is = absurd (let never : ⊥ = cc in never)
-  given_committed (Committed old) stamp is = is
-  given_committed Dead stamp is = absurd (let never : ⊥ = cc in never)
-
-  given_begun : (s : Status) → given_up s ≡ Begun → ⊥
-  given_begun Unborn is = let never : ⊥ = cc in never
-  given_begun Begun is = let never : ⊥ = cc in never
-  given_begun (Committed old) is = let never : ⊥ = cc in never
-  given_begun Dead is = let never : ⊥ = cc in never
-
-  -- it has risen with these records
-  pub record Risen (s : Status) (rs : List Record) (k : ℕ) : Type 0 where
-    pub listed : (stamp : Stamp) → s ≡ Committed stamp → IsRecorded tx stamp rs
-    pub live : s ≡ Begun → ⊥
-    pub later : tx.client ≡ k → (kept_by rs).life < tx.life → s ≡ Unborn
-    pub mine : s ≢ Unborn → tx.client ≡ k
-
-  module _ (s : Status) (j : Journal) (k : ℕ) (d : Down tx s j k) (rs : List Record) (right : AreRightKept tx s rs) where
-    born_by : (stamp : Stamp) → IsRecorded tx stamp rs → s ≢ Unborn
-    born_by stamp l none =
-        by (every-In (IsRightKept tx s) (records.Commit l.commit) rs right l.listed (subst (λ (t : TxId). same_tx l.commit.tx t ≡ true) l.named (same_tx_itself l.commit.tx)))
-      where
-        by : (s ≡ Begun) ⊎ (s ≡ Committed l.commit.stamp) → ⊥
-        by (inl is) = let never : ⊥ = cc in never
-        by (inr is) = let never : ⊥ = cc in never
-
-    pub rises_from : ((stamp : Stamp) → IsRecorded tx stamp j.records → IsRecorded tx stamp rs) → (kept_by j.records).life ≤ (kept_by rs).life → Risen (status_risen tx s rs) rs k
-    rises_from more low = record {
-      listed = λ stamp is. by_listed stamp is (rose (given_up s) rs);
-      live = λ is. by_live is (rose (given_up s) rs);
-      later = λ mine lower. by_later (d.later mine (let a : (kept_by j.records).life ≤ (kept_by rs).life = low in let b : (kept_by rs).life < tx.life = lower in omega arith)) (rose (given_up s) rs);
-      mine = λ born. by_mine born (rose (given_up s) rs);
-    } where
-      Case : Type 0
-      Case = (status_risen tx s rs ≡ given_up s) ⊎ Rose rs (status_risen tx s rs)
-
-      by_listed : (stamp : Stamp) → status_risen tx s rs ≡ Committed stamp → Case → IsRecorded tx stamp rs
-      by_listed stamp is (inl still) = more stamp (d.listed stamp (given_committed s stamp (sym still ∙ is)))
-      by_listed stamp is (inr r) = subst (λ (x : Stamp). IsRecorded tx x rs) (let e : Committed r.stamp ≡ Committed stamp = sym r.is ∙ is in let same : r.stamp ≡ stamp = cc in same) r.listed
-
-      by_live : status_risen tx s rs ≡ Begun → Case → ⊥
-      by_live is (inl still) = given_begun s (sym still ∙ is)
-      by_live is (inr r) = let e : Committed r.stamp ≡ Begun = sym r.is ∙ is in let never : ⊥ = cc in never
-
-      by_later : s ≡ Unborn → Case → status_risen tx s rs ≡ Unborn
-      by_later is (inl still) = still ∙ ap given_up is
-      by_later is (inr r) = absurd (born_by r.stamp r.listed is)
-
-      by_mine : status_risen tx s rs ≢ Unborn → Case → tx.client ≡ k
-      by_mine born (inl still) = d.mine (λ is. born (still ∙ ap given_up is))
-      by_mine born (inr r) = d.mine (born_by r.stamp r.listed)
-
-  pub rises_back : (s : Status) (j : Journal) (k : ℕ) → Down tx s j k → (rs : List Record) → IsGivenBack j rs → AreRightKept tx s rs → Risen (status_risen tx s rs) rs k
-  rises_back s j k d rs (inl same) right =
-      rises_from s j k d rs right (λ stamp l. subst (IsRecorded tx stamp) (sym same) l) (subst (λ (xs : List Record). (kept_by j.records).life ≤ (kept_by xs).life) (sym same) (omega arith))
-  rises_back s j k d rs (inr both) right =
-      rises_from s j k d rs right (λ stamp l. subst (IsRecorded tx stamp) (sym both) (listed_more tx stamp j.records (option_to_list j.pending) l))
-      (subst (λ (xs : List Record). (kept_by j.records).life ≤ (kept_by xs).life) (sym both) (lives_grow j.records (option_to_list j.pending)))
-
-  -- and it falls again, its life unwritten
-  pub falls_again : (s : Status) (rs : List Record) (k : ℕ) → Risen s rs k → Down tx s (record { records = rs; pending = Some records.Life }) k
-  falls_again s rs k r = record { listed = r.listed; pending = (tt, tt); later = r.later; mine = r.mine }
-
   -- its commits are those of its records, the last one of each transaction
 
-  kept_in : (x : Kept) (rs : List Record) (c : Commit) → In c (fold keeps x rs).commits → In c x.commits ⊎ In (records.Commit c) rs
+  kept_in : (x : Kept) (rs : List Record) (c : Commit) → In c (fold keeps x rs).commits
+      → In c x.commits ⊎ In (records.Commit c) rs
   kept_in x [] c among = inl among
   kept_in x (r ∷ rs) c among = by r (kept_in (keeps x r) rs c among) where
-    by : (r : Record) → In c (keeps x r).commits ⊎ In (records.Commit c) rs → In c x.commits ⊎ In (records.Commit c) (r ∷ rs)
+    by : (r : Record) → In c (keeps x r).commits ⊎ In (records.Commit c) rs
+        → In c x.commits ⊎ In (records.Commit c) (r ∷ rs)
     by r (inr later) = inr (inr later)
     by records.Life (inl old) = inl old
     by (records.Prepare p) (inl old) = inl old
     by (records.Done other clock) (inl old) = inl old
     by (records.Close epoch) (inl old) = inl old
     by (records.Install epoch clock lines) (inl old) = inl old
-    by (records.Commit one) (inl old) = of (In-more c one (filter (λ (d : Commit). not (same_tx d.tx one.tx)) x.commits) old) where
-      of : In c (filter (λ (d : Commit). not (same_tx d.tx one.tx)) x.commits) ⊎ (c ≡ one) → In c x.commits ⊎ In (records.Commit c) (records.Commit one ∷ rs)
+    by (records.Commit one) (inl old) =
+        of (In-more c one (filter (λ (d : Commit). not (same_tx d.tx one.tx)) x.commits) old) where
+      of : In c (filter (λ (d : Commit). not (same_tx d.tx one.tx)) x.commits) ⊎ (c ≡ one)
+          → In c x.commits ⊎ In (records.Commit c) (records.Commit one ∷ rs)
       of (inl before) = inl (In-unfiltered (λ (d : Commit). not (same_tx d.tx one.tx)) c x.commits before)
       of (inr last) = inr (inl (ap (λ (d : Commit). records.Commit d) last))
     by (records.Decide epoch clock lines) (inl old) = inl old
@@ -187,14 +49,18 @@ module _ (tx : TxId) where
     among : In commit cs
     named : commit.tx ≡ tx
 
-  kept_has : (x : Kept) (rs : List Record) (c : Commit) → c.tx ≡ tx → In (records.Commit c) rs ⊎ In c x.commits → HasOne (fold keeps x rs).commits
+  kept_has : (x : Kept) (rs : List Record) (c : Commit) → c.tx ≡ tx → In (records.Commit c) rs ⊎ In c x.commits
+      → HasOne (fold keeps x rs).commits
   kept_has x [] c its (inl never) = absurd never
   kept_has x [] c its (inr among) = record { commit = c; among = among; named = its }
   kept_has x (r ∷ rs) c its (inl (inr later)) = kept_has (keeps x r) rs c its (inl later)
   kept_has x (r ∷ rs) c its (inl (inl same)) =
-      kept_has (keeps x r) rs c its (inr (subst (λ (w : Record). In c (keeps x w).commits) same (In-last c (filter (λ (d : Commit). not (same_tx d.tx c.tx)) x.commits))))
+      kept_has (keeps x r) rs c its
+          (inr (subst (λ (w : Record). In c (keeps x w).commits) same
+            (In-last c (filter (λ (d : Commit). not (same_tx d.tx c.tx)) x.commits))))
   kept_has x (r ∷ rs) c its (inr old) = by r (λ y d same among. kept_has y rs d same (inr among)) where
-    by : (r : Record) → ((y : Kept) (d : Commit) → d.tx ≡ tx → In d y.commits → HasOne (fold keeps y rs).commits) → HasOne (fold keeps (keeps x r) rs).commits
+    by : (r : Record) → ((y : Kept) (d : Commit) → d.tx ≡ tx → In d y.commits → HasOne (fold keeps y rs).commits)
+        → HasOne (fold keeps (keeps x r) rs).commits
     by records.Life rest = rest (keeps x records.Life) c its old
     by (records.Prepare p) rest = rest x c its old
     by (records.Done other clock) rest = rest x c its old
@@ -202,7 +68,9 @@ module _ (tx : TxId) where
     by (records.Install epoch clock lines) rest = rest x c its old
     by (records.Commit one) rest = on (same_tx c.tx one.tx) refl where
       on : (t : Bool) → same_tx c.tx one.tx ≡ t → HasOne (fold keeps (keeps x (records.Commit one)) rs).commits
-      on true same = rest (keeps x (records.Commit one)) one (sym (same_tx_is c.tx one.tx same) ∙ its) (In-last one (filter (λ (d : Commit). not (same_tx d.tx one.tx)) x.commits))
+      on true same =
+          rest (keeps x (records.Commit one)) one (sym (same_tx_is c.tx one.tx same) ∙ its)
+          (In-last one (filter (λ (d : Commit). not (same_tx d.tx one.tx)) x.commits))
       on false other = rest (keeps x (records.Commit one)) c its (In-first c (filter (λ (d : Commit). not (same_tx d.tx one.tx)) x.commits) (one ∷ [])
           (In-filter (λ (d : Commit). not (same_tx d.tx one.tx)) c x.commits old (ap not other)))
     by (records.Decide epoch clock lines) rest = rest x c its old
@@ -212,9 +80,17 @@ module _ (tx : TxId) where
   whole rs = rs ++ records.Life ∷ []
 
   abbrev pub risen_page : ℕ → List Record → Page
-  risen_page k rs = record { client = k; life = (kept_by (whole rs)).life; count = 0; commits = (kept_by (whole rs)).commits; name = None }
+  risen_page k rs =
+      record {
+        client = k;
+        life = (kept_by (whole rs)).life;
+        count = 0;
+        commits = (kept_by (whole rs)).commits;
+        name = None
+      }
 
-  pub risen_up : (s : Status) (rs : List Record) (k : ℕ) → Risen s rs k → Every (IsShown tx s) (whole rs) → Up tx s (record { records = whole rs; pending = None }) k (risen_page k rs)
+  pub risen_up : (s : Status) (rs : List Record) (k : ℕ) → Risen tx s rs k → Every (IsShown tx s) (whole rs)
+      → Up tx s (record { records = whole rs; pending = None }) k (risen_page k rs)
   risen_up s rs k r shown = record {
     status = record {
       begun = λ is. absurd (let never : ⊥ = cc in never);
@@ -227,11 +103,16 @@ module _ (tx : TxId) where
     listed = listed;
     life = refl;
     own = refl;
-    later = λ mine low. r.later mine (let a : (kept_by rs).life < (kept_by (whole rs)).life = lower in let b : (kept_by (whole rs)).life < tx.life = low in omega arith);
+    later =
+        λ mine low. r.later mine
+        (let a : (kept_by rs).life < (kept_by (whole rs)).life = lower in
+         let b : (kept_by (whole rs)).life < tx.life = low in omega arith);
     none = refl;
   } where
     lower : (kept_by rs).life < (kept_by (whole rs)).life
-    lower = subst (λ (x : Kept). (kept_by rs).life < x.life) (sym (fold-append keeps nothing_kept rs (records.Life ∷ []))) (omega arith)
+    lower =
+        subst (λ (x : Kept). (kept_by rs).life < x.life) (sym (fold-append keeps nothing_kept rs (records.Life ∷ [])))
+        (omega arith)
 
     listed : (c : Commit) → In c (kept_by (whole rs)).commits → In (records.Commit c) (whole rs)
     listed c among = by (kept_in nothing_kept (whole rs) c among) where
@@ -240,10 +121,16 @@ module _ (tx : TxId) where
       by (inr is) = is
 
     shows : (c : Commit) → In (records.Commit c) (whole rs) → c.tx ≡ tx → s ≡ Committed c.stamp
-    shows c among its = every-In (IsShown tx s) (records.Commit c) (whole rs) shown among (subst (λ (t : TxId). same_tx c.tx t ≡ true) its (same_tx_itself c.tx))
+    shows c among its =
+        every-In (IsShown tx s) (records.Commit c) (whole rs) shown among
+        (subst (λ (t : TxId). same_tx c.tx t ≡ true) its (same_tx_itself c.tx))
 
-    by_committed : (stamp : Stamp) → s ≡ Committed stamp → IsRecorded tx stamp rs → HasRecord (kept_by (whole rs)).commits tx stamp
+    by_committed : (stamp : Stamp) → s ≡ Committed stamp → IsRecorded tx stamp rs
+        → HasRecord (kept_by (whole rs)).commits tx stamp
     by_committed stamp is l =
-        let one : HasOne (kept_by (whole rs)).commits = kept_has nothing_kept (whole rs) l.commit l.named (inl (In-first (records.Commit l.commit) rs (records.Life ∷ []) l.listed)) in
-        let e : Committed one.commit.stamp ≡ Committed stamp = sym (shows one.commit (listed one.commit one.among) one.named) ∙ is in
+        let one : HasOne (kept_by (whole rs)).commits =
+                kept_has nothing_kept (whole rs) l.commit l.named
+                  (inl (In-first (records.Commit l.commit) rs (records.Life ∷ []) l.listed)) in
+        let e : Committed one.commit.stamp ≡ Committed stamp =
+                sym (shows one.commit (listed one.commit one.among) one.named) ∙ is in
         record { commit = one.commit; listed = one.among; named = one.named; stamped = cc }

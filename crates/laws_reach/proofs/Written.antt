@@ -17,7 +17,7 @@ use Rattle.laws_refinement.specs.Names.{IsPendingAt, IsPendingRule, Net, Reaches
 use Rattle.laws_refinement.specs.Net as nets
 use Rattle.laws_refinement.proofs.Kepts.{no_client, no_ruling}
 use Rattle.laws_refinement.proofs.Machine.{put_other}
-use Rattle.laws_refinement.proofs.Nets.{place}
+use Rattle.laws_refinement.proofs.SiteNets.{place}
 use Rattle.theory_onecopy.proofs.Lists.{in_split}
 use Rattle.laws_refinement.proofs.Refining.{nets_refine}
 use Rattle.theory_machine.specs.Names.{Deed, State, put}

@@ -16,7 +16,7 @@ use Rattle.qc_recover.specs.Admins.{keeps, kept_by}
 use Rattle.laws_refinement.specs.Names.{IsDeciding, IsGivenBack, IsPendingRule, Net, Refines, RulesMirror}
 use Rattle.laws_refinement.specs.Names.{after_admin_rise, after_fall, after_vain_rise, commits_in}
 use Rattle.laws_refinement.proofs.AdminTurns.{rule_more}
-use Rattle.laws_refinement.proofs.Frames.{keeps_same, same_state}
+use Rattle.laws_refinement.proofs.MessagesStay.{keeps_same, same_state}
 use Rattle.laws_refinement.proofs.Machine.{put_other}
 use Rattle.laws_refinement.proofs.Nets.{AtAdmin, admin_net}
 

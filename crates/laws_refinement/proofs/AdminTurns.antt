@@ -30,10 +30,11 @@ use Rattle.qc_msg.specs.declared.record.Record.TheVariants as records
 use Rattle.theory_machine.proofs.Names.{put_here}
 use Rattle.qc_recover.specs.Admins.{keeps, kept_by}
 use Rattle.laws_refinement.proofs.Machine.{put_other}
-use Rattle.laws_refinement.proofs.Nets.{AdminShows, Apart, admin_net}
+use Rattle.laws_refinement.proofs.SiteNets.{Apart}
+use Rattle.laws_refinement.proofs.Nets.{AdminShows, admin_net}
 use Rattle.laws_refinement.proofs.Asks.{numbers_cover, questions_cover, questions_new, take_begins}
 use Rattle.laws_refinement.proofs.Decides.{decision_of, may_decide}
-use Rattle.laws_refinement.proofs.Frames.{keeps_same, Later, admin_later, question_later, same_state}
+use Rattle.laws_refinement.proofs.MessagesStay.{keeps_same, Later, admin_later, question_later, same_state}
 use Rattle.laws_refinement.proofs.Merged.{merged_ascends}
 use Rattle.laws_refinement.proofs.Posts.{at_number}
 use Rattle.laws_refinement.proofs.AdminRounds.{asking_sent, asks_sent}

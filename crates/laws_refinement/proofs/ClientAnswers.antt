@@ -27,8 +27,8 @@ use Rattle.qc_front.specs.Names.{AppendingHolds, BegunHolds, DoingHolds, FrontHo
 use Rattle.qc_front.specs.Names.{append_by, append_counts, append_want, appending_takes, calls_in, learns, lived, moved}
 use Rattle.qc_front.specs.Names.{next_own, own_appended, performs, read_by, read_counts, reading_takes, round_for}
 use Rattle.qc_front.specs.Names.{standing_of, takes_in, view_log, weighs, with_granted}
-use Rattle.qc_front.proofs.Keeping.{started_round}
-use Rattle.qc_front.proofs.Noting.{note_round}
+use Rattle.qc_front.proofs.CommandsKeep.{started_round}
+use Rattle.qc_front.proofs.NotedRounds.{note_round}
 use Rattle.qc_front.proofs.Recording.{granted_recorded}
 use Rattle.qc_client.specs.Names.{by_front}
 use Rattle.qc_client.specs.declared.client.Client.{Client}
@@ -42,7 +42,8 @@ use Rattle.laws_refinement.proofs.Answers.{view_at}
 use Rattle.laws_refinement.proofs.ClientActs.{mid_count}
 use Rattle.laws_refinement.proofs.ClientRounds.{appending, nothing, reading}
 use Rattle.laws_refinement.proofs.ClientSteps.{Core, Mid, mid_first, mine, refined}
-use Rattle.laws_refinement.proofs.Counts.{lived_given, IsGiven, append_counted, granted_given, read_counted}
+use Rattle.laws_refinement.proofs.Granting.{lived_given, IsGiven, granted_given}
+use Rattle.laws_refinement.proofs.Counts.{append_counted, read_counted}
 use Rattle.laws_refinement.proofs.Frames.{counted_later}
 use Rattle.laws_refinement.proofs.Rounds.{noted_counted}
 use Rattle.laws_refinement.proofs.OpenRequests.{Stood, AnswerBacked, IsCalled, behind, called_in, still_called}

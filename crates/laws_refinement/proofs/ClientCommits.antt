@@ -31,11 +31,12 @@ use Rattle.laws_refinement.specs.Names.{OwnMirrors, Refines, RunningMirrors, aft
 use Rattle.qc_list.proofs.Members.{In-passes}
 use Rattle.qc_plan.specs.Names.{cyclic}
 use Rattle.laws_refinement.proofs.Ballots.{blank_in, blank_votes, participates}
-use Rattle.laws_refinement.proofs.ClientBegins.{gives_up_case}
-use Rattle.laws_refinement.proofs.ClientEnds.{Ending, commits_it, ending_of, ends_mine, mid_prepare, own_put, Pends, pends_it}
+use Rattle.laws_refinement.proofs.ClientGivesUp.{gives_up_case}
+use Rattle.laws_refinement.proofs.ClientEnding.{Ending, ending_of, ends_mine, own_put}
+use Rattle.laws_refinement.proofs.ClientEnds.{commits_it, mid_prepare, Pends, pends_it}
 use Rattle.qc_front.proofs.Unwritten.{front_called}
 use Rattle.qc_msg.specs.declared.record.Record.{Record}
-use Rattle.laws_refinement.proofs.ClientPosts.{IsAsking}
+use Rattle.laws_refinement.proofs.RequestsSent.{IsAsking}
 use Rattle.laws_refinement.proofs.ClientRounds.{nothing}
 use Rattle.laws_refinement.proofs.ClientSteps.{Mid, mid_first, refined, turns}
 

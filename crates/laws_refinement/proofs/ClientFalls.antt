@@ -19,7 +19,8 @@ use Rattle.qc_client.specs.declared.client.Client.{Client}
 use Rattle.qc_recover.specs.Clients.{Kept, kept_by}
 use Rattle.laws_refinement.specs.Names.{ClientMirrors, FallenMirrors, IsClientKeptBy, IsPlanned, Net, OwnMirrors}
 use Rattle.laws_refinement.specs.Names.{Refines, after_fall}
-use Rattle.laws_refinement.proofs.ClientEnds.{Ending, ending_of, ends_mine, mid_abort, own_put}
+use Rattle.laws_refinement.proofs.ClientEnding.{Ending, ending_of, ends_mine, own_put}
+use Rattle.laws_refinement.proofs.ClientEnds.{mid_abort}
 use Rattle.laws_refinement.proofs.ClientSteps.{Mid, mid_first}
 use Rattle.laws_refinement.proofs.Machine.{put_other}
 use Rattle.laws_refinement.proofs.Nets.{AtClient, Settles, client_net}

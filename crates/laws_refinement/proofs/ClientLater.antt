@@ -11,7 +11,7 @@ use Rattle.theory_machine.specs.Names.{Install, IsAllowed, Learn, MayPrepare, No
 use Rattle.theory_machine.specs.Names.{Recover, Rise, RiseClient, SendAppend, State, Status, TakeSnapshot, Vote, Voting}
 use Rattle.theory_machine.specs.Names.{after_act, put_tx, recover_status, verdict_of}
 use Rattle.theory_machine.proofs.Names.{put_tx_case}
-use Rattle.laws_refinement.proofs.Frames.{Later}
+use Rattle.laws_refinement.proofs.MessagesStay.{Later}
 
 -- acts of clients
 abbrev pub IsOfClient : Act → Type 0

@@ -1,5 +1,6 @@
 -- A client's turn is posted: its requests have their numbers, and all of its messages are in the mail.
-use Rattle.std.proofs.Common.{◌≡◌, ◌≢◌, ℕ, ◌==◌, ◌+◌, Bool, true, false, inl, inr, List, [], ◌∷◌, ◌++◌, length, Option, Some, None, slice_get, refl, sym, ap, ◌∙◌, subst, eq-eqb, eqb-true}
+use Rattle.std.proofs.Common.{◌≡◌, ◌≢◌, ℕ, ◌==◌, ◌+◌, Bool, true, false, inl, inr, List, ◌∷◌, ◌++◌, length, Option}
+use Rattle.std.proofs.Common.{Some, slice_get, refl, sym, ap, ◌∙◌, subst, eq-eqb, eqb-true}
 use Rattle.qc_stamp.specs.declared.stamp.TxId.{TxId}
 use Rattle.qc_list.specs.Names.{In}
 use Rattle.qc_list.proofs.Members.{In-first, In-second}
@@ -7,7 +8,6 @@ use Rattle.qc_entry.specs.declared.record.Commit.{Commit as CommitRecord}
 use Rattle.theory_onecopy.proofs.Lists.{in_split}
 use Rattle.qc_decl.specs.declared.declaration.Declaration.{Declaration}
 use Rattle.qc_decl.specs.Names.{client_actor, is_client}
-use Rattle.qc_msg.specs.declared.call.Call.{Call}
 use Rattle.qc_msg.specs.declared.message.Envelope.{Envelope}
 use Rattle.qc_msg.specs.declared.message.Message.{Message}
 use Rattle.qc_msg.specs.declared.message.Message.TheVariants as messages
@@ -18,40 +18,25 @@ use Rattle.qc_msg.specs.Names.{envelopes, life_of, with_call}
 use Rattle.theory_machine.specs.Names.{Committed, State}
 use Rattle.qc_commit.specs.declared.desk.Desk.{Desk}
 use Rattle.qc_commit.specs.declared.desk.Voting.{Voting}
-use Rattle.qc_commit.specs.Names.{prepared, prepared_in, with_voting}
-use Rattle.qc_front.specs.declared.doing.Doing.{Doing}
-use Rattle.qc_front.specs.declared.doing.Doing.TheVariants.{Idle, Reading, Appending}
-use Rattle.qc_front.specs.declared.transaction.Transaction.{Transaction}
-use Rattle.qc_front.specs.Names.{IsFor, calls_in, requested, requested_in}
+use Rattle.qc_commit.specs.Names.{prepared, prepared_in}
+use Rattle.qc_front.specs.Names.{requested}
 use Rattle.qc_client.specs.Names.{ClientMove, sent_one}
 use Rattle.qc_client.specs.declared.client.Client.{Client}
-use Rattle.laws_refinement.specs.Names.{AreVotes, Backed, BegunMirrors, ClientMirrors, IsAskedBy, IsChosen, IsMessage}
-use Rattle.laws_refinement.specs.Names.{IsRequest, IsRoundCounted, Mirrors, Net, RunningMirrors, TransactionMirrors}
-use Rattle.laws_refinement.specs.Names.{VotesMirror, after_client, commits_in, sent_all, status_by}
-use Rattle.laws_refinement.proofs.Frames.{Keeps, Later, keep_client, keeps_same}
+use Rattle.laws_refinement.specs.Names.{Backed, ClientMirrors, IsMessage}
+use Rattle.laws_refinement.specs.Names.{IsRequest, Mirrors, Net}
+use Rattle.laws_refinement.specs.Names.{after_client, commits_in, sent_all}
+use Rattle.laws_refinement.proofs.MessagesStay.{Keeps, Later, keeps_same}
+use Rattle.laws_refinement.proofs.Frames.{keep_client}
 use Rattle.laws_refinement.proofs.Posts.{AtNumber, at_number}
 use Rattle.std.specs.Prelude.{option_to_list}
 use Rattle.theory_machine.proofs.Names.{put_here}
 use Rattle.laws_refinement.proofs.Machine.{put_other}
 use Rattle.laws_refinement.proofs.Nets.{client_net}
+use Rattle.laws_refinement.proofs.RequestsSent.{AsksFor, for_more, round_sent, prepare_sent}
 
 module _ (decl : Declaration) where
-  -- a request of a client's turn is one of what runs there
-  abbrev pub IsWantOf : Client → Transaction → Want → Type 0
-  IsWantOf c t (Read object inv) = IsFor decl t c.front.doing (Read object inv)
-  IsWantOf c t (Append object view own) = IsFor decl t c.front.doing (Append object view own)
-  IsWantOf c t Prepare = (v : Voting) × (c.desk.voting ≡ Some v)
-
-  pub record AsksFor (c : Client) (tx : TxId) (epoch life to : ℕ) (want : Want) : Type 0 where
-    pub t : Transaction
-    pub is : c.front.transaction ≡ Some t
-    pub its : tx ≡ t.begun.tx
-    pub epoch_is : epoch ≡ t.begun.epoch
-    pub life_is : life ≡ life_of t.begun.lives to
-    pub for : IsWantOf c t want
-
-  abbrev pub IsAsking : Client → ℕ → Message → Type 0
-  IsAsking c to (messages.Request tx epoch life want) = AsksFor c tx epoch life to want
+  abbrev IsAsking : Client → ℕ → Message → Type 0
+  IsAsking c to (messages.Request tx epoch life want) = AsksFor decl c tx epoch life to want
   IsAsking c to (messages.Answer number answer) = Unit {0}
   IsAsking c to (messages.Decision tx verdict) = Unit {0}
   IsAsking c to (messages.Inquiry tx) = Unit {0}
@@ -59,112 +44,48 @@ module _ (decl : Declaration) where
   IsAsking c to (messages.Close epoch) = Unit {0}
   IsAsking c to (messages.Install epoch clock log) = Unit {0}
 
-  -- a request of the running round gets its number
-
-  chosen_more : (w : State) (t : Transaction) (d : Doing) (n to : ℕ) → IsChosen decl w t d → IsChosen decl w t (requested_in d n to)
-  chosen_more w t Idle n to h = h
-  chosen_more w t (Reading object inv calls round) n to h = h
-  chosen_more w t (Appending object inv event calls round) n to h = h
-
-  counted_more : (w : State) (t : Transaction) (d : Doing) (n to : ℕ) → IsRoundCounted decl w t d → IsRoundCounted decl w t (requested_in d n to)
-  counted_more w t Idle n to h = h
-  counted_more w t (Reading object inv calls round) n to h = h
-  counted_more w t (Appending object inv event calls round) n to h = h
-
-  for_more : (t : Transaction) (d : Doing) (n to : ℕ) (want : Want) → IsFor decl t d want → IsFor decl t (requested_in d n to) want
-  for_more t Idle n to want h = h
-  for_more t (Reading object inv calls round) n to want h = h
-  for_more t (Appending object inv event calls round) n to want h = h
-
-  calls_more : (ms : List Envelope) (t : Transaction) (d : Doing) (n to : ℕ) (want : Want) → IsFor decl t d want → IsMessage ms n to (messages.Request t.begun.tx t.begun.epoch (life_of t.begun.lives to) want)
-      → ((call : Call) → In call (calls_in d) → IsAskedBy decl ms t d call) → (call : Call) → In call (calls_in (requested_in d n to)) → IsAskedBy decl ms t (requested_in d n to) call
-  calls_more ms t Idle n to want for r old call among = absurd for
-  calls_more ms t (Reading object inv calls round) n to want for r old call among = elim (in_split call calls (record { number = n; site = to } ∷ []) among) [
-    | inl h ↦ old call h
-    | inr h ↦ elim h [
-      | inl same ↦ subst (λ (y : Call). IsAskedBy decl ms t (Reading object inv (with_call calls n to) round) y) (sym same) (want, r, for)
-      | inr never ↦ absurd never
-    ]
-  ]
-  calls_more ms t (Appending object inv event calls round) n to want for r old call among = elim (in_split call calls (record { number = n; site = to } ∷ []) among) [
-    | inl h ↦ old call h
-    | inr h ↦ elim h [
-      | inl same ↦ subst (λ (y : Call). IsAskedBy decl ms t (Appending object inv event (with_call calls n to) round) y) (sym same) (want, r, for)
-      | inr never ↦ absurd never
-    ]
-  ]
-
-  votes_more : (w : State) (ms : List Envelope) (c : Client) (t : Transaction) (n to : ℕ) (o : Option Voting) → AreVotes w ms c t o → AreVotes w ms (record c { front = requested c.front n to }) t o
-  votes_more w ms c t n to None h = tt
-  votes_more w ms c t n to (Some v) h = record { begun = h.begun; idle = ap (λ (d : Doing). requested_in d n to) h.idle; clock = h.clock; each = h.each; voted = h.voted; calls = h.calls }
-
-  round_sent : (w : State) (ms : List Envelope) (a : ℕ) (c : Client) (n to : ℕ) (t : Transaction) (want : Want) → ClientMirrors decl w ms a c → c.front.transaction ≡ Some t → IsFor decl t c.front.doing want → IsMessage ms n to (messages.Request t.begun.tx t.begun.epoch (life_of t.begun.lives to) want)
-      → ClientMirrors decl w ms a (record c { front = requested c.front n to })
-  round_sent w ms a c n to t want m is for r =
-      let h : TransactionMirrors w c.front t × RunningMirrors decl w ms c t = subst (λ (x : Option Transaction). BegunMirrors decl w ms c x) is m.begun in
-      record {
-        own = record { actor = m.own.actor; desk = m.own.desk; lives_to_come = m.own.lives_to_come; epoch = m.own.epoch; desk_epoch = m.own.desk_epoch; clock = m.own.clock; to_come = m.own.to_come; committed = m.own.committed; aborted = m.own.aborted };
-        begun = subst (λ (x : Option Transaction). BegunMirrors decl w ms (record c { front = requested c.front n to }) x) (sym is) (
-          record { named = h.0.named; epoch = h.0.epoch; lives = h.0.lives; ops = h.0.ops; own = h.0.own; sorted = h.0.sorted; shown = h.0.shown; whole = h.0.whole },
-          record {
-            status_is = h.1.status_is;
-            chosen = chosen_more w t c.front.doing n to h.1.chosen;
-            counted = counted_more w t c.front.doing n to h.1.counted;
-            calls = calls_more ms t c.front.doing n to want for r h.1.calls;
-            votes = votes_more w ms c t n to c.desk.voting h.1.votes;
-          },
-        );
-      }
-
-  -- so does a Prepare
-
-  prepare_sent : (w : State) (ms : List Envelope) (a : ℕ) (c : Client) (n to : ℕ) (t : Transaction) (v : Voting) → ClientMirrors decl w ms a c → c.front.transaction ≡ Some t → c.desk.voting ≡ Some v → IsRequest ms n to t.begun.tx Prepare
-      → ClientMirrors decl w ms a (record c { desk = prepared c.desk n to })
-  prepare_sent w ms a c n to t v m is voted r =
-      subst (λ (o : Option Voting). ClientMirrors decl w ms a (record c { desk = prepared_in c.desk o n to })) (sym voted) (record {
-        own = record { actor = m.own.actor; desk = m.own.desk; lives_to_come = m.own.lives_to_come; epoch = m.own.epoch; desk_epoch = m.own.desk_epoch; clock = m.own.clock; to_come = m.own.to_come; committed = m.own.committed; aborted = m.own.aborted };
-        begun = subst (λ (x : Option Transaction). BegunMirrors decl w ms (record c { desk = with_voting c.desk (Some (record v { calls = with_call v.calls n to })) }) x) (sym is) (
-          record { named = h.0.named; epoch = h.0.epoch; lives = h.0.lives; ops = h.0.ops; own = h.0.own; sorted = h.0.sorted; shown = h.0.shown; whole = h.0.whole },
-          record { status_is = h.1.status_is ∙ ap (λ (o : Option Voting). status_by o) voted; chosen = h.1.chosen; counted = h.1.counted; calls = h.1.calls; votes = record { begun = vm.begun; idle = vm.idle; clock = vm.clock; each = vm.each; voted = vm.voted; calls = calls } },
-        );
-      })
-    where
-      h : TransactionMirrors w c.front t × RunningMirrors decl w ms c t
-      h = subst (λ (x : Option Transaction). BegunMirrors decl w ms c x) is m.begun
-
-      vm : VotesMirror w ms c t v
-      vm = subst (λ (o : Option Voting). AreVotes w ms c t o) voted (subst (λ (x : Option Transaction). BegunMirrors decl w ms c x) is m.begun).1.votes
-
-      calls : (call : Call) → In call (with_call v.calls n to) → IsRequest ms call.number call.site t.begun.tx Prepare
-      calls call among = elim (in_split call v.calls (record { number = n; site = to } ∷ []) among) [
-        | inl old ↦ vm.calls call old
-        | inr new ↦ elim new [
-          | inl same ↦ subst (λ (y : Call). IsRequest ms y.number y.site t.begun.tx Prepare) (sym same) r
-          | inr never ↦ absurd never
-        ]
-      ]
-
   -- each message of a turn
 
-  found_request : (ms : List Envelope) (a n to : ℕ) (tx u : TxId) (epoch life : ℕ) (want : Want) → slice_get ms n ≡ Some (record { number = n; from = a; to = to; message = messages.Request tx epoch life want }) → tx ≡ u → IsRequest ms n to u want
+  found_request : (ms : List Envelope) (a n to : ℕ) (tx u : TxId) (epoch life : ℕ) (want : Want)
+      → slice_get ms n ≡ Some (record { number = n; from = a; to = to; message = messages.Request tx epoch life want })
+      → tx ≡ u → IsRequest ms n to u want
   found_request ms a n to tx u epoch life want found same = record {
     epoch = epoch;
     life = life;
-    is = (record { number = n; from = a; to = to; message = messages.Request tx epoch life want }, found, refl, (λ i. messages.Request (same i) epoch life want));
+    is =
+        (record { number = n; from = a; to = to; message = messages.Request tx epoch life want }, found, refl,
+        (λ i. messages.Request (same i) epoch life want));
   }
 
-  found_message : (ms : List Envelope) (a n to : ℕ) (tx u : TxId) (epoch e life l : ℕ) (want : Want) → slice_get ms n ≡ Some (record { number = n; from = a; to = to; message = messages.Request tx epoch life want }) → tx ≡ u → epoch ≡ e → life ≡ l → IsMessage ms n to (messages.Request u e l want)
-  found_message ms a n to tx u epoch e life l want found same x y = (record { number = n; from = a; to = to; message = messages.Request tx epoch life want }, found, refl, (λ i. messages.Request (same i) (x i) (y i) want))
+  found_message : (ms : List Envelope) (a n to : ℕ) (tx u : TxId) (epoch e life l : ℕ) (want : Want)
+      → slice_get ms n ≡ Some (record { number = n; from = a; to = to; message = messages.Request tx epoch life want })
+      → tx ≡ u → epoch ≡ e → life ≡ l → IsMessage ms n to (messages.Request u e l want)
+  found_message ms a n to tx u epoch e life l want found same x y =
+      (record { number = n; from = a; to = to; message = messages.Request tx epoch life want }, found, refl,
+      (λ i. messages.Request (same i) (x i) (y i) want))
 
-  want_sent : (w : State) (ms : List Envelope) (a : ℕ) (c : Client) (n to : ℕ) (tx : TxId) (epoch life : ℕ) (want : Want) → ClientMirrors decl w ms a c → AsksFor c tx epoch life to want
-      → slice_get ms n ≡ Some (record { number = n; from = a; to = to; message = messages.Request tx epoch life want }) → ClientMirrors decl w ms a (sent_one c n to (messages.Request tx epoch life want))
-  want_sent w ms a c n to tx epoch life (Read object inv) m k found = round_sent w ms a c n to k.t (Read object inv) m k.is k.for (found_message ms a n to tx k.t.begun.tx epoch k.t.begun.epoch life (life_of k.t.begun.lives to) (Read object inv) found k.its k.epoch_is k.life_is)
-  want_sent w ms a c n to tx epoch life (Append object view own) m k found = round_sent w ms a c n to k.t (Append object view own) m k.is k.for (found_message ms a n to tx k.t.begun.tx epoch k.t.begun.epoch life (life_of k.t.begun.lives to) (Append object view own) found k.its k.epoch_is k.life_is)
-  want_sent w ms a c n to tx epoch life Prepare m k found = prepare_sent w ms a c n to k.t k.for.0 m k.is k.for.1 (found_request ms a n to tx k.t.begun.tx epoch life Prepare found k.its)
+  want_sent : (w : State) (ms : List Envelope) (a : ℕ) (c : Client) (n to : ℕ) (tx : TxId) (epoch life : ℕ)
+      (want : Want) → ClientMirrors decl w ms a c → AsksFor decl c tx epoch life to want
+      → slice_get ms n ≡ Some (record { number = n; from = a; to = to; message = messages.Request tx epoch life want })
+          → ClientMirrors decl w ms a (sent_one c n to (messages.Request tx epoch life want))
+  want_sent w ms a c n to tx epoch life (Read object inv) m k found =
+      round_sent decl w ms a c n to k.t (Read object inv) m k.is k.for
+      (found_message ms a n to tx k.t.begun.tx epoch k.t.begun.epoch life (life_of k.t.begun.lives to) (Read object inv)
+        found k.its k.epoch_is k.life_is)
+  want_sent w ms a c n to tx epoch life (Append object view own) m k found =
+      round_sent decl w ms a c n to k.t (Append object view own) m k.is k.for
+      (found_message ms a n to tx k.t.begun.tx epoch k.t.begun.epoch life (life_of k.t.begun.lives to)
+        (Append object view own) found k.its k.epoch_is k.life_is)
+  want_sent w ms a c n to tx epoch life Prepare m k found =
+      prepare_sent decl w ms a c n to k.t k.for.0 m k.is k.for.1
+      (found_request ms a n to tx k.t.begun.tx epoch life Prepare found k.its)
 
-  one_sent : (w : State) (ms : List Envelope) (a : ℕ) (c : Client) (n to : ℕ) (message : Message) → ClientMirrors decl w ms a c → IsAsking c to message
-      → slice_get ms n ≡ Some (record { number = n; from = a; to = to; message = message }) → ClientMirrors decl w ms a (sent_one c n to message)
-  one_sent w ms a c n to (messages.Request tx epoch life want) m asks found = want_sent w ms a c n to tx epoch life want m asks found
+  one_sent : (w : State) (ms : List Envelope) (a : ℕ) (c : Client) (n to : ℕ) (message : Message)
+      → ClientMirrors decl w ms a c → IsAsking c to message
+      → slice_get ms n ≡ Some (record { number = n; from = a; to = to; message = message })
+          → ClientMirrors decl w ms a (sent_one c n to message)
+  one_sent w ms a c n to (messages.Request tx epoch life want) m asks found =
+      want_sent w ms a c n to tx epoch life want m asks found
   one_sent w ms a c n to (messages.Answer k answer) m asks found = m
   one_sent w ms a c n to (messages.Decision tx verdict) m asks found = m
   one_sent w ms a c n to (messages.Inquiry tx) m asks found = m
@@ -174,23 +95,60 @@ module _ (decl : Declaration) where
 
   -- what was asked for still is after another message
 
-  round_still : (c : Client) (n to : ℕ) (tx : TxId) (epoch life dest : ℕ) (want : Want) → AsksFor c tx epoch life dest want → AsksFor (record c { front = requested c.front n to }) tx epoch life dest want
-  round_still c n to tx epoch life dest (Read object inv) k = record { t = k.t; is = k.is; its = k.its; epoch_is = k.epoch_is; life_is = k.life_is; for = for_more k.t c.front.doing n to (Read object inv) k.for }
-  round_still c n to tx epoch life dest (Append object view own) k = record { t = k.t; is = k.is; its = k.its; epoch_is = k.epoch_is; life_is = k.life_is; for = for_more k.t c.front.doing n to (Append object view own) k.for }
-  round_still c n to tx epoch life dest Prepare k = record { t = k.t; is = k.is; its = k.its; epoch_is = k.epoch_is; life_is = k.life_is; for = k.for }
+  round_still : (c : Client) (n to : ℕ) (tx : TxId) (epoch life dest : ℕ) (want : Want)
+      → AsksFor decl c tx epoch life dest want
+      → AsksFor decl (record c { front = requested c.front n to }) tx epoch life dest want
+  round_still c n to tx epoch life dest (Read object inv) k =
+      record {
+        t = k.t;
+        is = k.is;
+        its = k.its;
+        epoch_is = k.epoch_is;
+        life_is = k.life_is;
+        for = for_more decl k.t c.front.doing n to (Read object inv) k.for
+      }
+  round_still c n to tx epoch life dest (Append object view own) k =
+      record {
+        t = k.t;
+        is = k.is;
+        its = k.its;
+        epoch_is = k.epoch_is;
+        life_is = k.life_is;
+        for = for_more decl k.t c.front.doing n to (Append object view own) k.for
+      }
+  round_still c n to tx epoch life dest Prepare k =
+      record { t = k.t; is = k.is; its = k.its; epoch_is = k.epoch_is; life_is = k.life_is; for = k.for }
 
-  voting_still : (desk : Desk) (n to : ℕ) (v : Voting) → desk.voting ≡ Some v → (u : Voting) × ((prepared desk n to).voting ≡ Some u)
-  voting_still desk n to v is = (record v { calls = with_call v.calls n to }, ap (λ (o : Option Voting). (prepared_in desk o n to).voting) is)
+  voting_still : (desk : Desk) (n to : ℕ) (v : Voting) → desk.voting ≡ Some v
+      → (u : Voting) × ((prepared desk n to).voting ≡ Some u)
+  voting_still desk n to v is =
+      (record v { calls = with_call v.calls n to }, ap (λ (o : Option Voting). (prepared_in desk o n to).voting) is)
 
-  desk_still : (c : Client) (n to : ℕ) (tx : TxId) (epoch life dest : ℕ) (want : Want) → AsksFor c tx epoch life dest want → AsksFor (record c { desk = prepared c.desk n to }) tx epoch life dest want
-  desk_still c n to tx epoch life dest (Read object inv) k = record { t = k.t; is = k.is; its = k.its; epoch_is = k.epoch_is; life_is = k.life_is; for = k.for }
-  desk_still c n to tx epoch life dest (Append object view own) k = record { t = k.t; is = k.is; its = k.its; epoch_is = k.epoch_is; life_is = k.life_is; for = k.for }
-  desk_still c n to tx epoch life dest Prepare k = record { t = k.t; is = k.is; its = k.its; epoch_is = k.epoch_is; life_is = k.life_is; for = voting_still c.desk n to k.for.0 k.for.1 }
+  desk_still : (c : Client) (n to : ℕ) (tx : TxId) (epoch life dest : ℕ) (want : Want)
+      → AsksFor decl c tx epoch life dest want
+          → AsksFor decl (record c { desk = prepared c.desk n to }) tx epoch life dest want
+  desk_still c n to tx epoch life dest (Read object inv) k =
+      record { t = k.t; is = k.is; its = k.its; epoch_is = k.epoch_is; life_is = k.life_is; for = k.for }
+  desk_still c n to tx epoch life dest (Append object view own) k =
+      record { t = k.t; is = k.is; its = k.its; epoch_is = k.epoch_is; life_is = k.life_is; for = k.for }
+  desk_still c n to tx epoch life dest Prepare k =
+      record {
+        t = k.t;
+        is = k.is;
+        its = k.its;
+        epoch_is = k.epoch_is;
+        life_is = k.life_is;
+        for = voting_still c.desk n to k.for.0 k.for.1
+      }
 
-  asks_still : (c : Client) (n to : ℕ) (first : Message) (tx : TxId) (epoch life dest : ℕ) (want : Want) → AsksFor c tx epoch life dest want → AsksFor (sent_one c n to first) tx epoch life dest want
-  asks_still c n to (messages.Request u e l (Read object inv)) tx epoch life dest want k = round_still c n to tx epoch life dest want k
-  asks_still c n to (messages.Request u e l (Append object view own)) tx epoch life dest want k = round_still c n to tx epoch life dest want k
-  asks_still c n to (messages.Request u e l Prepare) tx epoch life dest want k = desk_still c n to tx epoch life dest want k
+  asks_still : (c : Client) (n to : ℕ) (first : Message) (tx : TxId) (epoch life dest : ℕ) (want : Want)
+      → AsksFor decl c tx epoch life dest want → AsksFor decl (sent_one c n to first) tx epoch life dest want
+  asks_still c n to (messages.Request u e l (Read object inv)) tx epoch life dest want k =
+      round_still c n to tx epoch life dest want k
+  asks_still c n to (messages.Request u e l (Append object view own)) tx epoch life dest want k =
+      round_still c n to tx epoch life dest want k
+  asks_still c n to (messages.Request u e l Prepare) tx epoch life dest want k =
+      desk_still c n to tx epoch life dest want k
   asks_still c n to (messages.Answer asked answer) tx epoch life dest want k = k
   asks_still c n to (messages.Decision u verdict) tx epoch life dest want k = k
   asks_still c n to (messages.Inquiry u) tx epoch life dest want k = k
@@ -198,7 +156,8 @@ module _ (decl : Declaration) where
   asks_still c n to (messages.Close e) tx epoch life dest want k = k
   asks_still c n to (messages.Install e clock log) tx epoch life dest want k = k
 
-  still : (c : Client) (n to : ℕ) (first : Message) (dest : ℕ) (message : Message) → IsAsking c dest message → IsAsking (sent_one c n to first) dest message
+  still : (c : Client) (n to : ℕ) (first : Message) (dest : ℕ) (message : Message) → IsAsking c dest message
+      → IsAsking (sent_one c n to first) dest message
   still c n to first dest (messages.Request tx epoch life want) k = asks_still c n to first tx epoch life dest want k
   still c n to first dest (messages.Answer asked answer) k = tt
   still c n to first dest (messages.Decision tx verdict) k = tt
@@ -207,11 +166,13 @@ module _ (decl : Declaration) where
   still c n to first dest (messages.Close epoch) k = tt
   still c n to first dest (messages.Install epoch clock log) k = tt
 
-  all_sent : (w : State) (ms : List Envelope) (a : ℕ) (c : Client) (n : ℕ) (ps : List Posting) → ClientMirrors decl w ms a c → ((p : Posting) → In p ps → IsAsking c p.to p.message)
+  all_sent : (w : State) (ms : List Envelope) (a : ℕ) (c : Client) (n : ℕ) (ps : List Posting)
+      → ClientMirrors decl w ms a c → ((p : Posting) → In p ps → IsAsking c p.to p.message)
       → AtNumber ms a n ps → ClientMirrors decl w ms a (sent_all c n ps)
   all_sent w ms a c n [] m asks at = m
   all_sent w ms a c n (p ∷ ps) m asks at =
-      all_sent w ms a (sent_one c n p.to p.message) (n + 1) ps (one_sent w ms a c n p.to p.message m (asks p (inl refl)) at.0)
+      all_sent w ms a (sent_one c n p.to p.message) (n + 1) ps
+          (one_sent w ms a c n p.to p.message m (asks p (inl refl)) at.0)
       (λ q among. still c n p.to p.message q.to q.message (asks q (inr among))) at.1
 
   -- what a client's step has to show of the machine's next state
@@ -226,10 +187,14 @@ module _ (decl : Declaration) where
     pub turn : (p : Posting) → In p move.turn.sends → Backed decl v ms a p.to p.message
     pub asking : (p : Posting) → In p move.turn.sends → IsAsking move.client p.to p.message
 
-  pub client_goes : (w v : State) (net : Net) (a : ℕ) (move : ClientMove) → Mirrors decl w net → is_client decl a ≡ true → net.up a ≡ true → ClientGoes w v net.mail a (net.clients a).front.client move
-      → ((c : CommitRecord) → In c v.records → v.status c.tx ≡ Committed c) → ((t : TxId) (c : CommitRecord) → v.status t ≡ Committed c → In c v.records) → Mirrors decl v (after_client net a move)
+  pub client_goes : (w v : State) (net : Net) (a : ℕ) (move : ClientMove) → Mirrors decl w net → is_client decl a ≡ true
+      → net.up a ≡ true → ClientGoes w v net.mail a (net.clients a).front.client move
+      → ((c : CommitRecord) → In c v.records → v.status c.tx ≡ Committed c)
+          → ((t : TxId) (c : CommitRecord) → v.status t ≡ Committed c → In c v.records)
+          → Mirrors decl v (after_client net a move)
   client_goes w v net a move m client up g wrote writes =
-      client_net decl w v net (after_client net a move) a (net.clients a).front.client move.turn.sends m client (m.clients a client up).own.actor
+      client_net decl w v net (after_client net a move) a (net.clients a).front.client move.turn.sends m client
+          (m.clients a client up).own.actor
       (record {
         sites = λ b other. refl;
         clients = λ b other. put_other net.clients a (sent_all move.client (length net.mail) move.turn.sends) b other;
@@ -241,7 +206,9 @@ module _ (decl : Declaration) where
       })
       (record { later = g.later; keeps = g.keeps; granted = g.granted; deeds = g.deeds; lives = g.alive })
       (record {
-        mirrors = λ u. subst (λ (c : Client). ClientMirrors decl v (net.mail ++ envelopes a (length net.mail) move.turn.sends) a c) (sym (put_here net.clients a (sent_all move.client (length net.mail) move.turn.sends))) here;
+        mirrors =
+            λ u. subst (λ (c : Client). ClientMirrors decl v (net.mail ++ envelopes a (length net.mail) move.turn.sends)
+            a c) (sym (put_here net.clients a (sent_all move.client (length net.mail) move.turn.sends))) here;
         fallen = λ down. absurd (let never : ⊥ = cc in never);
       })
       (record {
@@ -249,7 +216,9 @@ module _ (decl : Declaration) where
           | inl old ↦ In-second c (commits_in move.turn.write) w.records (m.records c old)
           | inr new ↦ In-first c (commits_in move.turn.write) w.records new
         ]);
-        written = λ c among. elim (in_split c (commits_in move.turn.write) w.records (subst (λ (cs : List CommitRecord). In c cs) g.records among)) [
+        written =
+            λ c among. elim (in_split c (commits_in move.turn.write) w.records
+            (subst (λ (cs : List CommitRecord). In c cs) g.records among)) [
           | inl new ↦ In-second c net.written (commits_in move.turn.write) new
           | inr old ↦ In-first c net.written (commits_in move.turn.write) (m.written c old)
         ];
@@ -258,12 +227,24 @@ module _ (decl : Declaration) where
       })
       g.turn
     where
-      of_client : (x : CommitRecord) → In x v.records → (k : Bool) → (x.tx.client == (net.clients a).front.client) ≡ k → is_client decl (client_actor decl x.tx.client) ≡ true
-      of_client x among true e = subst (λ (n : ℕ). is_client decl n ≡ true) ((m.clients a client up).own.actor ∙ ap (λ (n : ℕ). client_actor decl n) (sym (eqb-true x.tx.client (net.clients a).front.client e))) client
+      of_client : (x : CommitRecord) → In x v.records → (k : Bool) → (x.tx.client == (net.clients a).front.client) ≡ k
+          → is_client decl (client_actor decl x.tx.client) ≡ true
+      of_client x among true e =
+          subst (λ (n : ℕ). is_client decl n ≡ true)
+          ((m.clients a client up).own.actor
+            ∙ ap (λ (n : ℕ). client_actor decl n) (sym (eqb-true x.tx.client (net.clients a).front.client e))) client
       of_client x among false e =
-          let other : x.tx.client ≢ (net.clients a).front.client = (λ same. (let k : (x.tx.client == (net.clients a).front.client) ≡ true = eq-eqb x.tx.client (net.clients a).front.client same in let never : ⊥ = cc in never)) in
+          let other : x.tx.client ≢ (net.clients a).front.client =
+                  (λ same. (let k : (x.tx.client == (net.clients a).front.client) ≡ true =
+                                    eq-eqb x.tx.client (net.clients a).front.client same in
+                            let never : ⊥ = cc in never)) in
           m.of_client x (m.settled x.tx x (sym ((g.keeps x.tx.client other).status x.tx refl) ∙ wrote x among))
 
-      here : ClientMirrors decl v (net.mail ++ envelopes a (length net.mail) move.turn.sends) a (sent_all move.client (length net.mail) move.turn.sends)
-      here = all_sent v (net.mail ++ envelopes a (length net.mail) move.turn.sends) a move.client (length net.mail) move.turn.sends
-          (keep_client decl v v move.client.front.client (keeps_same v move.client.front.client) net.mail (envelopes a (length net.mail) move.turn.sends) a move.client refl g.here) g.asking (at_number net.mail a (length net.mail) move.turn.sends refl)
+      here : ClientMirrors decl v (net.mail ++ envelopes a (length net.mail) move.turn.sends) a
+          (sent_all move.client (length net.mail) move.turn.sends)
+      here =
+          all_sent v (net.mail ++ envelopes a (length net.mail) move.turn.sends) a move.client (length net.mail)
+          move.turn.sends
+          (keep_client decl v v move.client.front.client (keeps_same v move.client.front.client) net.mail
+              (envelopes a (length net.mail) move.turn.sends) a move.client refl g.here) g.asking
+              (at_number net.mail a (length net.mail) move.turn.sends refl)

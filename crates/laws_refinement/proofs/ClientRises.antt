@@ -27,7 +27,8 @@ use Rattle.laws_refinement.proofs.ClientEnds.{mid_abort, mid_commit}
 use Rattle.laws_refinement.proofs.ClientSteps.{Mid, mid_first, mid_more, put_tx_other}
 use Rattle.laws_refinement.proofs.Kepts.{client_place}
 use Rattle.laws_refinement.proofs.Machine.{put_other}
-use Rattle.laws_refinement.proofs.Nets.{Settles, client_net, place}
+use Rattle.laws_refinement.proofs.SiteNets.{place}
+use Rattle.laws_refinement.proofs.Nets.{Settles, client_net}
 use Rattle.laws_refinement.proofs.ClientRecords.{client_kept_more, find_some, found_with, passes_one}
 use Rattle.laws_refinement.proofs.ClientFalls.{at_client}
 

@@ -26,14 +26,14 @@ use Rattle.qc_front.specs.declared.transaction.Transaction.{Transaction}
 use Rattle.qc_front.specs.Names.{IsRound, RecordsHold, absents, answer_of, answered, append_by, append_want, doomed}
 use Rattle.qc_front.specs.Names.{next_own, op_of as operation_of, read_by, read_want, refuses, request_of, resp_of}
 use Rattle.qc_front.specs.Names.{responds, round_for, with_asked, with_event, with_op}
-use Rattle.qc_front.proofs.Keeping.{started_round}
+use Rattle.qc_front.proofs.CommandsKeep.{started_round}
 use Rattle.qc_client.specs.Names.{ClientMove, by_front}
 use Rattle.qc_client.specs.declared.client.Client.{Client}
 use Rattle.laws_refinement.specs.Names.{AreCounted, Backed, ClientMirrors, IsAskedBy, IsNamedAt, IsWanted, Mirrors, Net}
 use Rattle.laws_refinement.specs.Names.{Refines, absent_of, after_client, append_of, chosen_of, commits_in}
 use Rattle.laws_refinement.proofs.Answers.{absent_answered, chosen_answered}
 use Rattle.laws_refinement.proofs.ClientActs.{appended_on, mid_absent, mid_choose, mid_execute, mid_send}
-use Rattle.laws_refinement.proofs.ClientPosts.{IsAsking, IsWantOf}
+use Rattle.laws_refinement.proofs.RequestsSent.{IsAsking, IsWantOf}
 use Rattle.laws_refinement.proofs.ClientSteps.{Core, Mid, Turned, actor, born, client_of, core_asked, idle_does}
 use Rattle.laws_refinement.proofs.ClientSteps.{mid_first, refined, turns}
 use Rattle.laws_refinement.proofs.Recorded.{absent_is_with, event_is_with, executed_core}

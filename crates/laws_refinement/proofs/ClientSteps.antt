@@ -22,9 +22,10 @@ use Rattle.qc_client.specs.declared.client.Client.{Client}
 use Rattle.laws_refinement.specs.Names.{AreVotes, Backed, ClientMirrors, IsAskedBy, IsChosen, IsRoundCounted, Mirrors}
 use Rattle.laws_refinement.specs.Names.{Net, OwnMirrors, Refines, TransactionMirrors, after_client, commits_in}
 use Rattle.laws_refinement.specs.Names.{status_by}
-use Rattle.laws_refinement.proofs.ClientPosts.{ClientGoes, IsAsking, client_goes}
+use Rattle.laws_refinement.proofs.RequestsSent.{IsAsking}
+use Rattle.laws_refinement.proofs.ClientPosts.{ClientGoes, client_goes}
 use Rattle.laws_refinement.proofs.ClientLater.{IsOfClient, client_later, client_stays}
-use Rattle.laws_refinement.proofs.Frames.{Keeps, Later, keeps_both, keeps_same, later_both, same_state}
+use Rattle.laws_refinement.proofs.MessagesStay.{Keeps, Later, keeps_both, keeps_same, later_both, same_state}
 
 pub put_tx_other : {A : Type 0} (f : TxId → A) (k : TxId) (v : A) (n : TxId) → n ≢ k → put_tx f k v n ≡ f n
 put_tx_other {A = A} f k v n other = by (same_tx n k) refl

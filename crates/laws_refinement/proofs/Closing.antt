@@ -30,7 +30,7 @@ use Rattle.laws_refinement.proofs.KeptLists.{kept_more}
 use Rattle.laws_refinement.proofs.KeptSteps.{kept_closes}
 use Rattle.laws_refinement.proofs.Machine.{done_last, epoch_after, put_other, shut_after, single_more, site_more}
 use Rattle.laws_refinement.proofs.Nets.{site_goes}
-use Rattle.laws_refinement.proofs.SiteActs.{says}
+use Rattle.laws_refinement.proofs.SiteGrants.{says}
 use Rattle.laws_refinement.proofs.SiteSteps.{one_answer}
 use Rattle.laws_refinement.proofs.BothPromises.{Behind, asked_begun, behind, was_asked}
 use Rattle.laws_refinement.proofs.HeldByPromises.{by_promises_held, by_promises_holder, by_promises_owned}

@@ -26,7 +26,7 @@ use Rattle.theory_machine.proofs.Holdings.{held_lines_are_one_an_operation}
 use Rattle.theory_machine.proofs.Names.{put_here}
 use Rattle.theory_machine.proofs.SiteLists.{items_of-append, items_of-each_held}
 use Rattle.qc_site.specs.Names.{SiteMove, appends, clashing, grants, known, moved, reads, relation_at}
-use Rattle.qc_site.proofs.Cases.{append_cases, read_cases}
+use Rattle.qc_site.proofs.RequestCases.{append_cases, read_cases}
 use Rattle.laws_refinement.specs.Names.{Continues, IsHeld, IsMessage, IsWanted, Mirrors, Net, SiteMirrors, after_site}
 use Rattle.laws_refinement.specs.Names.{own_item, own_items}
 use Rattle.qc_msg.specs.declared.message.Message.TheVariants as messages
@@ -34,7 +34,7 @@ use Rattle.laws_refinement.proofs.Held.{append_holder, append_is_free, given_bac
 use Rattle.laws_refinement.proofs.Held.{lock_given_here, own_given_here, read_holder, read_is_free}
 use Rattle.laws_refinement.proofs.Known.{known_ascends, learned_ascends, learned_from, learned_in}
 use Rattle.laws_refinement.proofs.Machine.{site_more}
-use Rattle.laws_refinement.proofs.SiteActs.{grants_it, stands}
+use Rattle.laws_refinement.proofs.SiteGrants.{grants_it, stands}
 use Rattle.laws_refinement.proofs.SiteSteps.{by_relation, clash_turn, grant_allowed, grant_of, grants_more}
 
 object_in : (l : Line) (xs : List Line) (object : ℕ) → In l (of_object xs object) → In l xs × (l.object ≡ object)

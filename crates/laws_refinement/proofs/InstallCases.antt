@@ -21,7 +21,7 @@ use Rattle.laws_refinement.proofs.Known.{known_from, known_in}
 use Rattle.laws_refinement.proofs.KeptSteps.{kept_installs}
 use Rattle.laws_refinement.proofs.Machine.{done_last, epoch_after, put_other, shut_after, single_more, site_more}
 use Rattle.laws_refinement.proofs.Nets.{site_goes}
-use Rattle.laws_refinement.proofs.SiteActs.{says}
+use Rattle.laws_refinement.proofs.SiteGrants.{says}
 use Rattle.laws_refinement.proofs.SiteSteps.{latest_grows, latest_passes, one_answer}
 use Rattle.laws_refinement.proofs.BothPromises.{deed_is}
 

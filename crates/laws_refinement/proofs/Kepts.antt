@@ -15,7 +15,7 @@ use Rattle.qc_recover.specs.Clients as clients
 use Rattle.qc_recover.specs.Names.{Kept, epoch_by}
 use Rattle.laws_refinement.specs.Names.{FallenMirrors, IsPendingAt, IsPendingBy, IsPendingRule, KeptMirrors}
 use Rattle.laws_refinement.specs.Names.{RulesMirror}
-use Rattle.laws_refinement.proofs.Frames.{Keeps, Later, decided_later, decision_later}
+use Rattle.laws_refinement.proofs.MessagesStay.{Keeps, Later, decided_later, decision_later}
 use Rattle.laws_refinement.proofs.LaterDecisions.{decisions_may_wait}
 use Rattle.qc_epoch.specs.Names.{Decided}
 

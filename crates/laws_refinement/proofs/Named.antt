@@ -22,7 +22,7 @@ use Rattle.qc_front.proofs.Apart.{AreApart, apart_first, apart_weighing}
 use Rattle.qc_client.specs.declared.client.Client.{Client}
 use Rattle.laws_refinement.specs.Names.{IsGrant, IsMessage, IsPlanned, LivesMirror}
 use Rattle.laws_refinement.proofs.ClientSteps.{Core}
-use Rattle.laws_refinement.proofs.Counts.{IsGiven}
+use Rattle.laws_refinement.proofs.Granting.{IsGiven}
 use Rattle.laws_refinement.proofs.Lives.{counted_once_more, life_other}
 use Rattle.laws_refinement.proofs.OpenRequests.{IsCalled, called_in, still_called}
 use Rattle.laws_refinement.proofs.Planned.{planned_max}

@@ -1,5 +1,6 @@
 -- A record that was being written as its site fell, and stays: what the machine does for it as the site rises.
-use Rattle.std.proofs.Common.{◌≡◌, ◌<◌, ℕ, suc, arith, true, List, [], ◌∷◌, ◌++◌, Option, Some, None, refl, sym, ◌∙◌, subst}
+use Rattle.std.proofs.Common.{◌≡◌, ◌<◌, ℕ, suc, arith, true, List, ◌∷◌, ◌++◌, Option, Some, None, refl, sym}
+use Rattle.std.proofs.Common.{subst}
 use Rattle.qc_stamp.specs.declared.stamp.TxId.{TxId}
 use Rattle.qc_list.specs.Names.{In}
 use Rattle.qc_entry.specs.declared.record.Prepared.{Prepared}
@@ -14,119 +15,258 @@ use Rattle.qc_recover.specs.Names.{Kept, done_stamp, keeps}
 use Rattle.laws_refinement.specs.Names.{IsClosing, IsDecided, IsPendingAt, KeptMirrors, commits_in}
 use Rattle.qc_entry.specs.declared.line.Line.{Line}
 use Rattle.laws_refinement.proofs.BothPromises.{deed_is}
-use Rattle.laws_refinement.proofs.Frames.{keeps_both, keeps_same, later_both, same_state}
-use Rattle.laws_refinement.proofs.KeptSteps.{kept_closes, kept_installs, kept_finishes, kept_prepares, kept_rises}
+use Rattle.laws_refinement.proofs.KeptDeeds.{kept_prepares}
+use Rattle.laws_refinement.proofs.KeptSteps.{kept_closes, kept_installs, kept_finishes, kept_rises}
 use Rattle.laws_refinement.proofs.Machine.{put_other}
-use Rattle.laws_refinement.proofs.Nets.{AtSite}
+use Rattle.laws_refinement.proofs.PendingRecords.{SiteMid}
 
 module _ (decl : Declaration) where
-  pub at_first : (w : State) (a : ℕ) → ((g : Granted) → In g w.granted → is_site decl g.site ≡ true) → AtSite decl w w a
-  at_first w a placed = record { later = same_state w; keeps = keeps_same w; records = refl; placed_at = placed; there = λ b other. refl; lives = λ b other. refl }
-
-  pub at_both : (w u v : State) (a : ℕ) → AtSite decl w u a → AtSite decl u v a → AtSite decl w v a
-  at_both w u v a x y = record {
-    later = later_both w u v x.later y.later;
-    keeps = λ c. keeps_both w u v c (x.keeps c) (y.keeps c);
-    records = y.records ∙ x.records;
-    placed_at = y.placed_at;
-    there = λ b other. y.there b other ∙ x.there b other;
-    lives = λ b other. y.lives b other ∙ x.lives b other;
-  }
-
-  -- the machine went so far, and the site's records agree
-  pub record SiteMid (w : State) (a : ℕ) (k : Kept) : Type 0 where
-    pub acts : List Act
-    pub run : IsRun decl acts
-    pub at : AtSite decl w (state acts) a
-    pub kept : KeptMirrors decl k (state acts).status ((state acts).life a) ((state acts).deeds a)
-
-  module _ (acts : List Act) (run : IsRun decl acts) (placed : (g : Granted) → In g (state acts).granted → is_site decl g.site ≡ true) (a : ℕ) where
+  module _ (acts : List Act) (run : IsRun decl acts)
+      (placed : (g : Granted) → In g (state acts).granted → is_site decl g.site ≡ true) (a : ℕ) where
     -- one act more, a record that came to stand
-    prepares_act : (k : Kept) (p : Prepared) → KeptMirrors decl k (state acts).status ((state acts).life a) ((state acts).deeds a) → IsPendingAt decl (state acts) k ((state acts).deeds a) (Some (records.Prepare p)) → SiteMid (state acts) a (keeps k (records.Prepare p))
+    prepares_act : (k : Kept) (p : Prepared)
+        → KeptMirrors decl k (state acts).status ((state acts).life a) ((state acts).deeds a)
+        → IsPendingAt decl (state acts) k ((state acts).deeds a) (Some (records.Prepare p))
+        → SiteMid decl (state acts) a (keeps k (records.Prepare p))
     prepares_act k p m h = record {
       acts = PrepareLost a p.tx ∷ acts;
       run = (h.asked, run);
       at = record {
-        later = record { born = λ t h. h; epoch = λ t h. refl; asked = λ t h. h; counted = λ x h asked. h; granted = λ x h. h; votes = λ x h. h; verdicts = λ t h. h; appends = λ s h. h; snapshots = λ s h. h; decided = λ d h. h };
-        keeps = λ c. record { status = λ t h. refl; epoch = λ t h. refl; executed = λ t h. refl; chosen = λ t h. refl; clock = refl; counted = λ x its h. h; more = λ x h. h; votes = λ x h. h; appends = λ x h. h };
+        later =
+            record {
+              born = λ t h. h;
+              epoch = λ t h. refl;
+              asked = λ t h. h;
+              counted = λ x h asked. h;
+              granted = λ x h. h;
+              votes = λ x h. h;
+              verdicts = λ t h. h;
+              appends = λ s h. h;
+              snapshots = λ s h. h;
+              decided = λ d h. h
+            };
+        keeps =
+            λ c. record {
+              status = λ t h. refl;
+              epoch = λ t h. refl;
+              executed = λ t h. refl;
+              chosen = λ t h. refl;
+              clock = refl;
+              counted = λ x its h. h;
+              more = λ x h. h;
+              votes = λ x h. h;
+              appends = λ x h. h
+            };
         records = refl;
         placed_at = placed;
         there = λ b other. put_other (state acts).deeds a ((state acts).deeds a ++ Prepares p.tx ∷ []) b other;
         lives = λ b other. refl;
       };
-      kept = subst (λ (ds : List Deed). KeptMirrors decl (keeps k (records.Prepare p)) (state acts).status ((state acts).life a) ds) (sym (put_here (state acts).deeds a ((state acts).deeds a ++ Prepares p.tx ∷ [])))
-          (kept_prepares decl k (state acts).status ((state acts).life a) ((state acts).deeds a) p m h.fresh h.same h.whole h.lines h.ascends (λ e. subst MayPrepare e h.asked));
+      kept =
+          subst (λ (ds : List Deed). KeptMirrors decl (keeps k (records.Prepare p)) (state acts).status
+          ((state acts).life a) ds) (sym (put_here (state acts).deeds a ((state acts).deeds a ++ Prepares p.tx ∷ [])))
+          (kept_prepares decl k (state acts).status ((state acts).life a) ((state acts).deeds a) p m h.fresh h.same
+              h.whole h.lines h.ascends (λ e. subst MayPrepare e h.asked));
     }
 
-    finishes_act : (k : Kept) (tx : TxId) (clock : ℕ) → KeptMirrors decl k (state acts).status ((state acts).life a) ((state acts).deeds a) → IsPendingAt decl (state acts) k ((state acts).deeds a) (Some (records.Done tx clock)) → SiteMid (state acts) a (keeps k (records.Done tx clock))
+    finishes_act : (k : Kept) (tx : TxId) (clock : ℕ)
+        → KeptMirrors decl k (state acts).status ((state acts).life a) ((state acts).deeds a)
+        → IsPendingAt decl (state acts) k ((state acts).deeds a) (Some (records.Done tx clock))
+        → SiteMid decl (state acts) a (keeps k (records.Done tx clock))
     finishes_act k tx clock m h = record {
       acts = Learn a (record { tx = tx; stamp = Some (done_stamp tx clock) }) ∷ acts;
       run = (h.told, run);
       at = record {
-        later = record { born = λ t h. h; epoch = λ t h. refl; asked = λ t h. h; counted = λ x h asked. h; granted = λ x h. h; votes = λ x h. h; verdicts = λ t h. h; appends = λ s h. h; snapshots = λ s h. h; decided = λ d h. h };
-        keeps = λ c. record { status = λ t h. refl; epoch = λ t h. refl; executed = λ t h. refl; chosen = λ t h. refl; clock = refl; counted = λ x its h. h; more = λ x h. h; votes = λ x h. h; appends = λ x h. h };
+        later =
+            record {
+              born = λ t h. h;
+              epoch = λ t h. refl;
+              asked = λ t h. h;
+              counted = λ x h asked. h;
+              granted = λ x h. h;
+              votes = λ x h. h;
+              verdicts = λ t h. h;
+              appends = λ s h. h;
+              snapshots = λ s h. h;
+              decided = λ d h. h
+            };
+        keeps =
+            λ c. record {
+              status = λ t h. refl;
+              epoch = λ t h. refl;
+              executed = λ t h. refl;
+              chosen = λ t h. refl;
+              clock = refl;
+              counted = λ x its h. h;
+              more = λ x h. h;
+              votes = λ x h. h;
+              appends = λ x h. h
+            };
         records = refl;
         placed_at = placed;
-        there = λ b other. put_other (state acts).deeds a ((state acts).deeds a ++ LearnsCommit tx (done_stamp tx clock) ∷ []) b other;
+        there =
+            λ b other. put_other (state acts).deeds a
+            ((state acts).deeds a ++ LearnsCommit tx (done_stamp tx clock) ∷ []) b other;
         lives = λ b other. refl;
       };
-      kept = subst (λ (ds : List Deed). KeptMirrors decl (keeps k (records.Done tx clock)) (state acts).status ((state acts).life a) ds) (sym (put_here (state acts).deeds a ((state acts).deeds a ++ LearnsCommit tx (done_stamp tx clock) ∷ [])))
-          (kept_finishes decl k (state acts).status ((state acts).life a) ((state acts).deeds a) tx clock h.promise h.prepared m h.promised h.kept h.same);
+      kept =
+          subst (λ (ds : List Deed). KeptMirrors decl (keeps k (records.Done tx clock)) (state acts).status
+          ((state acts).life a) ds)
+          (sym (put_here (state acts).deeds a ((state acts).deeds a ++ LearnsCommit tx (done_stamp tx clock) ∷ [])))
+          (kept_finishes decl k (state acts).status ((state acts).life a) ((state acts).deeds a) tx clock h.promise
+              h.prepared m h.promised h.kept h.same);
     }
 
-    abbrev pub rises_act : (k : Kept) → KeptMirrors decl k (state acts).status ((state acts).life a) ((state acts).deeds a) → SiteMid (state acts) a (keeps k records.Life)
+    abbrev pub rises_act : (k : Kept)
+        → KeptMirrors decl k (state acts).status ((state acts).life a) ((state acts).deeds a)
+        → SiteMid decl (state acts) a (keeps k records.Life)
     rises_act k m = record {
       acts = Rise a ∷ acts;
       run = (tt, run);
       at = record {
-        later = record { born = λ t h. h; epoch = λ t h. refl; asked = λ t h. h; counted = λ x h asked. h; granted = λ x h. h; votes = λ x h. h; verdicts = λ t h. h; appends = λ s h. h; snapshots = λ s h. h; decided = λ d h. h };
-        keeps = λ c. record { status = λ t h. refl; epoch = λ t h. refl; executed = λ t h. refl; chosen = λ t h. refl; clock = refl; counted = λ x its h. h; more = λ x h. h; votes = λ x h. h; appends = λ x h. h };
+        later =
+            record {
+              born = λ t h. h;
+              epoch = λ t h. refl;
+              asked = λ t h. h;
+              counted = λ x h asked. h;
+              granted = λ x h. h;
+              votes = λ x h. h;
+              verdicts = λ t h. h;
+              appends = λ s h. h;
+              snapshots = λ s h. h;
+              decided = λ d h. h
+            };
+        keeps =
+            λ c. record {
+              status = λ t h. refl;
+              epoch = λ t h. refl;
+              executed = λ t h. refl;
+              chosen = λ t h. refl;
+              clock = refl;
+              counted = λ x its h. h;
+              more = λ x h. h;
+              votes = λ x h. h;
+              appends = λ x h. h
+            };
         records = refl;
         placed_at = placed;
         there = λ b other. put_other (state acts).deeds a ((state acts).deeds a ++ Rises ∷ []) b other;
         lives = λ b other. put_other (state acts).life a (suc ((state acts).life a)) b other;
       };
-      kept = subst (λ (ds : List Deed). KeptMirrors decl (keeps k records.Life) (state acts).status (put (state acts).life a (suc ((state acts).life a)) a) ds) (sym (put_here (state acts).deeds a ((state acts).deeds a ++ Rises ∷ [])))
-          (subst (λ (n : ℕ). KeptMirrors decl (keeps k records.Life) (state acts).status n ((state acts).deeds a ++ Rises ∷ [])) (sym (put_here (state acts).life a (suc ((state acts).life a))))
+      kept =
+          subst (λ (ds : List Deed). KeptMirrors decl (keeps k records.Life) (state acts).status
+          (put (state acts).life a (suc ((state acts).life a)) a) ds)
+          (sym (put_here (state acts).deeds a ((state acts).deeds a ++ Rises ∷ [])))
+          (subst (λ (n : ℕ). KeptMirrors decl (keeps k records.Life) (state acts).status n
+              ((state acts).deeds a ++ Rises ∷ [])) (sym (put_here (state acts).life a (suc ((state acts).life a))))
           (kept_rises decl k (state acts).status ((state acts).life a) ((state acts).deeds a) m));
     }
 
-    closes_act : (k : Kept) (epoch : ℕ) → KeptMirrors decl k (state acts).status ((state acts).life a) ((state acts).deeds a) → IsClosing decl k.epoch (Some epoch) → SiteMid (state acts) a (keeps k (records.Close epoch))
+    closes_act : (k : Kept) (epoch : ℕ)
+        → KeptMirrors decl k (state acts).status ((state acts).life a) ((state acts).deeds a)
+        → IsClosing decl k.epoch (Some epoch) → SiteMid decl (state acts) a (keeps k (records.Close epoch))
     closes_act k epoch m h = record {
       acts = Close a ∷ acts;
       run = (tt, run);
       at = record {
-        later = record { born = λ t h. h; epoch = λ t h. refl; asked = λ t h. h; counted = λ x h asked. h; granted = λ x h. h; votes = λ x h. h; verdicts = λ t h. h; appends = λ s h. h; snapshots = λ s h. h; decided = λ d h. h };
-        keeps = λ c. record { status = λ t h. refl; epoch = λ t h. refl; executed = λ t h. refl; chosen = λ t h. refl; clock = refl; counted = λ x its h. h; more = λ x h. h; votes = λ x h. h; appends = λ x h. h };
+        later =
+            record {
+              born = λ t h. h;
+              epoch = λ t h. refl;
+              asked = λ t h. h;
+              counted = λ x h asked. h;
+              granted = λ x h. h;
+              votes = λ x h. h;
+              verdicts = λ t h. h;
+              appends = λ s h. h;
+              snapshots = λ s h. h;
+              decided = λ d h. h
+            };
+        keeps =
+            λ c. record {
+              status = λ t h. refl;
+              epoch = λ t h. refl;
+              executed = λ t h. refl;
+              chosen = λ t h. refl;
+              clock = refl;
+              counted = λ x its h. h;
+              more = λ x h. h;
+              votes = λ x h. h;
+              appends = λ x h. h
+            };
         records = refl;
         placed_at = placed;
         there = λ b other. put_other (state acts).deeds a ((state acts).deeds a ++ Closes ∷ []) b other;
         lives = λ b other. put_other (state acts).life a (suc ((state acts).life a)) b other;
       };
-      kept = subst (λ (ds : List Deed). KeptMirrors decl (keeps k (records.Close epoch)) (state acts).status (put (state acts).life a (suc ((state acts).life a)) a) ds) (sym (put_here (state acts).deeds a ((state acts).deeds a ++ Closes ∷ [])))
-          (subst (λ (n : ℕ). KeptMirrors decl (keeps k (records.Close epoch)) (state acts).status n ((state acts).deeds a ++ Closes ∷ [])) (sym (put_here (state acts).life a (suc ((state acts).life a))))
+      kept =
+          subst (λ (ds : List Deed). KeptMirrors decl (keeps k (records.Close epoch)) (state acts).status
+          (put (state acts).life a (suc ((state acts).life a)) a) ds)
+          (sym (put_here (state acts).deeds a ((state acts).deeds a ++ Closes ∷ [])))
+          (subst (λ (n : ℕ). KeptMirrors decl (keeps k (records.Close epoch)) (state acts).status n
+              ((state acts).deeds a ++ Closes ∷ [])) (sym (put_here (state acts).life a (suc ((state acts).life a))))
           (kept_closes decl k (state acts).status ((state acts).life a) ((state acts).deeds a) epoch m h));
     }
 
-    installs_act : (k : Kept) (epoch clock : ℕ) (lines : List Line) → KeptMirrors decl k (state acts).status ((state acts).life a) ((state acts).deeds a) → IsDecided decl (state acts) epoch clock lines × (k.epoch < epoch) → SiteMid (state acts) a (keeps k (records.Install epoch clock lines))
+    installs_act : (k : Kept) (epoch clock : ℕ) (lines : List Line)
+        → KeptMirrors decl k (state acts).status ((state acts).life a) ((state acts).deeds a)
+        → IsDecided decl (state acts) epoch clock lines × (k.epoch < epoch)
+        → SiteMid decl (state acts) a (keeps k (records.Install epoch clock lines))
     installs_act k epoch clock lines m h = record {
       acts = Install a h.0.decision ∷ acts;
-      run = ((h.0.decided, (let e : epoch_from 1 ((state acts).deeds a) ≡ k.epoch = m.epoch in let f : h.0.decision.epoch ≡ epoch = h.0.epoch_is in let g : k.epoch < epoch = h.1 in omega arith)), run);
+      run =
+          ((h.0.decided,
+          (let e : epoch_from 1 ((state acts).deeds a) ≡ k.epoch = m.epoch in
+           let f : h.0.decision.epoch ≡ epoch = h.0.epoch_is in let g : k.epoch < epoch = h.1 in omega arith)), run);
       at = record {
-        later = record { born = λ t h. h; epoch = λ t h. refl; asked = λ t h. h; counted = λ x h asked. h; granted = λ x h. h; votes = λ x h. h; verdicts = λ t h. h; appends = λ s h. h; snapshots = λ s h. h; decided = λ d h. h };
-        keeps = λ c. record { status = λ t h. refl; epoch = λ t h. refl; executed = λ t h. refl; chosen = λ t h. refl; clock = refl; counted = λ x its h. h; more = λ x h. h; votes = λ x h. h; appends = λ x h. h };
+        later =
+            record {
+              born = λ t h. h;
+              epoch = λ t h. refl;
+              asked = λ t h. h;
+              counted = λ x h asked. h;
+              granted = λ x h. h;
+              votes = λ x h. h;
+              verdicts = λ t h. h;
+              appends = λ s h. h;
+              snapshots = λ s h. h;
+              decided = λ d h. h
+            };
+        keeps =
+            λ c. record {
+              status = λ t h. refl;
+              epoch = λ t h. refl;
+              executed = λ t h. refl;
+              chosen = λ t h. refl;
+              clock = refl;
+              counted = λ x its h. h;
+              more = λ x h. h;
+              votes = λ x h. h;
+              appends = λ x h. h
+            };
         records = refl;
         placed_at = placed;
-        there = λ b other. put_other (state acts).deeds a ((state acts).deeds a ++ Installs h.0.decision.epoch h.0.decision.clock h.0.decision.log ∷ []) b other;
+        there =
+            λ b other. put_other (state acts).deeds a
+            ((state acts).deeds a ++ Installs h.0.decision.epoch h.0.decision.clock h.0.decision.log ∷ []) b other;
         lives = λ b other. refl;
       };
-      kept = subst (λ (ds : List Deed). KeptMirrors decl (keeps k (records.Install epoch clock lines)) (state acts).status ((state acts).life a) ds) (sym (put_here (state acts).deeds a ((state acts).deeds a ++ Installs h.0.decision.epoch h.0.decision.clock h.0.decision.log ∷ [])))
-          (subst (λ (x : Deed). KeptMirrors decl (keeps k (records.Install epoch clock lines)) (state acts).status ((state acts).life a) ((state acts).deeds a ++ x ∷ [])) (sym (deed_is h.0))
-          (kept_installs decl k (state acts).status ((state acts).life a) ((state acts).deeds a) epoch clock lines m h.0.planned h.0.sorted));
+      kept =
+          subst (λ (ds : List Deed). KeptMirrors decl (keeps k (records.Install epoch clock lines)) (state acts).status
+          ((state acts).life a) ds)
+          (sym (put_here (state acts).deeds a
+            ((state acts).deeds a ++ Installs h.0.decision.epoch h.0.decision.clock h.0.decision.log ∷ [])))
+          (subst (λ (x : Deed). KeptMirrors decl (keeps k (records.Install epoch clock lines)) (state acts).status
+              ((state acts).life a) ((state acts).deeds a ++ x ∷ [])) (sym (deed_is h.0))
+          (kept_installs decl k (state acts).status ((state acts).life a) ((state acts).deeds a) epoch clock lines m
+              h.0.planned h.0.sorted));
     }
 
     -- what stands of a pending record
-    pub pending_act : (k : Kept) (r : Record) → KeptMirrors decl k (state acts).status ((state acts).life a) ((state acts).deeds a) → IsPendingAt decl (state acts) k ((state acts).deeds a) (Some r) → SiteMid (state acts) a (keeps k r)
+    pub pending_act : (k : Kept) (r : Record)
+        → KeptMirrors decl k (state acts).status ((state acts).life a) ((state acts).deeds a)
+        → IsPendingAt decl (state acts) k ((state acts).deeds a) (Some r) → SiteMid decl (state acts) a (keeps k r)
     pending_act k records.Life m h = rises_act k m
     pending_act k (records.Prepare p) m h = prepares_act k p m h
     pending_act k (records.Done tx clock) m h = finishes_act k tx clock m h
@@ -136,7 +276,8 @@ module _ (decl : Declaration) where
     pending_act k (records.Decide epoch clock lines) m h = absurd h
 
   -- no commit record is a site's
-  pub unwritten : (w : State) (k : Kept) (ds : List Deed) (o : Option Record) → IsPendingAt decl w k ds o → commits_in o ≡ []
+  pub unwritten : (w : State) (k : Kept) (ds : List Deed) (o : Option Record) → IsPendingAt decl w k ds o
+      → commits_in o ≡ []
   unwritten w k ds None h = refl
   unwritten w k ds (Some records.Life) h = refl
   unwritten w k ds (Some (records.Prepare p)) h = refl

@@ -10,7 +10,7 @@ use Rattle.qc_msg.specs.declared.turn.Posting.{Posting}
 use Rattle.qc_msg.specs.Names.{envelopes}
 use Rattle.theory_machine.specs.Names.{State}
 use Rattle.laws_refinement.specs.Names.{Backed}
-use Rattle.laws_refinement.proofs.Frames.{Later, backed_later, same_state}
+use Rattle.laws_refinement.proofs.MessagesStay.{Later, backed_later, same_state}
 use Rattle.laws_refinement.proofs.Machine.{slice_get-append}
 
 slice_get-seam : {X : Type 0} (xs ys : List X) (x : X) → slice_get (xs ++ x ∷ ys) (length xs) ≡ Some x

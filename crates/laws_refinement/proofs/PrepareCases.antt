@@ -17,19 +17,20 @@ use Rattle.theory_machine.specs.Names.{Act, Granted, IsRun, Item, Lock, MayPrepa
 use Rattle.theory_machine.specs.Names.{Site, after_prepare, items_of, promise_of, site_after, state}
 use Rattle.qc_site.specs.Names.{SiteMove, answers as answers_with, dropped, is_prepared, joins, known, lines_of, moved}
 use Rattle.qc_site.specs.Names.{prepared_of, prepares, promised, votes, without_prepared}
-use Rattle.qc_site.proofs.Cases.{prepare_cases}
+use Rattle.qc_site.proofs.RequestCases.{prepare_cases}
 use Rattle.laws_refinement.specs.Names.{AreLined, Continues, IsHeld, IsKeptBy, IsPromiseOf, IsPromised, IsRequest}
 use Rattle.laws_refinement.specs.Names.{KeptMirrors, Mirrors, Net, SiteMirrors, after_site}
 use Rattle.laws_refinement.proofs.Apart.{apart_more}
 use Rattle.laws_refinement.proofs.Promises.{more_promise, found_last, found_other}
-use Rattle.laws_refinement.proofs.SiteActs.{says, votes_it}
+use Rattle.laws_refinement.proofs.SiteGrants.{says}
+use Rattle.laws_refinement.proofs.SiteActs.{votes_it}
 use Rattle.std.proofs.lemmas.List.{append-nil}
 use Rattle.qc_recover.specs.Names.{Kept, kept_by, with_promise}
 use Rattle.qc_msg.specs.declared.record.Record.{Record}
 use Rattle.qc_site.proofs.Sorted.{ascending-without}
 use Rattle.laws_refinement.proofs.KeptLists.{kept_more}
 use Rattle.laws_refinement.proofs.Known.{promised_known, unrecorded}
-use Rattle.laws_refinement.proofs.KeptSteps.{leaves_epoch, kept_prepares, kept_same}
+use Rattle.laws_refinement.proofs.KeptDeeds.{leaves_epoch, kept_prepares, kept_same}
 use Rattle.qc_stamp.proofs.Orders.{same_tx_is}
 use Rattle.qc_site.proofs.Votes.{prepared-without, prepared-without_other}
 use Rattle.qc_msg.specs.declared.message.Answer.TheVariants as answers

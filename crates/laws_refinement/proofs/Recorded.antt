@@ -23,7 +23,7 @@ use Rattle.qc_view.specs.Names.{with_own}
 use Rattle.qc_front.specs.declared.transaction.Transaction.{Transaction}
 use Rattle.qc_front.specs.Names.{next_own, op_of as operation_of, own_on, resp_of, view_log, with_event, with_op}
 use Rattle.qc_front.specs.Names.{with_view}
-use Rattle.qc_front.proofs.Keeping.{view_keeps}
+use Rattle.qc_front.proofs.CommandsKeep.{view_keeps}
 use Rattle.qc_client.specs.Names.{is_begun}
 use Rattle.qc_client.specs.declared.client.Client.{Client}
 use Rattle.laws_refinement.specs.Names.{LivesMirror, absent_of, chosen_of, name_at}

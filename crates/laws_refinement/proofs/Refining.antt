@@ -1,28 +1,14 @@
 -- Every net that may come about is what a run of the machine may look like.
-use Rattle.std.proofs.Common.{◌≡◌, ◌<◌, ◌≤◌, ◌∷◌, ◌++◌, length, slice_get, ℕ, ◌+◌, ◌-◌, ◌&&◌, Bool, true, false, List, [], Option, Some, None, refl, sym, ◌∙◌, subst, arith, ap, inl, inr}
-use Rattle.qc_decl.proofs.Clients.{client_past}
+use Rattle.std.proofs.Common.{◌≡◌, ◌++◌, ℕ, ◌+◌, true, List}
+use Rattle.std.proofs.Common.{Some, None, sym, ◌∙◌, subst, ap, inl, inr}
 use Rattle.qc_decl.specs.declared.declaration.Declaration.{Declaration}
 use Rattle.qc_decl.specs.Names.{IsAccepted, administrator, is_client}
-use Rattle.qc_plan.specs.declared.plan.Plan.{Plan}
-use Rattle.qc_msg.specs.declared.message.Answer.{Answer}
-use Rattle.qc_msg.specs.declared.message.Message.{Message}
-use Rattle.qc_msg.specs.declared.step.Input.{Input}
-use Rattle.qc_msg.specs.declared.step.Input.TheVariants.{Called, Got, Lost}
-use Rattle.qc_msg.specs.Names.{quiet, site_called}
-use Rattle.theory_machine.specs.Names.{Act, IsRun, state}
-use Rattle.qc_commit.specs.declared.desk.Voting.{Voting}
-use Rattle.qc_commit.specs.Names.{record_of, votes_in}
-use Rattle.qc_client.specs.Names.{ClientMove, answered_by, by_desk, by_front, client_takes, heard, moved}
+use Rattle.theory_machine.specs.Names.{Act, state}
+use Rattle.qc_commit.specs.Names.{record_of}
 use Rattle.laws_refinement.proofs.AdminFalls.{admin_falls, admin_rises_in_vain, admin_rises_up}
-use Rattle.laws_refinement.specs.Names.{Backed, Continues, FrontStands, IsClientKeptBy, IsPlanned, MayCome, MayCommand}
-use Rattle.laws_refinement.specs.Names.{Mirrors, Net, Reaches, Refines, after_client, after_fall, first_net}
+use Rattle.laws_refinement.specs.Names.{Continues, IsClientKeptBy}
+use Rattle.laws_refinement.specs.Names.{Net, Reaches, Refines, after_fall}
 use Rattle.laws_refinement.proofs.AdminCases.{admin_case}
-use Rattle.laws_refinement.proofs.ClientAnswers.{do_case, takes_case}
-use Rattle.laws_refinement.proofs.OpenRequests.{AnswerBacked}
-use Rattle.laws_refinement.proofs.ClientBegins.{abort_case, ask_case, begin_case, inquiry_case}
-use Rattle.laws_refinement.proofs.ClientCommits.{commit_case, commit_fails}
-use Rattle.laws_refinement.proofs.ClientVotes.{vote_case, vote_fails}
-use Rattle.laws_refinement.proofs.ClientRounds.{nothing}
 use Rattle.laws_refinement.proofs.SiteCases.{serve_case}
 use Rattle.laws_refinement.proofs.Standing.{front_ends_stand}
 use Rattle.qc_stamp.specs.declared.stamp.TxId.{TxId}
@@ -31,7 +17,6 @@ use Rattle.qc_entry.specs.declared.record.Commit.{Commit as CommitRecord}
 use Rattle.qc_msg.specs.declared.record.Record.{Record}
 use Rattle.qc_msg.specs.declared.turn.Posting.{Posting}
 use Rattle.qc_front.specs.declared.front.Front.{Front}
-use Rattle.qc_front.specs.Names.{FrontMove}
 use Rattle.qc_recover.specs.Clients.{kept_by}
 use Rattle.laws_refinement.proofs.ClientEnds.{Pends}
 use Rattle.laws_refinement.proofs.ClientFalls.{client_falls, client_fails}
@@ -39,182 +24,43 @@ use Rattle.laws_refinement.proofs.ClientRises.{client_rises_in_vain, client_rise
 use Rattle.laws_refinement.proofs.ClientKeeps.{clients_kept}
 use Rattle.laws_refinement.proofs.SiteFails.{take_fails as site_take_fails}
 use Rattle.laws_refinement.proofs.SiteFalls.{site_falls, site_rises_in_vain, site_rises_up}
-use Rattle.qc_front.proofs.Unwritten.{IsCalm, front_called, front_takes}
-use Rattle.qc_msg.specs.declared.message.Message.TheVariants as messages
-use Rattle.qc_msg.specs.declared.step.Command.TheVariants as commands
-use Rattle.qc_front.specs.Front as fronts
 use Rattle.laws_refinement.specs.Net as nets
-use Rattle.qc_front.specs.Conduct as front_conduct
+use Rattle.laws_refinement.proofs.RefiningTurns.{_, at_first, first_plan}
 
 module _ (decl : Declaration) (accepted : IsAccepted decl) where
-  module _ (acts : List Act) (net : Net) (a : ℕ) (run : IsRun decl acts) (m : Mirrors decl (state acts) net) (client : is_client decl a ≡ true) (up : net.up a ≡ true) (standing : FrontStands decl net a) where
-    nothing_done : Refines decl (after_client net a (moved (net.clients a) quiet))
-    nothing_done = nothing decl acts net a (moved (net.clients a) quiet) run m client up refl refl refl
-
-    -- an answer, or a loss
-    answer_case : (from number : ℕ) (answer : Option Answer) → AnswerBacked decl (state acts) net.mail from number answer → (o : Option Voting) → (net.clients a).desk.voting ≡ o → Refines decl (after_client net a (answered_by decl (net.clients a) o number answer))
-    answer_case from number answer backed None free = takes_case decl acts net a run m client up standing free from number answer backed (net.clients a).front.doing refl (net.clients a).front.transaction refl
-    answer_case from number answer backed (Some v) votes =
-        let waits : Refines decl (after_client net a (by_desk (net.clients a) (votes_in (net.clients a).desk (Some v) number answer))) =
-        vote_case decl acts net a run m client up from number (net.clients a).front.transaction v answer refl votes backed (site_called v.calls number) refl in
-        subst (λ (o : Option Voting). Refines decl (after_client net a (by_desk (net.clients a) (votes_in (net.clients a).desk o number answer)))) (sym votes) waits
-
-    -- whatever a client takes
-    take_case : (given : Input) → MayCome net a given → MayCommand decl (net.clients a) given → Refines decl (after_client net a (client_takes decl (net.clients a) given))
-    take_case (Called commands.Begin) came ready = begin_case decl acts net a run m client up accepted ready.0.doing ready.0.voting (net.clients a).front.transaction refl
-    take_case (Called (commands.Do object inv)) came ready = do_case decl acts net a object inv run m client up standing ready.0.doing ready.0.voting ready.1 (net.clients a).front.transaction refl
-    take_case (Called commands.Commit) came ready = commit_case decl acts net a run m client up ready.0.doing ready.0.voting (net.clients a).front.transaction refl
-    take_case (Called commands.Abort) came ready = abort_case decl acts net a run m client up ready.0.voting (net.clients a).front.transaction refl
-    take_case (Called (commands.Epoch number)) came ready = nothing decl acts net a (by_front (net.clients a) (fronts.moved (net.clients a).front quiet)) run m client up refl refl refl
-    take_case (Lost number) came ready = answer_case 0 number None tt (net.clients a).desk.voting refl
-    take_case (Got e) came ready = by e.message refl
-      where
-        back : (message : Message) → e.message ≡ message → Backed decl (state acts) net.mail e.from e.to message
-        back message same = subst (λ (x : Message). Backed decl (state acts) net.mail e.from e.to x) same (m.mail e came.0)
-
-        by : (message : Message) → e.message ≡ message → Refines decl (after_client net a (heard decl (net.clients a) e.from e.number message))
-        by (messages.Request tx epoch life want) same = nothing_done
-        by (messages.Answer n answer) same = answer_case e.from n (Some answer) (back (messages.Answer n answer) same) (net.clients a).desk.voting refl
-        by (messages.Decision tx verdict) same = nothing_done
-        by (messages.Inquiry tx) same = inquiry_case decl acts net a run m client up e.from tx (sym came.1 ∙ (back (messages.Inquiry tx) same).0) (back (messages.Inquiry tx) same).1
-        by (messages.Ask tx) same = ask_case decl acts net a run m client up e.from e.number tx (e, m.numbered e came.0, came.1, same) (sym came.1 ∙ (back (messages.Ask tx) same).0) (back (messages.Ask tx) same).1
-        by (messages.Close epoch) same = nothing_done
-        by (messages.Install epoch clock log) same = nothing_done
-
-  -- at the beginning
-  at_first : IsPlanned decl 1 → Mirrors decl (state []) (first_net decl)
-  at_first planned = record {
-    placed = λ g never. absurd never;
-    alike = λ a is up. record { began = refl; recorded = refl; promises = λ t p never. absurd (let none : ⊥ = cc in none) };
-    kept = λ a is. record {
-      life_is = refl;
-      epoch = refl;
-      planned = planned;
-      shut = refl;
-      closing = tt;
-      installs = λ n c log never. absurd never;
-      stable = λ l never. absurd never;
-      kept = λ l never. absurd never;
-      sorted = (tt, tt);
-      done = λ d never. absurd never;
-      passed = λ l never. absurd never;
-      promised = λ t. tt;
-      last = λ t p never. absurd (let none : ⊥ = cc in none);
-      apart = tt;
-      lined = λ p never. absurd never;
-      begun = λ p never. absurd never;
-    };
-    pends = λ a is down. absurd (let never : ⊥ = cc in never);
-    fallen = λ a is down. absurd (let never : ⊥ = cc in never);
-    rules = record { planned = planned; decided = tt };
-    decides = λ down. absurd (let never : ⊥ = cc in never);
-    sites = λ a is up. record {
-      life = refl;
-      some = omega arith;
-      epoch = refl;
-      planned = planned;
-      shut = refl;
-      closing = tt;
-      held = λ u x never. absurd never;
-      owned = λ u o never. absurd never;
-      installs = λ k c log never. absurd never;
-      done = λ d never. absurd never;
-      passed = λ l never. absurd never;
-      log = λ l never. absurd never;
-      logged = λ l never. absurd never;
-      sorted = (tt, tt);
-      promised = λ t. tt;
-      apart = tt;
-      lined = λ p never. absurd never;
-      single = tt;
-    };
-    holders = λ a t is up held. absurd (let never : ⊥ = cc in never);
-    clients = λ a is up. record {
-      own = record {
-        actor = at a is;
-        desk = refl;
-        epoch = planned;
-        desk_epoch = planned;
-        clock = omega arith;
-        to_come = λ n later. refl;
-        lives_to_come = λ u mine later. refl;
-        committed = λ c never. absurd never;
-        aborted = λ t its born other none. absurd (born refl);
-      };
-      begun = record { doing = refl; voting = refl };
-    };
-    admin = λ up. record { planned = planned; decided = tt; doing = tt };
-    mail = λ e never. absurd never;
-    numbered = λ e never. absurd never;
-    records = λ c never. absurd never;
-    written = λ c never. absurd never;
-    of_client = λ c never. absurd never;
-    settled = λ t c e. absurd (let never : ⊥ = cc in never);
-  }
-    where
-      and_first : (x y : Bool) → (x && y) ≡ true → x ≡ true
-      and_first true y h = refl
-      and_first false y h = h
-
-      at : (a : ℕ) → is_client decl a ≡ true → a ≡ decl.sites + (a - decl.sites)
-      at a is = let low : decl.sites ≤ a = client_past decl a is in omega arith
-
-  first_plan : IsPlanned decl 1
-  first_plan = by decl.plans accepted.has_epoch
-    where
-      by : (ps : List Plan) → 0 < length ps → (plan : Plan) × (slice_get ps 0 ≡ Some plan)
-      by [] l = absurd (omega arith)
-      by (p ∷ ps) l = (p, refl)
-
-  -- a client's turn whose record isn't written
-  module _ (acts : List Act) (net : Net) (a : ℕ) (run : IsRun decl acts) (m : Mirrors decl (state acts) net) (client : is_client decl a ≡ true) (up : net.up a ≡ true) where
-    abbrev Failing : ClientMove → Type 0
-    Failing move = (r : Record) → move.turn.write ≡ Some r → Pends decl (state acts) net a r × (move.turn.failed_sends ≡ [])
-
-    calm : (move : FrontMove) → IsCalm (net.clients a).front move → Failing (by_front (net.clients a) move)
-    calm move c r wrote = absurd (let both : None ≡ Some r = sym c.write ∙ wrote in let never : ⊥ = cc in never)
-
-    answer_fails : (from number : ℕ) (answer : Option Answer) → AnswerBacked decl (state acts) net.mail from number answer → (o : Option Voting) → (net.clients a).desk.voting ≡ o → Failing (answered_by decl (net.clients a) o number answer)
-    answer_fails from number answer backed None free = calm (front_conduct.takes decl (net.clients a).front number answer) (front_takes decl (net.clients a).front number answer)
-    answer_fails from number answer backed (Some v) votes =
-        let waits : Failing (by_desk (net.clients a) (votes_in (net.clients a).desk (Some v) number answer)) =
-        (λ r wrote. vote_fails decl acts net a run m client up from number (net.clients a).front.transaction v answer refl votes backed (site_called v.calls number) refl r wrote) in
-        subst (λ (o : Option Voting). Failing (by_desk (net.clients a) (votes_in (net.clients a).desk o number answer))) (sym votes) waits
-
-    take_fails : (given : Input) → MayCome net a given → MayCommand decl (net.clients a) given → Failing (client_takes decl (net.clients a) given)
-    take_fails (Called commands.Begin) came ready = calm _ (front_called decl (net.clients a).front commands.Begin)
-    take_fails (Called (commands.Do object inv)) came ready = calm _ (front_called decl (net.clients a).front (commands.Do object inv))
-    take_fails (Called commands.Commit) came ready = commit_fails decl acts net a run m client up ready.0.doing ready.0.voting (net.clients a).front.transaction refl
-    take_fails (Called commands.Abort) came ready = calm _ (front_called decl (net.clients a).front commands.Abort)
-    take_fails (Called (commands.Epoch number)) came ready = calm _ (front_called decl (net.clients a).front (commands.Epoch number))
-    take_fails (Lost number) came ready = answer_fails 0 number None tt (net.clients a).desk.voting refl
-    take_fails (Got e) came ready = by e.message refl
-      where
-        by : (message : Message) → e.message ≡ message → Failing (heard decl (net.clients a) e.from e.number message)
-        by (messages.Answer n answer) same = answer_fails e.from n (Some answer) (subst (λ (x : Message). Backed decl (state acts) net.mail e.from e.to x) same (m.mail e came.0)) (net.clients a).desk.voting refl
-        by (messages.Request tx epoch life want) same = λ r wrote. absurd (let never : ⊥ = cc in never)
-        by (messages.Decision tx verdict) same = λ r wrote. absurd (let never : ⊥ = cc in never)
-        by (messages.Inquiry tx) same = λ r wrote. absurd (let never : ⊥ = cc in never)
-        by (messages.Ask tx) same = λ r wrote. absurd (let never : ⊥ = cc in never)
-        by (messages.Close epoch) same = λ r wrote. absurd (let never : ⊥ = cc in never)
-        by (messages.Install epoch clock log) same = λ r wrote. absurd (let never : ⊥ = cc in never)
-
-  client_pends : (net : Net) (h : Refines decl net) (a : ℕ) → is_client decl a ≡ true → net.up a ≡ true → IsClientKeptBy (net.clients a) (kept_by (net.records a)) → (r : Record) → Pends decl (state h.acts) net a r → Refines decl (after_fall net a (Some r) [])
+  client_pends : (net : Net) (h : Refines decl net) (a : ℕ) → is_client decl a ≡ true → net.up a ≡ true
+      → IsClientKeptBy (net.clients a) (kept_by (net.records a)) → (r : Record) → Pends decl (state h.acts) net a r
+      → Refines decl (after_fall net a (Some r) [])
   client_pends net h a client up kept r p =
       subst (λ (x : Record). Refines decl (after_fall net a (Some x) [])) (sym p.is)
-      (client_fails decl first_plan net h a client p.acts p.client p.transaction p.commit p.own.actor p.mid p.records p.own
-      (record { life = ap (λ (f : Front). f.life) p.front ∙ kept.life; commits = λ x among. subst (λ (cs : List CommitRecord). In x cs) (sym p.commits) (kept.commits x among); none = λ t none. subst (λ (cs : List CommitRecord). record_of cs t ≡ None) (sym p.commits) (kept.none t none) })
+      (client_fails decl (first_plan decl accepted) net h a client p.acts p.client p.transaction p.commit p.own.actor
+          p.mid p.records
+          p.own
+      (record {
+            life = ap (λ (f : Front). f.life) p.front ∙ kept.life;
+            commits = λ x among. subst (λ (cs : List CommitRecord). In x cs) (sym p.commits) (kept.commits x among);
+            none =
+                λ t none. subst (λ (cs : List CommitRecord). record_of cs t ≡ None) (sym p.commits) (kept.none t none)
+          })
       p.may p.its (ap (λ (u : TxId). u.client) p.its ∙ p.mine))
 
   any : (net : Net) (acts : List Act) → Continues decl acts net → Refines decl net
   any net acts c = record { acts = c.more ++ acts; run = c.refines.run; agrees = c.refines.agrees }
 
   pub nets_refine : (net : Net) → Reaches decl net → Refines decl net
-  nets_refine net nets.begins = record { acts = []; run = tt; agrees = at_first first_plan }
-  nets_refine net (nets.serves a given before r site up came) = let h : Refines decl before = nets_refine before r in any net h.acts (serve_case decl accepted h.acts before a h.run h.agrees site up given came)
-  nets_refine net (nets.takes a given before r client up came ready) = let h : Refines decl before = nets_refine before r in take_case h.acts before a h.run h.agrees client up (front_ends_stand decl before r a) given came ready
-  nets_refine net (nets.site_falls a before r site up) = site_falls decl accepted before (nets_refine before r) a site None [] tt (λ p never. absurd never)
-  nets_refine net (nets.client_falls a before r client up) = client_falls decl first_plan before (nets_refine before r) a client up (clients_kept decl before r a client up)
+  nets_refine net nets.begins =
+      record { acts = []; run = tt; agrees = at_first decl accepted (first_plan decl accepted) }
+  nets_refine net (nets.serves a given before r site up came) =
+      let h : Refines decl before = nets_refine before r in
+      any net h.acts (serve_case decl accepted h.acts before a h.run h.agrees site up given came)
+  nets_refine net (nets.takes a given before r client up came ready) =
+      let h : Refines decl before = nets_refine before r in
+      take_case h.acts before a h.run h.agrees client up (front_ends_stand decl before r a) given came ready
+  nets_refine net (nets.site_falls a before r site up) =
+      site_falls decl accepted before (nets_refine before r) a site None [] tt (λ p never. absurd never)
+  nets_refine net (nets.client_falls a before r client up) =
+      client_falls decl (first_plan decl accepted) before (nets_refine before r) a client up
+          (clients_kept decl before r a client up)
   nets_refine net (nets.site_fails a given written sends before r site up came wrote failed) =
       let h : Refines decl before = nets_refine before r in
       let f = site_take_fails decl h.acts before a h.run h.agrees site up given came written wrote in
@@ -226,17 +72,27 @@ module _ (decl : Declaration) (accepted : IsAccepted decl) where
       let h : Refines decl before = nets_refine before r in
       let p = take_fails h.acts before a h.run h.agrees client up given came ready written wrote in
       let none : sends ≡ [] = elim failed [ inl same ↦ same ∙ p.1 | inr empty ↦ empty ] in
-      subst (λ (ps : List Posting). Refines decl (after_fall before a (Some written) ps)) (sym none) (client_pends before h a client up (clients_kept decl before r a client up) written p.0)
-  nets_refine net (nets.site_rises_up a back before r site down given) = site_rises_up decl accepted before (nets_refine before r) a site back down given
-  nets_refine net (nets.client_rises_up a back before r client down given) = client_rises_up decl first_plan before (nets_refine before r) a client back down given
-  nets_refine net (nets.site_rises_in_vain a back before r site down given) = site_rises_in_vain decl accepted before (nets_refine before r) a site back down given
-  nets_refine net (nets.client_rises_in_vain a back before r client down given) = client_rises_in_vain decl first_plan before (nets_refine before r) a client back down given
-  nets_refine net (nets.administers given before r up came named) = let h : Refines decl before = nets_refine before r in any net h.acts (admin_case decl h.acts before h.run h.agrees up given came named).0
+      subst (λ (ps : List Posting). Refines decl (after_fall before a (Some written) ps)) (sym none)
+          (client_pends before h a client up (clients_kept decl before r a client up) written p.0)
+  nets_refine net (nets.site_rises_up a back before r site down given) =
+      site_rises_up decl accepted before (nets_refine before r) a site back down given
+  nets_refine net (nets.client_rises_up a back before r client down given) =
+      client_rises_up decl (first_plan decl accepted) before (nets_refine before r) a client back down given
+  nets_refine net (nets.site_rises_in_vain a back before r site down given) =
+      site_rises_in_vain decl accepted before (nets_refine before r) a site back down given
+  nets_refine net (nets.client_rises_in_vain a back before r client down given) =
+      client_rises_in_vain decl (first_plan decl accepted) before (nets_refine before r) a client back down given
+  nets_refine net (nets.administers given before r up came named) =
+      let h : Refines decl before = nets_refine before r in
+      any net h.acts (admin_case decl h.acts before h.run h.agrees up given came named).0
   nets_refine net (nets.admin_falls before r up) = admin_falls decl before (nets_refine before r) None tt
   nets_refine net (nets.admin_fails given written sends before r up came named wrote failed) =
       let h : Refines decl before = nets_refine before r in
       let p = (admin_case decl h.acts before h.run h.agrees up given came named).1 written wrote in
       let none : sends ≡ [] = elim failed [ inl same ↦ same ∙ p.1 | inr empty ↦ empty ] in
-      subst (λ (ps : List Posting). Refines decl (after_fall before (administrator decl) (Some written) ps)) (sym none) (admin_falls decl before h (Some written) p.0)
-  nets_refine net (nets.admin_rises_up back before r down given) = admin_rises_up decl before (nets_refine before r) back down given
-  nets_refine net (nets.admin_rises_in_vain back before r down given) = admin_rises_in_vain decl before (nets_refine before r) back down given
+      subst (λ (ps : List Posting). Refines decl (after_fall before (administrator decl) (Some written) ps)) (sym none)
+          (admin_falls decl before h (Some written) p.0)
+  nets_refine net (nets.admin_rises_up back before r down given) =
+      admin_rises_up decl before (nets_refine before r) back down given
+  nets_refine net (nets.admin_rises_in_vain back before r down given) =
+      admin_rises_in_vain decl before (nets_refine before r) back down given

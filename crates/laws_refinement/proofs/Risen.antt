@@ -12,7 +12,8 @@ use Rattle.qc_site.specs.Names.{prepared_of}
 use Rattle.qc_recover.specs.Names.{Kept, keeps, site_by}
 use Rattle.laws_refinement.specs.Names.{AreSingle, IsPromiseOf, KeptMirrors, SiteMirrors}
 use Rattle.laws_refinement.proofs.HeldByPromises.{by_promises_held, by_promises_holder, by_promises_owned}
-use Rattle.laws_refinement.proofs.KeptSteps.{kept_rises, single_promises}
+use Rattle.laws_refinement.proofs.KeptDeeds.{single_promises}
+use Rattle.laws_refinement.proofs.KeptSteps.{kept_rises}
 use Rattle.laws_refinement.proofs.Machine.{site_more}
 
 -- the site that its records give

@@ -8,7 +8,7 @@ use Rattle.qc_plan.specs.declared.standing.Asked.{Asked}
 use Rattle.qc_plan.specs.declared.standing.Standing.{Standing}
 use Rattle.qc_plan.specs.declared.standing.Standing.TheVariants as standings
 use Rattle.qc_plan.specs.declared.standing.Verdict.TheVariants as verdicts
-use Rattle.qc_plan.proofs.Rounds.{met_weighs}
+use Rattle.qc_plan.proofs.RoundsMet.{met_weighs}
 use Rattle.qc_decl.specs.declared.declaration.Declaration.{Declaration}
 use Rattle.theory_onecopy.proofs.Lists.{in_split}
 use Rattle.theory_machine.specs.Quorums.{HasGranted, HasQuorum, weights_of}

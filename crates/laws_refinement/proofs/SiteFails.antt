@@ -28,7 +28,8 @@ use Rattle.theory_machine.proofs.Keeps.{laws}
 use Rattle.qc_site.specs.Names.{SiteMove, answering, closes, grants, installs, is_prepared, joins, latest, passed}
 use Rattle.qc_site.specs.Names.{prepared_of, prepares, site_on, site_takes}
 use Rattle.qc_site.specs.Promise as sites
-use Rattle.qc_site.proofs.Cases.{append_cases, close_cases, install_cases, prepare_cases, read_cases, request_cases}
+use Rattle.qc_site.proofs.RequestCases.{append_cases, close_cases, prepare_cases, read_cases, request_cases}
+use Rattle.qc_site.proofs.Cases.{install_cases}
 use Rattle.qc_msg.specs.declared.message.Answer.TheVariants as answers
 use Rattle.qc_recover.specs.Names.{done_stamp, kept_by}
 use Rattle.laws_refinement.specs.Names.{Backed, IsDecided, IsFinishing, IsHeld, IsPendingAt, IsPlanned, IsPreparing}

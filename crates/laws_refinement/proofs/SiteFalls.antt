@@ -24,9 +24,10 @@ use Rattle.laws_refinement.specs.Names.{Backed, IsGivenBack, IsKeptBy, IsPending
 use Rattle.laws_refinement.specs.Names.{SiteMirrors, after_fall, after_site_rise, after_vain_rise, commits_in}
 use Rattle.laws_refinement.proofs.KeptLists.{kept_more}
 use Rattle.laws_refinement.proofs.Machine.{put_other}
-use Rattle.laws_refinement.proofs.Nets.{site_net}
+use Rattle.laws_refinement.proofs.SiteNets.{site_net}
 use Rattle.laws_refinement.proofs.Risen.{risen_holders, risen_mirrors}
-use Rattle.laws_refinement.proofs.PendingActs.{SiteMid, at_both, at_first, pending_act, rises_act, unwritten}
+use Rattle.laws_refinement.proofs.PendingRecords.{SiteMid, at_both, at_first}
+use Rattle.laws_refinement.proofs.PendingActs.{pending_act, rises_act, unwritten}
 
 -- a net of which one actor's flag or place changes
 

@@ -30,7 +30,8 @@ use Rattle.qc_front.specs.Conduct as fronts
 use Rattle.qc_front.specs.Names.{AreSent, AsksAtOnce, FrontHolds, FrontMove, IsFor, IsNumbered, IsSent, ended}
 use Rattle.qc_front.specs.Names.{numbered_all, numbered_one}
 use Rattle.qc_front.proofs.AtOnce.{called_at_once, takes_at_once}
-use Rattle.qc_front.proofs.Keeping.{called_holds, ended_holds, new_holds, takes_holds}
+use Rattle.qc_front.proofs.CommandsKeep.{called_holds}
+use Rattle.qc_front.proofs.Keeping.{ended_holds, new_holds, takes_holds}
 use Rattle.qc_front.proofs.Numbering.{sent_holds}
 use Rattle.qc_front.proofs.Sending.{called_sent, takes_sent}
 use Rattle.qc_client.specs.Names.{answered_by, by_desk, by_front, called, client_takes, commits, heard, sent_one}

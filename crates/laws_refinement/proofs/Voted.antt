@@ -16,7 +16,7 @@ use Rattle.theory_machine.proofs.Holdings.{granted_items_are_held}
 use Rattle.theory_machine.proofs.Keeps.{laws}
 use Rattle.qc_site.specs.Names.{fault_of}
 use Rattle.laws_refinement.specs.Names.{Backed, IsHeld, Net, RefinesBy, SiteMirrors}
-use Rattle.laws_refinement.proofs.SiteCases.{Passes, passes}
+use Rattle.laws_refinement.proofs.SiteDecisions.{Passes, passes}
 
 module _ (decl : Declaration) (accepted : IsAccepted decl) (acts : List Act) (net : Net) (r : RefinesBy decl acts net)
     (a : ℕ) (site : is_site decl a ≡ true) (up : net.up a ≡ true) (e : Envelope) (sent : In e net.mail) (to : e.to ≡ a)

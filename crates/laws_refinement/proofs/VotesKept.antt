@@ -28,7 +28,7 @@ use Rattle.laws_refinement.specs.Names.{IsRecorded, Net, Reaches, Refines}
 use Rattle.laws_refinement.specs.Net as nets
 use Rattle.laws_refinement.proofs.Kepts.{no_client, no_ruler}
 use Rattle.laws_refinement.proofs.Machine.{put_other}
-use Rattle.laws_refinement.proofs.Nets.{place}
+use Rattle.laws_refinement.proofs.SiteNets.{place}
 use Rattle.laws_refinement.proofs.Posts.{Place, placed}
 use Rattle.laws_refinement.proofs.Refining.{nets_refine}
 use Rattle.laws_refinement.proofs.Apart.{found_in}

@@ -1,9 +1,8 @@
 -- A vote that is cast later is cast in the life that its request names.
 use Rattle.std.specs.Prelude.{option_to_list}
-use Rattle.std.proofs.Common.{◌≡◌, ◌⊎◌, ℕ, ◌==◌, nat_lt, ◌≤◌, arith, eqb-true, inl, inr, Bool, true, false, cond, fold, map, take, List, [], ◌∷◌, ◌++◌, Option, Some, None, length, refl, sym, ap, ◌∙◌, subst}
+use Rattle.std.proofs.Common.{◌≡◌, ◌⊎◌, ℕ, ◌≤◌, arith, inl, inr, true}
+use Rattle.std.proofs.Common.{map, take, List, ◌++◌, length, refl, sym, ◌∙◌, subst}
 use Rattle.std.proofs.lemmas.List.{append-nil}
-use Rattle.std.proofs.lemmas.List.Sums.{fold-append}
-use Rattle.qc_stamp.specs.declared.stamp.TxId.{TxId}
 use Rattle.qc_list.specs.Names.{In}
 use Rattle.qc_list.proofs.Members.{In-first}
 use Rattle.qc_entry.specs.declared.record.Prepared.{Prepared}
@@ -15,165 +14,107 @@ use Rattle.qc_msg.specs.declared.message.Envelope.{Envelope}
 use Rattle.qc_msg.specs.declared.message.Message.{Message}
 use Rattle.qc_msg.specs.declared.message.Message.TheVariants as messages
 use Rattle.qc_msg.specs.declared.message.Want.TheVariants.{Prepare}
-use Rattle.qc_msg.specs.declared.record.Record.{Record}
 use Rattle.qc_msg.specs.declared.record.Record.TheVariants as records
 use Rattle.qc_msg.specs.declared.step.Input.{Input}
 use Rattle.qc_msg.specs.declared.step.Input.TheVariants.{Called, Got, Lost}
 use Rattle.qc_msg.specs.declared.turn.Posting.{Posting}
 use Rattle.qc_msg.specs.Names.{envelopes}
-use Rattle.theory_machine.specs.Names.{put}
-use Rattle.theory_machine.proofs.Names.{put_here}
 use Rattle.qc_client.specs.Names.{client_takes}
-use Rattle.qc_site.specs.Names.{SiteMove, SiteState, closed_fault, fault_of, in_order, passed, site_on, site_takes}
+use Rattle.qc_site.specs.Names.{in_order, site_on, site_takes}
 use Rattle.qc_epoch.specs.Names.{admin_takes}
-use Rattle.qc_site.proofs.Cases.{request_cases}
-use Rattle.qc_recover.specs.Names.{Kept, keeps, kept_by, most_inquiries, nothing_kept, site_rises}
-use Rattle.laws_refinement.specs.Names.{IsLater, IsNamedLater, Net, Reaches, Refines, Step}
+use Rattle.qc_recover.specs.Names.{kept_by, most_inquiries, site_rises}
+use Rattle.laws_refinement.specs.Names.{IsLater, IsNamedLater, Net, Reaches, Refines}
 use Rattle.laws_refinement.specs.Net as nets
 use Rattle.laws_refinement.proofs.Kepts.{no_client, no_ruler}
-use Rattle.laws_refinement.proofs.Machine.{put_other}
-use Rattle.laws_refinement.proofs.Nets.{place}
 use Rattle.laws_refinement.proofs.Posts.{Place, placed}
 use Rattle.laws_refinement.proofs.Refining.{nets_refine}
-use Rattle.laws_refinement.proofs.SiteVotes.{Voted, message_votes, no_fault, no_inquiry, one_answer, take_silent}
+use Rattle.laws_refinement.proofs.SiteVotes.{Voted, message_votes, no_inquiry, take_silent}
 use Rattle.laws_refinement.specs.Steps as steps
-
--- lives only grow
-
-life_one : (k : Kept) (r : Record) → k.life ≤ (keeps k r).life
-life_one k records.Life = omega arith
-life_one k (records.Prepare p) = omega arith
-life_one k (records.Done tx clock) = omega arith
-life_one k (records.Close epoch) = omega arith
-life_one k (records.Install epoch clock lines) = omega arith
-life_one k (records.Commit commit) = omega arith
-life_one k (records.Decide epoch clock lines) = omega arith
-
-life_more : (k : Kept) (rs : List Record) → k.life ≤ (fold keeps k rs).life
-life_more k [] = omega arith
-life_more k (r ∷ rs) = let one : k.life ≤ (keeps k r).life = life_one k r in let more : (keeps k r).life ≤ (fold keeps (keeps k r) rs).life = life_more (keeps k r) rs in omega arith
-
-life_append : (rs more : List Record) → (kept_by rs).life ≤ (kept_by (rs ++ more)).life
-life_append rs more = subst (λ (k : Kept). (kept_by rs).life ≤ k.life) (sym (fold-append keeps nothing_kept rs more)) (life_more (kept_by rs) more)
-
-life_twice : (rs more last : List Record) → (kept_by rs).life ≤ (kept_by ((rs ++ more) ++ last)).life
-life_twice rs more last = let one : (kept_by rs).life ≤ (kept_by (rs ++ more)).life = life_append rs more in let two : (kept_by (rs ++ more)).life ≤ (kept_by ((rs ++ more) ++ last)).life = life_append (rs ++ more) last in omega arith
-
-life_put : (f : ℕ → List Record) (x a : ℕ) (rs : List Record) → (kept_by (f x)).life ≤ (kept_by rs).life → (kept_by (f a)).life ≤ (kept_by (put f x rs a)).life
-life_put f x a rs more = elim (place a x) [
-  | inl e ↦ subst (λ (k : ℕ). (kept_by (f k)).life ≤ (kept_by (put f x rs k)).life) (sym e) (subst (λ (v : List Record). (kept_by (f x)).life ≤ (kept_by v).life) (sym (put_here f x rs)) more)
-  | inr other ↦ subst (λ (v : List Record). (kept_by (f a)).life ≤ (kept_by v).life) (sym (put_other f x rs a other)) (omega arith)
-]
-
--- a request that isn't refused names the site's life, or none
-in_life : (s : SiteState) (epoch life : ℕ) → fault_of s epoch life ≡ None → (life ≡ 0) ⊎ (life ≡ s.life)
-in_life s epoch life = by (nat_lt s.epoch epoch) (nat_lt epoch s.epoch)
-  where
-    lives : (c d : Bool) → (life == 0) ≡ c → (life == s.life) ≡ d → cond c None (cond d None (Some (answers.Restarted s.life))) ≡ None → (life ≡ 0) ⊎ (life ≡ s.life)
-    lives true d e f is = inl (eqb-true life 0 e)
-    lives false true e f is = inr (eqb-true life s.life f)
-    lives false false e f is = absurd (let never : ⊥ = cc in never)
-
-    closed : (k : Option ℕ) → closed_fault s life k ≡ None → (life ≡ 0) ⊎ (life ≡ s.life)
-    closed None is = lives (life == 0) (life == s.life) refl refl is
-    closed (Some k) is = absurd (let never : ⊥ = cc in never)
-
-    by : (c d : Bool) → cond c (Some (answers.Behind s.epoch)) (cond d (Some (answers.Closed s.epoch)) (closed_fault s life s.closed_for)) ≡ None → (life ≡ 0) ⊎ (life ≡ s.life)
-    by true d is = absurd (let never : ⊥ = cc in never)
-    by false true is = absurd (let never : ⊥ = cc in never)
-    by false false is = closed s.closed_for is
+use Rattle.laws_refinement.proofs.LivesOfVotes.{votes_in_life, reach, step_life}
 
 module _ (decl : Declaration) where
-  abbrev InLife : SiteState → ℕ → SiteMove → Type 0
-  InLife s life move = (p : Posting) → In p move.turn.sends → (to clock : ℕ) → p.message ≡ messages.Answer to (answers.Yes clock) → (life ≡ 0) ⊎ (life ≡ s.life)
-
-  votes_in_life : (s : SiteState) (from number epoch life : ℕ) (tx : TxId) → InLife s life (site_on decl s from number (messages.Request tx epoch life Prepare))
-  votes_in_life s from number epoch life tx = request_cases (InLife s life) decl (passed s (messages.Request tx epoch life Prepare)) from number tx epoch life Prepare
-      (λ p among to clock is. absurd among)
-      (λ fault is p among to clock told. absurd (no_fault (passed s (messages.Request tx epoch life Prepare)) epoch life clock (is ∙ ap Some (one_answer from number fault p among to clock told).1)))
-      (λ is p among to clock told. in_life (passed s (messages.Request tx epoch life Prepare)) epoch life is)
-
-  -- steps
-
-  reach : (net next : Net) → Reaches decl net → Step decl net next → Reaches decl next
-  reach net next r (steps.serves a given now site up came) = nets.serves a given net r site up came
-  reach net next r (steps.takes a given now client up came ready) = nets.takes a given net r client up came ready
-  reach net next r (steps.site_falls a now site up) = nets.site_falls a net r site up
-  reach net next r (steps.client_falls a now client up) = nets.client_falls a net r client up
-  reach net next r (steps.site_fails a given written sends now site up came wrote failed) = nets.site_fails a given written sends net r site up came wrote failed
-  reach net next r (steps.client_fails a given written sends now client up came ready wrote failed) = nets.client_fails a given written sends net r client up came ready wrote failed
-  reach net next r (steps.administers given now up came named) = nets.administers given net r up came named
-  reach net next r (steps.admin_falls now up) = nets.admin_falls net r up
-  reach net next r (steps.admin_fails given written sends now up came named wrote failed) = nets.admin_fails given written sends net r up came named wrote failed
-  reach net next r (steps.admin_rises_up back now down given) = nets.admin_rises_up back net r down given
-  reach net next r (steps.admin_rises_in_vain back now down given) = nets.admin_rises_in_vain back net r down given
-  reach net next r (steps.site_rises_up a back now site down given) = nets.site_rises_up a back net r site down given
-  reach net next r (steps.client_rises_up a back now client down given) = nets.client_rises_up a back net r client down given
-  reach net next r (steps.site_rises_in_vain a back now site down given) = nets.site_rises_in_vain a back net r site down given
-  reach net next r (steps.client_rises_in_vain a back now client down given) = nets.client_rises_in_vain a back net r client down given
-
-  step_life : (net next : Net) (b : ℕ) → Step decl net next → (kept_by (net.records b)).life ≤ (kept_by (next.records b)).life
-  step_life net next b (steps.serves a given now site up came) = life_put net.records a b (net.records a ++ option_to_list (site_takes decl (net.sites a) given).turn.write) (life_append (net.records a) (option_to_list (site_takes decl (net.sites a) given).turn.write))
-  step_life net next b (steps.takes a given now client up came ready) = life_put net.records a b (net.records a ++ option_to_list (client_takes decl (net.clients a) given).turn.write) (life_append (net.records a) (option_to_list (client_takes decl (net.clients a) given).turn.write))
-  step_life net next b (steps.site_falls a now site up) = omega arith
-  step_life net next b (steps.client_falls a now client up) = omega arith
-  step_life net next b (steps.site_fails a given written sends now site up came wrote failed) = omega arith
-  step_life net next b (steps.client_fails a given written sends now client up came ready wrote failed) = omega arith
-  step_life net next b (steps.administers given now up came named) = life_put net.records (administrator decl) b (net.records (administrator decl) ++ option_to_list (admin_takes decl net.admin given).turn.write) (life_append (net.records (administrator decl)) (option_to_list (admin_takes decl net.admin given).turn.write))
-  step_life net next b (steps.admin_falls now up) = omega arith
-  step_life net next b (steps.admin_fails given written sends now up came named wrote failed) = omega arith
-  step_life net next b (steps.admin_rises_up back now down given) = life_put net.records (administrator decl) b ((net.records (administrator decl) ++ option_to_list back) ++ records.Life ∷ []) (life_twice (net.records (administrator decl)) (option_to_list back) (records.Life ∷ []))
-  step_life net next b (steps.admin_rises_in_vain back now down given) = life_put net.records (administrator decl) b (net.records (administrator decl) ++ option_to_list back) (life_append (net.records (administrator decl)) (option_to_list back))
-  step_life net next b (steps.site_rises_up a back now site down given) = life_put net.records a b ((net.records a ++ option_to_list back) ++ records.Life ∷ []) (life_twice (net.records a) (option_to_list back) (records.Life ∷ []))
-  step_life net next b (steps.client_rises_up a back now client down given) = life_put net.records a b ((net.records a ++ option_to_list back) ++ records.Life ∷ []) (life_twice (net.records a) (option_to_list back) (records.Life ∷ []))
-  step_life net next b (steps.site_rises_in_vain a back now site down given) = life_put net.records a b (net.records a ++ option_to_list back) (life_append (net.records a) (option_to_list back))
-  step_life net next b (steps.client_rises_in_vain a back now client down given) = life_put net.records a b (net.records a ++ option_to_list back) (life_append (net.records a) (option_to_list back))
-
   module _ (accepted : IsAccepted decl) (net : Net) (reached : Reaches decl net) where
     reach_later : (next : Net) → IsLater decl net next → Reaches decl next
     reach_later next steps.same = reached
-    reach_later next (steps.more middle later l s) = reach middle next (reach_later middle l) s
+    reach_later next (steps.more middle later l s) = reach decl middle next (reach_later middle l) s
 
-    life_later : (next : Net) (b : ℕ) → IsLater decl net next → (kept_by (net.records b)).life ≤ (kept_by (next.records b)).life
+    life_later : (next : Net) (b : ℕ) → IsLater decl net next
+        → (kept_by (net.records b)).life ≤ (kept_by (next.records b)).life
     life_later next b steps.same = omega arith
-    life_later next b (steps.more middle later l s) = let one : (kept_by (net.records b)).life ≤ (kept_by (middle.records b)).life = life_later middle b l in let two : (kept_by (middle.records b)).life ≤ (kept_by (next.records b)).life = step_life middle next b s in omega arith
+    life_later next b (steps.more middle later l s) =
+        let one : (kept_by (net.records b)).life ≤ (kept_by (middle.records b)).life = life_later middle b l in
+        let two : (kept_by (middle.records b)).life ≤ (kept_by (next.records b)).life =
+                step_life decl middle next b s in
+        omega arith
 
     abbrev Stand : Net → Type 0
-    Stand next = (e : Envelope) → In e next.mail → is_site decl e.from ≡ true → (to clock : ℕ) → e.message ≡ messages.Answer to (answers.Yes clock) → In e net.mail ⊎ IsNamedLater net next e.from to
+    Stand next =
+        (e : Envelope) → In e next.mail → is_site decl e.from ≡ true → (to clock : ℕ)
+        → e.message ≡ messages.Answer to (answers.Yes clock) → In e net.mail ⊎ IsNamedLater net next e.from to
 
-    grows : (middle next : Net) (a to : ℕ) → ((e : Envelope) → In e middle.mail → In e next.mail) → IsNamedLater net middle a to → IsNamedLater net next a to
-    grows middle next a to mail v = record { request = v.request; sent = mail v.request v.sent; numbered = v.numbered; tx = v.tx; epoch = v.epoch; life = v.life; named = v.named; low = v.low }
+    grows : (middle next : Net) (a to : ℕ) → ((e : Envelope) → In e middle.mail → In e next.mail)
+        → IsNamedLater net middle a to → IsNamedLater net next a to
+    grows middle next a to mail v =
+        record {
+          request = v.request;
+          sent = mail v.request v.sent;
+          numbered = v.numbered;
+          tx = v.tx;
+          epoch = v.epoch;
+          life = v.life;
+          named = v.named;
+          low = v.low
+        }
 
-    step : (middle next : Net) (a : ℕ) (ps : List Posting) → next.mail ≡ middle.mail ++ envelopes a (length middle.mail) ps
-        → (is_site decl a ≡ true → (p : Posting) → In p ps → (to clock : ℕ) → p.message ≡ messages.Answer to (answers.Yes clock) → IsNamedLater net next a to) → Stand middle → Stand next
-    step middle next a ps mail new old e among site to clock is = elim (in_split e middle.mail (envelopes a (length middle.mail) ps) (subst (λ (es : List Envelope). In e es) mail among)) [
+    step : (middle next : Net) (a : ℕ) (ps : List Posting)
+        → next.mail ≡ middle.mail ++ envelopes a (length middle.mail) ps
+        → (is_site decl a ≡ true → (p : Posting) → In p ps → (to clock : ℕ)
+            → p.message ≡ messages.Answer to (answers.Yes clock) → IsNamedLater net next a to) → Stand middle
+            → Stand next
+    step middle next a ps mail new old e among site to clock is =
+        elim (in_split e middle.mail (envelopes a (length middle.mail) ps)
+        (subst (λ (es : List Envelope). In e es) mail among)) [
       | inl before ↦ elim (old e before site to clock is) [
         | inl there ↦ inl there
-        | inr named ↦ inr (grows middle next e.from to (λ x h. subst (λ (es : List Envelope). In x es) (sym mail) (In-first x middle.mail (envelopes a (length middle.mail) ps) h)) named)
+        | inr named ↦
+            inr (grows middle next e.from to
+            (λ x h. subst (λ (es : List Envelope). In x es) (sym mail)
+              (In-first x middle.mail (envelopes a (length middle.mail) ps) h)) named)
       ]
       | inr now ↦ (let r : Place a ps (middle.mail ++ envelopes a (length middle.mail) ps) e = placed middle.mail a (length middle.mail) ps e refl now in
-          inr (subst (λ (x : ℕ). IsNamedLater net next x to) (sym r.from) (new (subst (λ (x : ℕ). is_site decl x ≡ true) r.from site) r.posting r.among to clock (sym r.message ∙ is))))
+          inr (subst (λ (x : ℕ). IsNamedLater net next x to) (sym r.from)
+              (new (subst (λ (x : ℕ). is_site decl x ≡ true) r.from site) r.posting r.among to clock
+                (sym r.message ∙ is))))
     ]
 
-    served : (a : ℕ) (given : Input) (middle : Net) → IsLater decl net middle → is_site decl a ≡ true → middle.up a ≡ true → nets.MayCome middle a given
-        → (p : Posting) → In p (site_takes decl (middle.sites a) given).turn.sends → (to clock : ℕ) → p.message ≡ messages.Answer to (answers.Yes clock) → IsNamedLater net (nets.after_site middle a (site_takes decl (middle.sites a) given)) a to
+    served : (a : ℕ) (given : Input) (middle : Net) → IsLater decl net middle → is_site decl a ≡ true
+        → middle.up a ≡ true → nets.MayCome middle a given
+        → (p : Posting) → In p (site_takes decl (middle.sites a) given).turn.sends → (to clock : ℕ)
+            → p.message ≡ messages.Answer to (answers.Yes clock)
+            → IsNamedLater net (nets.after_site middle a (site_takes decl (middle.sites a) given)) a to
     served a (Called command) middle l site up came p among to clock is = absurd among
     served a (Lost number) middle l site up came p among to clock is = absurd among
     served a (Got e) middle l site up came p among to clock is =
         let m : Refines decl middle = nets_refine decl accepted middle (reach_later middle l) in
-        let v : Voted (middle.sites a) e.number e.message (site_takes decl (middle.sites a) (Got e)).turn.write to = message_votes decl (middle.sites a) e.from e.number e.message p among to clock is in
+        let v : Voted (middle.sites a) e.number e.message (site_takes decl (middle.sites a) (Got e)).turn.write to =
+                message_votes decl (middle.sites a) e.from e.number e.message p among to clock is in
         let among_named : In p (site_on decl (middle.sites a) e.from e.number (messages.Request v.promise.tx v.epoch v.life Prepare)).turn.sends = subst (λ (x : Message). In p (site_on decl (middle.sites a) e.from e.number x).turn.sends) v.named among in
         let grown : (kept_by (net.records a)).life ≤ (kept_by (middle.records a)).life = life_later middle a l in
-        let alike : (middle.sites a).life ≡ (kept_by (middle.records a)).life = (m.agrees.sites a site up).life ∙ sym (m.agrees.kept a site).life_is in
+        let alike : (middle.sites a).life ≡ (kept_by (middle.records a)).life =
+                (m.agrees.sites a site up).life ∙ sym (m.agrees.kept a site).life_is in
         record {
           request = e;
-          sent = In-first e middle.mail (envelopes a (length middle.mail) (site_takes decl (middle.sites a) (Got e)).turn.sends) came.0;
+          sent =
+              In-first e middle.mail
+              (envelopes a (length middle.mail) (site_takes decl (middle.sites a) (Got e)).turn.sends) came.0;
           numbered = v.numbered;
           tx = v.promise.tx;
           epoch = v.epoch;
           life = v.life;
           named = v.named;
-          low = elim (votes_in_life (middle.sites a) e.from e.number v.epoch v.life v.promise.tx p among_named to clock is) [
+          low =
+              elim
+              (votes_in_life decl (middle.sites a) e.from e.number v.epoch v.life v.promise.tx p among_named to clock is) [
             | inl none ↦ inl none
             | inr same ↦ inr (omega arith)
           ];
@@ -181,23 +122,44 @@ module _ (decl : Declaration) where
 
     pub later_votes_name_later_lives : (next : Net) → IsLater decl net next → Stand next
     later_votes_name_later_lives next steps.same = λ e among site to clock is. inl among
-    later_votes_name_later_lives next (steps.more middle later l (steps.serves a given now site up came)) = step middle next a (site_takes decl (middle.sites a) given).turn.sends refl (λ s. served a given middle l site up came) (later_votes_name_later_lives middle l)
-    later_votes_name_later_lives next (steps.more middle later l (steps.takes a given now client up came ready)) = step middle next a (client_takes decl (middle.clients a) given).turn.sends refl (λ s. absurd (no_client decl a s client)) (later_votes_name_later_lives middle l)
-    later_votes_name_later_lives next (steps.more middle later l (steps.site_falls a now site up)) = step middle next a [] refl (λ s p among to clock is. absurd among) (later_votes_name_later_lives middle l)
-    later_votes_name_later_lives next (steps.more middle later l (steps.client_falls a now client up)) = step middle next a [] refl (λ s p among to clock is. absurd among) (later_votes_name_later_lives middle l)
+    later_votes_name_later_lives next (steps.more middle later l (steps.serves a given now site up came)) =
+        step middle next a (site_takes decl (middle.sites a) given).turn.sends refl
+        (λ s. served a given middle l site up came) (later_votes_name_later_lives middle l)
+    later_votes_name_later_lives next (steps.more middle later l (steps.takes a given now client up came ready)) =
+        step middle next a (client_takes decl (middle.clients a) given).turn.sends refl
+        (λ s. absurd (no_client decl a s client)) (later_votes_name_later_lives middle l)
+    later_votes_name_later_lives next (steps.more middle later l (steps.site_falls a now site up)) =
+        step middle next a [] refl (λ s p among to clock is. absurd among) (later_votes_name_later_lives middle l)
+    later_votes_name_later_lives next (steps.more middle later l (steps.client_falls a now client up)) =
+        step middle next a [] refl (λ s p among to clock is. absurd among) (later_votes_name_later_lives middle l)
     later_votes_name_later_lives next (steps.more middle later l (steps.site_fails a given written sends now site up came wrote failed)) = step middle next a sends refl
         (λ s p among to clock is. absurd (elim failed [
-          | inl same ↦ take_silent decl (middle.sites a) given p (subst (λ (ps : List Posting). In p ps) same among) to clock is
+          | inl same ↦
+              take_silent decl (middle.sites a) given p (subst (λ (ps : List Posting). In p ps) same among) to clock is
           | inr none ↦ (let never : In p [] = subst (λ (ps : List Posting). In p ps) none among in never)
         ])) (later_votes_name_later_lives middle l)
     later_votes_name_later_lives next (steps.more middle later l (steps.client_fails a given written sends now client up came ready wrote failed)) = step middle next a sends refl (λ s. absurd (no_client decl a s client)) (later_votes_name_later_lives middle l)
-    later_votes_name_later_lives next (steps.more middle later l (steps.site_rises_up a back now site down given)) = step middle next a (site_rises decl a (middle.records a ++ option_to_list back)).turn.sends refl
-        (λ s p among to clock is. absurd (no_inquiry decl (take most_inquiries (in_order (map (λ (q : Prepared). q.tx) (kept_by (middle.records a ++ option_to_list back)).promises))) p among to clock is)) (later_votes_name_later_lives middle l)
-    later_votes_name_later_lives next (steps.more middle later l (steps.client_rises_up a back now client down given)) = step middle next a [] (sym (append-nil middle.mail)) (λ s p among to clock is. absurd among) (later_votes_name_later_lives middle l)
+    later_votes_name_later_lives next (steps.more middle later l (steps.site_rises_up a back now site down given)) =
+        step middle next a (site_rises decl a (middle.records a ++ option_to_list back)).turn.sends refl
+        (λ s p among to clock is. absurd (no_inquiry decl
+            (take most_inquiries
+              (in_order (map (λ (q : Prepared). q.tx) (kept_by (middle.records a ++ option_to_list back)).promises))) p
+            among to clock is)) (later_votes_name_later_lives middle l)
+    later_votes_name_later_lives next (steps.more middle later l (steps.client_rises_up a back now client down given)) =
+        step middle next a [] (sym (append-nil middle.mail)) (λ s p among to clock is. absurd among)
+        (later_votes_name_later_lives middle l)
     later_votes_name_later_lives next (steps.more middle later l (steps.site_rises_in_vain a back now site down given)) = step middle next a [] (sym (append-nil middle.mail)) (λ s p among to clock is. absurd among) (later_votes_name_later_lives middle l)
     later_votes_name_later_lives next (steps.more middle later l (steps.client_rises_in_vain a back now client down given)) = step middle next a [] (sym (append-nil middle.mail)) (λ s p among to clock is. absurd among) (later_votes_name_later_lives middle l)
-    later_votes_name_later_lives next (steps.more middle later l (steps.administers given now up came named)) = step middle next (administrator decl) (admin_takes decl middle.admin given).turn.sends refl (λ s. absurd (no_ruler decl s)) (later_votes_name_later_lives middle l)
-    later_votes_name_later_lives next (steps.more middle later l (steps.admin_falls now up)) = step middle next (administrator decl) [] refl (λ s. absurd (no_ruler decl s)) (later_votes_name_later_lives middle l)
+    later_votes_name_later_lives next (steps.more middle later l (steps.administers given now up came named)) =
+        step middle next (administrator decl) (admin_takes decl middle.admin given).turn.sends refl
+        (λ s. absurd (no_ruler decl s)) (later_votes_name_later_lives middle l)
+    later_votes_name_later_lives next (steps.more middle later l (steps.admin_falls now up)) =
+        step middle next (administrator decl) [] refl (λ s. absurd (no_ruler decl s))
+        (later_votes_name_later_lives middle l)
     later_votes_name_later_lives next (steps.more middle later l (steps.admin_fails given written sends now up came named wrote failed)) = step middle next (administrator decl) sends refl (λ s. absurd (no_ruler decl s)) (later_votes_name_later_lives middle l)
-    later_votes_name_later_lives next (steps.more middle later l (steps.admin_rises_up back now down given)) = step middle next (administrator decl) [] (sym (append-nil middle.mail)) (λ s. absurd (no_ruler decl s)) (later_votes_name_later_lives middle l)
-    later_votes_name_later_lives next (steps.more middle later l (steps.admin_rises_in_vain back now down given)) = step middle next (administrator decl) [] (sym (append-nil middle.mail)) (λ s. absurd (no_ruler decl s)) (later_votes_name_later_lives middle l)
+    later_votes_name_later_lives next (steps.more middle later l (steps.admin_rises_up back now down given)) =
+        step middle next (administrator decl) [] (sym (append-nil middle.mail)) (λ s. absurd (no_ruler decl s))
+        (later_votes_name_later_lives middle l)
+    later_votes_name_later_lives next (steps.more middle later l (steps.admin_rises_in_vain back now down given)) =
+        step middle next (administrator decl) [] (sym (append-nil middle.mail)) (λ s. absurd (no_ruler decl s))
+        (later_votes_name_later_lives middle l)

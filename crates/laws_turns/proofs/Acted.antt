@@ -13,7 +13,8 @@ use Rattle.qc_msg.specs.declared.step.Step.TheVariants as steps
 use Rattle.qc_msg.specs.declared.turn.Turn.{Turn}
 use Rattle.qc_msg.specs.Names.{Deed, Entry, WasSentTo, by, deed_at, deeds, mail, marked, posted, step_of}
 use Rattle.qc_msg.proofs.GrownMail.{length-envelopes, mail-append, mail-posted, mail-taken}
-use Rattle.qc_msg.proofs.Growth.{deeds-append, deeds-other, deeds-posted, deeds-taken}
+use Rattle.qc_msg.proofs.DeedsGrow.{deeds-append, deeds-other}
+use Rattle.qc_msg.proofs.Growth.{deeds-posted, deeds-taken}
 use Rattle.qc_script.specs.Names.{Runs, phase_of}
 use Rattle.qc_script.specs.Runs.{begins, takes, posts, phase, control}
 use Rattle.qc_script.specs.declared.script.Script.{Script}

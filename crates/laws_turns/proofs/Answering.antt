@@ -20,7 +20,7 @@ use Rattle.qc_script.specs.Names.{is_up, one_more, opened, opened_by, phase_begu
 use Rattle.qc_script.specs.Names.{request_sent, with_copies, with_number, without_request}
 use Rattle.qc_script.proofs.AllUp.{is_up-everybody}
 use Rattle.qc_script.proofs.Requests.{added-number, has-numbers, without-numbers}
-use Rattle.laws_turns.proofs.Awaiting.{at_once}
+use Rattle.laws_turns.proofs.AwaitedCopies.{at_once}
 
 which : {A : Type 0} (P : A → Type 0) (t : Bool) (x y : A) → P x → P y → P (if t then x else y)
 which P true x y here there = here

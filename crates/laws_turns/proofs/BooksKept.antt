@@ -9,7 +9,7 @@ use Rattle.qc_stamp.specs.declared.stamp.TxId.{TxId}
 use Rattle.qc_entry.specs.declared.record.Commit.{Commit}
 use Rattle.qc_msg.specs.declared.begun.Begun.{Begun}
 use Rattle.laws_turns.specs.Names.{Book}
-use Rattle.laws_turns.proofs.Dealing.{IsBook, IsNamed, in_at, tx_at, with_begun}
+use Rattle.laws_turns.proofs.DealingParts.{IsBook, IsNamed, in_at, tx_at, with_begun}
 
 -- the book of a client that began one, gave one up, or committed one
 

@@ -19,7 +19,8 @@ use Rattle.qc_msg.specs.Names.{Deed, Entry, Falls, Rises, Sends, Takes, Tells, W
 use Rattle.qc_msg.specs.Names.{envelopes, mail, marked, posted, quiet, sends_of, step_of, tells_of, turn_deeds}
 use Rattle.qc_msg.specs.Names.{writes_of}
 use Rattle.qc_msg.proofs.GrownMail.{length-mail, mail-append, mail-posted, mail-taken}
-use Rattle.qc_msg.proofs.Growth.{deeds-append, deeds-other, deeds-posted, deeds-taken}
+use Rattle.qc_msg.proofs.DeedsGrow.{deeds-append, deeds-other}
+use Rattle.qc_msg.proofs.Growth.{deeds-posted, deeds-taken}
 use Rattle.qc_client.specs.Names.{ClientMove, client_after, client_does, moved as client_moved, new_client}
 use Rattle.qc_core.specs.Names.{IsLawful}
 use Rattle.qc_site.specs.Names.{SiteMove, moved as site_moved, new_site, site_after, site_does, site_takes}

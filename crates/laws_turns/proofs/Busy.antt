@@ -19,8 +19,9 @@ use Rattle.qc_script.specs.Names.{Runs}
 use Rattle.qc_script.specs.declared.script.Script.{Script}
 use Rattle.laws_turns.specs.Names.{ActsIn, AsksDeclared, IsAskable, is_waiting}
 use Rattle.laws_turns.proofs.Acted.{run_acts}
-use Rattle.laws_turns.proofs.Proper.{IsAskableDeed, IsAskableGiven, front_part, run_askable}
-use Rattle.laws_turns.proofs.Replying.{after_posted, after_taken, lawful_client, running_more, running_turn}
+use Rattle.laws_turns.proofs.SoundClients.{IsAskableDeed, IsAskableGiven, front_part, run_askable}
+use Rattle.laws_turns.proofs.TurnReplies.{after_posted, after_taken, running_more, running_turn}
+use Rattle.laws_turns.proofs.Replying.{lawful_client}
 use Rattle.laws_turns.proofs.Served.{second_part}
 use Rattle.laws_turns.proofs.Waiting.{Ends, IsClients, IsNoCall, Rests, called_ends, takes_ends, takes_rests}
 

@@ -26,7 +26,8 @@ use Rattle.qc_script.specs.declared.script.Script.{Script}
 use Rattle.laws_turns.proofs.Acted.{has_entry, run_acts}
 use Rattle.laws_turns.proofs.Arrivals.{what_is_ready_was_sent}
 use Rattle.laws_turns.proofs.Commanded.{ready_called, uncommanded}
-use Rattle.laws_turns.proofs.Delivered.{Delivered, IsOwnLoss, posts_delivered, step_delivered, takes_delivered}
+use Rattle.laws_turns.proofs.MailedSteps.{Delivered, IsOwnLoss, step_delivered, takes_delivered}
+use Rattle.laws_turns.proofs.Delivered.{posts_delivered}
 use Rattle.laws_turns.proofs.Numbered.{control_silent, mail-silent, numbers_are_places, phase_silent}
 use Rattle.laws_turns.specs.Names.{ActsIn}
 

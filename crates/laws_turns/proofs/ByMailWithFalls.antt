@@ -12,7 +12,8 @@ use Rattle.qc_inbox.proofs.FallMail.{ready_sent, run_numbered}
 use Rattle.qc_inbox.proofs.Keeping.{same_mail}
 use Rattle.laws_turns.proofs.ByMail.{ready_lost}
 use Rattle.laws_turns.proofs.Commanded.{ready_called, uncommanded}
-use Rattle.laws_turns.proofs.Delivered.{Delivered, posts_delivered, rises_delivered, step_delivered, takes_delivered}
+use Rattle.laws_turns.proofs.MailedSteps.{Delivered, step_delivered, takes_delivered}
+use Rattle.laws_turns.proofs.Delivered.{posts_delivered, rises_delivered}
 use Rattle.laws_turns.proofs.Places.{slice_get-within}
 use Rattle.qc_link.specs.Names.{most_actors}
 use Rattle.qc_msg.specs.declared.record.Record.{Record}

@@ -29,7 +29,8 @@ use Rattle.qc_client.specs.Names.{sent_one}
 use Rattle.laws_turns.specs.Names.{ClientMoveWithin, ClientWithin, DeskWithin, FrontWithin, GivenWithin, MessageWithin}
 use Rattle.laws_turns.specs.Names.{OutcomeWithin}
 use Rattle.laws_turns.proofs.DesksWithin.{CameWithin, DeskGoes, desk-le, known-within, prepare-within, vote_within}
-use Rattle.laws_turns.proofs.FrontsWithin.{FrontGoes, called-goes, ended_within, front-le, takes-goes}
+use Rattle.laws_turns.proofs.FrontBounds.{front-le}
+use Rattle.laws_turns.proofs.FrontsWithin.{FrontGoes, called-goes, ended_within, takes-goes}
 use Rattle.laws_turns.proofs.Greater.{answer-le, sends-le}
 
 pub client-le : (low high : ℕ) (c : Client) → low ≤ high → ClientWithin low c → ClientWithin high c

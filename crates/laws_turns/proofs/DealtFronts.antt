@@ -1,190 +1,42 @@
 -- A front end's moves, and what a client was told of a transaction then.
-use Rattle.std.proofs.Common.{◌≡◌, ℕ, nat_le, Bool, true, false, cond, List, [], ◌∷◌, ◌++◌, length, Option, Some, None, option_map, refl, sym, ap, ◌∙◌, subst}
+use Rattle.std.proofs.Common.{◌≡◌, ℕ, List, Option, Some, None}
+use Rattle.std.proofs.Common.{option_map, refl, sym, ap, ◌∙◌, subst}
 use Rattle.std.specs.Prelude.{slice_get}
-use Rattle.qc_stamp.specs.declared.stamp.Stamp.{Stamp}
 use Rattle.qc_stamp.specs.declared.stamp.TxId.{TxId}
-use Rattle.qc_entry.specs.declared.line.Op.{Op}
 use Rattle.qc_entry.specs.declared.record.Commit.{Commit}
 use Rattle.qc_decl.specs.declared.declaration.Declaration.{Declaration}
-use Rattle.qc_decl.specs.Names.{append_need_of, most_transaction_operations, read_need_of}
 use Rattle.qc_msg.specs.declared.begun.Begun.{Begun}
-use Rattle.qc_msg.specs.declared.call.Call.{Call}
 use Rattle.qc_msg.specs.declared.message.Answer.{Answer}
 use Rattle.qc_msg.specs.declared.message.Answer.TheVariants as answers
-use Rattle.qc_msg.specs.declared.reply.Reply.{Reply}
-use Rattle.qc_msg.specs.declared.reply.Reply.TheVariants as replies
-use Rattle.qc_msg.specs.declared.reply.Half.TheVariants as halves
-use Rattle.qc_msg.specs.declared.reply.AbortCause.TheVariants as causes
-use Rattle.qc_msg.specs.declared.step.Command.{Command}
-use Rattle.qc_msg.specs.declared.step.Command.TheVariants as commands
-use Rattle.qc_msg.specs.declared.turn.Turn.{Turn}
-use Rattle.qc_msg.specs.Names.{quiet, site_called, telling, without_call}
-use Rattle.qc_plan.specs.Names.{RoundState, note, verdict}
-use Rattle.qc_plan.specs.declared.standing.Verdict.{Verdict}
-use Rattle.qc_plan.specs.declared.standing.Verdict.TheVariants as verdicts
+use Rattle.qc_msg.specs.Names.{quiet, site_called, without_call}
+use Rattle.qc_plan.specs.Names.{note, verdict}
 use Rattle.qc_view.specs.declared.view.View.{View}
-use Rattle.qc_view.specs.Names.{with_log, with_own}
+use Rattle.qc_view.specs.Names.{with_log}
 use Rattle.qc_front.specs.declared.doing.Doing.{Doing}
 use Rattle.qc_front.specs.declared.doing.Doing.TheVariants.{Idle, Reading, Appending}
 use Rattle.qc_front.specs.declared.front.Front.{Front}
 use Rattle.qc_front.specs.declared.transaction.Transaction.{Transaction}
-use Rattle.qc_front.specs.Names.{FrontMove, aborts, answer_of, answered, append_by, appended_with, appending_takes}
-use Rattle.qc_front.specs.Names.{begins, called, commits, fresh, gives_up, learns, lived, moved, next_own, next_tx}
-use Rattle.qc_front.specs.Names.{op_of, performs, read_by, read_with, reading_takes, reads, resp_of, round_for}
-use Rattle.qc_front.specs.Names.{standing_of, takes, takes_in, turned, with_event}
-use Rattle.qc_front.proofs.Keeping.{appended_is, view_keeps}
-use Rattle.laws_turns.specs.Names.{Book, begun_in, book_with}
-use Rattle.qc_promise.specs.Names.{Dealing, deal_told, dealt, ended}
-use Rattle.laws_turns.proofs.BooksKept.{began_book, free_book}
-use Rattle.laws_turns.proofs.Dealing.{IsBook, IsDealing, as_begun, began_one, begun_book, gave_up, told_op}
-
--- a running `do` is the command that was called last
-abbrev pub AskedFor : Option Command → Doing → Type 0
-AskedFor asked Idle = Unit {0}
-AskedFor asked (Reading object inv calls round) = asked ≡ Some (commands.Do object inv)
-AskedFor asked (Appending object inv event calls round) = asked ≡ Some (commands.Do object inv)
-
-abbrev pub told_deal : TxId → Dealing → Option Reply → Dealing
-told_deal tx d None = d
-told_deal tx d (Some reply) = deal_told tx d reply
-
--- after a move's reply
-pub record FrontAfter (k : ℕ) (tx : TxId) (clock : ℕ) (commits : List Commit) (d : Dealing) (m : FrontMove) : Type 0 where
-  pub own : m.front.client ≡ k
-  pub write : m.turn.write ≡ None
-  pub dealing : IsDealing tx (told_deal tx d m.turn.told) (book_with m.front commits)
-  pub book : IsBook clock (book_with m.front commits)
-  pub asked : AskedFor d.asked m.front.doing
-
--- the begun transaction with the name and the operations of another
-record IsLike (t : Transaction) (b : Begun) : Type 0 where
-  tx : t.begun.tx ≡ b.tx
-  ops : t.begun.ops ≡ b.ops
+use Rattle.qc_front.specs.Names.{appended_with, appending_takes}
+use Rattle.qc_front.specs.Names.{learns, lived}
+use Rattle.qc_front.specs.Names.{read_with, reading_takes}
+use Rattle.qc_front.specs.Names.{standing_of, takes, takes_in}
+use Rattle.qc_front.proofs.CommandsKeep.{view_keeps}
+use Rattle.qc_front.proofs.Keeping.{appended_is}
+use Rattle.laws_turns.specs.Names.{Book, book_with}
+use Rattle.qc_promise.specs.Names.{Dealing}
+use Rattle.laws_turns.proofs.DealingParts.{IsBook, IsDealing}
+use Rattle.laws_turns.proofs.DealtOperations.{AskedFor, FrontAfter, IsLike, Stands, _}
 
 module _ (k : ℕ) (tx : TxId) (clock : ℕ) (records : List Commit) (d : Dealing) where
-  -- what a front end has, and its transaction is this one
-  record Stands (front : Front) (b : Begun) : Type 0 where
-    own : front.client ≡ k
-    is : begun_in front.transaction ≡ Some b
-    book : IsBook clock (book_with front records)
-    dealing : IsDealing tx d (book_with front records)
-
-  -- it goes on, and no operation is told
-  goes : (front : Front) (b : Begun) (t : Transaction) (doing : Doing) (turn : Turn) → Stands front b → IsLike t b → told_deal tx d turn.told ≡ d → turn.write ≡ None → AskedFor d.asked doing
-      → FrontAfter k tx clock records d (moved (turned front (Some t) doing) turn)
-  goes front b t doing turn s like neutral unwritten asked = record {
-    own = s.own;
-    write = unwritten;
-    dealing = subst (λ (e : Dealing). IsDealing tx e (book_with (turned front (Some t) doing) records)) (sym neutral) (as_begun tx d (book_with front records) b t.begun s.is like.tx like.ops s.dealing);
-    book = begun_book clock (book_with front records) b t.begun s.is like.tx s.book;
-    asked = asked;
-  }
-
-  -- an operation is told
-  answers_do : (front : Front) (b : Begun) (t : Transaction) (object inv : ℕ) (resp : Option ℕ) (turn : Turn) → Stands front b → d.asked ≡ Some (commands.Do object inv) → t.begun.tx ≡ b.tx
-      → t.begun.ops ≡ b.ops ++ op_of object inv resp ∷ [] → told_deal tx d turn.told ≡ dealt tx d resp → turn.write ≡ None → FrontAfter k tx clock records d (moved (turned front (Some t) Idle) turn)
-  answers_do front b t object inv resp turn s asked same ops told unwritten = record {
-    own = s.own;
-    write = unwritten;
-    dealing = subst (λ (e : Dealing). IsDealing tx e (book_with (turned front (Some t) Idle) records)) (sym told)
-        (told_op clock tx d (book_with front records) b s.is s.book s.dealing t.begun object inv resp asked same ops);
-    book = begun_book clock (book_with front records) b t.begun s.is same s.book;
-    asked = tt;
-  }
-
-  module _ (decl : Declaration) (front : Front) (b : Begun) (s : Stands front b) where
-    event_begun : (t : Transaction) (object inv event resp : ℕ) → (with_event t object inv event resp).begun ≡ record t.begun { ops = t.begun.ops ++ op_of object inv (Some resp) ∷ [] }
-    event_begun t object inv event resp =
-        ap (λ (x : Begun). record x { ops = x.ops ++ op_of object inv (Some resp) ∷ [] }) (view_keeps (record t { own = t.own ++ next_own t object event ∷ [] }) object (option_map (λ (v : View). with_own v event) (slice_get t.views object)))
-
-    append_by-after : (t : Transaction) (object inv event : ℕ) (calls : List Call) (r : RoundState) (v : Verdict) → IsLike t b → d.asked ≡ Some (commands.Do object inv)
-        → FrontAfter k tx clock records d (append_by decl front t object inv event calls r v)
-    append_by-after t object inv event calls r verdicts.Waiting like asked = goes front b _ _ _ s (record { tx = like.tx; ops = like.ops }) refl refl asked
-    append_by-after t object inv event calls r verdicts.Met like asked =
-        answers_do front b (with_event t object inv event (resp_of decl object event)) object inv (Some (resp_of decl object event)) (telling (replies.Response (resp_of decl object event))) s asked
-        (ap (λ (x : Begun). x.tx) (event_begun t object inv event (resp_of decl object event)) ∙ like.tx)
-        (ap (λ (x : Begun). x.ops) (event_begun t object inv event (resp_of decl object event)) ∙ ap (λ (ops : List Op). ops ++ op_of object inv (Some (resp_of decl object event)) ∷ []) like.ops) refl refl
-    append_by-after t object inv event calls r (verdicts.Closed epoch site) like asked = goes front b (record t { begun = record t.begun { doomed = true } }) Idle (telling (replies.Closed epoch site)) s (record { tx = like.tx; ops = like.ops }) refl refl tt
-    append_by-after t object inv event calls r (verdicts.Clash other site) like asked = goes front b (record t { begun = record t.begun { doomed = true } }) Idle (telling (replies.Conflict other site)) s (record { tx = like.tx; ops = like.ops }) refl refl tt
-    append_by-after t object inv event calls r (verdicts.Short got need) like asked = goes front b (record t { begun = record t.begun { doomed = true } }) Idle (telling (replies.Quorum halves.Append got need)) s (record { tx = like.tx; ops = like.ops }) refl refl tt
-
-    answered-after : (t : Transaction) (object inv : ℕ) (event : Option ℕ) → IsLike t b → d.asked ≡ Some (commands.Do object inv) → FrontAfter k tx clock records d (answered decl front t object inv event)
-    answered-after t object inv None like asked =
-        answers_do front b _ object inv None (telling replies.Absent) s asked like.tx (ap (λ (ops : List Op). ops ++ op_of object inv None ∷ []) like.ops) refl refl
-    answered-after t object inv (Some event) like asked =
-        append_by-after t object inv event [] (round_for decl front t (append_need_of decl t.begun.epoch object event)) (verdict (round_for decl front t (append_need_of decl t.begun.epoch object event))) like asked
-
-    read_by-after : (t : Transaction) (object inv : ℕ) (calls : List Call) (r : RoundState) (v : Verdict) → IsLike t b → d.asked ≡ Some (commands.Do object inv) → FrontAfter k tx clock records d (read_by decl front t object inv calls r v)
-    read_by-after t object inv calls r verdicts.Waiting like asked = goes front b _ _ _ s (record { tx = like.tx; ops = like.ops }) refl refl asked
-    read_by-after t object inv calls r verdicts.Met like asked = answered-after t object inv (answer_of decl t object inv) like asked
-    read_by-after t object inv calls r (verdicts.Closed epoch site) like asked = goes front b t Idle (telling (replies.Closed epoch site)) s like refl refl tt
-    read_by-after t object inv calls r (verdicts.Clash other site) like asked = goes front b t Idle (telling (replies.Conflict other site)) s like refl refl tt
-    read_by-after t object inv calls r (verdicts.Short got need) like asked = goes front b t Idle (telling (replies.Quorum halves.Read got need)) s like refl refl tt
-
-  module _ (decl : Declaration) (front : Front) (own : front.client ≡ k) (book : IsBook clock (book_with front records)) (w : IsDealing tx d (book_with front records)) where
-    -- nothing is done, or what is told ends nothing
-    still : (turn : Turn) → told_deal tx d turn.told ≡ d → turn.write ≡ None → AskedFor d.asked front.doing → FrontAfter k tx clock records d (moved front turn)
-    still turn neutral unwritten asked = record { own = own; write = unwritten; dealing = subst (λ (e : Dealing). IsDealing tx e (book_with front records)) (sym neutral) w; book = book; asked = asked }
-
-    stands : (t : Transaction) → front.transaction ≡ Some t → Stands front t.begun
-    stands t is = record { own = own; is = ap begun_in is; book = book; dealing = w }
-
-    itself : (t : Transaction) → IsLike t t.begun
-    itself t = record { tx = refl; ops = refl }
-
-    gives-after : (t : Transaction) (reply : Reply) → front.transaction ≡ Some t → deal_told tx d reply ≡ ended tx d reply → ((stamp : Stamp) → replies.Committed stamp ≡ reply → ⊥) → FrontAfter k tx clock records d (gives_up front t reply)
-    gives-after t reply is ends no_commit = record {
-      own = own;
-      write = refl;
-      dealing = subst (λ (e : Dealing). IsDealing tx e (book_with (turned front None Idle) records)) (sym ends) (gave_up clock tx d (book_with front records) t.begun (ap begun_in is) book w reply no_commit);
-      book = free_book clock (book_with front records) book;
-      asked = tt;
-    }
-
-    performs-after : (o : Option Transaction) (object inv : ℕ) → front.transaction ≡ o → AskedFor d.asked front.doing → d.asked ≡ Some (commands.Do object inv) → FrontAfter k tx clock records d (performs decl front o object inv)
-    performs-after None object inv is rests asked = still (telling replies.NoTransaction) refl refl rests
-    performs-after (Some t) object inv is rests asked = by t.begun.doomed (nat_le most_transaction_operations (length t.begun.ops)) where
-      by : (doomed long : Bool) → FrontAfter k tx clock records d (cond doomed (moved front (telling replies.Doomed)) (cond long (moved front (telling replies.TooLong)) (reads decl front t object inv [] (round_for decl front t (read_need_of decl t.begun.epoch object inv)))))
-      by true long = still (telling replies.Doomed) refl refl rests
-      by false true = still (telling replies.TooLong) refl refl rests
-      by false false =
-          read_by-after decl front t.begun (stands t is) t object inv [] (round_for decl front t (read_need_of decl t.begun.epoch object inv)) (verdict (round_for decl front t (read_need_of decl t.begun.epoch object inv))) (itself t) asked
-
-    begins-after : (o : Option Transaction) → front.transaction ≡ o → AskedFor d.asked front.doing → FrontAfter k tx clock records d (begins decl front o)
-    begins-after (Some t) is rests = still (telling (replies.Already t.begun.tx)) refl refl rests
-    begins-after None is rests = record {
-      own = own;
-      write = refl;
-      dealing = began_one clock tx d (book_with front records) (fresh decl (next_tx front) front.epoch).begun (ap begun_in is) book refl refl w;
-      book = began_book clock (book_with front records) (fresh decl (next_tx front) front.epoch).begun book refl;
-      asked = rests;
-    }
-
-    commits-after : (o : Option Transaction) → front.transaction ≡ o → AskedFor d.asked front.doing → FrontAfter k tx clock records d (commits front o)
-    commits-after None is rests = still (telling replies.NoTransaction) refl refl rests
-    commits-after (Some t) is rests = by t.begun.doomed where
-      by : (doomed : Bool) → FrontAfter k tx clock records d (cond doomed (gives_up front t (replies.Aborted causes.Doomed)) (moved front quiet))
-      by true = gives-after t (replies.Aborted causes.Doomed) is refl (λ stamp e. (let never : ⊥ = cc in never))
-      by false = still quiet refl refl rests
-
-    aborts-after : (o : Option Transaction) → front.transaction ≡ o → AskedFor d.asked front.doing → FrontAfter k tx clock records d (aborts front o)
-    aborts-after None is rests = still (telling replies.NoTransaction) refl refl rests
-    aborts-after (Some t) is rests = gives-after t replies.Dropped is refl (λ stamp e. (let never : ⊥ = cc in never))
-
-    -- a command, which is now the last one, where nothing is waited for
-    pub called-after : (command : Command) → AskedFor d.asked front.doing → d.asked ≡ Some command → FrontAfter k tx clock records d (called decl front command)
-    called-after commands.Begin rests asked = begins-after front.transaction refl rests
-    called-after (commands.Do object inv) rests asked = performs-after front.transaction object inv refl rests asked
-    called-after commands.Commit rests asked = commits-after front.transaction refl rests
-    called-after commands.Abort rests asked = aborts-after front.transaction refl rests
-    called-after (commands.Epoch number) rests asked = still quiet refl refl rests
-
   -- what comes of a request
 
-  read_like : (t : Transaction) (site object : ℕ) (answer : Option Answer) → IsLike (read_with t site object answer) t.begun
+  read_like : (t : Transaction) (site object : ℕ) (answer : Option Answer)
+      → IsLike (read_with t site object answer) t.begun
   read_like t site object None = record { tx = refl; ops = refl }
   read_like t site object (Some (answers.Granted life clock log)) =
-      let same : (read_with t site object (Some (answers.Granted life clock log))).begun ≡ (lived t site life).begun = view_keeps (lived t site life) object (option_map (λ (v : View). with_log v log) (slice_get t.views object)) in
+      let same : (read_with t site object (Some (answers.Granted life clock log))).begun ≡ (lived t site life).begun =
+              view_keeps (lived t site life) object
+                (option_map (λ (v : View). with_log v log) (slice_get t.views object)) in
       record { tx = ap (λ (x : Begun). x.tx) same; ops = ap (λ (x : Begun). x.ops) same }
   read_like t site object (Some (answers.Clash holder inv event)) = record { tx = refl; ops = refl }
   read_like t site object (Some (answers.Closed epoch)) = record { tx = refl; ops = refl }
@@ -202,7 +54,8 @@ module _ (k : ℕ) (tx : TxId) (clock : ℕ) (records : List Commit) (d : Dealin
       let same : appended_with t site answer ≡ record t { begun = record t.begun { lives = (appended_with t site answer).begun.lives } } = appended_is t site answer in
       record { tx = ap (λ (u : Transaction). u.begun.tx) same; ops = ap (λ (u : Transaction). u.begun.ops) same }
 
-  learns_book : (front : Front) (answer : Option Answer) → book_with (learns front answer) records ≡ book_with front records
+  learns_book : (front : Front) (answer : Option Answer)
+      → book_with (learns front answer) records ≡ book_with front records
   learns_book front None = refl
   learns_book front (Some (answers.Granted life clock log)) = refl
   learns_book front (Some (answers.Clash holder inv event)) = refl
@@ -216,7 +69,8 @@ module _ (k : ℕ) (tx : TxId) (clock : ℕ) (records : List Commit) (d : Dealin
   learns_book front (Some answers.Installed) = refl
   learns_book front (Some (answers.Answered verdict)) = refl
 
-  learned : (front : Front) (answer : Option Answer) (b : Begun) → Stands front b → Stands (learns front answer) b
+  learned : (front : Front) (answer : Option Answer) (b : Begun) → Stands k tx clock records d front b
+      → Stands k tx clock records d (learns front answer) b
   learned front answer b s = record {
     own = ap (λ (x : Book). x.client) (learns_book front answer) ∙ s.own;
     is = ap (λ (k : Book). k.begun) (learns_book front answer) ∙ s.is;
@@ -224,23 +78,40 @@ module _ (k : ℕ) (tx : TxId) (clock : ℕ) (records : List Commit) (d : Dealin
     dealing = subst (IsDealing tx d) (sym (learns_book front answer)) s.dealing;
   }
 
-  takes_in-after : (decl : Declaration) (front : Front) (doing : Doing) (o : Option Transaction) (number : ℕ) (answer : Option Answer) → front.transaction ≡ o → front.doing ≡ doing → front.client ≡ k → IsBook clock (book_with front records)
-      → IsDealing tx d (book_with front records) → AskedFor d.asked doing → FrontAfter k tx clock records d (takes_in decl front doing o number answer)
-  takes_in-after decl front doing None number answer is does own book w asked = still decl front own book w quiet refl refl (subst (AskedFor d.asked) (sym does) asked)
-  takes_in-after decl front Idle (Some t) number answer is does own book w asked = still decl front own book w quiet refl refl (subst (AskedFor d.asked) (sym does) asked)
-  takes_in-after decl front (Reading object inv calls round) (Some t) number answer is does own book w asked = by (site_called calls number) where
-    by : (s : Option ℕ) → FrontAfter k tx clock records d (reading_takes decl front t object inv calls round number answer s)
+  takes_in-after : (decl : Declaration) (front : Front) (doing : Doing) (o : Option Transaction) (number : ℕ)
+      (answer : Option Answer) → front.transaction ≡ o → front.doing ≡ doing → front.client ≡ k
+      → IsBook clock (book_with front records)
+      → IsDealing tx d (book_with front records) → AskedFor d.asked doing
+          → FrontAfter k tx clock records d (takes_in decl front doing o number answer)
+  takes_in-after decl front doing None number answer is does own book w asked =
+      still decl front own book w quiet refl refl (subst (AskedFor d.asked) (sym does) asked)
+  takes_in-after decl front Idle (Some t) number answer is does own book w asked =
+      still decl front own book w quiet refl refl (subst (AskedFor d.asked) (sym does) asked)
+  takes_in-after decl front (Reading object inv calls round) (Some t) number answer is does own book w asked =
+      by (site_called calls number) where
+    by : (s : Option ℕ)
+        → FrontAfter k tx clock records d (reading_takes decl front t object inv calls round number answer s)
     by None = still decl front own book w quiet refl refl (subst (AskedFor d.asked) (sym does) asked)
     by (Some site) =
-        read_by-after decl (learns front answer) t.begun (learned front answer t.begun (stands decl front own book w t is)) (read_with t site object answer) object inv (without_call calls number) (note round site (standing_of answer)) (verdict (note round site (standing_of answer)))
+        read_by-after decl (learns front answer) t.begun
+            (learned front answer t.begun (stands decl front own book w t is)) (read_with t site object answer) object
+            inv (without_call calls number) (note round site (standing_of answer))
+            (verdict (note round site (standing_of answer)))
         (read_like t site object answer) asked
-  takes_in-after decl front (Appending object inv event calls round) (Some t) number answer is does own book w asked = by (site_called calls number) where
-    by : (s : Option ℕ) → FrontAfter k tx clock records d (appending_takes decl front t object inv event calls round number answer s)
+  takes_in-after decl front (Appending object inv event calls round) (Some t) number answer is does own book w asked =
+      by (site_called calls number) where
+    by : (s : Option ℕ)
+        → FrontAfter k tx clock records d (appending_takes decl front t object inv event calls round number answer s)
     by None = still decl front own book w quiet refl refl (subst (AskedFor d.asked) (sym does) asked)
     by (Some site) =
-        append_by-after decl (learns front answer) t.begun (learned front answer t.begun (stands decl front own book w t is)) (appended_with t site answer) object inv event (without_call calls number) (note round site (standing_of answer)) (verdict (note round site (standing_of answer)))
+        append_by-after decl (learns front answer) t.begun
+            (learned front answer t.begun (stands decl front own book w t is)) (appended_with t site answer) object inv
+            event (without_call calls number) (note round site (standing_of answer))
+            (verdict (note round site (standing_of answer)))
         (appended_like t site answer) asked
 
-  pub takes-after : (decl : Declaration) (front : Front) (number : ℕ) (answer : Option Answer) → front.client ≡ k → IsBook clock (book_with front records) → IsDealing tx d (book_with front records) → AskedFor d.asked front.doing
+  pub takes-after : (decl : Declaration) (front : Front) (number : ℕ) (answer : Option Answer) → front.client ≡ k
+      → IsBook clock (book_with front records) → IsDealing tx d (book_with front records) → AskedFor d.asked front.doing
       → FrontAfter k tx clock records d (takes decl front number answer)
-  takes-after decl front number answer own book w asked = takes_in-after decl front front.doing front.transaction number answer refl refl own book w asked
+  takes-after decl front number answer own book w asked =
+      takes_in-after decl front front.doing front.transaction number answer refl refl own book w asked

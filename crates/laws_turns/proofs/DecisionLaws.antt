@@ -22,7 +22,7 @@ use Rattle.laws_turns.specs.Names.{ActsIn, written_in}
 use Rattle.laws_turns.proofs.Acted.{run_acts}
 use Rattle.qc_promise.specs.Names.{AreRight, Committed, Dead, DecisionAgrees, Unborn, VerdictAgrees, committed, records}
 use Rattle.qc_promise.specs.Names.{status}
-use Rattle.laws_turns.proofs.Dealing.{HasRecord}
+use Rattle.laws_turns.proofs.DealingParts.{HasRecord}
 use Rattle.laws_turns.proofs.InRuns.{HasPlace, client_low, client_no_site, client_number, run_place}
 use Rattle.laws_turns.proofs.Lasting.{Came, verdict_came}
 use Rattle.laws_turns.proofs.Moving.{Good, IsFromClient, IsMail}

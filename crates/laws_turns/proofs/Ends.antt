@@ -15,7 +15,8 @@ use Rattle.qc_msg.specs.declared.step.Input.{Input}
 use Rattle.qc_msg.specs.Names.{Entry, deeds}
 use Rattle.qc_script.specs.declared.script.Script.{Script}
 use Rattle.qc_script.specs.Names.{after_controls, command_in, controls_left, first_copy, first_lost, inbox}
-use Rattle.qc_script.proofs.Inboxes.{InCommon, inboxes_have_in_common}
+use Rattle.qc_script.proofs.InboxesSend.{InCommon}
+use Rattle.qc_script.proofs.Inboxes.{inboxes_have_in_common}
 use Rattle.laws_turns.specs.Names.{AsksDeclared, IsAtReceiver, IsAwaited, IsClosed, IsQuiet, IsTaken, open_calls}
 use Rattle.laws_turns.proofs.Covered.{open_requests_awaited}
 use Rattle.laws_turns.proofs.Places.{replicate_at}

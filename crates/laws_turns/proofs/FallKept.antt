@@ -25,7 +25,7 @@ use Rattle.qc_msg.specs.Names.{tells_of, writes_of}
 use Rattle.qc_promise.specs.Names.{IsGivenBack, Journal, Kept, no_journal, pending_with}
 use Rattle.qc_script.specs.Names.{RunsWithFalls}
 use Rattle.qc_script.specs.declared.script.Script.{Script}
-use Rattle.laws_turns.proofs.OwnStamps.{IsOwnWrite}
+use Rattle.laws_turns.proofs.StampsOwn.{IsOwnWrite}
 use Rattle.laws_turns.proofs.Places.{slice_get-within}
 use Rattle.laws_turns.specs.Names.{GivesOwn, IsOwnRecord, LivesIn, RiseWithOwn}
 use Rattle.laws_turns.proofs.FallStamps.{lawful_writes}

@@ -28,7 +28,8 @@ use Rattle.qc_msg.specs.Names.{Deed, Entry, Falls, MayEnd, Rises, Sends, Takes, 
 use Rattle.qc_msg.specs.Names.{envelopes, mail, marked, posted_as, sends_as, sends_of, step_of, tells_of, turn_deeds}
 use Rattle.qc_msg.specs.Names.{writes_of}
 use Rattle.qc_msg.proofs.GrownMail.{mail-append, mail-taken}
-use Rattle.qc_msg.proofs.Growth.{deeds-append, mail-posted_as}
+use Rattle.qc_msg.proofs.DeedsGrow.{deeds-append}
+use Rattle.qc_msg.proofs.Growth.{mail-posted_as}
 use Rattle.qc_promise.specs.Names.{AreDue}
 use Rattle.qc_script.specs.Names.{RunsWithFalls, begins, control, damaged, falls, phase, phase_of, posts, rises, takes}
 use Rattle.qc_script.specs.Names.{unopened}
@@ -36,7 +37,7 @@ use Rattle.qc_script.specs.declared.script.Script.{Script}
 use Rattle.laws_turns.proofs.Commanded.{uncommanded}
 use Rattle.laws_turns.proofs.Mailed.{AreInputs, IsMailStamped, both_all, deeds_inputs}
 use Rattle.laws_turns.proofs.Numbered.{mail-silent, phase_silent}
-use Rattle.laws_turns.proofs.OwnStamps.{AreStamped}
+use Rattle.laws_turns.proofs.StampsOwn.{AreStamped}
 use Rattle.laws_turns.proofs.Places.{slice_get-within}
 use Rattle.laws_turns.proofs.Served.{due_cut, first_part}
 use Rattle.qc_inbox.proofs.Keeping.{same_mail}

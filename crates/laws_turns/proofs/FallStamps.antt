@@ -9,7 +9,8 @@ use Rattle.qc_core.specs.declared.actor.Actor.TheVariants as actor
 use Rattle.qc_core.specs.Names.{ActorMove, IsLawfulWithFalls, IsStamped, actor_after, actor_does, actor_rises}
 use Rattle.qc_core.specs.Names.{actor_sends, actor_takes, by_admin, by_client, by_site, down_takes, moved, new_actor}
 use Rattle.qc_core.specs.Names.{with_record}
-use Rattle.qc_core.proofs.AdminWrites.{IsAdminTurn, IsDecision, IsOfAdmin, IsSentByAdmin, WritesDecision, admin_written}
+use Rattle.qc_core.proofs.AdminTurns.{IsAdminTurn, IsDecision, IsOfAdmin, IsSentByAdmin, WritesDecision}
+use Rattle.qc_core.proofs.AdminWrites.{admin_written}
 use Rattle.qc_core.proofs.Written.{client_written}
 use Rattle.qc_epoch.specs.Names.{new_admin}
 use Rattle.laws_turns.proofs.Downs.{due}
@@ -33,8 +34,9 @@ use Rattle.qc_msg.specs.Names.{Deed, Falls, Rises, Sends, Takes, Tells, Writes, 
 use Rattle.qc_recover.specs.Clients.{Kept, keeps, nothing_kept}
 use Rattle.qc_site.specs.Names.{in_order, new_site}
 use Rattle.qc_entry.specs.declared.record.Prepared.{Prepared}
-use Rattle.laws_turns.proofs.OwnStamps.{AreStamped, IsOwnCommit, IsOwnWrite, Own, OwnMove, sent_own, takes_own}
-use Rattle.laws_turns.proofs.OwnStamps.{unwritten}
+use Rattle.laws_turns.proofs.StampsOwn.{AreStamped, IsOwnCommit, IsOwnWrite, Own, OwnMove}
+use Rattle.laws_turns.proofs.OwnStamps.{sent_own, takes_own}
+use Rattle.laws_turns.proofs.StampsOwn.{unwritten}
 use Rattle.laws_turns.proofs.Stamped.{IsAnswering, takes_answer}
 use Rattle.laws_turns.specs.Names.{GivesOwn, IsOwnRecord}
 

@@ -1,19 +1,15 @@
 -- What a front end's move does with its transaction: that goes on under its name, one begins, or it is given up.
-use Rattle.std.proofs.Common.{◌≡◌, ℕ, ◌+◌, nat_le, Bool, true, false, cond, ◌⊎◌, inl, inr, List, [], ◌∷◌, ◌++◌, map, length, Option, Some, None, option_map, refl, sym, ap, ◌∙◌, subst}
+use Rattle.std.proofs.Common.{◌≡◌, ℕ, nat_le, Bool, true, false, cond, inl, inr, List}
+use Rattle.std.proofs.Common.{length, Option, Some, None, option_map, refl, sym, ap, ◌∙◌, subst}
 use Rattle.std.specs.Prelude.{slice_get}
 use Rattle.std.specs.List.{AllByRecursion as Every}
 use Rattle.qc_stamp.specs.declared.stamp.TxId.{TxId}
 use Rattle.qc_decl.specs.declared.declaration.Declaration.{Declaration}
-use Rattle.qc_decl.specs.Names.{append_need_of, most_transaction_operations, read_need_of}
+use Rattle.qc_decl.specs.Names.{most_transaction_operations, read_need_of}
 use Rattle.qc_msg.specs.declared.begun.Begun.{Begun}
-use Rattle.qc_msg.specs.declared.call.Call.{Call}
 use Rattle.qc_msg.specs.declared.message.Answer.{Answer}
 use Rattle.qc_msg.specs.declared.message.Answer.TheVariants as answers
-use Rattle.qc_msg.specs.declared.message.Message.{Message}
-use Rattle.qc_msg.specs.declared.message.Message.TheVariants as messages
 use Rattle.qc_msg.specs.declared.message.Outcome.TheVariants.{Aborted}
-use Rattle.qc_msg.specs.declared.message.Want.{Want}
-use Rattle.qc_msg.specs.declared.reply.Half.TheVariants as halves
 use Rattle.qc_msg.specs.declared.reply.Reply.{Reply}
 use Rattle.qc_msg.specs.declared.reply.Reply.TheVariants as replies
 use Rattle.qc_msg.specs.declared.reply.AbortCause.TheVariants as causes
@@ -21,174 +17,93 @@ use Rattle.qc_msg.specs.declared.step.Command.{Command}
 use Rattle.qc_msg.specs.declared.step.Command.TheVariants as commands
 use Rattle.qc_msg.specs.declared.turn.Posting.{Posting}
 use Rattle.qc_msg.specs.declared.turn.Turn.{Turn}
-use Rattle.qc_msg.specs.Names.{decisions, quiet, sending, site_called, telling, without_call}
-use Rattle.qc_plan.specs.Names.{RoundState, asking_all, note, verdict, wanted}
-use Rattle.qc_plan.specs.declared.standing.Verdict.{Verdict}
-use Rattle.qc_plan.specs.declared.standing.Verdict.TheVariants as verdicts
+use Rattle.qc_msg.specs.Names.{quiet, site_called, telling, without_call}
+use Rattle.qc_plan.specs.Names.{note, verdict}
 use Rattle.qc_view.specs.declared.view.View.{View}
-use Rattle.qc_view.specs.Names.{with_log, with_own}
+use Rattle.qc_view.specs.Names.{with_log}
 use Rattle.qc_front.specs.declared.doing.Doing.{Doing}
 use Rattle.qc_front.specs.declared.doing.Doing.TheVariants.{Idle, Reading, Appending}
 use Rattle.qc_front.specs.declared.front.Front.{Front}
 use Rattle.qc_front.specs.declared.transaction.Transaction.{Transaction}
-use Rattle.qc_front.specs.Names.{FrontMove, aborts, answer_of, answered, append_by, append_want, appended_with}
+use Rattle.qc_front.specs.Names.{aborts, appended_with}
 use Rattle.qc_front.specs.Names.{appending_takes, begins, called, commits, doomed, gives_up, learns, lived, moved}
-use Rattle.qc_front.specs.Names.{next_own, next_tx, op_of, performs, read_by, read_want, read_with, reading_takes}
-use Rattle.qc_front.specs.Names.{reads, request_of, resp_of, round_for, standing_of, takes, takes_in, turned}
-use Rattle.qc_front.specs.Names.{with_asked, with_event, with_op}
-use Rattle.qc_front.proofs.Keeping.{appended_is, view_keeps}
+use Rattle.qc_front.specs.Names.{performs, read_with, reading_takes}
+use Rattle.qc_front.specs.Names.{reads, round_for, standing_of, takes, takes_in}
+use Rattle.qc_front.proofs.CommandsKeep.{view_keeps}
+use Rattle.qc_front.proofs.Keeping.{appended_is}
 use Rattle.laws_turns.specs.Names.{begun_in}
-use Rattle.laws_turns.proofs.Dealing.{IsAbort, begun_tx}
-
--- a reply that neither begins nor ends a transaction, where this one is begun
-
-abbrev pub IsNeutral : Option TxId → Reply → Type 0
-IsNeutral name replies.Down = ⊥
-IsNeutral name (replies.Already other) = name ≡ Some other
-IsNeutral name (replies.Began other) = ⊥
-IsNeutral name replies.NoTransaction = Unit {0}
-IsNeutral name replies.Doomed = Unit {0}
-IsNeutral name replies.TooLong = Unit {0}
-IsNeutral name (replies.Closed epoch site) = Unit {0}
-IsNeutral name (replies.Conflict holder site) = Unit {0}
-IsNeutral name (replies.Quorum half got need) = Unit {0}
-IsNeutral name replies.Absent = Unit {0}
-IsNeutral name (replies.Response resp) = Unit {0}
-IsNeutral name (replies.Aborted why) = ⊥
-IsNeutral name replies.Unknown = ⊥
-IsNeutral name (replies.Committed stamp) = ⊥
-IsNeutral name replies.Dropped = ⊥
-IsNeutral name (replies.Order current) = ⊥
-IsNeutral name (replies.InDoubt holder site) = ⊥
-IsNeutral name replies.Fault = ⊥
-IsNeutral name (replies.Moved closed installed) = ⊥
-
-abbrev pub ToldNeutral : Option TxId → Option Reply → Type 0
-ToldNeutral name None = Unit {0}
-ToldNeutral name (Some reply) = IsNeutral name reply
-
--- a request for a transaction of this name
-abbrev pub IsRequestFor : Option TxId → Message → Type 0
-IsRequestFor name (messages.Request tx epoch life want) = name ≡ Some tx
-IsRequestFor name (messages.Answer to answer) = ⊥
-IsRequestFor name (messages.Decision tx verdict) = ⊥
-IsRequestFor name (messages.Inquiry tx) = ⊥
-IsRequestFor name (messages.Ask tx) = ⊥
-IsRequestFor name (messages.Close epoch) = ⊥
-IsRequestFor name (messages.Install epoch clock log) = ⊥
-
-abbrev pub name_in : Front → Option TxId
-name_in front = begun_tx (begun_in front.transaction)
-
-pub record HasSameCounts (front next : Front) : Type 0 where
-  pub client : next.client ≡ front.client
-  pub life : next.life ≡ front.life
-  pub count : next.count ≡ front.count
-
-pub record GoesOn (front : Front) (m : FrontMove) : Type 0 where
-  pub counts : HasSameCounts front m.front
-  pub named : name_in m.front ≡ name_in front
-  pub write : m.turn.write ≡ None
-  pub sends : Every (λ (p : Posting). IsRequestFor (name_in front) p.message) m.turn.sends
-  pub told : ToldNeutral (name_in front) m.turn.told
-
-pub record BeginsOne (front : Front) (m : FrontMove) : Type 0 where
-  pub free : name_in front ≡ None
-  pub client : m.front.client ≡ front.client
-  pub life : m.front.life ≡ front.life
-  pub count : m.front.count ≡ front.count + 1
-  pub named : name_in m.front ≡ Some (next_tx front)
-  pub turn : m.turn ≡ telling (replies.Began (next_tx front))
-
-pub record GivesUp (front : Front) (m : FrontMove) : Type 0 where
-  pub counts : HasSameCounts front m.front
-  pub begun : Begun
-  pub is : begun_in front.transaction ≡ Some begun
-  pub reply : Reply
-  pub aborts : IsAbort reply
-  pub write : m.turn.write ≡ None
-  pub sends : m.turn.sends ≡ decisions begun Aborted
-  pub told : m.turn.told ≡ Some reply
-  pub ended : name_in m.front ≡ None
-
-abbrev pub FrontKind : Front → FrontMove → Type 0
-FrontKind front m = GoesOn front m ⊎ (BeginsOne front m ⊎ GivesUp front m)
-
-requests_for : (name : Option TxId) (b : Begun) (want : Want) (sites : List ℕ) → name ≡ Some b.tx → Every (λ (p : Posting). IsRequestFor name p.message) (map (request_of b want) sites)
-requests_for name b want [] is = tt
-requests_for name b want (site ∷ sites) is = (is, requests_for name b want sites is)
-
-module _ (decl : Declaration) (front next : Front) (counts : HasSameCounts front next) where
-  -- it goes on
-  goes : (t : Transaction) (doing : Doing) (turn : Turn) → name_in front ≡ Some t.begun.tx → turn.write ≡ None → Every (λ (p : Posting). IsRequestFor (name_in front) p.message) turn.sends → ToldNeutral (name_in front) turn.told
-      → FrontKind front (moved (turned next (Some t) doing) turn)
-  goes t doing turn name unwritten sends told = inl (record {
-    counts = record { client = counts.client; life = counts.life; count = counts.count };
-    named = sym name;
-    write = unwritten;
-    sends = sends;
-    told = told;
-  })
-
-  append_by-kind : (t : Transaction) (object inv event : ℕ) (calls : List Call) (r : RoundState) (v : Verdict) → name_in front ≡ Some t.begun.tx → FrontKind front (append_by decl next t object inv event calls r v)
-  append_by-kind t object inv event calls r verdicts.Waiting name =
-      goes (with_asked t (wanted r)) (Appending object inv event calls (asking_all r (wanted r))) (sending (map (request_of t.begun (append_want decl t object event)) (wanted r))) name refl (requests_for (name_in front) t.begun (append_want decl t object event) (wanted r) name) tt
-  append_by-kind t object inv event calls r verdicts.Met name =
-      goes (with_event t object inv event (resp_of decl object event)) Idle (telling (replies.Response (resp_of decl object event)))
-      (name ∙ ap (λ (b : Begun). Some b.tx) (sym (view_keeps (record t { own = t.own ++ next_own t object event ∷ [] }) object (option_map (λ (v : View). with_own v event) (slice_get t.views object))))) refl tt tt
-  append_by-kind t object inv event calls r (verdicts.Closed epoch site) name = goes (doomed t) Idle (telling (replies.Closed epoch site)) name refl tt tt
-  append_by-kind t object inv event calls r (verdicts.Clash other site) name = goes (doomed t) Idle (telling (replies.Conflict other site)) name refl tt tt
-  append_by-kind t object inv event calls r (verdicts.Short got need) name = goes (doomed t) Idle (telling (replies.Quorum halves.Append got need)) name refl tt tt
-
-  answered-kind : (t : Transaction) (object inv : ℕ) (event : Option ℕ) → name_in front ≡ Some t.begun.tx → FrontKind front (answered decl next t object inv event)
-  answered-kind t object inv None name = goes (with_op t (op_of object inv None)) Idle (telling replies.Absent) name refl tt tt
-  answered-kind t object inv (Some event) name =
-      append_by-kind t object inv event [] (round_for decl next t (append_need_of decl t.begun.epoch object event)) (verdict (round_for decl next t (append_need_of decl t.begun.epoch object event))) name
-
-  read_by-kind : (t : Transaction) (object inv : ℕ) (calls : List Call) (r : RoundState) (v : Verdict) → name_in front ≡ Some t.begun.tx → FrontKind front (read_by decl next t object inv calls r v)
-  read_by-kind t object inv calls r verdicts.Waiting name =
-      goes (with_asked t (wanted r)) (Reading object inv calls (asking_all r (wanted r))) (sending (map (request_of t.begun (read_want object inv)) (wanted r))) name refl (requests_for (name_in front) t.begun (read_want object inv) (wanted r) name) tt
-  read_by-kind t object inv calls r verdicts.Met name = answered-kind t object inv (answer_of decl t object inv) name
-  read_by-kind t object inv calls r (verdicts.Closed epoch site) name = goes t Idle (telling (replies.Closed epoch site)) name refl tt tt
-  read_by-kind t object inv calls r (verdicts.Clash other site) name = goes t Idle (telling (replies.Conflict other site)) name refl tt tt
-  read_by-kind t object inv calls r (verdicts.Short got need) name = goes t Idle (telling (replies.Quorum halves.Read got need)) name refl tt tt
+use Rattle.laws_turns.proofs.DealingParts.{IsAbort, begun_tx}
+use Rattle.laws_turns.proofs.FrontGoesOn.{ToldNeutral, IsRequestFor, name_in, HasSameCounts, FrontKind, append_by-kind}
+use Rattle.laws_turns.proofs.FrontGoesOn.{read_by-kind}
 
 same_counts : (front : Front) → HasSameCounts front front
 same_counts front = record { client = refl; life = refl; count = refl }
 
 module _ (decl : Declaration) (front : Front) where
-  still : (turn : Turn) → turn.write ≡ None → turn.sends ≡ [] → ToldNeutral (name_in front) turn.told → FrontKind front (moved front turn)
+  still : (turn : Turn) → turn.write ≡ None → turn.sends ≡ [] → ToldNeutral (name_in front) turn.told
+      → FrontKind front (moved front turn)
   still turn unwritten unsent told = inl (record {
     counts = same_counts front;
     named = refl;
     write = unwritten;
-    sends = subst (λ (ps : List Posting). Every (λ (p : Posting). IsRequestFor (name_in front) p.message) ps) (sym unsent) tt;
+    sends =
+        subst (λ (ps : List Posting). Every (λ (p : Posting). IsRequestFor (name_in front) p.message) ps) (sym unsent)
+        tt;
     told = told;
   })
 
-  gives : (t : Transaction) (reply : Reply) → front.transaction ≡ Some t → IsAbort reply → FrontKind front (gives_up front t reply)
-  gives t reply is abort = inr (inr (record { counts = record { client = refl; life = refl; count = refl }; begun = t.begun; is = ap begun_in is; reply = reply; aborts = abort; write = refl; sends = refl; told = refl; ended = refl }))
+  gives : (t : Transaction) (reply : Reply) → front.transaction ≡ Some t → IsAbort reply
+      → FrontKind front (gives_up front t reply)
+  gives t reply is abort =
+      inr (inr (record {
+        counts = record { client = refl; life = refl; count = refl };
+        begun = t.begun;
+        is = ap begun_in is;
+        reply = reply;
+        aborts = abort;
+        write = refl;
+        sends = refl;
+        told = refl;
+        ended = refl
+      }))
 
   named : (t : Transaction) → front.transaction ≡ Some t → name_in front ≡ Some t.begun.tx
   named t is = ap (λ (o : Option Transaction). begun_tx (begun_in o)) is
 
-  performs-kind : (o : Option Transaction) (object inv : ℕ) → front.transaction ≡ o → FrontKind front (performs decl front o object inv)
+  performs-kind : (o : Option Transaction) (object inv : ℕ) → front.transaction ≡ o
+      → FrontKind front (performs decl front o object inv)
   performs-kind None object inv is = still (telling replies.NoTransaction) refl refl tt
-  performs-kind (Some t) object inv is = by t.begun.doomed (nat_le most_transaction_operations (length t.begun.ops)) where
-    by : (doomed long : Bool) → FrontKind front (cond doomed (moved front (telling replies.Doomed)) (cond long (moved front (telling replies.TooLong)) (reads decl front t object inv [] (round_for decl front t (read_need_of decl t.begun.epoch object inv)))))
+  performs-kind (Some t) object inv is =
+      by t.begun.doomed (nat_le most_transaction_operations (length t.begun.ops)) where
+    by : (doomed long : Bool)
+        → FrontKind front
+          (cond doomed (moved front (telling replies.Doomed))
+            (cond long (moved front (telling replies.TooLong))
+              (reads decl front t object inv [] (round_for decl front t (read_need_of decl t.begun.epoch object inv)))))
     by true long = still (telling replies.Doomed) refl refl tt
     by false true = still (telling replies.TooLong) refl refl tt
     by false false =
-        read_by-kind decl front front (same_counts front) t object inv [] (round_for decl front t (read_need_of decl t.begun.epoch object inv)) (verdict (round_for decl front t (read_need_of decl t.begun.epoch object inv))) (named t is)
+        read_by-kind decl front front (same_counts front) t object inv []
+            (round_for decl front t (read_need_of decl t.begun.epoch object inv))
+            (verdict (round_for decl front t (read_need_of decl t.begun.epoch object inv))) (named t is)
 
   begins-kind : (o : Option Transaction) → front.transaction ≡ o → FrontKind front (begins decl front o)
   begins-kind (Some t) is = still (telling (replies.Already t.begun.tx)) refl refl (named t is)
-  begins-kind None is = inr (inl (record { free = ap (λ (o : Option Transaction). begun_tx (begun_in o)) is; client = refl; life = refl; count = refl; named = refl; turn = refl }))
+  begins-kind None is =
+      inr (inl (record {
+        free = ap (λ (o : Option Transaction). begun_tx (begun_in o)) is;
+        client = refl;
+        life = refl;
+        count = refl;
+        named = refl;
+        turn = refl
+      }))
 
   commits-kind : (o : Option Transaction) → front.transaction ≡ o → FrontKind front (commits front o)
   commits-kind None is = still (telling replies.NoTransaction) refl refl tt
   commits-kind (Some t) is = by t.begun.doomed where
-    by : (doomed : Bool) → FrontKind front (cond doomed (gives_up front t (replies.Aborted causes.Doomed)) (moved front quiet))
+    by : (doomed : Bool)
+        → FrontKind front (cond doomed (gives_up front t (replies.Aborted causes.Doomed)) (moved front quiet))
     by true = gives t (replies.Aborted causes.Doomed) is tt
     by false = still quiet refl refl tt
 
@@ -203,9 +118,12 @@ module _ (decl : Declaration) (front : Front) where
   called-kind commands.Abort = aborts-kind front.transaction refl
   called-kind (commands.Epoch number) = still quiet refl refl tt
 
-  read_named : (t : Transaction) (site object : ℕ) (answer : Option Answer) → (read_with t site object answer).begun.tx ≡ t.begun.tx
+  read_named : (t : Transaction) (site object : ℕ) (answer : Option Answer)
+      → (read_with t site object answer).begun.tx ≡ t.begun.tx
   read_named t site object None = refl
-  read_named t site object (Some (answers.Granted life clock log)) = ap (λ (b : Begun). b.tx) (view_keeps (lived t site life) object (option_map (λ (v : View). with_log v log) (slice_get t.views object)))
+  read_named t site object (Some (answers.Granted life clock log)) =
+      ap (λ (b : Begun). b.tx)
+      (view_keeps (lived t site life) object (option_map (λ (v : View). with_log v log) (slice_get t.views object)))
   read_named t site object (Some (answers.Clash holder inv event)) = refl
   read_named t site object (Some (answers.Closed epoch)) = refl
   read_named t site object (Some (answers.Behind epoch)) = refl
@@ -231,20 +149,25 @@ module _ (decl : Declaration) (front : Front) where
   learned (Some answers.Installed) = same_counts front
   learned (Some (answers.Answered verdict)) = same_counts front
 
-  takes_in-kind : (doing : Doing) (o : Option Transaction) (number : ℕ) (answer : Option Answer) → front.transaction ≡ o → FrontKind front (takes_in decl front doing o number answer)
+  takes_in-kind : (doing : Doing) (o : Option Transaction) (number : ℕ) (answer : Option Answer) → front.transaction ≡ o
+      → FrontKind front (takes_in decl front doing o number answer)
   takes_in-kind doing None number answer is = still quiet refl refl tt
   takes_in-kind Idle (Some t) number answer is = still quiet refl refl tt
   takes_in-kind (Reading object inv calls round) (Some t) number answer is = by (site_called calls number) where
     by : (s : Option ℕ) → FrontKind front (reading_takes decl front t object inv calls round number answer s)
     by None = still quiet refl refl tt
     by (Some site) =
-        read_by-kind decl front (learns front answer) (learned answer) (read_with t site object answer) object inv (without_call calls number) (note round site (standing_of answer)) (verdict (note round site (standing_of answer)))
+        read_by-kind decl front (learns front answer) (learned answer) (read_with t site object answer) object inv
+            (without_call calls number) (note round site (standing_of answer))
+            (verdict (note round site (standing_of answer)))
         (named t is ∙ ap (λ (x : TxId). Some x) (sym (read_named t site object answer)))
   takes_in-kind (Appending object inv event calls round) (Some t) number answer is = by (site_called calls number) where
     by : (s : Option ℕ) → FrontKind front (appending_takes decl front t object inv event calls round number answer s)
     by None = still quiet refl refl tt
     by (Some site) =
-        append_by-kind decl front (learns front answer) (learned answer) (appended_with t site answer) object inv event (without_call calls number) (note round site (standing_of answer)) (verdict (note round site (standing_of answer)))
+        append_by-kind decl front (learns front answer) (learned answer) (appended_with t site answer) object inv event
+            (without_call calls number) (note round site (standing_of answer))
+            (verdict (note round site (standing_of answer)))
         (named t is ∙ ap (λ (x : TxId). Some x) (sym (ap (λ (u : Transaction). u.begun.tx) (appended_is t site answer))))
 
   pub takes-kind : (number : ℕ) (answer : Option Answer) → FrontKind front (takes decl front number answer)

@@ -1,70 +1,31 @@
 -- What a front end becomes and sends stays within a bound that what it takes keeps to, and one more where it begins.
-use Rattle.std.proofs.Common.{◌≡◌, ℕ, zero, suc, ◌+◌, ◌≤◌, max, Bool, true, false, cond, nat_le, List, [], ◌∷◌, ◌++◌, length, replicate, Option, Some, None, option_map, refl, sym, subst, arith}
-use Rattle.std.specs.Prelude.{slice_get, slice_set}
-use Rattle.std.specs.List.{AllByRecursion as Every}
+use Rattle.std.proofs.Common.{◌≡◌, ℕ, ◌+◌, ◌≤◌}
+use Rattle.std.proofs.Common.{length, Option, Some, None, refl, sym, subst, arith}
+use Rattle.std.specs.Prelude.{slice_get}
 use Rattle.std.specs.Option.{option_map_or}
-use Rattle.qc_list.proofs.Members.{every-at, every-from_In, every-weaker}
-use Rattle.qc_entry.specs.declared.line.Line.{Line}
-use Rattle.qc_entry.proofs.Union.{every-union}
+use Rattle.qc_list.proofs.Members.{every-from_In}
 use Rattle.qc_decl.specs.declared.declaration.Declaration.{Declaration}
-use Rattle.qc_decl.specs.Names.{append_need_of, most_transaction_operations, read_need_of}
-use Rattle.qc_msg.specs.declared.call.Call.{Call}
 use Rattle.qc_msg.specs.declared.message.Answer.{Answer}
-use Rattle.qc_msg.specs.declared.message.Answer.TheVariants as answers
 use Rattle.qc_msg.specs.declared.message.Message.{Message}
 use Rattle.qc_msg.specs.declared.message.Message.TheVariants as messages
 use Rattle.qc_msg.specs.declared.message.Want.{Want}
-use Rattle.qc_msg.specs.declared.reply.Reply.TheVariants as replies
-use Rattle.qc_msg.specs.declared.reply.AbortCause.TheVariants as causes
 use Rattle.qc_msg.specs.declared.step.Command.{Command}
 use Rattle.qc_msg.specs.declared.step.Command.TheVariants as commands
 use Rattle.qc_msg.specs.declared.turn.Posting.{Posting}
-use Rattle.qc_msg.specs.Names.{quiet, site_called, telling, without_call}
-use Rattle.qc_plan.specs.Names.{RoundState, note, verdict}
-use Rattle.qc_plan.specs.declared.standing.Verdict.{Verdict}
-use Rattle.qc_plan.specs.declared.standing.Verdict.TheVariants as verdicts
+use Rattle.qc_plan.specs.Names.{verdict}
 use Rattle.qc_view.specs.declared.view.View.{View}
-use Rattle.qc_view.specs.Names.{empty_view, with_log, with_own}
 use Rattle.qc_front.specs.declared.doing.Doing.{Doing}
 use Rattle.qc_front.specs.declared.doing.Doing.TheVariants.{Idle, Reading, Appending}
 use Rattle.qc_front.specs.declared.front.Front.{Front}
 use Rattle.qc_front.specs.declared.transaction.Transaction.{Transaction}
-use Rattle.qc_front.specs.Names.{AreSent, FrontMove, IsFor, IsSent, aborts, answer_of, answered, append_by}
-use Rattle.qc_front.specs.Names.{appended_with, appending_takes, begins, called, commits, ended, gives_up, learns}
-use Rattle.qc_front.specs.Names.{lived, moved, next_own, performs, read_by, read_with, reading_takes, reads, resp_of}
-use Rattle.qc_front.specs.Names.{round_for, standing_of, takes, takes_in, view_log, with_event, with_view}
+use Rattle.qc_front.specs.Names.{AreSent, FrontMove, IsFor, IsSent}
+use Rattle.qc_front.specs.Names.{begins, called, ended}
+use Rattle.qc_front.specs.Names.{takes, view_log}
 use Rattle.qc_front.proofs.Sending.{called_sent, takes_sent}
 use Rattle.laws_turns.specs.Names.{FrontWithin, LinesWithin, MessageWithin, OutcomeWithin, SendsWithin}
 use Rattle.laws_turns.specs.Names.{TransactionWithin, ViewsWithin, WantWithin}
 use Rattle.laws_turns.proofs.DesksWithin.{CameWithin}
-use Rattle.laws_turns.proofs.Greater.{lines-le}
-
--- a greater bound
-
-views-le : (low high : ℕ) (views : List View) → low ≤ high → ViewsWithin low views → ViewsWithin high views
-views-le low high views le = every-weaker (λ (v : View). LinesWithin low v.log) (λ (v : View). LinesWithin high v.log) (λ v here. lines-le low high le v.log here) views
-
-transaction-le : (low high : ℕ) (t : Option Transaction) → low ≤ high → TransactionWithin low t → TransactionWithin high t
-transaction-le low high None le w = tt
-transaction-le low high (Some t) le w = views-le low high t.views le w
-
-pub front-le : (low high : ℕ) (front : Front) → low ≤ high → FrontWithin low front → FrontWithin high front
-front-le low high front le w = record {
-  clock = (let c : front.clock.value ≤ low = w.clock in omega arith);
-  count = (let n : front.count ≤ low = w.count in omega arith);
-  views = transaction-le low high front.transaction le w.views;
-}
-
--- views
-
-every-set : {A : Type 0} (P : A → Type 0) (xs : List A) (i : ℕ) (y : A) → P y → Every P xs → Every P (slice_set xs i y)
-every-set P [] i y here all = tt
-every-set P (x ∷ xs) zero y here all = (here, all.1)
-every-set P (x ∷ xs) (suc i) y here all = (all.0, every-set P xs i y here all.1)
-
-no_lines : (bound n : ℕ) → ViewsWithin bound (replicate n empty_view)
-no_lines bound zero = tt
-no_lines bound (suc n) = (tt, no_lines bound n)
+use Rattle.laws_turns.proofs.FrontBounds.{front-le, no_lines, old-within, granted-clock, _, takes_in-within}
 
 module _ (bound : ℕ) where
   -- another view of an object
@@ -72,148 +33,29 @@ module _ (bound : ℕ) where
   ViewWithin None = Unit {0}
   ViewWithin (Some v) = LinesWithin bound v.log
 
-  view-within : (t : Transaction) (object : ℕ) (o : Option View) → ViewsWithin bound t.views → ViewWithin o → ViewsWithin bound (with_view t object o).views
-  view-within t object None w here = w
-  view-within t object (Some v) w here = every-set (λ (v : View). LinesWithin bound v.log) t.views object v here w
-
-  old-within : (views : List View) (object : ℕ) (o : Option View) → slice_get views object ≡ o → ViewsWithin bound views → ViewWithin o
-  old-within views object None is w = tt
-  old-within views object (Some v) is w = every-at (λ (v : View). LinesWithin bound v.log) views object v w is
-
-  owned : (o : Option View) (event : ℕ) → ViewWithin o → ViewWithin (option_map (λ (v : View). with_own v event) o)
-  owned None event here = tt
-  owned (Some v) event here = here
-
-  logged : (o : Option View) (log : List Line) → ViewWithin o → LinesWithin bound log → ViewWithin (option_map (λ (v : View). with_log v log) o)
-  logged None log here lines = tt
-  logged (Some v) log here lines = every-union (λ (l : Line). l.stamp.clock ≤ bound) v.log log here lines
-
-  event-within : (t : Transaction) (object inv event resp : ℕ) → ViewsWithin bound t.views → ViewsWithin bound (with_event t object inv event resp).views
-  event-within t object inv event resp w =
-      let old : ViewWithin (slice_get t.views object) = old-within t.views object (slice_get t.views object) refl w in
-      view-within (record t { own = t.own ++ next_own t object event ∷ [] }) object (option_map (λ (v : View). with_own v event) (slice_get t.views object)) w (owned (slice_get t.views object) event old)
-
-  read-within : (t : Transaction) (site object : ℕ) (answer : Option Answer) → ViewsWithin bound t.views → CameWithin bound answer → ViewsWithin bound (read_with t site object answer).views
-  read-within t site object None w here = w
-  read-within t site object (Some (answers.Granted life clock log)) w here =
-      view-within (lived t site life) object (option_map (λ (v : View). with_log v log) (slice_get t.views object)) w
-      (logged (slice_get t.views object) log (old-within t.views object (slice_get t.views object) refl w) here.1)
-  read-within t site object (Some (answers.Clash holder inv event)) w here = w
-  read-within t site object (Some (answers.Closed epoch)) w here = w
-  read-within t site object (Some (answers.Behind epoch)) w here = w
-  read-within t site object (Some (answers.Restarted life)) w here = w
-  read-within t site object (Some answers.Stale) w here = w
-  read-within t site object (Some answers.Fault) w here = w
-  read-within t site object (Some (answers.Yes clock)) w here = w
-  read-within t site object (Some (answers.Shut clock log prepared)) w here = w
-  read-within t site object (Some answers.Installed) w here = w
-  read-within t site object (Some (answers.Answered verdict)) w here = w
-
-  appended_within : (t : Transaction) (site : ℕ) (answer : Option Answer) → ViewsWithin bound t.views → ViewsWithin bound (appended_with t site answer).views
-  appended_within t site None w = w
-  appended_within t site (Some (answers.Granted life clock log)) w = w
-  appended_within t site (Some (answers.Clash holder inv event)) w = w
-  appended_within t site (Some (answers.Closed epoch)) w = w
-  appended_within t site (Some (answers.Behind epoch)) w = w
-  appended_within t site (Some (answers.Restarted life)) w = w
-  appended_within t site (Some answers.Stale) w = w
-  appended_within t site (Some answers.Fault) w = w
-  appended_within t site (Some (answers.Yes clock)) w = w
-  appended_within t site (Some (answers.Shut clock log prepared)) w = w
-  appended_within t site (Some answers.Installed) w = w
-  appended_within t site (Some (answers.Answered verdict)) w = w
-
-  -- the clock as an answer counts
-
-  granted-clock : (front : Front) (clock : ℕ) → front.clock.value ≤ bound → clock ≤ bound → max front.clock.value clock ≤ bound
-  granted-clock front clock w here = omega arith
-
-  learned-within : (front : Front) (answer : Option Answer) → FrontWithin bound front → CameWithin bound answer → FrontWithin bound (learns front answer)
-  learned-within front None w here = w
-  learned-within front (Some (answers.Granted life clock log)) w here = record { clock = granted-clock front clock w.clock here.0; count = w.count; views = w.views }
-  learned-within front (Some (answers.Clash holder inv event)) w here = w
-  learned-within front (Some (answers.Closed epoch)) w here = record { clock = w.clock; count = w.count; views = w.views }
-  learned-within front (Some (answers.Behind epoch)) w here = w
-  learned-within front (Some (answers.Restarted life)) w here = w
-  learned-within front (Some answers.Stale) w here = w
-  learned-within front (Some answers.Fault) w here = w
-  learned-within front (Some (answers.Yes clock)) w here = w
-  learned-within front (Some (answers.Shut clock log prepared)) w here = w
-  learned-within front (Some answers.Installed) w here = w
-  learned-within front (Some (answers.Answered verdict)) w here = w
-
-  module _ (decl : Declaration) (front : Front) (w : FrontWithin bound front) where
-    append_by-within : (t : Transaction) (object inv event : ℕ) (calls : List Call) (r : RoundState) (v : Verdict) → ViewsWithin bound t.views → FrontWithin bound (append_by decl front t object inv event calls r v).front
-    append_by-within t object inv event calls r verdicts.Waiting views = record { clock = w.clock; count = w.count; views = views }
-    append_by-within t object inv event calls r verdicts.Met views = record { clock = w.clock; count = w.count; views = event-within t object inv event (resp_of decl object event) views }
-    append_by-within t object inv event calls r (verdicts.Closed epoch site) views = record { clock = w.clock; count = w.count; views = views }
-    append_by-within t object inv event calls r (verdicts.Clash tx site) views = record { clock = w.clock; count = w.count; views = views }
-    append_by-within t object inv event calls r (verdicts.Short got need) views = record { clock = w.clock; count = w.count; views = views }
-
-    answered-within : (t : Transaction) (object inv : ℕ) (event : Option ℕ) → ViewsWithin bound t.views → FrontWithin bound (answered decl front t object inv event).front
-    answered-within t object inv None views = record { clock = w.clock; count = w.count; views = views }
-    answered-within t object inv (Some event) views =
-        append_by-within t object inv event [] (round_for decl front t (append_need_of decl t.begun.epoch object event)) (verdict (round_for decl front t (append_need_of decl t.begun.epoch object event))) views
-
-    read_by-within : (t : Transaction) (object inv : ℕ) (calls : List Call) (r : RoundState) (v : Verdict) → ViewsWithin bound t.views → FrontWithin bound (read_by decl front t object inv calls r v).front
-    read_by-within t object inv calls r verdicts.Waiting views = record { clock = w.clock; count = w.count; views = views }
-    read_by-within t object inv calls r verdicts.Met views = answered-within t object inv (answer_of decl t object inv) views
-    read_by-within t object inv calls r (verdicts.Closed epoch site) views = record { clock = w.clock; count = w.count; views = views }
-    read_by-within t object inv calls r (verdicts.Clash tx site) views = record { clock = w.clock; count = w.count; views = views }
-    read_by-within t object inv calls r (verdicts.Short got need) views = record { clock = w.clock; count = w.count; views = views }
-
-    performs-within : (t : Option Transaction) (object inv : ℕ) → TransactionWithin bound t → FrontWithin bound (performs decl front t object inv).front
-    performs-within None object inv views = w
-    performs-within (Some t) object inv views = by t.begun.doomed (nat_le most_transaction_operations (length t.begun.ops)) where
-      by : (doomed long : Bool) → FrontWithin bound (cond doomed (moved front (telling replies.Doomed)) (cond long (moved front (telling replies.TooLong)) (reads decl front t object inv [] (round_for decl front t (read_need_of decl t.begun.epoch object inv))))).front
-      by true long = w
-      by false true = w
-      by false false = read_by-within t object inv [] (round_for decl front t (read_need_of decl t.begun.epoch object inv)) (verdict (round_for decl front t (read_need_of decl t.begun.epoch object inv))) views
-
-    commits-within : (t : Option Transaction) → FrontWithin bound (commits front t).front
-    commits-within None = w
-    commits-within (Some t) = by t.begun.doomed where
-      by : (doomed : Bool) → FrontWithin bound (cond doomed (gives_up front t (replies.Aborted causes.Doomed)) (moved front quiet)).front
-      by true = record { clock = w.clock; count = w.count; views = tt }
-      by false = w
-
-    aborts-within : (t : Option Transaction) → FrontWithin bound (aborts front t).front
-    aborts-within None = w
-    aborts-within (Some t) = record { clock = w.clock; count = w.count; views = tt }
-
-  takes_in-within : (decl : Declaration) (front : Front) (doing : Doing) (t : Option Transaction) (number : ℕ) (answer : Option Answer) → FrontWithin bound front → TransactionWithin bound t → CameWithin bound answer
-      → FrontWithin bound (takes_in decl front doing t number answer).front
-  takes_in-within decl front doing None number answer w views here = w
-  takes_in-within decl front Idle (Some t) number answer w views here = w
-  takes_in-within decl front (Reading object inv calls round) (Some t) number answer w views here = by (site_called calls number) where
-    by : (o : Option ℕ) → FrontWithin bound (reading_takes decl front t object inv calls round number answer o).front
-    by None = w
-    by (Some site) =
-        read_by-within decl (learns front answer) (learned-within front answer w here) (read_with t site object answer) object inv (without_call calls number) (note round site (standing_of answer)) (verdict (note round site (standing_of answer)))
-        (read-within t site object answer views here)
-  takes_in-within decl front (Appending object inv event calls round) (Some t) number answer w views here = by (site_called calls number) where
-    by : (o : Option ℕ) → FrontWithin bound (appending_takes decl front t object inv event calls round number answer o).front
-    by None = w
-    by (Some site) =
-        append_by-within decl (learns front answer) (learned-within front answer w here) (appended_with t site answer) object inv event (without_call calls number) (note round site (standing_of answer)) (verdict (note round site (standing_of answer)))
-        (appended_within t site answer views)
-
   -- what is sent: an Append carries the view of its object
 
   view_log-within : (t : Transaction) (object : ℕ) → ViewsWithin bound t.views → LinesWithin bound (view_log t object)
-  view_log-within t object w = by (slice_get t.views object) (old-within t.views object (slice_get t.views object) refl w) where
+  view_log-within t object w =
+      by (slice_get t.views object) (old-within bound t.views object (slice_get t.views object) refl w) where
     by : (o : Option View) → ViewWithin o → LinesWithin bound (option_map_or (λ (v : View). v.log) o [])
     by None here = tt
     by (Some v) here = here
 
-  for-within : (decl : Declaration) (t : Transaction) (doing : Doing) (want : Want) → ViewsWithin bound t.views → IsFor decl t doing want → WantWithin bound want
+  for-within : (decl : Declaration) (t : Transaction) (doing : Doing) (want : Want) → ViewsWithin bound t.views
+      → IsFor decl t doing want → WantWithin bound want
   for-within decl t Idle want w never = absurd never
   for-within decl t (Reading object inv calls round) want w is = subst (WantWithin bound) (sym is) tt
-  for-within decl t (Appending object inv event calls round) want w is = subst (WantWithin bound) (sym is) (view_log-within t object w)
+  for-within decl t (Appending object inv event calls round) want w is =
+      subst (WantWithin bound) (sym is) (view_log-within t object w)
 
-  sent-within : (decl : Declaration) (before : Front) (move : FrontMove) → TransactionWithin bound move.front.transaction → AreSent decl before move → SendsWithin bound move.turn.sends
-  sent-within decl before move w sent = every-from_In (λ (p : Posting). MessageWithin bound p.message) move.turn.sends (λ p among. one p.to p.message (sent p among)) where
-    asks : (to : ℕ) (want : Want) → (t : Transaction) → move.front.transaction ≡ Some t → IsFor decl t move.front.doing want → WantWithin bound want
+  sent-within : (decl : Declaration) (before : Front) (move : FrontMove)
+      → TransactionWithin bound move.front.transaction → AreSent decl before move → SendsWithin bound move.turn.sends
+  sent-within decl before move w sent =
+      every-from_In (λ (p : Posting). MessageWithin bound p.message) move.turn.sends
+      (λ p among. one p.to p.message (sent p among)) where
+    asks : (to : ℕ) (want : Want) → (t : Transaction) → move.front.transaction ≡ Some t
+        → IsFor decl t move.front.doing want → WantWithin bound want
     asks to want t begun is = for-within decl t move.front.doing want (subst (TransactionWithin bound) begun w) is
 
     one : (to : ℕ) (message : Message) → IsSent decl before move.front to message → MessageWithin bound message
@@ -231,29 +73,51 @@ pub record FrontGoes (bound : ℕ) (move : FrontMove) : Type 0 where
   pub front : FrontWithin bound move.front
   pub sends : SendsWithin bound move.turn.sends
 
-begins-within : (bound : ℕ) (decl : Declaration) (front : Front) (t : Option Transaction) → FrontWithin bound front → FrontWithin (bound + 1) (begins decl front t).front
+begins-within : (bound : ℕ) (decl : Declaration) (front : Front) (t : Option Transaction) → FrontWithin bound front
+    → FrontWithin (bound + 1) (begins decl front t).front
 begins-within bound decl front (Some t) w = front-le bound (bound + 1) front (omega arith) w
 begins-within bound decl front None w =
     let more : FrontWithin (bound + 1) front = front-le bound (bound + 1) front (omega arith) w in
-    record { clock = more.clock; count = (let n : front.count ≤ bound = w.count in omega arith); views = no_lines (bound + 1) (length decl.objects) }
+    record {
+          clock = more.clock;
+          count = (let n : front.count ≤ bound = w.count in omega arith);
+          views = no_lines (bound + 1) (length decl.objects)
+        }
 
-called-within : (bound : ℕ) (decl : Declaration) (front : Front) (command : Command) → FrontWithin bound front → FrontWithin (bound + 1) (called decl front command).front
+called-within : (bound : ℕ) (decl : Declaration) (front : Front) (command : Command) → FrontWithin bound front
+    → FrontWithin (bound + 1) (called decl front command).front
 called-within bound decl front commands.Begin w = begins-within bound decl front front.transaction w
 called-within bound decl front (commands.Do object inv) w =
-    let more : FrontWithin (bound + 1) front = front-le bound (bound + 1) front (omega arith) w in performs-within (bound + 1) decl front more front.transaction object inv more.views
-called-within bound decl front commands.Commit w = commits-within (bound + 1) decl front (front-le bound (bound + 1) front (omega arith) w) front.transaction
-called-within bound decl front commands.Abort w = aborts-within (bound + 1) decl front (front-le bound (bound + 1) front (omega arith) w) front.transaction
+    let more : FrontWithin (bound + 1) front = front-le bound (bound + 1) front (omega arith) w in
+    performs-within (bound + 1) decl front more front.transaction object inv more.views
+called-within bound decl front commands.Commit w =
+    commits-within (bound + 1) decl front (front-le bound (bound + 1) front (omega arith) w) front.transaction
+called-within bound decl front commands.Abort w =
+    aborts-within (bound + 1) decl front (front-le bound (bound + 1) front (omega arith) w) front.transaction
 called-within bound decl front (commands.Epoch number) w = front-le bound (bound + 1) front (omega arith) w
 
-pub called-goes : (bound : ℕ) (decl : Declaration) (front : Front) (command : Command) → FrontWithin bound front → FrontGoes (bound + 1) (called decl front command)
+pub called-goes : (bound : ℕ) (decl : Declaration) (front : Front) (command : Command) → FrontWithin bound front
+    → FrontGoes (bound + 1) (called decl front command)
 called-goes bound decl front command w =
     let next : FrontWithin (bound + 1) (called decl front command).front = called-within bound decl front command w in
-    record { front = next; sends = sent-within (bound + 1) decl front (called decl front command) next.views (called_sent decl front command) }
+    record {
+          front = next;
+          sends = sent-within (bound + 1) decl front (called decl front command) next.views
+              (called_sent decl front command)
+        }
 
-pub takes-goes : (bound : ℕ) (decl : Declaration) (front : Front) (number : ℕ) (answer : Option Answer) → FrontWithin bound front → CameWithin bound answer → FrontGoes bound (takes decl front number answer)
+pub takes-goes : (bound : ℕ) (decl : Declaration) (front : Front) (number : ℕ) (answer : Option Answer)
+    → FrontWithin bound front → CameWithin bound answer → FrontGoes bound (takes decl front number answer)
 takes-goes bound decl front number answer w here =
-    let next : FrontWithin bound (takes decl front number answer).front = takes_in-within bound decl front front.doing front.transaction number answer w w.views here in
-    record { front = next; sends = sent-within bound decl front (takes decl front number answer) next.views (takes_sent decl front number answer) }
+    let next : FrontWithin bound (takes decl front number answer).front =
+            takes_in-within bound decl front front.doing front.transaction number answer w w.views here in
+    record {
+          front = next;
+          sends = sent-within bound decl front (takes decl front number answer) next.views
+              (takes_sent decl front number answer)
+        }
 
-pub ended_within : (bound : ℕ) (front : Front) (clock epoch : ℕ) → FrontWithin bound front → clock ≤ bound → FrontWithin bound (ended front clock epoch)
-ended_within bound front clock epoch w here = record { clock = granted-clock bound front clock w.clock here; count = w.count; views = tt }
+pub ended_within : (bound : ℕ) (front : Front) (clock epoch : ℕ) → FrontWithin bound front → clock ≤ bound
+    → FrontWithin bound (ended front clock epoch)
+ended_within bound front clock epoch w here =
+    record { clock = granted-clock bound front clock w.clock here; count = w.count; views = tt }

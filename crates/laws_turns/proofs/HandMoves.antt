@@ -16,7 +16,7 @@ use Rattle.qc_commit.specs.Conduct as desks
 use Rattle.qc_commit.specs.Names.{DeskMove, abort_turn, are_cast, blank, cast, commit_of, commit_turn, first_against}
 use Rattle.qc_commit.specs.Names.{moved as desk_moved, participants, prepares, vote_of}
 use Rattle.qc_commit.proofs.Learned.{learned-above, learned-client, learned-commits}
-use Rattle.laws_turns.proofs.FrontKinds.{IsRequestFor}
+use Rattle.laws_turns.proofs.FrontGoesOn.{IsRequestFor}
 
 -- the desk waits for votes on this transaction
 abbrev pub Holds : Option Voting → Begun → Type 0

@@ -25,7 +25,8 @@ use Rattle.qc_msg.specs.declared.turn.Turn.{Turn}
 use Rattle.qc_msg.specs.Names.{Deed, Entry, Falls, Rises, WasSentTo, by, deeds, deeds_as, fell, mail, marked, posted_as}
 use Rattle.qc_msg.specs.Names.{sends_as, step_of}
 use Rattle.qc_msg.proofs.GrownMail.{length-envelopes, mail-append, mail-taken}
-use Rattle.qc_msg.proofs.Growth.{deeds-append, deeds-fell, deeds-other, deeds-posted_as, deeds-rose, deeds-taken, mail-posted_as}
+use Rattle.qc_msg.proofs.DeedsGrow.{deeds-append, deeds-fell, deeds-other, deeds-rose}
+use Rattle.qc_msg.proofs.Growth.{deeds-posted_as, deeds-taken, mail-posted_as}
 use Rattle.qc_script.specs.Names.{RunsWithFalls, begins, control, controller_step, controls_left, damaged, falls, inbox}
 use Rattle.qc_script.specs.Names.{phase, phase_of, posts, ready, rises, takes, unopened}
 use Rattle.qc_script.specs.Inbox as boxes

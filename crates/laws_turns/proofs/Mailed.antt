@@ -17,7 +17,7 @@ use Rattle.qc_script.specs.Names.{Runs, phase_of}
 use Rattle.qc_script.specs.Runs.{begins, takes, posts, phase, control}
 use Rattle.qc_script.specs.declared.script.Script.{Script}
 use Rattle.laws_turns.proofs.Numbered.{control_silent, mail-silent, phase_silent}
-use Rattle.laws_turns.proofs.OwnStamps.{AreStamped}
+use Rattle.laws_turns.proofs.StampsOwn.{AreStamped}
 use Rattle.laws_turns.proofs.Stamped.{lawful_stamped}
 
 abbrev pub IsMailStamped : List Envelope → Type 0

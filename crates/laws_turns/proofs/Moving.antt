@@ -22,7 +22,8 @@ use Rattle.qc_msg.specs.declared.turn.Turn.{Turn}
 use Rattle.qc_msg.specs.Names.{Deed, Entry, Takes, WasSentTo, by, deeds, envelopes, mail, marked, posted, quiet}
 use Rattle.qc_msg.specs.Names.{step_of, turn_deeds}
 use Rattle.qc_msg.proofs.GrownMail.{mail-append, mail-posted, mail-taken}
-use Rattle.qc_msg.proofs.Growth.{deeds-append, deeds-other, deeds-posted, deeds-taken}
+use Rattle.qc_msg.proofs.DeedsGrow.{deeds-append, deeds-other}
+use Rattle.qc_msg.proofs.Growth.{deeds-posted, deeds-taken}
 use Rattle.qc_site.specs.Names.{SiteMove, moved as site_moved, new_site, site_after, site_does, site_takes}
 use Rattle.qc_promise.specs.Names.{Status, Unborn, status, status_at}
 use Rattle.laws_turns.proofs.Bounding.{control-deeds, control-mail, site_posts, turn-posts}

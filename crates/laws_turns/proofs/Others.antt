@@ -18,7 +18,7 @@ use Rattle.qc_msg.specs.declared.step.Step.{Step}
 use Rattle.qc_msg.specs.declared.step.Step.TheVariants as steps
 use Rattle.qc_msg.specs.declared.turn.Turn.{Turn}
 use Rattle.qc_msg.specs.Names.{Deed, Entry, Falls, by, deeds, mail, marked, posted_as, step_of}
-use Rattle.qc_msg.proofs.Growth.{deeds-other}
+use Rattle.qc_msg.proofs.DeedsGrow.{deeds-other}
 use Rattle.qc_script.specs.Names.{RunsWithFalls, begins, control, damaged, falls, phase, phase_of, posts, rises, takes}
 use Rattle.qc_script.specs.Names.{unopened}
 use Rattle.qc_script.specs.declared.script.Script.{Script}

@@ -33,7 +33,7 @@ use Rattle.qc_front.specs.Names.{AreSent, FrontMove, IsSent, aborts, answer_of, 
 use Rattle.qc_front.specs.Names.{appending_takes, begins, called, commits, gives_up, learns, lived, moved, next_own}
 use Rattle.qc_front.specs.Names.{performs, read_by, read_with, reading_takes, reads, resp_of, round_for, standing_of}
 use Rattle.qc_front.specs.Names.{takes, takes_in, with_event}
-use Rattle.qc_front.proofs.Keeping.{view_keeps}
+use Rattle.qc_front.proofs.CommandsKeep.{view_keeps}
 use Rattle.qc_front.proofs.Sending.{called_sent, takes_sent}
 
 abbrev pub IsOwnTransaction : ℕ → Option Transaction → Type 0

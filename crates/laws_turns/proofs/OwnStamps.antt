@@ -1,173 +1,46 @@
 -- A client's Decisions Committed name stamps of its own: it tells of its own transactions alone, by its own records.
-use Rattle.std.proofs.Common.{◌≡◌, ℕ, ◌==◌, ◌&&◌, Bool, true, false, if◌then◌else◌, List, [], ◌∷◌, map, Option, Some, None, is_some, inl, inr, refl, sym, ap, ◌∙◌, subst, eqb-true}
-use Rattle.std.specs.List.{AllByRecursion as Every, fold}
-use Rattle.qc_list.proofs.Members.{every-append, every-weaker}
-use Rattle.qc_core.specs.Names.{IsOwnStamp, IsStamped}
+use Rattle.std.proofs.Common.{◌≡◌, ℕ, List, ◌∷◌, Option, Some}
+use Rattle.std.proofs.Common.{None, refl, ap, ◌∙◌, subst}
+use Rattle.std.specs.List.{fold}
 use Rattle.qc_decl.specs.declared.declaration.Declaration.{Declaration}
-use Rattle.qc_stamp.specs.declared.stamp.Stamp.{Stamp}
 use Rattle.qc_stamp.specs.declared.stamp.TxId.{TxId}
-use Rattle.qc_stamp.specs.Names.{same_tx}
 use Rattle.qc_entry.specs.declared.record.Commit.{Commit}
-use Rattle.qc_msg.specs.declared.begun.Begun.{Begun}
 use Rattle.qc_msg.specs.declared.message.Answer.{Answer}
 use Rattle.qc_msg.specs.declared.message.Message.{Message}
 use Rattle.qc_msg.specs.declared.message.Message.TheVariants as messages
-use Rattle.qc_msg.specs.declared.message.Outcome.{Outcome}
-use Rattle.qc_msg.specs.declared.message.Outcome.TheVariants.{Committed, Aborted}
 use Rattle.qc_msg.specs.declared.message.Want.{Want}
 use Rattle.qc_msg.specs.declared.message.Want.TheVariants.{Read, Append, Prepare}
-use Rattle.qc_msg.specs.declared.record.Record.{Record}
 use Rattle.qc_msg.specs.declared.record.Record.TheVariants as records
 use Rattle.qc_msg.specs.declared.step.Command.{Command}
 use Rattle.qc_msg.specs.declared.step.Command.TheVariants as commands
 use Rattle.qc_msg.specs.declared.step.Input.{Input}
 use Rattle.qc_msg.specs.declared.step.Input.TheVariants as inputs
-use Rattle.qc_msg.specs.declared.turn.Posting.{Posting}
-use Rattle.qc_msg.specs.declared.turn.Turn.{Turn}
-use Rattle.qc_msg.specs.Names.{Deed, Falls, Rises, Sends, Takes, Tells, Writes, decisions, quiet}
-use Rattle.qc_commit.specs.declared.desk.Desk.{Desk}
-use Rattle.qc_commit.specs.declared.desk.Known.{Known}
-use Rattle.qc_commit.specs.declared.desk.Known.TheVariants as knowns
+use Rattle.qc_msg.specs.Names.{Deed, Falls, Rises, Sends, Takes, Tells, Writes, quiet}
 use Rattle.qc_commit.specs.declared.desk.Voting.{Voting}
 use Rattle.qc_commit.specs.Conduct as desks
-use Rattle.qc_commit.specs.Names.{DeskMove, commit_of, known, known_by, record_of}
-use Rattle.qc_commit.proofs.Moves.{IsMove, IsPrepare, prepare-moves, tx_of, vote-moves}
+use Rattle.qc_commit.proofs.Moves.{prepare-moves, tx_of, vote-moves}
 use Rattle.qc_front.specs.declared.transaction.Transaction.{Transaction}
 use Rattle.qc_front.specs.Conduct as fronts
-use Rattle.qc_front.proofs.Unwritten as calm
-use Rattle.qc_front.specs.Names.{FrontMove, ended}
 use Rattle.qc_client.specs.declared.client.Client.{Client}
 use Rattle.qc_client.specs.Names.{ClientMove, answered, answered_by, by_desk, by_front, called, client_after}
-use Rattle.qc_client.specs.Names.{client_does, client_takes, commits, heard, is_begun, moved, new_client, outcome_by}
-use Rattle.qc_client.specs.Names.{outcome_of, requested, sent_one}
-use Rattle.laws_turns.proofs.OwnFronts.{IsOwnTransaction, OwnFront}
-use Rattle.laws_turns.proofs.OwnFronts as own_fronts
-
-abbrev pub AreStamped : List Posting → Type 0
-AreStamped ps = Every (λ (p : Posting). IsStamped p.message) ps
-
--- a client's records, which name stamps of their transactions' own clients, and its own transactions
-
-abbrev pub IsOwnCommit : Commit → Type 0
-IsOwnCommit r = r.stamp.client ≡ r.tx.client
-
--- what is written is such a record
-abbrev pub IsOwnWrite : Option Record → Type 0
-IsOwnWrite w = (c : Commit) → w ≡ Some (records.Commit c) → IsOwnCommit c
-
-pub unwritten : (w : Option Record) → w ≡ None → IsOwnWrite w
-unwritten w none c is = absurd (let never : ⊥ = cc in never)
-
-pub record Own (k : ℕ) (c : Client) : Type 0 where
-  pub front : OwnFront k c.front
-  pub desk : c.desk.client ≡ k
-  pub commits : Every IsOwnCommit c.desk.commits
-  pub hand : (tx : TxId) → tx_of c.desk.voting ≡ Some tx → tx.client ≡ k
-
-pub record OwnMove (k : ℕ) (m : ClientMove) : Type 0 where
-  pub own : Own k m.client
-  pub sends : AreStamped m.turn.sends
-  pub writes : IsOwnWrite m.turn.write
-
-pub by_two : {A : Type 0} (P : A → Type 0) (t : Bool) (x y : A) → P x → P y → P (if t then x else y)
-by_two P true x y here there = here
-by_two P false x y here there = there
-
--- the front end moves
-front_own : (k : ℕ) (c : Client) (m : FrontMove) → Own k c → OwnFront k m.front → AreStamped m.turn.sends → m.turn.write ≡ None → OwnMove k (by_front c m)
-front_own k c m own front sends none = record {
-  own = record { front = front; desk = own.desk; commits = own.commits; hand = own.hand };
-  sends = sends;
-  writes = unwritten m.turn.write none;
-}
-
-front_called : (decl : Declaration) (k : ℕ) (c : Client) (command : Command) → Own k c → OwnMove k (by_front c (fronts.called decl c.front command))
-front_called decl k c command own = front_own k c (fronts.called decl c.front command) own (own_fronts.called_own decl k c.front command own.front) (own_fronts.called_stamped decl c.front command) (calm.front_called decl c.front command).write
-
-front_takes : (decl : Declaration) (k : ℕ) (c : Client) (number : ℕ) (answer : Option Answer) → Own k c → OwnMove k (by_front c (fronts.takes decl c.front number answer))
-front_takes decl k c number answer own = front_own k c (fronts.takes decl c.front number answer) own (own_fronts.takes_own decl k c.front number answer own.front) (own_fronts.takes_stamped decl c.front number answer) (calm.front_takes decl c.front number answer).write
-
--- the desk moves
-
-desk_front : (k : ℕ) (c : Client) (d : Desk) (t : Bool) → Own k c → d.client ≡ k → Every IsOwnCommit d.commits → ((tx : TxId) → tx_of d.voting ≡ Some tx → tx.client ≡ k)
-    → Own k (record { front = if t then ended c.front d.clock.value d.epoch else c.front; desk = d })
-desk_front k c d true own is commits hand = record { front = record { client = own.front.client; begun = tt }; desk = is; commits = commits; hand = hand }
-desk_front k c d false own is commits hand = record { front = own.front; desk = is; commits = commits; hand = hand }
-
-prepare_stamped : (m : Message) → IsPrepare m → IsStamped m
-prepare_stamped (messages.Request tx epoch life want) is = tt
-prepare_stamped (messages.Answer to answer) is = tt
-prepare_stamped (messages.Decision tx verdict) is = absurd is
-prepare_stamped (messages.Inquiry tx) is = tt
-prepare_stamped (messages.Ask tx) is = tt
-prepare_stamped (messages.Close epoch) is = tt
-prepare_stamped (messages.Install epoch clock log) is = tt
-
-decisions_stamped : (b : Begun) (v : Outcome) → IsOwnStamp b.tx v → AreStamped (decisions b v)
-decisions_stamped b v is = over b.asked
-  where
-    over : (asked : List ℕ) → AreStamped (map (λ (site : ℕ). record { to = site; message = messages.Decision b.tx v }) asked)
-    over [] = tt
-    over (site ∷ asked) = (is, over asked)
-
-no_hand : (k : ℕ) (d : Desk) → d.voting ≡ None → (tx : TxId) → tx_of d.voting ≡ Some tx → tx.client ≡ k
-no_hand k d none tx is = absurd (let gone : tx_of d.voting ≡ None = ap tx_of none in let never : ⊥ = cc in never)
-
-desk_own : (k : ℕ) (c : Client) (hand : Option TxId) (m : DeskMove) → Own k c → ((tx : TxId) → hand ≡ Some tx → tx.client ≡ k) → IsMove c.desk hand m → OwnMove k (by_desk c m)
-desk_own k c hand m own held (inl w) = record {
-  own = desk_front k c m.desk (is_some m.turn.told) own (w.client ∙ own.desk) (subst (Every IsOwnCommit) (sym w.commits) own.commits) (λ tx is. held tx (sym w.voting ∙ is));
-  sends = every-weaker (λ (p : Posting). IsPrepare p.message) (λ (p : Posting). IsStamped p.message) (λ p is. prepare_stamped p.message is) m.turn.sends w.sends;
-  writes = unwritten m.turn.write w.write;
-}
-desk_own k c hand m own held (inr (inl r)) =
-    let stamp_is : r.stamp.client ≡ k = r.stamped ∙ own.desk in
-    let tx_is : r.begun.tx.client ≡ k = held r.begun.tx r.handed in
-    record {
-      own = desk_front k c m.desk (is_some m.turn.told) own (r.client ∙ own.desk) (subst (Every IsOwnCommit) (sym r.commits) (every-append IsOwnCommit c.desk.commits (commit_of r.stamp r.begun ∷ []) own.commits (stamp_is ∙ sym tx_is, tt))) (no_hand k m.desk r.voting);
-      sends = subst (λ (t : Turn). AreStamped t.sends) (sym r.turn) (decisions_stamped r.begun (Committed r.stamp) (stamp_is ∙ sym tx_is));
-      writes = subst (λ (t : Turn). IsOwnWrite t.write) (sym r.turn) (λ c is. (let same : commit_of r.stamp r.begun ≡ c = cc in subst IsOwnCommit same (stamp_is ∙ sym tx_is)));
-    }
-desk_own k c hand m own held (inr (inr a)) = record {
-  own = desk_front k c m.desk (is_some m.turn.told) own (a.client ∙ own.desk) (subst (Every IsOwnCommit) (sym a.commits) own.commits) (no_hand k m.desk a.voting);
-  sends = subst (λ (t : Turn). AreStamped t.sends) (sym a.turn) (decisions_stamped a.begun Aborted tt);
-  writes = subst (λ (t : Turn). IsOwnWrite t.write) (sym a.turn) (unwritten None refl);
-}
-
--- a transaction is told by a record of it
-
-both_true : (x y : Bool) → (x && y) ≡ true → x ≡ true
-both_true true y is = refl
-both_true false y is = absurd (let never : ⊥ = cc in never)
-
-same_client : (x y : TxId) → same_tx x y ≡ true → x.client ≡ y.client
-same_client x y same = eqb-true x.client y.client (both_true (x.client == y.client) ((x.life == y.life) && (x.number == y.number)) same)
-
-known_own : (tx : TxId) (stamp : Stamp) (rs : List Commit) → Every IsOwnCommit rs → known_by (record_of rs tx) ≡ knowns.Committed stamp → stamp.client ≡ tx.client
-known_own tx stamp [] own is = absurd (let never : ⊥ = cc in never)
-known_own tx stamp (r ∷ rs) own is = by (same_tx r.tx tx) refl (known_own tx stamp rs own.1) is
-  where
-    by : (t : Bool) → same_tx r.tx tx ≡ t → (known_by (record_of rs tx) ≡ knowns.Committed stamp → stamp.client ≡ tx.client) → known_by (if t then Some r else record_of rs tx) ≡ knowns.Committed stamp → stamp.client ≡ tx.client
-    by true same later told =
-        let it : r.stamp ≡ stamp = cc in
-        ap (λ (s : Stamp). s.client) (sym it) ∙ (own.0 ∙ same_client r.tx tx same)
-    by false same later told = later told
-
-outcome_own : (k : ℕ) (c : Client) (tx : TxId) → Own k c → IsOwnStamp tx (outcome_of c tx)
-outcome_own k c tx own = by (known c.desk tx) (is_begun tx c.front.transaction) refl
-  where
-    by : (o : Known) (t : Bool) → known c.desk tx ≡ o → IsOwnStamp tx (outcome_by o t)
-    by (knowns.Committed stamp) t is = known_own tx stamp c.desk.commits own.commits is
-    by knowns.Uncommitted true is = tt
-    by knowns.Uncommitted false is = tt
+use Rattle.qc_client.specs.Names.{client_does, client_takes, commits, heard, moved, new_client}
+use Rattle.qc_client.specs.Names.{requested, sent_one}
+use Rattle.laws_turns.proofs.OwnFronts.{IsOwnTransaction}
+use Rattle.laws_turns.proofs.StampsOwn.{AreStamped, unwritten, Own, OwnMove, by_two, front_called, front_takes}
+use Rattle.laws_turns.proofs.StampsOwn.{desk_own, outcome_own}
 
 -- each input of a client
 
-commits_own : (decl : Declaration) (k : ℕ) (c : Client) (o : Option Transaction) → c.front.transaction ≡ o → Own k c → OwnMove k (commits decl c o)
+commits_own : (decl : Declaration) (k : ℕ) (c : Client) (o : Option Transaction) → c.front.transaction ≡ o → Own k c
+    → OwnMove k (commits decl c o)
 commits_own decl k c None is own = front_called decl k c commands.Commit own
 commits_own decl k c (Some t) is own =
-    by_two (OwnMove k) t.begun.doomed (by_front c (fronts.called decl c.front commands.Commit)) (by_desk c (desks.prepare decl c.desk t.begun c.front.clock.value))
+    by_two (OwnMove k) t.begun.doomed (by_front c (fronts.called decl c.front commands.Commit))
+        (by_desk c (desks.prepare decl c.desk t.begun c.front.clock.value))
     (front_called decl k c commands.Commit own)
-    (desk_own k c (Some t.begun.tx) (desks.prepare decl c.desk t.begun c.front.clock.value) own (λ tx same. ap (λ (x : TxId). x.client) (let it : tx ≡ t.begun.tx = cc in it) ∙ subst (IsOwnTransaction k) is own.front.begun) (prepare-moves decl c.desk t.begun c.front.clock.value))
+    (desk_own k c (Some t.begun.tx) (desks.prepare decl c.desk t.begun c.front.clock.value) own
+        (λ tx same. ap (λ (x : TxId). x.client) (let it : tx ≡ t.begun.tx = cc in it)
+          ∙ subst (IsOwnTransaction k) is own.front.begun) (prepare-moves decl c.desk t.begun c.front.clock.value))
 
 called_own : (decl : Declaration) (k : ℕ) (c : Client) (command : Command) → Own k c → OwnMove k (called decl c command)
 called_own decl k c commands.Begin own = front_called decl k c commands.Begin own
@@ -176,21 +49,31 @@ called_own decl k c commands.Commit own = commits_own decl k c c.front.transacti
 called_own decl k c commands.Abort own = front_called decl k c commands.Abort own
 called_own decl k c (commands.Epoch number) own = front_called decl k c (commands.Epoch number) own
 
-answered_own : (decl : Declaration) (k : ℕ) (c : Client) (number : ℕ) (answer : Option Answer) → Own k c → OwnMove k (answered decl c number answer)
+answered_own : (decl : Declaration) (k : ℕ) (c : Client) (number : ℕ) (answer : Option Answer) → Own k c
+    → OwnMove k (answered decl c number answer)
 answered_own decl k c number answer own = by c.desk.voting
   where
     by : (o : Option Voting) → OwnMove k (answered_by decl c o number answer)
     by None = front_takes decl k c number answer own
-    by (Some v) = desk_own k c (tx_of c.desk.voting) (desks.vote c.desk number answer) own own.hand (vote-moves c.desk number answer)
+    by (Some v) =
+        desk_own k c (tx_of c.desk.voting) (desks.vote c.desk number answer) own own.hand
+        (vote-moves c.desk number answer)
 
-heard_own : (decl : Declaration) (k : ℕ) (c : Client) (from number : ℕ) (m : Message) → Own k c → OwnMove k (heard decl c from number m)
-heard_own decl k c from number (messages.Request tx epoch life want) own = record { own = own; sends = tt; writes = unwritten None refl }
+heard_own : (decl : Declaration) (k : ℕ) (c : Client) (from number : ℕ) (m : Message) → Own k c
+    → OwnMove k (heard decl c from number m)
+heard_own decl k c from number (messages.Request tx epoch life want) own =
+    record { own = own; sends = tt; writes = unwritten None refl }
 heard_own decl k c from number (messages.Answer to answer) own = answered_own decl k c to (Some answer) own
-heard_own decl k c from number (messages.Decision tx verdict) own = record { own = own; sends = tt; writes = unwritten None refl }
-heard_own decl k c from number (messages.Inquiry tx) own = record { own = own; sends = (outcome_own k c tx own, tt); writes = unwritten None refl }
-heard_own decl k c from number (messages.Ask tx) own = record { own = own; sends = (tt, tt); writes = unwritten None refl }
-heard_own decl k c from number (messages.Close epoch) own = record { own = own; sends = tt; writes = unwritten None refl }
-heard_own decl k c from number (messages.Install epoch clock log) own = record { own = own; sends = tt; writes = unwritten None refl }
+heard_own decl k c from number (messages.Decision tx verdict) own =
+    record { own = own; sends = tt; writes = unwritten None refl }
+heard_own decl k c from number (messages.Inquiry tx) own =
+    record { own = own; sends = (outcome_own k c tx own, tt); writes = unwritten None refl }
+heard_own decl k c from number (messages.Ask tx) own =
+    record { own = own; sends = (tt, tt); writes = unwritten None refl }
+heard_own decl k c from number (messages.Close epoch) own =
+    record { own = own; sends = tt; writes = unwritten None refl }
+heard_own decl k c from number (messages.Install epoch clock log) own =
+    record { own = own; sends = tt; writes = unwritten None refl }
 
 pub takes_own : (decl : Declaration) (k : ℕ) (c : Client) (g : Input) → Own k c → OwnMove k (client_takes decl c g)
 takes_own decl k c (inputs.Called command) own = called_own decl k c command own
@@ -199,19 +82,38 @@ takes_own decl k c (inputs.Lost number) own = answered_own decl k c number None 
 
 -- what it sent
 
-prepared_own : (k : ℕ) (c : Client) (number site : ℕ) → Own k c → Own k (record c { desk = desks.prepared c.desk number site })
+prepared_own : (k : ℕ) (c : Client) (number site : ℕ) → Own k c
+    → Own k (record c { desk = desks.prepared c.desk number site })
 prepared_own k c number site own = by c.desk.voting refl
   where
     by : (o : Option Voting) → c.desk.voting ≡ o → Own k (record c { desk = desks.prepared_in c.desk o number site })
     by None is = own
-    by (Some v) is = record { front = own.front; desk = own.desk; commits = own.commits; hand = λ tx same. own.hand tx (ap tx_of is ∙ same) }
+    by (Some v) is =
+        record {
+          front = own.front;
+          desk = own.desk;
+          commits = own.commits;
+          hand = λ tx same. own.hand tx (ap tx_of is ∙ same)
+        }
 
 pub sent_own : (k : ℕ) (c : Client) (number to : ℕ) (m : Message) → Own k c → Own k (sent_one c number to m)
 sent_own k c number to (messages.Request tx epoch life want) own = by want
   where
     by : (w : Want) → Own k (requested c number to w)
-    by (Read object inv) = record { front = record { client = own.front.client; begun = own.front.begun }; desk = own.desk; commits = own.commits; hand = own.hand }
-    by (Append object view lines) = record { front = record { client = own.front.client; begun = own.front.begun }; desk = own.desk; commits = own.commits; hand = own.hand }
+    by (Read object inv) =
+        record {
+          front = record { client = own.front.client; begun = own.front.begun };
+          desk = own.desk;
+          commits = own.commits;
+          hand = own.hand
+        }
+    by (Append object view lines) =
+        record {
+          front = record { client = own.front.client; begun = own.front.begun };
+          desk = own.desk;
+          commits = own.commits;
+          hand = own.hand
+        }
     by Prepare = prepared_own k c number to own
 sent_own k c number to (messages.Answer number_asked answer) own = own
 sent_own k c number to (messages.Decision tx verdict) own = own
@@ -223,12 +125,14 @@ sent_own k c number to (messages.Install epoch clock log) own = own
 does_own : (decl : Declaration) (k : ℕ) (m : ClientMove) (d : Deed) → OwnMove k m → OwnMove k (client_does decl m d)
 does_own decl k m (Takes g) own = takes_own decl k m.client g own.own
 does_own decl k m (Writes written) own = own
-does_own decl k m (Sends number to message) own = record { own = sent_own k m.client number to message own.own; sends = own.sends; writes = own.writes }
+does_own decl k m (Sends number to message) own =
+    record { own = sent_own k m.client number to message own.own; sends = own.sends; writes = own.writes }
 does_own decl k m (Tells reply) own = own
 does_own decl k m (Falls cause pending) own = own
 does_own decl k m (Rises records) own = own
 
-folded_own : (decl : Declaration) (k : ℕ) (ds : List Deed) (m : ClientMove) → OwnMove k m → OwnMove k (fold (client_does decl) m ds)
+folded_own : (decl : Declaration) (k : ℕ) (ds : List Deed) (m : ClientMove) → OwnMove k m
+    → OwnMove k (fold (client_does decl) m ds)
 folded_own decl k [] m own = own
 folded_own decl k (d ∷ ds) m own = folded_own decl k ds (client_does decl m d) (does_own decl k m d own)
 
@@ -236,7 +140,13 @@ folded_own decl k (d ∷ ds) m own = folded_own decl k ds (client_does decl m d)
 pub client_stamped : (decl : Declaration) (k : ℕ) (ds : List Deed) → AreStamped (client_after decl k ds).turn.sends
 client_stamped decl k ds =
     (folded_own decl k ds (moved (new_client k) quiet) (record {
-      own = record { front = record { client = refl; begun = tt }; desk = refl; commits = tt; hand = λ tx none. absurd (let never : ⊥ = cc in never) };
+      own =
+          record {
+            front = record { client = refl; begun = tt };
+            desk = refl;
+            commits = tt;
+            hand = λ tx none. absurd (let never : ⊥ = cc in never)
+          };
       sends = tt;
       writes = unwritten None refl;
     })).sends

@@ -22,7 +22,8 @@ use Rattle.qc_msg.specs.declared.step.Step.TheVariants as steps
 use Rattle.qc_msg.specs.declared.turn.Turn.{Turn}
 use Rattle.qc_msg.specs.Names.{Deed, Entry, Takes, by, deeds, envelopes, mail, marked, posted, quiet, step_of}
 use Rattle.qc_msg.proofs.GrownMail.{mail-append, mail-posted, mail-taken}
-use Rattle.qc_msg.proofs.Growth.{deeds-other, deeds-taken}
+use Rattle.qc_msg.proofs.DeedsGrow.{deeds-other}
+use Rattle.qc_msg.proofs.Growth.{deeds-taken}
 use Rattle.qc_script.specs.declared.script.Script.{Script}
 use Rattle.qc_script.specs.Names.{Inbox, Runs, SentRequest, command_called, copy_taken, empty_inbox, everybody, inbox}
 use Rattle.qc_script.specs.Names.{inbox_at, is_request, loss_taken, phase_of, request_numbers, step_of_control}

@@ -19,7 +19,7 @@ use Rattle.qc_script.specs.declared.script.Script.{Script}
 use Rattle.qc_core.specs.Names.{IsLawful}
 use Rattle.qc_promise.specs.Names.{AreDealt, AreTold, HasCommit, committed, endings, records}
 use Rattle.laws_turns.specs.Names.{written_in}
-use Rattle.laws_turns.proofs.Dealing.{HasRecord, IsAbort}
+use Rattle.laws_turns.proofs.DealingParts.{HasRecord, IsAbort}
 use Rattle.laws_turns.proofs.InRuns.{IsKept, client_number, run_kept}
 use Rattle.laws_turns.proofs.Up.{run_up}
 use Rattle.laws_turns.proofs.WrittenDeeds.{IsWritten, listed_written, written_listed}

@@ -1,145 +1,26 @@
 -- A client's turn: its deeds are right for each transaction, and leave its status so.
-use Rattle.std.proofs.Common.{◌≡◌, ℕ, ◌+◌, ◌⊎◌, inl, inr, Bool, true, false, cond, List, [], ◌∷◌, ◌++◌, fold, map, Option, Some, None, refl, sym, ap, ◌∙◌, subst, arith}
-use Rattle.std.specs.List.{AllByRecursion as Every}
-use Rattle.qc_list.proofs.Members.{every-weaker}
+use Rattle.std.proofs.Common.{◌≡◌, ℕ, ◌+◌, ◌⊎◌, inl, inr, Bool, true, false, cond, List, ◌∷◌, ◌++◌, fold, map}
+use Rattle.std.proofs.Common.{Some, None, refl, sym, ap, ◌∙◌, subst, arith}
 use Rattle.qc_stamp.specs.declared.stamp.Stamp.{Stamp}
 use Rattle.qc_stamp.specs.declared.stamp.TxId.{TxId}
 use Rattle.qc_stamp.specs.Names.{same_tx}
 use Rattle.qc_stamp.proofs.Orders.{same_tx_is}
 use Rattle.qc_entry.specs.declared.record.Commit.{Commit}
 use Rattle.qc_msg.specs.declared.begun.Begun.{Begun as BegunTransaction}
-use Rattle.qc_msg.specs.declared.message.Message.{Message}
 use Rattle.qc_msg.specs.declared.message.Message.TheVariants as messages
 use Rattle.qc_msg.specs.declared.message.Outcome.{Outcome}
 use Rattle.qc_msg.specs.declared.message.Outcome.TheVariants as outcomes
-use Rattle.qc_msg.specs.declared.record.Record.{Record}
 use Rattle.qc_msg.specs.declared.record.Record.TheVariants as records
 use Rattle.qc_msg.specs.declared.reply.Reply.{Reply}
 use Rattle.qc_msg.specs.declared.reply.Reply.TheVariants as replies
 use Rattle.qc_msg.specs.declared.turn.Posting.{Posting}
 use Rattle.qc_msg.specs.declared.turn.Turn.{Turn}
-use Rattle.qc_msg.specs.Names.{Deed, Sends, Tells, sends_of, tells_of, turn_deeds, writes_of}
+use Rattle.qc_msg.specs.Names.{Deed, Sends, Tells, sends_of}
 use Rattle.qc_promise.specs.Names.{AreRightFrom, Begun, Committed, Dead, IsRightVerdict, Status, Unborn, given_up}
 use Rattle.qc_promise.specs.Names.{status_at, status_told}
-use Rattle.laws_turns.proofs.Dealing.{IsAbort}
-use Rattle.laws_turns.proofs.FrontKinds.{IsRequestFor, ToldNeutral}
+use Rattle.laws_turns.proofs.DealingParts.{IsAbort}
 use Rattle.laws_turns.proofs.Statuses.{IsStatus, Page, began, commits_one, gave_up}
-
--- a client asks nobody how a transaction stands
-abbrev pub IsNoInquiry : Message → Type 0
-IsNoInquiry (messages.Request other epoch life want) = Unit {0}
-IsNoInquiry (messages.Answer to answer) = Unit {0}
-IsNoInquiry (messages.Decision other verdict) = Unit {0}
-IsNoInquiry (messages.Inquiry other) = ⊥
-IsNoInquiry (messages.Ask other) = Unit {0}
-IsNoInquiry (messages.Close epoch) = Unit {0}
-IsNoInquiry (messages.Install epoch clock log) = Unit {0}
-
-request_asks : (name : Option TxId) (m : Message) → IsRequestFor name m → IsNoInquiry m
-request_asks name (messages.Request other epoch life want) is = tt
-request_asks name (messages.Answer to answer) never = absurd never
-request_asks name (messages.Decision other verdict) never = absurd never
-request_asks name (messages.Inquiry other) never = absurd never
-request_asks name (messages.Ask other) never = absurd never
-request_asks name (messages.Close epoch) never = absurd never
-request_asks name (messages.Install epoch clock log) never = absurd never
-
-verdicts_ask : (x : TxId) (v : Outcome) (sites : List ℕ) → Every (λ (q : Posting). IsNoInquiry q.message) (map (λ site. record { to = site; message = messages.Decision x v }) sites)
-verdicts_ask x v [] = tt
-verdicts_ask x v (site ∷ sites) = (tt, verdicts_ask x v sites)
-
-abbrev pub NoInquiries : List Posting → Type 0
-NoInquiries ps = Every (λ (q : Posting). IsNoInquiry q.message) ps
-
--- a turn: its deeds are right, and leave this status
-pub record TurnRight (tx : TxId) (s : Status) (turn : Turn) (p : Page) : Type 0 where
-  pub asks : NoInquiries turn.sends
-  pub right : (n : ℕ) → AreRightFrom tx s (turn_deeds n turn)
-  pub status : (n : ℕ) → IsStatus tx (fold (status_at tx) s (turn_deeds n turn)) p
-
--- the deeds of a turn that writes, sends and tells this
-pub turn_is : (turn : Turn) (w : Option Record) (ps : List Posting) (told : Option Reply) (n : ℕ) → turn.write ≡ w → turn.sends ≡ ps → turn.told ≡ told → turn_deeds n turn ≡ writes_of w ++ (sends_of n ps ++ tells_of told)
-turn_is turn w ps told n write sends tells = λ i. writes_of (write i) ++ (sends_of n (sends i) ++ tells_of (tells i))
-
--- requests for the begun transaction, and a reply that begins and ends none
-
-module _ (tx : TxId) (s : Status) (name : Option TxId) (live : name ≡ Some tx → s ≡ Begun) where
-  neutral_right : (reply : Reply) → ToldNeutral name (Some reply) → AreRightFrom tx s (Tells reply ∷ [])
-  neutral_right replies.Down never = absurd never
-  neutral_right (replies.Already other) is = ((λ same. live (is ∙ ap (λ (t : TxId). Some t) (same_tx_is other tx same))), tt)
-  neutral_right (replies.Began other) never = absurd never
-  neutral_right replies.NoTransaction is = (tt, tt)
-  neutral_right replies.Doomed is = (tt, tt)
-  neutral_right replies.TooLong is = (tt, tt)
-  neutral_right (replies.Closed epoch site) is = (tt, tt)
-  neutral_right (replies.Conflict holder site) is = (tt, tt)
-  neutral_right (replies.Quorum half got need) is = (tt, tt)
-  neutral_right replies.Absent is = (tt, tt)
-  neutral_right (replies.Response resp) is = (tt, tt)
-  neutral_right (replies.Aborted why) never = absurd never
-  neutral_right replies.Unknown never = absurd never
-  neutral_right (replies.Committed stamp) never = absurd never
-  neutral_right replies.Dropped never = absurd never
-  neutral_right (replies.Order current) never = absurd never
-  neutral_right (replies.InDoubt holder site) never = absurd never
-  neutral_right replies.Fault never = absurd never
-  neutral_right (replies.Moved closed installed) never = absurd never
-
-  neutral_same : (reply : Reply) → ToldNeutral name (Some reply) → status_told tx s reply ≡ s
-  neutral_same replies.Down never = absurd never
-  neutral_same (replies.Already other) is = refl
-  neutral_same (replies.Began other) never = absurd never
-  neutral_same replies.NoTransaction is = refl
-  neutral_same replies.Doomed is = refl
-  neutral_same replies.TooLong is = refl
-  neutral_same (replies.Closed epoch site) is = refl
-  neutral_same (replies.Conflict holder site) is = refl
-  neutral_same (replies.Quorum half got need) is = refl
-  neutral_same replies.Absent is = refl
-  neutral_same (replies.Response resp) is = refl
-  neutral_same (replies.Aborted why) never = absurd never
-  neutral_same replies.Unknown never = absurd never
-  neutral_same (replies.Committed stamp) never = absurd never
-  neutral_same replies.Dropped never = absurd never
-  neutral_same (replies.Order current) never = absurd never
-  neutral_same (replies.InDoubt holder site) never = absurd never
-  neutral_same replies.Fault never = absurd never
-  neutral_same (replies.Moved closed installed) never = absurd never
-
-  talk_right : (n : ℕ) (ps : List Posting) (told : Option Reply) → Every (λ (p : Posting). IsRequestFor name p.message) ps → ToldNeutral name told → AreRightFrom tx s (sends_of n ps ++ tells_of told)
-  talk_right n [] None all is = tt
-  talk_right n [] (Some reply) all is = neutral_right reply is
-  talk_right n (p ∷ ps) told all is = by p.message all.0 (talk_right (n + 1) ps told all.1 is) where
-    by : (m : Message) → IsRequestFor name m → AreRightFrom tx s (sends_of (n + 1) ps ++ tells_of told) → AreRightFrom tx s (Sends n p.to m ∷ (sends_of (n + 1) ps ++ tells_of told))
-    by (messages.Request other epoch life want) its rest = ((λ same. live (its ∙ ap (λ (t : TxId). Some t) (same_tx_is other tx same))), rest)
-    by (messages.Answer to answer) never rest = absurd never
-    by (messages.Decision other verdict) never rest = absurd never
-    by (messages.Inquiry other) never rest = absurd never
-    by (messages.Ask other) never rest = absurd never
-    by (messages.Close epoch) never rest = absurd never
-    by (messages.Install epoch clock log) never rest = absurd never
-
-  talk_same : (n : ℕ) (ps : List Posting) (told : Option Reply) → Every (λ (p : Posting). IsRequestFor name p.message) ps → ToldNeutral name told → fold (status_at tx) s (sends_of n ps ++ tells_of told) ≡ s
-  talk_same n [] None all is = refl
-  talk_same n [] (Some reply) all is = neutral_same reply is
-  talk_same n (p ∷ ps) told all is = by p.message all.0 (talk_same (n + 1) ps told all.1 is) where
-    by : (m : Message) → IsRequestFor name m → fold (status_at tx) s (sends_of (n + 1) ps ++ tells_of told) ≡ s → fold (status_at tx) s (Sends n p.to m ∷ (sends_of (n + 1) ps ++ tells_of told)) ≡ s
-    by (messages.Request other epoch life want) its rest = rest
-    by (messages.Answer to answer) never rest = absurd never
-    by (messages.Decision other verdict) never rest = absurd never
-    by (messages.Inquiry other) never rest = absurd never
-    by (messages.Ask other) never rest = absurd never
-    by (messages.Close epoch) never rest = absurd never
-    by (messages.Install epoch clock log) never rest = absurd never
-
--- the transaction goes on: its requests, and such a reply
-pub goes_right : (tx : TxId) (s : Status) (turn : Turn) (p : Page) → IsStatus tx s p → turn.write ≡ None → Every (λ (q : Posting). IsRequestFor p.name q.message) turn.sends → ToldNeutral p.name turn.told → TurnRight tx s turn p
-goes_right tx s turn p w unwritten sends told = record {
-  asks = every-weaker (λ (q : Posting). IsRequestFor p.name q.message) (λ (q : Posting). IsNoInquiry q.message) (λ q. request_asks p.name q.message) turn.sends sends;
-  right = λ n. subst (AreRightFrom tx s) (sym (turn_is turn None turn.sends turn.told n unwritten refl refl)) (talk_right tx s p.name w.begun n turn.sends turn.told sends told);
-  status = λ n. subst (λ (ds : List Deed). IsStatus tx (fold (status_at tx) s ds) p) (sym (turn_is turn None turn.sends turn.told n unwritten refl refl))
-      (subst (λ (v : Status). IsStatus tx v p) (sym (talk_same tx s p.name w.begun n turn.sends turn.told sends told)) w);
-}
+use Rattle.laws_turns.proofs.TurnsGoOn.{verdicts_ask, NoInquiries, TurnRight, turn_is}
 
 -- it is given up: that is told to sites and to the caller
 
@@ -195,11 +76,14 @@ abbrev aborts_of : TxId → List ℕ → List Posting
 aborts_of x sites = map (λ site. record { to = site; message = messages.Decision x outcomes.Aborted }) sites
 
 module _ (tx x : TxId) (reply : Reply) (abort : IsAbort reply) where
-  aborts_same : (s : Status) (n : ℕ) (sites : List ℕ) → fold (status_at tx) s (sends_of n (aborts_of x sites) ++ Tells reply ∷ []) ≡ given_up s
+  aborts_same : (s : Status) (n : ℕ) (sites : List ℕ)
+      → fold (status_at tx) s (sends_of n (aborts_of x sites) ++ Tells reply ∷ []) ≡ given_up s
   aborts_same s n [] = abort_told tx s reply abort
   aborts_same s n (site ∷ sites) = by (same_tx x tx) (λ v. aborts_same v (n + 1) sites) where
-    by : (t : Bool) → ((v : Status) → fold (status_at tx) v (sends_of (n + 1) (aborts_of x sites) ++ Tells reply ∷ []) ≡ given_up v)
-        → fold (status_at tx) (cond t (given_up s) s) (sends_of (n + 1) (aborts_of x sites) ++ Tells reply ∷ []) ≡ given_up s
+    by : (t : Bool)
+        → ((v : Status) → fold (status_at tx) v (sends_of (n + 1) (aborts_of x sites) ++ Tells reply ∷ []) ≡ given_up v)
+        → fold (status_at tx) (cond t (given_up s) s) (sends_of (n + 1) (aborts_of x sites) ++ Tells reply ∷ [])
+            ≡ given_up s
     by true rest = rest (given_up s) ∙ given_twice s
     by false rest = rest s
 
@@ -207,60 +91,95 @@ module _ (tx x : TxId) (reply : Reply) (abort : IsAbort reply) where
   dies s (inl is) = ap given_up is
   dies s (inr is) = ap given_up is
 
-  aborts_right : (s : Status) (n : ℕ) (sites : List ℕ) → (same_tx x tx ≡ true → (s ≡ Begun) ⊎ (s ≡ Dead)) → AreRightFrom tx s (sends_of n (aborts_of x sites) ++ Tells reply ∷ [])
+  aborts_right : (s : Status) (n : ℕ) (sites : List ℕ) → (same_tx x tx ≡ true → (s ≡ Begun) ⊎ (s ≡ Dead))
+      → AreRightFrom tx s (sends_of n (aborts_of x sites) ++ Tells reply ∷ [])
   aborts_right s n [] live = abort_right tx s reply abort
   aborts_right s n (site ∷ sites) live = (live, by (same_tx x tx) live (λ v. aborts_right v (n + 1) sites)) where
-    by : (t : Bool) → (t ≡ true → (s ≡ Begun) ⊎ (s ≡ Dead)) → ((v : Status) → (same_tx x tx ≡ true → (v ≡ Begun) ⊎ (v ≡ Dead)) → AreRightFrom tx v (sends_of (n + 1) (aborts_of x sites) ++ Tells reply ∷ []))
+    by : (t : Bool) → (t ≡ true → (s ≡ Begun) ⊎ (s ≡ Dead))
+        → ((v : Status) → (same_tx x tx ≡ true → (v ≡ Begun) ⊎ (v ≡ Dead))
+          → AreRightFrom tx v (sends_of (n + 1) (aborts_of x sites) ++ Tells reply ∷ []))
         → AreRightFrom tx (cond t (given_up s) s) (sends_of (n + 1) (aborts_of x sites) ++ Tells reply ∷ [])
     by true now rest = rest (given_up s) (λ is. inr (dies s (now refl)))
     by false now rest = rest s live
 
-pub gives_right : (tx : TxId) (s : Status) (turn : Turn) (p : Page) (b : BegunTransaction) (reply : Reply) → IsStatus tx s p → p.name ≡ Some b.tx → IsAbort reply → turn.write ≡ None
-    → turn.sends ≡ map (λ site. record { to = site; message = messages.Decision b.tx outcomes.Aborted }) b.asked → turn.told ≡ Some reply → TurnRight tx s turn (record p { name = None })
+pub gives_right : (tx : TxId) (s : Status) (turn : Turn) (p : Page) (b : BegunTransaction) (reply : Reply)
+    → IsStatus tx s p → p.name ≡ Some b.tx → IsAbort reply → turn.write ≡ None
+    → turn.sends ≡ map (λ site. record { to = site; message = messages.Decision b.tx outcomes.Aborted }) b.asked
+        → turn.told ≡ Some reply → TurnRight tx s turn (record p { name = None })
 gives_right tx s turn p b reply w named abort unwritten sends told = record {
   asks = subst NoInquiries (sym sends) (verdicts_ask b.tx outcomes.Aborted b.asked);
-  right = λ n. subst (AreRightFrom tx s) (sym (turn_is turn None (aborts_of b.tx b.asked) (Some reply) n unwritten sends told))
-      (aborts_right tx b.tx reply abort s n b.asked (λ is. inl (w.begun (named ∙ ap (λ (t : TxId). Some t) (same_tx_is b.tx tx is)))));
-  status = λ n. subst (λ (ds : List Deed). IsStatus tx (fold (status_at tx) s ds) (record p { name = None })) (sym (turn_is turn None (aborts_of b.tx b.asked) (Some reply) n unwritten sends told))
-      (subst (λ (v : Status). IsStatus tx v (record p { name = None })) (sym (aborts_same tx b.tx reply abort s n b.asked)) (gave_up tx s p w));
+  right =
+      λ n. subst (AreRightFrom tx s)
+      (sym (turn_is turn None (aborts_of b.tx b.asked) (Some reply) n unwritten sends told))
+      (aborts_right tx b.tx reply abort s n b.asked
+          (λ is. inl (w.begun (named ∙ ap (λ (t : TxId). Some t) (same_tx_is b.tx tx is)))));
+  status =
+      λ n. subst (λ (ds : List Deed). IsStatus tx (fold (status_at tx) s ds) (record p { name = None }))
+      (sym (turn_is turn None (aborts_of b.tx b.asked) (Some reply) n unwritten sends told))
+      (subst (λ (v : Status). IsStatus tx v (record p { name = None }))
+          (sym (aborts_same tx b.tx reply abort s n b.asked)) (gave_up tx s p w));
 }
 
 -- one begins
-pub begins_right : (tx : TxId) (s : Status) (turn : Turn) (p : Page) (x : TxId) → IsStatus tx s p → p.name ≡ None → x ≡ record { client = p.client; life = p.life; number = p.count + 1 } → turn.write ≡ None → turn.sends ≡ []
+pub begins_right : (tx : TxId) (s : Status) (turn : Turn) (p : Page) (x : TxId) → IsStatus tx s p → p.name ≡ None
+    → x ≡ record { client = p.client; life = p.life; number = p.count + 1 } → turn.write ≡ None → turn.sends ≡ []
     → turn.told ≡ Some (replies.Began x) → TurnRight tx s turn (record p { count = p.count + 1; name = Some x })
 begins_right tx s turn p x w free named unwritten unsent told = record {
   asks = subst NoInquiries (sym unsent) tt;
-  right = λ n. subst (AreRightFrom tx s) (sym (turn_is turn None [] (Some (replies.Began x)) n unwritten unsent told)) ((λ is. fresh (same_tx_is x tx is)), tt);
-  status = λ n. subst (λ (ds : List Deed). IsStatus tx (fold (status_at tx) s ds) (record p { count = p.count + 1; name = Some x })) (sym (turn_is turn None [] (Some (replies.Began x)) n unwritten unsent told)) (began tx s p x free named w);
+  right =
+      λ n. subst (AreRightFrom tx s) (sym (turn_is turn None [] (Some (replies.Began x)) n unwritten unsent told))
+      ((λ is. fresh (same_tx_is x tx is)), tt);
+  status =
+      λ n. subst (λ (ds : List Deed). IsStatus tx (fold (status_at tx) s ds)
+      (record p { count = p.count + 1; name = Some x }))
+      (sym (turn_is turn None [] (Some (replies.Began x)) n unwritten unsent told)) (began tx s p x free named w);
 } where
   fresh : x ≡ tx → s ≡ Unborn
   fresh same =
       let e : tx ≡ record { client = p.client; life = p.life; number = p.count + 1 } = sym same ∙ named in
-      w.unborn (sym (ap (λ (t : TxId). t.life) e)) (sym (ap (λ (t : TxId). t.client) e)) (let n : tx.number ≡ p.count + 1 = ap (λ (t : TxId). t.number) e in omega arith)
+      w.unborn (sym (ap (λ (t : TxId). t.life) e)) (sym (ap (λ (t : TxId). t.client) e))
+          (let n : tx.number ≡ p.count + 1 = ap (λ (t : TxId). t.number) e in omega arith)
 
 -- it commits: its record is written, and then that is told
 
 abbrev commits_of : TxId → Stamp → List ℕ → List Posting
-commits_of x stamp sites = map (λ site. record { to = site; message = messages.Decision x (outcomes.Committed stamp) }) sites
+commits_of x stamp sites =
+    map (λ site. record { to = site; message = messages.Decision x (outcomes.Committed stamp) }) sites
 
 module _ (tx x : TxId) (stamp : Stamp) where
-  told_same : (s : Status) (n : ℕ) (sites : List ℕ) → fold (status_at tx) s (sends_of n (commits_of x stamp sites) ++ Tells (replies.Committed stamp) ∷ []) ≡ s
+  told_same : (s : Status) (n : ℕ) (sites : List ℕ)
+      → fold (status_at tx) s (sends_of n (commits_of x stamp sites) ++ Tells (replies.Committed stamp) ∷ []) ≡ s
   told_same s n [] = refl
   told_same s n (site ∷ sites) = told_same s (n + 1) sites
 
-  told_right : (s : Status) (n : ℕ) (sites : List ℕ) → (same_tx x tx ≡ true → s ≡ Committed stamp) → AreRightFrom tx s (sends_of n (commits_of x stamp sites) ++ Tells (replies.Committed stamp) ∷ [])
+  told_right : (s : Status) (n : ℕ) (sites : List ℕ) → (same_tx x tx ≡ true → s ≡ Committed stamp)
+      → AreRightFrom tx s (sends_of n (commits_of x stamp sites) ++ Tells (replies.Committed stamp) ∷ [])
   told_right s n [] is = (tt, tt)
   told_right s n (site ∷ sites) is = (is, told_right s (n + 1) sites is)
 
-pub commits_right : (tx : TxId) (s : Status) (turn : Turn) (p : Page) (c : Commit) (sites : List ℕ) → IsStatus tx s p → p.name ≡ Some c.tx → turn.write ≡ Some (records.Commit c)
-    → turn.sends ≡ map (λ site. record { to = site; message = messages.Decision c.tx (outcomes.Committed c.stamp) }) sites → turn.told ≡ Some (replies.Committed c.stamp)
+pub commits_right : (tx : TxId) (s : Status) (turn : Turn) (p : Page) (c : Commit) (sites : List ℕ) → IsStatus tx s p
+    → p.name ≡ Some c.tx → turn.write ≡ Some (records.Commit c)
+    → turn.sends
+        ≡ map (λ site. record { to = site; message = messages.Decision c.tx (outcomes.Committed c.stamp) }) sites
+        → turn.told ≡ Some (replies.Committed c.stamp)
     → TurnRight tx s turn (record p { commits = p.commits ++ c ∷ []; name = None })
 commits_right tx s turn p c sites w named write sends told = record {
   asks = subst NoInquiries (sym sends) (verdicts_ask c.tx (outcomes.Committed c.stamp) sites);
-  right = λ n. subst (AreRightFrom tx s) (sym (turn_is turn (Some (records.Commit c)) (commits_of c.tx c.stamp sites) (Some (replies.Committed c.stamp)) n write sends told))
-      ((λ is. w.begun (named ∙ ap (λ (t : TxId). Some t) (same_tx_is c.tx tx is))), told_right tx c.tx c.stamp (cond (same_tx c.tx tx) (Committed c.stamp) s) n sites (λ is. ap (λ (t : Bool). cond t (Committed c.stamp) s) is));
-  status = λ n. subst (λ (ds : List Deed). IsStatus tx (fold (status_at tx) s ds) (record p { commits = p.commits ++ c ∷ []; name = None })) (sym (turn_is turn (Some (records.Commit c)) (commits_of c.tx c.stamp sites) (Some (replies.Committed c.stamp)) n write sends told))
-      (subst (λ (v : Status). IsStatus tx v (record p { commits = p.commits ++ c ∷ []; name = None })) (sym (told_same tx c.tx c.stamp (cond (same_tx c.tx tx) (Committed c.stamp) s) n sites)) (commits_one tx s p c named w));
+  right =
+      λ n. subst (AreRightFrom tx s)
+      (sym (turn_is turn (Some (records.Commit c)) (commits_of c.tx c.stamp sites) (Some (replies.Committed c.stamp)) n
+        write sends told))
+      ((λ is. w.begun (named ∙ ap (λ (t : TxId). Some t) (same_tx_is c.tx tx is))),
+          told_right tx c.tx c.stamp (cond (same_tx c.tx tx) (Committed c.stamp) s) n sites
+            (λ is. ap (λ (t : Bool). cond t (Committed c.stamp) s) is));
+  status =
+      λ n. subst (λ (ds : List Deed). IsStatus tx (fold (status_at tx) s ds)
+      (record p { commits = p.commits ++ c ∷ []; name = None }))
+      (sym (turn_is turn (Some (records.Commit c)) (commits_of c.tx c.stamp sites) (Some (replies.Committed c.stamp)) n
+        write sends told))
+      (subst (λ (v : Status). IsStatus tx v (record p { commits = p.commits ++ c ∷ []; name = None }))
+          (sym (told_same tx c.tx c.stamp (cond (same_tx c.tx tx) (Committed c.stamp) s) n sites))
+          (commits_one tx s p c named w));
 }
 
 -- a question is answered by how the transaction stands
@@ -275,7 +194,8 @@ exact_right s (outcomes.Committed stamp) is = is
 exact_right s outcomes.Aborted is = inr is
 exact_right s outcomes.Active is = is
 
-verdict_same : (tx : TxId) (s : Status) (x : TxId) (n to : ℕ) (v : Outcome) → (same_tx x tx ≡ true → IsExact s v) → fold (status_at tx) s (Sends n to (messages.Decision x v) ∷ []) ≡ s
+verdict_same : (tx : TxId) (s : Status) (x : TxId) (n to : ℕ) (v : Outcome) → (same_tx x tx ≡ true → IsExact s v)
+    → fold (status_at tx) s (Sends n to (messages.Decision x v) ∷ []) ≡ s
 verdict_same tx s x n to (outcomes.Committed stamp) is = refl
 verdict_same tx s x n to outcomes.Aborted is = by (same_tx x tx) is where
   by : (t : Bool) → (t ≡ true → s ≡ Dead) → cond t (given_up s) s ≡ s
@@ -283,11 +203,19 @@ verdict_same tx s x n to outcomes.Aborted is = by (same_tx x tx) is where
   by false now = refl
 verdict_same tx s x n to outcomes.Active is = refl
 
-pub verdict_right : (tx : TxId) (s : Status) (turn : Turn) (p : Page) (x : TxId) (to : ℕ) (verdict : Outcome) → IsStatus tx s p → turn.write ≡ None → turn.sends ≡ record { to = to; message = messages.Decision x verdict } ∷ [] → turn.told ≡ None
+pub verdict_right : (tx : TxId) (s : Status) (turn : Turn) (p : Page) (x : TxId) (to : ℕ) (verdict : Outcome)
+    → IsStatus tx s p → turn.write ≡ None → turn.sends ≡ record { to = to; message = messages.Decision x verdict } ∷ []
+    → turn.told ≡ None
     → (same_tx x tx ≡ true → IsExact s verdict) → TurnRight tx s turn p
 verdict_right tx s turn p x to verdict w unwritten sends told is = record {
   asks = subst NoInquiries (sym sends) (tt, tt);
-  right = λ n. subst (AreRightFrom tx s) (sym (turn_is turn None (record { to = to; message = messages.Decision x verdict } ∷ []) None n unwritten sends told)) ((λ same. exact_right s verdict (is same)), tt);
-  status = λ n. subst (λ (ds : List Deed). IsStatus tx (fold (status_at tx) s ds) p) (sym (turn_is turn None (record { to = to; message = messages.Decision x verdict } ∷ []) None n unwritten sends told))
+  right =
+      λ n. subst (AreRightFrom tx s)
+      (sym (turn_is turn None (record { to = to; message = messages.Decision x verdict } ∷ []) None n unwritten sends
+        told)) ((λ same. exact_right s verdict (is same)), tt);
+  status =
+      λ n. subst (λ (ds : List Deed). IsStatus tx (fold (status_at tx) s ds) p)
+      (sym (turn_is turn None (record { to = to; message = messages.Decision x verdict } ∷ []) None n unwritten sends
+        told))
       (subst (λ (v : Status). IsStatus tx v p) (sym (verdict_same tx s x n to verdict is)) w);
 }

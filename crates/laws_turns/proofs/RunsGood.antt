@@ -30,7 +30,7 @@ use Rattle.laws_turns.proofs.InRuns.{IsResting, client_no_site, client_number, d
 use Rattle.laws_turns.proofs.Lasting.{request_born}
 use Rattle.laws_turns.proofs.SitesAsk.{SiteTells, Tells}
 use Rattle.laws_turns.proofs.StatusActs.{Rests, Turns, status_acts}
-use Rattle.laws_turns.proofs.RightTurns.{IsNoInquiry, NoInquiries}
+use Rattle.laws_turns.proofs.TurnsGoOn.{IsNoInquiry, NoInquiries}
 use Rattle.laws_turns.proofs.Moving.{Born, Good, IsSaid, asks_later, control_good, from_client, known_posts, posts_good}
 use Rattle.laws_turns.proofs.Moving.{site_decides_not, site_tells, takes_good}
 

@@ -28,7 +28,8 @@ use Rattle.qc_site.specs.Names.{SiteMove, SiteState, answering, appends_by, faul
 use Rattle.qc_site.specs.Names.{joins, moved, names_declared, new_site, passed, prepare_length, prepared_of, prepares}
 use Rattle.qc_site.specs.Names.{promise_of, promises, reads_by, relation_at, requested, site_after, site_at, site_does}
 use Rattle.qc_site.specs.Names.{site_takes}
-use Rattle.qc_site.proofs.Cases.{close_cases, install_cases}
+use Rattle.qc_site.proofs.RequestCases.{close_cases}
+use Rattle.qc_site.proofs.Cases.{install_cases}
 use Rattle.laws_turns.proofs.Rounds.{IsProper}
 
 abbrev pub IsProperFrom : Declaration → ℕ → ℕ → Message → Type 0

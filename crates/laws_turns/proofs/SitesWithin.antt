@@ -28,8 +28,8 @@ use Rattle.qc_msg.specs.Names.{quiet}
 use Rattle.qc_site.specs.Names.{SiteMove, SiteState, answers, clashing, closes, finishes, grants, installs, known}
 use Rattle.qc_site.specs.Names.{latest, learned, lines_of, moved, passed, promise_cmp, promise_of, shut_answer, site_at}
 use Rattle.qc_site.specs.Names.{site_takes, stamped, with_stamped, without_prepared}
-use Rattle.qc_site.proofs.Cases.{append_cases, close_rows, fault_is, install_rows, join_cases, prepare_cases}
-use Rattle.qc_site.proofs.Cases.{read_cases, request_cases}
+use Rattle.qc_site.proofs.RequestCases.{append_cases, close_rows, fault_is, install_rows, join_cases, prepare_cases}
+use Rattle.qc_site.proofs.RequestCases.{read_cases, request_cases}
 use Rattle.laws_turns.proofs.Greater.{lines-le, promises-le, sends-le}
 use Rattle.laws_turns.specs.Names.{AnswerWithin, GivenWithin, LinesWithin, MessageWithin, OutcomeWithin, PromisesWithin}
 use Rattle.laws_turns.specs.Names.{SiteMoveWithin, SiteWithin, WantWithin}

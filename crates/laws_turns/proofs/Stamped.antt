@@ -30,8 +30,10 @@ use Rattle.qc_site.specs.Names.{names_declared, new_site, passed, prepare_length
 use Rattle.qc_site.specs.Names.{promises, reads_by, relation_at, requested as site_requested, site_after, site_at}
 use Rattle.qc_site.specs.Names.{site_does, site_takes}
 use Rattle.qc_site.specs.Site as sites
-use Rattle.qc_site.proofs.Cases.{close_cases, install_cases}
-use Rattle.laws_turns.proofs.OwnStamps.{AreStamped, IsOwnWrite, by_two, client_stamped, unwritten}
+use Rattle.qc_site.proofs.RequestCases.{close_cases}
+use Rattle.qc_site.proofs.Cases.{install_cases}
+use Rattle.laws_turns.proofs.StampsOwn.{AreStamped, IsOwnWrite, by_two, unwritten}
+use Rattle.laws_turns.proofs.OwnStamps.{client_stamped}
 
 -- a site sends answers, and Inquiries with them
 

@@ -9,7 +9,7 @@ use Rattle.qc_stamp.specs.Names.{same_tx}
 use Rattle.qc_stamp.proofs.Orders.{same_tx_is, same_tx_itself}
 use Rattle.qc_entry.specs.declared.record.Commit.{Commit}
 use Rattle.qc_promise.specs.Names.{Begun, Committed, Dead, Status, Unborn, given_up}
-use Rattle.laws_turns.proofs.Dealing.{HasRecord}
+use Rattle.laws_turns.proofs.DealingParts.{HasRecord}
 
 -- what a client keeps of its transactions, as far as their statuses go
 pub record Page : Type 0 where

@@ -17,7 +17,8 @@ use Rattle.qc_msg.specs.declared.turn.Posting.{Posting}
 use Rattle.qc_msg.specs.declared.turn.Turn.{Turn}
 use Rattle.qc_msg.specs.Names.{Deed, Entry, Falls, Rises, Sends, Takes, Tells, Writes, by, deed_at, deeds, heard, mail}
 use Rattle.qc_msg.specs.Names.{marked, posted, sends_of, step_of, tells_of, turn_deeds, writes_of}
-use Rattle.qc_msg.proofs.Growth.{deeds-append, deeds-other, deeds-posted}
+use Rattle.qc_msg.proofs.DeedsGrow.{deeds-append, deeds-other}
+use Rattle.qc_msg.proofs.Growth.{deeds-posted}
 use Rattle.qc_script.specs.Names.{Runs, phase_of}
 use Rattle.qc_script.specs.Runs.{begins, takes, posts, phase, control}
 use Rattle.qc_script.specs.declared.script.Script.{Script}

@@ -32,7 +32,7 @@ use Rattle.laws_turns.proofs.Up.{first_up, rest_up}
 use Rattle.qc_core.specs.Names.{AreSteady}
 use Rattle.laws_turns.specs.Names.{written_by, written_in}
 use Rattle.laws_turns.proofs.ClientsWithin.{IsPost}
-use Rattle.laws_turns.proofs.DealtClients.{commits_of}
+use Rattle.laws_turns.proofs.DealtCommands.{commits_of}
 
 pub written-append : (xs ys : List Deed) → written_in (xs ++ ys) ≡ written_in xs ++ written_in ys
 written-append xs ys = filter_map-append written_by xs ys

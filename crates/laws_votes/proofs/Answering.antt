@@ -20,10 +20,10 @@ use Rattle.qc_core.specs.declared.actor.Actor.TheVariants as actor
 use Rattle.qc_decl.specs.Names.{IsAccepted, actors, is_client, is_site, most_record_bytes}
 use Rattle.qc_decl.specs.declared.declaration.Declaration.{Declaration}
 use Rattle.laws_guarantees.proofs.Accounts.{HasGrounds, WasSent}
-use Rattle.laws_guarantees.proofs.Grounds.{has_grounds}
+use Rattle.laws_guarantees.proofs.RequestGrounds.{has_grounds}
 use Rattle.laws_guarantees.proofs.Mailed.{sent_as, sent_mail}
 use Rattle.laws_guarantees.proofs.ForgettingAnswers.{Forgets}
-use Rattle.laws_guarantees.proofs.SiteMoves.{IsAnswering, IsAnsweringTo, answers_inputs, answers_request}
+use Rattle.laws_guarantees.proofs.AnswersToInputs.{IsAnswering, IsAnsweringTo, answers_inputs, answers_request}
 use Rattle.laws_guarantees.proofs.SiteMoves.{prepares_remembered}
 use Rattle.laws_guarantees.specs.Names.{IsOpenVote}
 use Rattle.laws_votes.proofs.Nets.{at_number, backed, net, now, reached, refined}
@@ -62,7 +62,7 @@ use Rattle.qc_site.specs.Names.{promise_of, requested, site_at, site_takes}
 use Rattle.qc_stamp.specs.declared.stamp.TxId.{TxId}
 use Rattle.laws_votes.proofs.Holding.{IsGrantedIn, granted, granted_below, is_held_with, still_held}
 use Rattle.laws_votes.proofs.LifeGrounds.{has_life_grounds}
-use Rattle.laws_votes.proofs.LivesTold.{HasParticipant}
+use Rattle.laws_votes.proofs.LivesAdded.{HasParticipant}
 use Rattle.laws_votes.proofs.RefusedRequests.{other_life, life_before, every_front}
 
 module _ (fits : ℕ → List Record → Type 0) (decl : Declaration) (script : Script) (h : List Entry)

@@ -16,7 +16,8 @@ use Rattle.qc_decl.specs.declared.declaration.Declaration.{Declaration}
 use Rattle.qc_entry.specs.declared.record.Commit.{Commit as CommitRecord}
 use Rattle.qc_list.proofs.Members.{In-second, every-In}
 use Rattle.qc_list.specs.Names.{In}
-use Rattle.qc_msg.proofs.Growth.{own-append, tally-more}
+use Rattle.qc_msg.proofs.DeedsGrow.{own-append}
+use Rattle.qc_msg.proofs.Growth.{tally-more}
 use Rattle.qc_msg.specs.Names.{Entry, Tally, answered_at, answered_in, answered_in_all, commit_of, no_tally}
 use Rattle.qc_msg.specs.Names.{operations_of, own, standing_after, tally_of, tally_with}
 use Rattle.qc_msg.specs.declared.record.Record.{Record}

@@ -8,7 +8,8 @@ use Rattle.qc_decl.specs.Names.{IsAccepted, controller, is_site}
 use Rattle.qc_decl.specs.declared.declaration.Declaration.{Declaration}
 use Rattle.laws_votes.specs.Names.{IsCastSince, life_at}
 use Rattle.laws_votes.proofs.SiteLives.{life_grows}
-use Rattle.laws_votes.proofs.Voting.{IsCast, post_casts, rise_casts}
+use Rattle.laws_votes.proofs.VoteInputs.{IsCast}
+use Rattle.laws_votes.proofs.Voting.{post_casts, rise_casts}
 use Rattle.laws_turns.proofs.Numbered.{mail-silent, phase_silent}
 use Rattle.qc_list.specs.Names.{In}
 use Rattle.qc_list.proofs.Members.{In-first}

@@ -4,7 +4,7 @@ use Rattle.std.proofs.Common.{is_some, refl, sym, ap, ◌∙◌, subst}
 use Rattle.std.specs.Prelude.{option_and_then}
 use Rattle.laws_due.proofs.StaysUp.{stays_up}
 use Rattle.qc_core.specs.Names.{AreSteady}
-use Rattle.laws_reach.proofs.Carrying.{said}
+use Rattle.laws_reach.proofs.CarriedRecords.{said}
 use Rattle.qc_decl.specs.declared.declaration.Declaration.{Declaration}
 use Rattle.qc_msg.specs.Names.{Deed, Falls, Rises, Sends, Takes, Tells, Writes}
 use Rattle.qc_msg.specs.declared.message.Message.{Message}

@@ -8,7 +8,7 @@ use Rattle.qc_decl.specs.Names.{is_client}
 use Rattle.qc_decl.specs.declared.declaration.Declaration.{Declaration}
 use Rattle.laws_guarantees.proofs.Grounds.{open_before, turn_old}
 use Rattle.laws_guarantees.proofs.ForgettingAnswers.{Forgets}
-use Rattle.laws_guarantees.proofs.Unforgotten.{IsAnswered, account_other}
+use Rattle.laws_guarantees.proofs.AccountsStay.{IsAnswered, account_other}
 use Rattle.laws_guarantees.specs.Names.{IsOpenVote}
 use Rattle.qc_list.specs.Names.{In}
 use Rattle.qc_msg.specs.Names.{Deed, Entry, Falls, Rises, Takes, by, deeds, deeds_as, envelopes, mail, sends_of}

@@ -10,8 +10,8 @@ use Rattle.qc_entry.specs.declared.line.Line.{Line}
 use Rattle.qc_entry.specs.declared.line.OwnLine.{OwnLine}
 use Rattle.qc_entry.specs.declared.record.Commit.{Commit as CommitRecord}
 use Rattle.laws_guarantees.specs.Names.{HasWanted, IsGrantedSince}
-use Rattle.laws_guarantees.proofs.HeldLaw.{Agrees, IsWanted, WasTakenFor, not_ended, own_wanted, standing_held}
-use Rattle.laws_guarantees.proofs.HeldLaw.{standing_more, was_taken}
+use Rattle.laws_guarantees.proofs.Standing.{Agrees, IsWanted, WasTakenFor, not_ended, own_wanted, standing_held}
+use Rattle.laws_guarantees.proofs.Standing.{standing_more, was_taken}
 use Rattle.laws_guarantees.proofs.Mailed.{taken_mail}
 use Rattle.laws_guarantees.proofs.Room.{numbered_within}
 use Rattle.laws_votes.proofs.Nets.{backed, listed, now, refined}

@@ -25,7 +25,7 @@ use Rattle.laws_votes.proofs.Live.{epoch_named, live}
 use Rattle.qc_promise.specs.Names.{ClientRequest, Current, Kept, account, epoch_shown, held_shown, life_shown}
 use Rattle.theory_machine.proofs.Epochs.{epoch-append, rising-right, upward}
 use Rattle.theory_machine.proofs.Keeps.{laws}
-use Rattle.theory_machine.proofs.Order.{between}
+use Rattle.theory_machine.proofs.Grants.{between}
 use Rattle.theory_machine.proofs.SiteLists.{items_of-append, items_of-each_held, items_of-kept}
 use Rattle.theory_machine.proofs.SiteOrder.{after_append}
 use Rattle.theory_machine.specs.Names.{Active, Closes, Deed, Granted, GrantedLaw, Grants, HasRisingEpochs}
@@ -41,7 +41,7 @@ use Rattle.qc_stamp.specs.declared.stamp.Stamp.{Stamp}
 use Rattle.qc_stamp.specs.declared.stamp.TxId.{TxId}
 use Rattle.laws_guarantees.specs.Names.{IsOpenVote}
 use Rattle.laws_votes.proofs.LifeGrounds.{has_life_grounds}
-use Rattle.laws_votes.proofs.LivesTold.{HasParticipant, IsToldLife}
+use Rattle.laws_votes.proofs.LivesAdded.{HasParticipant, IsToldLife}
 
 -- a machine's site holds an item on, as long as the transaction doesn't end, and the site neither rises nor closes nor
 -- installs

@@ -14,7 +14,8 @@ use Rattle.laws_turns.proofs.Numbered.{IsSilent, phase_silent}
 use Rattle.qc_list.specs.Names.{In}
 use Rattle.qc_list.proofs.Members.{In-second, every-In}
 use Rattle.laws_turns.proofs.Lived.{deeds-fall, deeds-rise, line_silent}
-use Rattle.qc_msg.proofs.Growth.{deeds-other, deeds-posted_as, deeds-taken}
+use Rattle.qc_msg.proofs.DeedsGrow.{deeds-other}
+use Rattle.qc_msg.proofs.Growth.{deeds-posted_as, deeds-taken}
 use Rattle.qc_msg.specs.Names.{Deed, Entry, Falls, Rises, Takes, WasSentTo, by, deeds, deeds_as, mail, marked}
 use Rattle.qc_msg.specs.Names.{posted_as, step_of}
 use Rattle.qc_msg.specs.declared.record.Record.{Record}

@@ -13,7 +13,8 @@ use Rattle.qc_entry.specs.declared.line.Op.{Op}
 use Rattle.qc_entry.specs.declared.record.Commit.{Commit as CommitRecord}
 use Rattle.laws_votes.proofs.Nets.{refined}
 use Rattle.laws_votes.proofs.Promising.{IsRecording, its_client, its_moment, now_recording}
-use Rattle.laws_votes.proofs.Recording.{IsKnown, Moment}
+use Rattle.laws_votes.proofs.Recorded.{IsKnown}
+use Rattle.laws_votes.proofs.Recording.{Moment}
 use Rattle.laws_votes.proofs.Stamps.{steady_clocks}
 use Rattle.qc_list.specs.Names.{In}
 use Rattle.qc_msg.specs.Names.{Deed, Entry, by, deeds, mail, marked, own}

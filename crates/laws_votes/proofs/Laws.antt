@@ -34,7 +34,7 @@ use Rattle.qc_script.specs.Names.{IsScriptFor, RunsWithFalls}
 use Rattle.qc_script.specs.declared.script.Script.{Script}
 use Rattle.laws_votes.proofs.Holding.{asked_sites_hold_through_falls, granted}
 use Rattle.laws_votes.proofs.LifeGrounds.{has_life_grounds}
-use Rattle.laws_votes.proofs.LivesTold.{HasParticipant}
+use Rattle.laws_votes.proofs.LivesAdded.{HasParticipant}
 
 module _ (fits : ℕ → List Record → Type 0) (decl : Declaration) (script : Script) (h : List Entry)
     (open_inputs : List Bool) (accepted : IsAccepted decl) (sound : IsScriptFor decl script)

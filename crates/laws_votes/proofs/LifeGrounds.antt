@@ -1,16 +1,15 @@
 -- What stands behind the lives of a begun transaction, through falls: the life of each site that granted it something
 -- was told by a grant, which its client took for a request that it had sent.
-use Rattle.std.proofs.Common.{◌≡◌, ◌+◌, ℕ, ◌==◌, ◌&&◌, Bool, true, false, cond, List, [], ◌∷◌, ◌++◌, inl, inr, Option, Some, None, refl, sym, ap, ◌∙◌, subst, arith, append_assoc}
-use Rattle.std.specs.Prelude.{fold, is_none}
-use Rattle.std.specs.List.{find}
+use Rattle.std.proofs.Common.{◌≡◌, ◌+◌, ℕ, ◌==◌, ◌&&◌, Bool, true, false, cond, List, ◌∷◌, ◌++◌, inl, inr, Option}
+use Rattle.std.proofs.Common.{Some, None, refl, sym, ap, ◌∙◌, subst, arith, append_assoc}
+use Rattle.std.specs.Prelude.{fold}
 use Rattle.std.specs.Option.{option_map_or}
 use Rattle.std.proofs.lemmas.List.{append-nil}
 use Rattle.qc_stamp.specs.Names.{same_tx}
 use Rattle.qc_stamp.specs.declared.stamp.TxId.{TxId}
 use Rattle.qc_list.specs.Names.{In}
-use Rattle.qc_list.proofs.Members.{In-last, In-more}
+use Rattle.qc_list.proofs.Members.{In-more}
 use Rattle.qc_decl.specs.declared.declaration.Declaration.{Declaration}
-use Rattle.qc_msg.specs.declared.begun.LifeAt.{LifeAt}
 use Rattle.qc_msg.specs.declared.message.Answer.{Answer}
 use Rattle.qc_msg.specs.declared.message.Message.{Message}
 use Rattle.qc_msg.specs.declared.message.Message.TheVariants as messages
@@ -19,14 +18,12 @@ use Rattle.qc_msg.specs.declared.record.Record.{Record}
 use Rattle.qc_msg.specs.declared.record.Record.TheVariants as records
 use Rattle.qc_msg.specs.declared.step.Command.{Command}
 use Rattle.qc_msg.specs.declared.step.Command.TheVariants as commands
-use Rattle.qc_msg.specs.declared.step.Input.{Input}
-use Rattle.qc_msg.specs.declared.step.Input.TheVariants as inputs
 use Rattle.qc_msg.specs.Names.{Deed, Falls, Rises, Sends, Takes, Tells, Writes, has_granted, life_of}
-use Rattle.qc_promise.specs.Names.{Account, ClientRequest, Current, account_at, account_heard, account_sent}
-use Rattle.qc_promise.specs.Names.{account_taken, account_written, answer_of, carries, command_asks, counted}
-use Rattle.qc_promise.specs.Names.{counted_for, is_asked_for, is_of, is_open, is_prepare, is_this, new_account}
-use Rattle.qc_promise.specs.Names.{next_own, own_appended, participants, requests_for, same_line, same_own, taken_for}
-use Rattle.qc_promise.specs.Names.{told_by, weighs}
+use Rattle.qc_promise.specs.Names.{Account, ClientRequest, Current, account_at, account_sent}
+use Rattle.qc_promise.specs.Names.{account_written, answer_of, carries, command_asks}
+use Rattle.qc_promise.specs.Names.{is_asked_for, is_of, is_prepare, is_this, new_account}
+use Rattle.qc_promise.specs.Names.{next_own, own_appended, participants, requests_for, same_line, same_own}
+use Rattle.qc_promise.specs.Names.{weighs}
 use Rattle.std.proofs.Common.{◌<◌, eqb-true, filter, length, slice_get}
 use Rattle.qc_list.proofs.Members.{In-passes, every-at, every-from_In}
 use Rattle.qc_decl.specs.Names.{first_site}
@@ -34,137 +31,54 @@ use Rattle.qc_plan.specs.Names.{cyclic}
 use Rattle.qc_entry.specs.declared.line.OwnLine.{OwnLine}
 use Rattle.std.proofs.lemmas.List.Sums.{fold-append}
 use Rattle.qc_entry.specs.declared.line.Line.{Line}
-use Rattle.qc_msg.specs.declared.message.Answer.TheVariants as answers
-use Rattle.qc_msg.specs.declared.message.Envelope.{Envelope}
 use Rattle.qc_msg.specs.declared.message.Want.TheVariants.{Append, Prepare, Read}
-use Rattle.laws_guarantees.proofs.Accounts.{HasGrounds, WasSent, WasTaken, after_taken, and_first, and_second, found_in, sent_more, told_requests}
-use Rattle.laws_guarantees.proofs.Grounds.{has_grounds}
+use Rattle.laws_guarantees.proofs.Accounts.{HasGrounds, and_first, and_second}
+use Rattle.laws_guarantees.proofs.RequestGrounds.{has_grounds}
 use Rattle.laws_guarantees.proofs.SiteMoves.{IsFull}
 use Rattle.std.specs.Cmp.Lexicographic.{pointwise}
-use Rattle.laws_guarantees.proofs.FirstGrants.{life_added}
-use Rattle.laws_votes.proofs.LivesTold.{told_alike, IsToldLife, HasParticipant, HasLifeGrounds, told_more, same_now, same_told, same_grounds, bare_grounds, not_yet, HasOneMore, IsChangedBy, told_changed, told_forward}
-
--- something is taken, and counts
-
-module _ (ds : List Deed) (x : Deed) (d : Account) (n : ℕ) (answer : Option Answer) (grounds : HasGrounds ds d) (k : HasLifeGrounds ds d)
-    (taken_now : (a : Answer) → answer ≡ Some a → (e : Envelope) × (x ≡ Takes (inputs.Got e)) × (e.message ≡ messages.Answer n a)) where
-  now_full : (q : ClientRequest) → In q (taken_for n answer d.requests) → IsFull q.want
-  now_full q among = elim (after_taken n answer q d.requests among) [
-    | inl old ↦ k.full q old
-    | inr now ↦ subst (λ (w : Want). IsFull w) (sym (ap (λ (y : ClientRequest). y.want) now.is)) (k.full now.old now.among)
-  ]
-
-  now_voting : (p : ClientRequest) (q : ClientRequest) → In q (taken_for n answer d.requests) → q.want ≡ Prepare → HasParticipant (told_by (record d { requests = taken_for n answer d.requests }) p answer).current q
-  now_voting p q among want = elim (after_taken n answer q d.requests among) [
-    | inl old ↦ moved_on q (k.votes q old want)
-    | inr now ↦ (
-        let was : HasParticipant d.current now.old = k.votes now.old now.among (sym (ap (λ (y : ClientRequest). y.want) now.is) ∙ want) in
-        moved_on q (
-          was.0,
-          was.1,
-          subst (λ (n : ℕ). has_granted was.0.lives n ≡ true) (sym (ap (λ (y : ClientRequest). y.site) now.is)) was.2,
-          ap (λ (y : ClientRequest). y.life) now.is ∙ was.3 ∙ ap (life_of was.0.lives) (sym (ap (λ (y : ClientRequest). y.site) now.is)),
-        ))
-  ]
-    where
-      moved_on : (q : ClientRequest) → HasParticipant d.current q → HasParticipant (told_by (record d { requests = taken_for n answer d.requests }) p answer).current q
-      moved_on q (t, was, has, life) =
-          let on = told_forward (record d { requests = taken_for n answer d.requests }) p answer t was in
-          (on.0, on.1, (on.2 q.site has).0, life ∙ sym (on.2 q.site has).1)
-
-  now_taken : (a : Answer) → answer ≡ Some a → WasTaken (ds ++ x ∷ []) n a
-  now_taken a is = (let e = taken_now a is in record { envelope = e.0; taken = subst (λ (y : Deed). In y (ds ++ x ∷ [])) e.1 (In-last x ds); is = e.2 })
-
-  now_told : (p : ClientRequest) → In p d.requests → p.number ≡ n → (t : Current) (site : ℕ) → (told_by (record d { requests = taken_for n answer d.requests }) p answer).current ≡ Some t → has_granted t.lives site ≡ true
-      → IsToldLife (ds ++ x ∷ []) t.tx site (life_of t.lives site)
-  now_told p among number t site at has = by (told_changed (record d { requests = taken_for n answer d.requests }) p answer t at)
-    where
-      added_here : (life clock : ℕ) (log : List Line) → answer ≡ Some (answers.Granted life clock log) → (m : HasOneMore d.current p.site life t) → (b : Bool) → has_granted m.old.lives site ≡ b → IsToldLife (ds ++ x ∷ []) t.tx site (life_of t.lives site)
-      added_here life clock log is m true before_it =
-          subst (λ (tx : TxId). IsToldLife (ds ++ x ∷ []) tx site (life_of t.lives site)) (sym m.its)
-          (subst (λ (l : ℕ). IsToldLife (ds ++ x ∷ []) m.old.tx site l) (sym (ap (λ (ls : List LifeAt). life_of ls site) m.lives ∙ (life_added m.old.lives p.site life site before_it).1))
-          (told_more ds x m.old.tx site (life_of m.old.lives site) (k.told m.old site m.was before_it)))
-      added_here life clock log is m false before_it =
-          let new = not_yet m.old.lives p.site life site before_it (subst (λ (ls : List LifeAt). has_granted ls site ≡ true) m.lives has) in
-          let s : (c : Current) × (d.current ≡ Some c) × WasSent ds p c.tx = grounds.sent p among in
-          let same : s.0 ≡ m.old = (let both : Some s.0 ≡ Some m.old = sym s.1 ∙ m.was in cc) in
-          let sent : WasSent ds p t.tx = subst (λ (tx : TxId). WasSent ds p tx) (ap (λ (y : Current). y.tx) same ∙ sym m.its) s.2 in
-          subst (λ (l : ℕ). IsToldLife (ds ++ x ∷ []) t.tx site l) (sym (ap (λ (ls : List LifeAt). life_of ls site) m.lives ∙ new.1))
-          (record {
-            q = p;
-            sent = sent_more ds x p t.tx sent;
-            at = new.0;
-            full = k.full p among;
-            clock = clock;
-            log = log;
-            taken = subst (λ (number : ℕ). WasTaken (ds ++ x ∷ []) number (answers.Granted life clock log)) (sym number) (now_taken (answers.Granted life clock log) is);
-          })
-
-      by : IsChangedBy d.current p.site answer t → IsToldLife (ds ++ x ∷ []) t.tx site (life_of t.lives site)
-      by (inl (old, was, its, lives)) =
-          subst (λ (ls : List LifeAt). IsToldLife (ds ++ x ∷ []) t.tx site (life_of ls site)) (sym lives)
-          (subst (λ (tx : TxId). IsToldLife (ds ++ x ∷ []) tx site (life_of old.lives site)) (sym its)
-          (told_more ds x old.tx site (life_of old.lives site) (k.told old site was (subst (λ (ls : List LifeAt). has_granted ls site ≡ true) lives has))))
-      by (inr (life, clock, log, is, m)) = added_here life clock log is m (has_granted m.old.lives site) refl
-
-  counted_grounds : HasLifeGrounds (ds ++ x ∷ []) (counted d n answer)
-  counted_grounds = by (find (is_open n) d.requests) refl
-    where
-      by : (o : Option ClientRequest) → find (is_open n) d.requests ≡ o → HasLifeGrounds (ds ++ x ∷ []) (counted_for d n answer o)
-      by None at = same_grounds ds x d d refl refl k
-      by (Some p) at =
-          let found = found_in n p d.requests at in
-          record {
-            votes = λ q among want. now_voting p q (subst (In q) (told_requests (record d { requests = taken_for n answer d.requests }) p answer).0 among) want;
-            full = λ q among. now_full q (subst (In q) (told_requests (record d { requests = taken_for n answer d.requests }) p answer).0 among);
-            told = now_told p found.0 (eqb-true p.number n (and_first (p.number == n) (is_none p.taken) found.1));
-          }
-
-take_grounds : (ds : List Deed) (d : Account) (g : Input) → HasGrounds ds d → HasLifeGrounds ds d → HasLifeGrounds (ds ++ Takes g ∷ []) (account_taken d g)
-take_grounds ds d (inputs.Called command) grounds k = bare_grounds ds (Takes (inputs.Called command)) d (record d { command = Some command; requests = []; written = None }) refl (same_now d.current d.current refl) k
-take_grounds ds d (inputs.Lost number) grounds k = counted_grounds ds (Takes (inputs.Lost number)) d number None grounds k (λ a is. absurd (let never : ⊥ = cc in never))
-take_grounds ds d (inputs.Got e) grounds k = by e.message refl
-  where
-    same : HasLifeGrounds (ds ++ Takes (inputs.Got e) ∷ []) d
-    same = same_grounds ds (Takes (inputs.Got e)) d d refl refl k
-
-    by : (m : Message) → e.message ≡ m → HasLifeGrounds (ds ++ Takes (inputs.Got e) ∷ []) (account_heard d m)
-    by (messages.Request tx epoch life want) is = same
-    by (messages.Answer to answer) is = counted_grounds ds (Takes (inputs.Got e)) d to (Some answer) grounds k (λ a it. (e, refl, is ∙ ap (λ (y : Answer). messages.Answer to y) (let just : answer ≡ a = cc in just)))
-    by (messages.Decision tx verdict) is = same
-    by (messages.Inquiry tx) is = same
-    by (messages.Ask tx) is = same
-    by (messages.Close epoch) is = same
-    by (messages.Install epoch clock log) is = same
+use Rattle.laws_votes.proofs.LivesAdded.{HasParticipant, HasLifeGrounds, same_now}
+use Rattle.laws_votes.proofs.LivesTold.{told_alike}
+use Rattle.laws_votes.proofs.LivesAdded.{same_told, same_grounds, bare_grounds}
+use Rattle.laws_votes.proofs.TakenGrounds.{take_grounds}
 
 -- a record changes no transaction
-write_grounds : (ds : List Deed) (d : Account) (w : Record) → HasLifeGrounds ds d → HasLifeGrounds (ds ++ Writes w ∷ []) (account_written d w)
+write_grounds : (ds : List Deed) (d : Account) (w : Record) → HasLifeGrounds ds d
+    → HasLifeGrounds (ds ++ Writes w ∷ []) (account_written d w)
 write_grounds ds d records.Life k = same_grounds ds (Writes records.Life) d (record d { life = d.life + 1 }) refl refl k
 write_grounds ds d (records.Prepare prepared) k = same_grounds ds (Writes (records.Prepare prepared)) d d refl refl k
 write_grounds ds d (records.Done tx clock) k = same_grounds ds (Writes (records.Done tx clock)) d d refl refl k
 write_grounds ds d (records.Close epoch) k = same_grounds ds (Writes (records.Close epoch)) d d refl refl k
-write_grounds ds d (records.Install epoch clock lines) k = same_grounds ds (Writes (records.Install epoch clock lines)) d d refl refl k
-write_grounds ds d (records.Commit commit) k = same_grounds ds (Writes (records.Commit commit)) d (record d { written = Some commit }) refl refl k
-write_grounds ds d (records.Decide epoch clock lines) k = same_grounds ds (Writes (records.Decide epoch clock lines)) d d refl refl k
+write_grounds ds d (records.Install epoch clock lines) k =
+    same_grounds ds (Writes (records.Install epoch clock lines)) d d refl refl k
+write_grounds ds d (records.Commit commit) k =
+    same_grounds ds (Writes (records.Commit commit)) d (record d { written = Some commit }) refl refl k
+write_grounds ds d (records.Decide epoch clock lines) k =
+    same_grounds ds (Writes (records.Decide epoch clock lines)) d d refl refl k
 
 module _ (decl : Declaration) where
   -- a request that is asked for has own lines where it is an Append
 
-  carried_full : (d : Account) (t : Current) (object : ℕ) (view : List Line) (own : List OwnLine) (o : Option ℕ) → carries decl t object view own o ≡ true → 0 < length own
+  carried_full : (d : Account) (t : Current) (object : ℕ) (view : List Line) (own : List OwnLine) (o : Option ℕ)
+      → carries decl t object view own o ≡ true → 0 < length own
   carried_full d t object view own None is = absurd (let never : ⊥ = cc in never)
-  carried_full d t object view [] (Some event) is = absurd (none (filter (weighs decl t.epoch object) t.own) (and_second (pointwise same_line view _) (pointwise same_own [] (own_appended decl t object event)) is))
+  carried_full d t object view [] (Some event) is =
+      absurd (none (filter (weighs decl t.epoch object) t.own)
+      (and_second (pointwise same_line view _) (pointwise same_own [] (own_appended decl t object event)) is))
     where
       none : (xs : List OwnLine) → pointwise same_own [] (xs ++ next_own t object event ∷ []) ≡ true → ⊥
       none [] is = let never : ⊥ = cc in never
       none (x ∷ xs) is = let never : ⊥ = cc in never
   carried_full d t object view (o ∷ os) (Some event) is = omega arith
 
-  command_full : (d : Account) (t : Current) (site : ℕ) (want : Want) (o : Option Command) → command_asks decl d t site want o ≡ true → IsFull want
+  command_full : (d : Account) (t : Current) (site : ℕ) (want : Want) (o : Option Command)
+      → command_asks decl d t site want o ≡ true → IsFull want
   command_full d t site want None is = absurd (let never : ⊥ = cc in never)
   command_full d t site want (Some commands.Begin) is = absurd (let never : ⊥ = cc in never)
   command_full d t site (Read o i) (Some (commands.Do object inv)) is = tt
   command_full d t site (Append o view own) (Some (commands.Do object inv)) is =
-      carried_full d t object view own (answer_of decl t object inv) (and_second (o == object) (carries decl t object view own (answer_of decl t object inv)) (and_first ((o == object) && carries decl t object view own (answer_of decl t object inv)) _ is))
+      carried_full d t object view own (answer_of decl t object inv)
+          (and_second (o == object) (carries decl t object view own (answer_of decl t object inv))
+            (and_first ((o == object) && carries decl t object view own (answer_of decl t object inv)) _ is))
   command_full d t site Prepare (Some (commands.Do object inv)) is = absurd (let never : ⊥ = cc in never)
   command_full d t site (Read o i) (Some commands.Commit) is = absurd (let never : ⊥ = cc in never)
   command_full d t site (Append o view own) (Some commands.Commit) is = absurd (let never : ⊥ = cc in never)
@@ -172,12 +86,17 @@ module _ (decl : Declaration) where
   command_full d t site want (Some commands.Abort) is = absurd (let never : ⊥ = cc in never)
   command_full d t site want (Some (commands.Epoch number)) is = absurd (let never : ⊥ = cc in never)
 
-  asked_full : (d : Account) (site : ℕ) (tx : TxId) (epoch life : ℕ) (want : Want) → is_asked_for decl d site tx epoch life want ≡ true → IsFull want
+  asked_full : (d : Account) (site : ℕ) (tx : TxId) (epoch life : ℕ) (want : Want)
+      → is_asked_for decl d site tx epoch life want ≡ true → IsFull want
   asked_full d site tx epoch life want is = by d.current is
     where
-      by : (o : Option Current) → option_map_or (λ (t : Current). is_of t site tx epoch life && command_asks decl d t site want d.command) o false ≡ true → IsFull want
+      by : (o : Option Current)
+          → option_map_or (λ (t : Current). is_of t site tx epoch life && command_asks decl d t site want d.command) o
+            false ≡ true → IsFull want
       by None e = absurd (let never : ⊥ = cc in never)
-      by (Some t) e = command_full d t site want d.command (and_second (is_of t site tx epoch life) (command_asks decl d t site want d.command) e)
+      by (Some t) e =
+          command_full d t site want d.command
+          (and_second (is_of t site tx epoch life) (command_asks decl d t site want d.command) e)
 
   -- a Prepare is asked of a participant, and names the life of its first grant
 
@@ -188,67 +107,121 @@ module _ (decl : Declaration) where
   this_one site None is = absurd (let never : ⊥ = cc in never)
   this_one site (Some n) is = ap Some (eqb-true n site is)
 
-  commit_participant : (d : Account) (t : Current) (site : ℕ) (o : Option Command) → command_asks decl d t site Prepare o ≡ true → has_granted t.lives site ≡ true
+  commit_participant : (d : Account) (t : Current) (site : ℕ) (o : Option Command)
+      → command_asks decl d t site Prepare o ≡ true → has_granted t.lives site ≡ true
   commit_participant d t site None is = absurd (let never : ⊥ = cc in never)
   commit_participant d t site (Some commands.Begin) is = absurd (let never : ⊥ = cc in never)
   commit_participant d t site (Some (commands.Do object inv)) is = absurd (let never : ⊥ = cc in never)
   commit_participant d t site (Some commands.Commit) is =
       In-passes (has_granted t.lives) site (cyclic decl.sites (first_site decl d.client))
-      (at_in (participants decl d t) (length (requests_for is_prepare d)) site (this_one site (slice_get (participants decl d t) (length (requests_for is_prepare d))) is))
+      (at_in (participants decl d t) (length (requests_for is_prepare d)) site
+          (this_one site (slice_get (participants decl d t) (length (requests_for is_prepare d))) is))
   commit_participant d t site (Some commands.Abort) is = absurd (let never : ⊥ = cc in never)
   commit_participant d t site (Some (commands.Epoch number)) is = absurd (let never : ⊥ = cc in never)
 
-  asked_participant : (d : Account) (n to : ℕ) (tx : TxId) (epoch life : ℕ) (want : Want) → want ≡ Prepare → is_asked_for decl d to tx epoch life want ≡ true → HasParticipant d.current (record { number = n; site = to; life = life; want = want; taken = None })
+  asked_participant : (d : Account) (n to : ℕ) (tx : TxId) (epoch life : ℕ) (want : Want) → want ≡ Prepare
+      → is_asked_for decl d to tx epoch life want ≡ true
+      → HasParticipant d.current (record { number = n; site = to; life = life; want = want; taken = None })
   asked_participant d n to tx epoch life want prepare is = by d.current refl is
     where
-      by : (o : Option Current) → d.current ≡ o → option_map_or (λ (t : Current). is_of t to tx epoch life && command_asks decl d t to want d.command) o false ≡ true → HasParticipant o (record { number = n; site = to; life = life; want = want; taken = None })
+      by : (o : Option Current) → d.current ≡ o
+          → option_map_or (λ (t : Current). is_of t to tx epoch life && command_asks decl d t to want d.command) o false
+            ≡ true → HasParticipant o (record { number = n; site = to; life = life; want = want; taken = None })
       by None at e = absurd (let never : ⊥ = cc in never)
       by (Some t) at e = (
         t,
         refl,
-        commit_participant d t to d.command (subst (λ (w : Want). command_asks decl d t to w d.command ≡ true) prepare (and_second (is_of t to tx epoch life) (command_asks decl d t to want d.command) e)),
-        eqb-true life (life_of t.lives to) (and_second (epoch == t.epoch) (life == life_of t.lives to) (and_second (same_tx t.tx tx) ((epoch == t.epoch) && (life == life_of t.lives to)) (and_first (is_of t to tx epoch life) (command_asks decl d t to want d.command) e))),
+        commit_participant d t to d.command
+            (subst (λ (w : Want). command_asks decl d t to w d.command ≡ true) prepare
+              (and_second (is_of t to tx epoch life) (command_asks decl d t to want d.command) e)),
+        eqb-true life (life_of t.lives to)
+            (and_second (epoch == t.epoch) (life == life_of t.lives to)
+              (and_second (same_tx t.tx tx) ((epoch == t.epoch) && (life == life_of t.lives to))
+                (and_first (is_of t to tx epoch life) (command_asks decl d t to want d.command) e))),
       )
 
-  send_grounds : (ds : List Deed) (d : Account) (n to : ℕ) (m : Message) → HasLifeGrounds ds d → HasLifeGrounds (ds ++ Sends n to m ∷ []) (account_sent decl d n to m)
+  send_grounds : (ds : List Deed) (d : Account) (n to : ℕ) (m : Message) → HasLifeGrounds ds d
+      → HasLifeGrounds (ds ++ Sends n to m ∷ []) (account_sent decl d n to m)
   send_grounds ds d n to (messages.Request tx epoch life want) k = by (is_asked_for decl d to tx epoch life want) refl
     where
-      by : (b : Bool) → is_asked_for decl d to tx epoch life want ≡ b → HasLifeGrounds (ds ++ Sends n to (messages.Request tx epoch life want) ∷ []) (cond b (record d { requests = d.requests ++ record { number = n; site = to; life = life; want = want; taken = None } ∷ [] }) d)
+      by : (b : Bool) → is_asked_for decl d to tx epoch life want ≡ b
+          → HasLifeGrounds (ds ++ Sends n to (messages.Request tx epoch life want) ∷ [])
+            (cond b
+              (record d
+                {
+                    requests =
+                        d.requests ++ record { number = n; site = to; life = life; want = want; taken = None } ∷ []
+                  }) d)
       by false is = same_grounds ds (Sends n to (messages.Request tx epoch life want)) d d refl refl k
       by true is = record {
-        votes = λ q among prepare. elim (In-more q (record { number = n; site = to; life = life; want = want; taken = None }) d.requests among) [
+        votes =
+            λ q among prepare. elim (In-more q
+            (record { number = n; site = to; life = life; want = want; taken = None }) d.requests among) [
           | inl old ↦ k.votes q old prepare
-          | inr new ↦ subst (HasParticipant d.current) (sym new) (asked_participant d n to tx epoch life want (sym (ap (λ (y : ClientRequest). y.want) new) ∙ prepare) is)
+          | inr new ↦
+              subst (HasParticipant d.current) (sym new)
+              (asked_participant d n to tx epoch life want (sym (ap (λ (y : ClientRequest). y.want) new) ∙ prepare) is)
         ];
-        full = λ q among. elim (In-more q (record { number = n; site = to; life = life; want = want; taken = None }) d.requests among) [
+        full =
+            λ q among. elim (In-more q (record { number = n; site = to; life = life; want = want; taken = None })
+            d.requests among) [
           | inl old ↦ k.full q old
-          | inr new ↦ subst (λ (w : Want). IsFull w) (sym (ap (λ (y : ClientRequest). y.want) new)) (asked_full d to tx epoch life want is)
+          | inr new ↦
+              subst (λ (w : Want). IsFull w) (sym (ap (λ (y : ClientRequest). y.want) new))
+              (asked_full d to tx epoch life want is)
         ];
-        told = same_told ds (Sends n to (messages.Request tx epoch life want)) d d (same_now d.current d.current refl) k;
+        told =
+            same_told ds (Sends n to (messages.Request tx epoch life want)) d d (same_now d.current d.current refl) k;
       }
-  send_grounds ds d n to (messages.Answer request answer) k = same_grounds ds (Sends n to (messages.Answer request answer)) d d refl refl k
-  send_grounds ds d n to (messages.Decision tx verdict) k = same_grounds ds (Sends n to (messages.Decision tx verdict)) d d refl refl k
+  send_grounds ds d n to (messages.Answer request answer) k =
+      same_grounds ds (Sends n to (messages.Answer request answer)) d d refl refl k
+  send_grounds ds d n to (messages.Decision tx verdict) k =
+      same_grounds ds (Sends n to (messages.Decision tx verdict)) d d refl refl k
   send_grounds ds d n to (messages.Inquiry tx) k = same_grounds ds (Sends n to (messages.Inquiry tx)) d d refl refl k
   send_grounds ds d n to (messages.Ask tx) k = same_grounds ds (Sends n to (messages.Ask tx)) d d refl refl k
   send_grounds ds d n to (messages.Close epoch) k = same_grounds ds (Sends n to (messages.Close epoch)) d d refl refl k
-  send_grounds ds d n to (messages.Install epoch clock log) k = same_grounds ds (Sends n to (messages.Install epoch clock log)) d d refl refl k
+  send_grounds ds d n to (messages.Install epoch clock log) k =
+      same_grounds ds (Sends n to (messages.Install epoch clock log)) d d refl refl k
 
-  one_more : (ds : List Deed) (d : Account) (x : Deed) → HasGrounds ds d → HasLifeGrounds ds d → HasLifeGrounds (ds ++ x ∷ []) (account_at decl d x)
+  one_more : (ds : List Deed) (d : Account) (x : Deed) → HasGrounds ds d → HasLifeGrounds ds d
+      → HasLifeGrounds (ds ++ x ∷ []) (account_at decl d x)
   one_more ds d (Takes g) grounds k = take_grounds ds d g grounds k
   one_more ds d (Writes w) grounds k = write_grounds ds d w k
   one_more ds d (Sends n to m) grounds k = send_grounds ds d n to m k
-  one_more ds d (Tells reply) grounds k = bare_grounds ds (Tells reply) d (account_at decl d (Tells reply)) refl (told_alike decl d reply) k
-  one_more ds d (Falls cause pending) grounds k = record { votes = λ q never. absurd never; full = λ q never. absurd never; told = λ t site is has. absurd (let never : ⊥ = cc in never) }
-  one_more ds d (Rises kept) grounds k = record { votes = λ q never. absurd never; full = λ q never. absurd never; told = λ t site is has. absurd (let never : ⊥ = cc in never) }
+  one_more ds d (Tells reply) grounds k =
+      bare_grounds ds (Tells reply) d (account_at decl d (Tells reply)) refl (told_alike decl d reply) k
+  one_more ds d (Falls cause pending) grounds k =
+      record {
+        votes = λ q never. absurd never;
+        full = λ q never. absurd never;
+        told = λ t site is has. absurd (let never : ⊥ = cc in never)
+      }
+  one_more ds d (Rises kept) grounds k =
+      record {
+        votes = λ q never. absurd never;
+        full = λ q never. absurd never;
+        told = λ t site is has. absurd (let never : ⊥ = cc in never)
+      }
 
-  all_more : (client : ℕ) (ds more : List Deed) → HasLifeGrounds ds (fold (account_at decl) (new_account client) ds) → HasLifeGrounds (ds ++ more) (fold (account_at decl) (new_account client) (ds ++ more))
-  all_more client ds [] k = subst (λ (v : List Deed). HasLifeGrounds v (fold (account_at decl) (new_account client) v)) (sym (append-nil ds)) k
+  all_more : (client : ℕ) (ds more : List Deed) → HasLifeGrounds ds (fold (account_at decl) (new_account client) ds)
+      → HasLifeGrounds (ds ++ more) (fold (account_at decl) (new_account client) (ds ++ more))
+  all_more client ds [] k =
+      subst (λ (v : List Deed). HasLifeGrounds v (fold (account_at decl) (new_account client) v)) (sym (append-nil ds))
+      k
   all_more client ds (x ∷ more) k =
-      subst (λ (v : List Deed). HasLifeGrounds v (fold (account_at decl) (new_account client) v)) (append_assoc ds (x ∷ []) more)
+      subst (λ (v : List Deed). HasLifeGrounds v (fold (account_at decl) (new_account client) v))
+          (append_assoc ds (x ∷ []) more)
       (all_more client (ds ++ x ∷ []) more
       (subst (HasLifeGrounds (ds ++ x ∷ [])) (sym (fold-append (account_at decl) (new_account client) ds (x ∷ [])))
       (one_more ds (fold (account_at decl) (new_account client) ds) x (has_grounds decl client ds) k)))
 
   -- the life of a site was told by a grant
-  pub has_life_grounds : (client : ℕ) (ds : List Deed) → HasLifeGrounds ds (fold (account_at decl) (new_account client) ds)
-  has_life_grounds client ds = all_more client [] ds (record { votes = λ q never. absurd never; full = λ q never. absurd never; told = λ t site is has. absurd (let never : ⊥ = cc in never) })
+  pub has_life_grounds : (client : ℕ) (ds : List Deed)
+      → HasLifeGrounds ds (fold (account_at decl) (new_account client) ds)
+  has_life_grounds client ds =
+      all_more client [] ds
+      (record {
+          votes = λ q never. absurd never;
+          full = λ q never. absurd never;
+          told = λ t site is has. absurd (let never : ⊥ = cc in never)
+        })

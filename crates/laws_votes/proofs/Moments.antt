@@ -6,7 +6,7 @@ use Rattle.std.proofs.lemmas.List.{append-nil}
 use Rattle.qc_core.proofs.AdminOver.{WritesAsAdmin, admin_over}
 use Rattle.qc_core.proofs.ByNumber.{rises_by}
 use Rattle.qc_core.specs.Names.{ActorMove, IsLawfulWithFalls, actor_after, actor_takes, is_up, with_record}
-use Rattle.qc_core.proofs.LivesLaws as actor_laws
+use Rattle.qc_core.proofs.LivesOfActors as actor_laws
 use Rattle.qc_decl.specs.Names.{IsAccepted, administrator, is_client, is_site}
 use Rattle.qc_decl.specs.declared.declaration.Declaration.{Declaration}
 use Rattle.qc_entry.specs.declared.record.Commit.{Commit as CommitRecord}
@@ -15,7 +15,7 @@ use Rattle.laws_votes.proofs.Nets.{net, reached}
 use Rattle.qc_inbox.specs.Names.{is_down}
 use Rattle.qc_list.specs.Names.{In}
 use Rattle.laws_turns.proofs.Downs.{due, tells, up_is}
-use Rattle.qc_msg.proofs.Growth.{deeds-append, deeds-rose}
+use Rattle.qc_msg.proofs.DeedsGrow.{deeds-append, deeds-rose}
 use Rattle.qc_msg.specs.Names.{Deed, Entry, by, commit_in, deeds, fell, mail, marked, posted_as, sents, step_of, told}
 use Rattle.qc_msg.specs.declared.record.Record.{Record}
 use Rattle.qc_msg.specs.declared.record.Record.TheVariants as records
@@ -35,7 +35,7 @@ use Rattle.laws_atomic.proofs.Posted.{taken_writes}
 use Rattle.laws_atomic.proofs.Silent.{site_silent}
 use Rattle.laws_guarantees.proofs.Moments.{First, IsFirst, Second, first_posted, none_in, one_in, split, wrote}
 use Rattle.qc_promise.specs.Names.{Kept}
-use Rattle.laws_reach.proofs.Posting.{takes_inputs}
+use Rattle.laws_reach.proofs.PostedTurns.{takes_inputs}
 use Rattle.laws_reach.proofs.RunsStand.{kept_of_first}
 use Rattle.laws_reach.proofs.Stood.{in_site}
 use Rattle.laws_reach.specs.Names.{HasTaken, TakesInputs}

@@ -8,7 +8,8 @@ use Rattle.qc_entry.specs.declared.line.Op.{Op}
 use Rattle.qc_entry.specs.declared.record.Commit.{Commit as CommitRecord}
 use Rattle.laws_votes.proofs.Clients.{IsNumbered, numbered}
 use Rattle.laws_votes.proofs.Promising.{IsRecording, its_client, its_moment, now_recording}
-use Rattle.laws_votes.proofs.Recording.{IsKnown, Moment}
+use Rattle.laws_votes.proofs.Recorded.{IsKnown}
+use Rattle.laws_votes.proofs.Recording.{Moment}
 use Rattle.laws_votes.proofs.SiteLives.{journal_next, record_stays}
 use Rattle.laws_votes.specs.Names.{AreWriting, IsToldBy}
 use Rattle.qc_list.specs.Names.{In}

@@ -12,7 +12,7 @@ use Rattle.qc_entry.specs.declared.line.Op.{Op}
 use Rattle.qc_entry.specs.declared.record.Commit.{Commit as CommitRecord}
 use Rattle.laws_votes.proofs.Clients.{IsNumbered, numbered, slot_of}
 use Rattle.laws_votes.proofs.Nets.{net, now, reached, refined}
-use Rattle.laws_votes.proofs.Recording.{IsKnown}
+use Rattle.laws_votes.proofs.Recorded.{IsKnown}
 use Rattle.qc_link.specs.Names.{most_actors}
 use Rattle.qc_list.specs.Names.{In}
 use Rattle.laws_turns.specs.Names.{LivesIn}

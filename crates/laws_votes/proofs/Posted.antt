@@ -38,7 +38,8 @@ use Rattle.qc_msg.specs.declared.turn.Posting.{Posting}
 use Rattle.qc_msg.specs.declared.turn.Turn.{Turn}
 use Rattle.qc_script.specs.Names.{RunsWithFalls}
 use Rattle.qc_script.specs.declared.script.Script.{Script}
-use Rattle.qc_site.proofs.Cases.{append_cases, close_cases, install_cases, prepare_cases, read_cases, request_cases}
+use Rattle.qc_site.proofs.RequestCases.{append_cases, close_cases, prepare_cases, read_cases, request_cases}
+use Rattle.qc_site.proofs.Cases.{install_cases}
 use Rattle.qc_site.specs.Names.{SiteMove, SiteState, answering, finishes, grants, joins, passed, prepared_of, site_at}
 use Rattle.qc_site.specs.Names.{site_takes}
 use Rattle.qc_stamp.specs.declared.stamp.Stamp.{Stamp}

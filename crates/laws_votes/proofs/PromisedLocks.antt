@@ -1,37 +1,28 @@
 -- A site by its conduct, through falls and rises: of what it has promised it holds the locks, and its clock has passed
 -- what its records say is done.
-use Rattle.std.proofs.Common.{fold, ◌≡◌, ◌≤◌, not, nat_le, max, if◌then◌else◌, ℕ, Bool, true, false, cond, List, [], ◌∷◌, ◌++◌, inl, inr, Option, Some, None, option_to_list, refl, sym, ap, ◌∙◌, subst, arith, append_assoc}
+use Rattle.std.proofs.Common.{◌≡◌, ◌≤◌, ℕ, Bool, true, List}
+use Rattle.std.proofs.Common.{◌∷◌, ◌++◌, inl, inr, Option, Some, None, option_to_list, refl, sym, ap, ◌∙◌, subst, arith}
+use Rattle.std.proofs.Common.{append_assoc}
 use Rattle.std.proofs.lemmas.List.Sums.{fold-append}
 use Rattle.laws_due.proofs.Standing.{actor_more}
 use Rattle.qc_core.proofs.ByNumber.{site_new, site_risen}
-use Rattle.qc_core.proofs.LivesLaws.{rises as actor_rising}
+use Rattle.qc_core.proofs.LivesOfActors.{rises as actor_rising}
 use Rattle.qc_core.specs.Names.{ActorMove, IsLawfulWithFalls, Serves, actor_after, actor_takes, by_site, crashes}
 use Rattle.qc_core.specs.Names.{journal_after, journal_at, rises, serves, stays_up, unopened}
 use Rattle.qc_core.specs.Sites.{starts}
 use Rattle.qc_core.specs.declared.actor.Actor.{Actor}
 use Rattle.qc_core.specs.declared.actor.Actor.TheVariants.{Site}
-use Rattle.qc_decl.specs.Names.{is_site, most_record_bytes}
+use Rattle.qc_decl.specs.Names.{is_site}
 use Rattle.qc_decl.specs.declared.declaration.Declaration.{Declaration}
-use Rattle.qc_entry.specs.declared.line.Line.{Line}
-use Rattle.qc_entry.specs.declared.line.OwnLine.{OwnLine}
-use Rattle.qc_entry.specs.declared.line.ReadLock.{ReadLock}
 use Rattle.qc_entry.specs.declared.record.Prepared.{Prepared}
 use Rattle.qc_list.specs.Names.{In}
-use Rattle.qc_list.proofs.Members.{In-more, In-unfiltered}
 use Rattle.laws_turns.proofs.Downs.{due}
-use Rattle.qc_lock.proofs.Entries.{held-without_other, locks_given}
-use Rattle.qc_lock.specs.Names.{append_clash, held_of, is_held, read_clash, with_held, with_lock, with_locks}
-use Rattle.qc_lock.specs.declared.clash.Clash.{Clash as Conflict}
-use Rattle.qc_lock.specs.declared.held.Held.{Held}
-use Rattle.qc_msg.specs.Names.{Deed, Rises, Takes, deeds_as, prepare_length, quiet, turn_deeds}
+use Rattle.qc_msg.specs.Names.{Deed, Rises, Takes, deeds_as, quiet, turn_deeds}
 use Rattle.qc_msg.specs.declared.message.Answer.{Answer}
-use Rattle.qc_msg.specs.declared.message.Answer.TheVariants.{Stale, Yes}
 use Rattle.qc_msg.specs.declared.message.Message.{Message}
 use Rattle.qc_msg.specs.declared.message.Message.TheVariants as messages
 use Rattle.qc_msg.specs.declared.message.Outcome.{Outcome}
 use Rattle.qc_msg.specs.declared.message.Outcome.TheVariants as outcomes
-use Rattle.qc_msg.specs.declared.message.Want.{Want}
-use Rattle.qc_msg.specs.declared.message.Want.TheVariants.{Append, Prepare, Read}
 use Rattle.qc_msg.specs.declared.record.Record.{Record}
 use Rattle.qc_msg.specs.declared.record.Record.TheVariants as records
 use Rattle.qc_msg.specs.declared.step.Input.{Input}
@@ -39,139 +30,65 @@ use Rattle.qc_msg.specs.declared.step.Input.TheVariants as inputs
 use Rattle.qc_msg.specs.declared.turn.Appended.{Appended}
 use Rattle.qc_msg.specs.declared.turn.Appended.TheVariants as ends
 use Rattle.qc_msg.specs.declared.turn.Turn.{Turn}
-use Rattle.laws_refinement.proofs.Held.{given_case, lock_more, lock_new}
-use Rattle.qc_site.proofs.Cases.{close_cases, install_cases}
-use Rattle.qc_site.specs.Names.{SiteMove, SiteState, answers, appends_by, clock_after, clock_asked, clock_told, dropped}
-use Rattle.qc_site.specs.Names.{fault_of, finishes, grants, holds, installs, is_prepared, joins, latest, moved}
-use Rattle.qc_site.specs.Names.{names_declared, new_site, passed, prepared_of, promise_of, promised, reads_by}
-use Rattle.qc_site.specs.Names.{relation_at, requested, site_on, site_takes, votes, without_prepared}
+use Rattle.qc_site.proofs.RequestCases.{close_cases}
+use Rattle.qc_site.proofs.Cases.{install_cases}
+use Rattle.qc_site.specs.Names.{SiteMove, SiteState, answers, clock_after, clock_told}
+use Rattle.qc_site.specs.Names.{finishes, installs, joins}
+use Rattle.qc_site.specs.Names.{names_declared, new_site, passed, prepared_of}
+use Rattle.qc_site.specs.Names.{site_on, site_takes}
 use Rattle.qc_promise.specs.Names.{Journal, no_journal}
 use Rattle.theory_onecopy.proofs.Lists.{in_split}
 use Rattle.laws_reach.proofs.Growing.{actor_posted, all_sent, journal_posted}
 use Rattle.qc_recover.proofs.SiteLaws.{clocks_passed, locks_held}
 use Rattle.qc_recover.specs.Names.{nothing_kept, site_of, site_rises}
-use Rattle.qc_stamp.proofs.Orders.{other_tx_sym}
-use Rattle.qc_stamp.specs.Names.{same_tx}
 use Rattle.qc_stamp.specs.declared.stamp.Stamp.{Stamp}
 use Rattle.qc_stamp.specs.declared.stamp.TxId.{TxId}
 use Rattle.laws_votes.proofs.PromisesKept.{HoldsLocks, PassesDones, Keeps, IsPassed, WritePasses, MoveKeeps, clock_up}
-
--- what is held more, and what is dropped
-
-locks_more : (ls locks : List ReadLock) (l : ReadLock) → In l ls → In l (with_locks ls locks)
-locks_more ls [] l among = among
-locks_more ls (x ∷ locks) l among = locks_more (with_lock ls x) locks l (lock_more ls x l among)
-
-locks_all : (ls locks : List ReadLock) (l : ReadLock) → In l locks → In l (with_locks ls locks)
-locks_all ls [] l among = absurd among
-locks_all ls (x ∷ locks) l (inl same) = locks_more (with_lock ls x) locks l (subst (λ (y : ReadLock). In y (with_lock ls x)) (sym same) (lock_new ls x))
-locks_all ls (x ∷ locks) l (inr there) = locks_all (with_lock ls x) locks l there
-
-holds_more : (s : SiteState) (tx : TxId) (locks : List ReadLock) (own : List OwnLine) → HoldsLocks s → HoldsLocks (record s { held = with_held s.held tx locks own })
-holds_more s tx locks own old p among l there =
-    given_case (λ (ls : List ReadLock) (os : List OwnLine). In l ls) s.held tx p.tx locks own
-    (λ same. locks_more (held_of s.held tx).locks locks l (subst (λ (u : TxId). In l (held_of s.held u).locks) (sym same) (old p among l there))) (old p among l there)
-
-other_left : (tx : TxId) (ps : List Prepared) (p : Prepared) → In p (without_prepared ps tx) → same_tx p.tx tx ≡ false
-other_left tx [] p among = absurd among
-other_left tx (q ∷ ps) p among = by (same_tx q.tx tx) refl (other_left tx ps p) among
-  where
-    by : (b : Bool) → same_tx q.tx tx ≡ b → (In p (without_prepared ps tx) → same_tx p.tx tx ≡ false) → In p (cond (not b) (q ∷ without_prepared ps tx) (without_prepared ps tx)) → same_tx p.tx tx ≡ false
-    by true is rest there = rest there
-    by false is rest (inl same) = ap (λ (x : Prepared). same_tx x.tx tx) same ∙ is
-    by false is rest (inr there) = rest there
-
-holds_dropped : (s : SiteState) (tx : TxId) → HoldsLocks s → HoldsLocks (dropped s tx)
-holds_dropped s tx old p among l there =
-    subst (λ (h : Held). In l h.locks) (sym (held-without_other s.held tx p.tx (other_tx_sym p.tx tx (other_left tx s.prepared p among))))
-    (old p (In-unfiltered (λ (q : Prepared). not (same_tx q.tx tx)) p s.prepared among) l there)
-
-holds_promised : (s : SiteState) (tx : TxId) → HoldsLocks s → HoldsLocks (promised s (promise_of s tx))
-holds_promised s tx old p among l there = elim (In-more p (promise_of s tx) s.prepared among) [
-  | inl before ↦ old p before l there
-  | inr same ↦ subst (λ (x : Prepared). In l x.locks → In l (held_of s.held x.tx).locks) (sym same) (λ held. held) there
-]
-
--- what was promised is held as the site closes its epoch
-
-lock_stays : (held : List Held) (q : Prepared) (t : TxId) (l : ReadLock) → In l (held_of held t).locks → In l (held_of (holds held q) t).locks
-lock_stays held q t l was =
-    given_case (λ (ls : List ReadLock) (os : List OwnLine). In l ls) held q.tx t q.locks q.own
-    (λ same. locks_more (held_of held q.tx).locks q.locks l (subst (λ (u : TxId). In l (held_of held u).locks) (sym same) was)) was
-
-locks_stay : (ps : List Prepared) (held : List Held) (t : TxId) (l : ReadLock) → In l (held_of held t).locks → In l (held_of (fold holds held ps) t).locks
-locks_stay [] held t l was = was
-locks_stay (q ∷ ps) held t l was = locks_stay ps (holds held q) t l (lock_stays held q t l was)
-
-has_locks : (ps : List Prepared) (held : List Held) (p : Prepared) → In p ps → (l : ReadLock) → In l p.locks → In l (held_of (fold holds held ps) p.tx).locks
-has_locks [] held p among l there = absurd among
-has_locks (q ∷ ps) held p (inl same) l there =
-    subst (λ (x : Prepared). In l x.locks → In l (held_of (fold holds (holds held q) ps) x.tx).locks) (sym same)
-    (λ mine. locks_stay ps (holds held q) q.tx l (subst (In l) (sym (locks_given held q.tx q.locks q.own)) (locks_all (held_of held q.tx).locks q.locks l mine))) there
-has_locks (q ∷ ps) held p (inr among) l there = has_locks ps (holds held q) p among l there
-
--- a site that does nothing but answer
-stays : (s : SiteState) (turn : Turn) → turn.write ≡ None → HoldsLocks s → MoveKeeps s (moved s turn)
-stays s turn none old = record { locks = old; rises = omega arith; writes = subst (λ (w : Option Record). WritePasses w s.clock) (sym none) tt }
+use Rattle.laws_votes.proofs.LocksPromised.{locks_all, holds_dropped, has_locks, stays, append, asked}
 
 module _ (decl : Declaration) (s : SiteState) (old : HoldsLocks s) (from number : ℕ) where
-  read : (tx : TxId) (object inv : ℕ) (o : Option Conflict) → MoveKeeps s (reads_by decl s from number tx object inv o)
-  read tx object inv None = record { locks = holds_more s tx (record { object = object; inv = inv } ∷ []) [] old; rises = omega arith; writes = tt }
-  read tx object inv (Some c) = stays s _ refl old
-
-  append : (tx : TxId) (view : List Line) (own : List OwnLine) (o : Option Conflict) → MoveKeeps s (appends_by decl s from number tx view own o)
-  append tx view own None = record { locks = holds_more s tx [] own old; rises = omega arith; writes = tt }
-  append tx view own (Some c) = stays s _ refl old
-
-  prepare_by : (tx : TxId) (x y z : Bool) → MoveKeeps s (if not x then moved s (answers from number Stale) else (if y then moved s (answers from number (Yes s.clock)) else (if z then moved (promised s (promise_of s tx)) (votes s from number (promise_of s tx)) else moved s (answers from number Stale))))
-  prepare_by tx false y z = stays s (answers from number Stale) refl old
-  prepare_by tx true true z = stays s (answers from number (Yes s.clock)) refl old
-  prepare_by tx true false true = record { locks = holds_promised s tx old; rises = omega arith; writes = tt }
-  prepare_by tx true false false = stays s (answers from number Stale) refl old
-
-  grant : (tx : TxId) (want : Want) → MoveKeeps s (grants decl s from number tx want)
-  grant tx (Read object inv) = read tx object inv (read_clash (relation_at decl object) s.held tx object inv)
-  grant tx (Append object view own) = append tx view own (append_clash (relation_at decl object) s.held tx own)
-  grant tx Prepare = prepare_by tx (is_held s.held tx) (is_prepared s.prepared tx) (nat_le (prepare_length (promise_of s tx)) most_record_bytes)
-
-  request : (tx : TxId) (want : Want) (o : Option Answer) → MoveKeeps s (requested decl s from number tx want o)
-  request tx want (Some fault) = stays s (answers from number fault) refl old
-  request tx want None = grant tx want
-
-  asked : (tx : TxId) (epoch life : ℕ) (want : Want) (b : Bool) → MoveKeeps s (if b then requested decl s from number tx want (fault_of s epoch life) else moved s quiet)
-  asked tx epoch life want true = request tx want (fault_of s epoch life)
-  asked tx epoch life want false = stays s quiet refl old
-
   join : (tx : TxId) (stamp : Stamp) → stamp.clock ≤ s.clock → (o : Option Prepared) → MoveKeeps s (joins s tx stamp o)
   join tx stamp low None = record { locks = holds_dropped s tx old; rises = omega arith; writes = tt }
   join tx stamp low (Some p) = record { locks = holds_dropped s tx old; rises = omega arith; writes = low }
 
-  finish : (tx : TxId) (clock : ℕ) (verdict : Outcome) → s.clock ≡ clock_told clock verdict → MoveKeeps s (finishes s tx verdict)
+  finish : (tx : TxId) (clock : ℕ) (verdict : Outcome) → s.clock ≡ clock_told clock verdict
+      → MoveKeeps s (finishes s tx verdict)
   finish tx clock (outcomes.Committed stamp) is = join tx stamp (omega arith) (prepared_of s.prepared tx)
   finish tx clock outcomes.Aborted is = record { locks = holds_dropped s tx old; rises = omega arith; writes = tt }
   finish tx clock outcomes.Active is = stays s quiet refl old
 
 module _ (decl : Declaration) where
-  heard : (s : SiteState) (from number : ℕ) (m : Message) → HoldsLocks s → MoveKeeps (passed s m) (site_on decl s from number m)
-  heard s from number (messages.Request tx epoch life want) old = asked decl (passed s (messages.Request tx epoch life want)) old from number tx epoch life want (names_declared decl tx want)
+  heard : (s : SiteState) (from number : ℕ) (m : Message) → HoldsLocks s
+      → MoveKeeps (passed s m) (site_on decl s from number m)
+  heard s from number (messages.Request tx epoch life want) old =
+      asked decl (passed s (messages.Request tx epoch life want)) old from number tx epoch life want
+      (names_declared decl tx want)
   heard s from number (messages.Answer to answer) old = stays s quiet refl old
-  heard s from number (messages.Decision tx verdict) old = finish decl (passed s (messages.Decision tx verdict)) old from number tx s.clock verdict refl
+  heard s from number (messages.Decision tx verdict) old =
+      finish decl (passed s (messages.Decision tx verdict)) old from number tx s.clock verdict refl
   heard s from number (messages.Inquiry tx) old = stays s quiet refl old
   heard s from number (messages.Ask tx) old = stays s quiet refl old
   heard s from number (messages.Close epoch) old =
       close_cases (MoveKeeps s) s from number epoch (λ answer. stays s (answers from number answer) refl old)
-      (λ near later. record { locks = λ p among l there. has_locks s.prepared [] p among l there; rises = omega arith; writes = tt })
-  heard s from number (messages.Install epoch began lines) old = install_keeps (passed s (messages.Install epoch began lines)) old
+      (λ near later. record {
+            locks = λ p among l there. has_locks s.prepared [] p among l there;
+            rises = omega arith;
+            writes = tt
+          })
+  heard s from number (messages.Install epoch began lines) old =
+      install_keeps (passed s (messages.Install epoch began lines)) old
     where
       install_keeps : (at : SiteState) → HoldsLocks at → MoveKeeps at (installs at from number epoch began lines)
       install_keeps at had =
-          install_cases (MoveKeeps at) at from number epoch began lines (λ answer. stays at (answers from number answer) refl had)
+          install_cases (MoveKeeps at) at from number epoch began lines
+              (λ answer. stays at (answers from number answer) refl had)
           (λ later fits. record { locks = λ p among l there. absurd among; rises = omega arith; writes = tt })
 
   taken : (s : SiteState) (g : Input) → HoldsLocks s → MoveKeeps s (site_takes decl s g)
   taken s (inputs.Called command) old = stays s quiet refl old
   taken s (inputs.Got e) old =
-      let m : MoveKeeps (passed s e.message) (site_on decl s e.from e.number e.message) = heard s e.from e.number e.message old in
+      let m : MoveKeeps (passed s e.message) (site_on decl s e.from e.number e.message) =
+              heard s e.from e.number e.message old in
       let up : s.clock ≤ clock_after s.clock e.message = clock_up e.message s.clock in
       let more : clock_after s.clock e.message ≤ (site_on decl s e.from e.number e.message).site.clock = m.rises in
       record { locks = m.locks; rises = omega arith; writes = m.writes }
@@ -184,11 +101,14 @@ write_passed None clock writes tx done among = absurd among
 write_passed (Some r) clock writes tx done (inl same) = subst (λ (x : Record). IsPassed x clock) (sym same) writes
 write_passed (Some r) clock writes tx done (inr never) = absurd never
 
-move_keeps : (rs : List Record) (before : SiteState) (move : SiteMove) → Keeps rs before → MoveKeeps before move → Keeps (rs ++ option_to_list move.turn.write) move.site
+move_keeps : (rs : List Record) (before : SiteState) (move : SiteMove) → Keeps rs before → MoveKeeps before move
+    → Keeps (rs ++ option_to_list move.turn.write) move.site
 move_keeps rs before move old m = record {
   locks = m.locks;
   dones = λ tx done among. elim (in_split (records.Done tx done) rs (option_to_list move.turn.write) among) [
-    | inl earlier ↦ (let low : done ≤ before.clock = old.dones tx done earlier in let up : before.clock ≤ move.site.clock = m.rises in omega arith)
+    | inl earlier ↦
+        (let low : done ≤ before.clock = old.dones tx done earlier in
+         let up : before.clock ≤ move.site.clock = m.rises in omega arith)
     | inr now ↦ write_passed move.turn.write move.site.clock m.writes tx done now
   ];
 }
@@ -213,7 +133,9 @@ module _ (decl : Declaration) (site : ℕ) (is : is_site decl site ≡ true) whe
     pub keeps : Keeps (journal_after ds).records s
 
   -- the turn of a move is posted, and its record is written
-  posted : (ds : List Deed) (move : SiteMove) (j : Journal) (n : ℕ) (turn : Turn) → actor_after decl site ds ≡ by_site move → journal_after ds ≡ j → IsLawfulWithFalls decl site ds turn → Keeps (j.records ++ option_to_list move.turn.write) move.site
+  posted : (ds : List Deed) (move : SiteMove) (j : Journal) (n : ℕ) (turn : Turn)
+      → actor_after decl site ds ≡ by_site move → journal_after ds ≡ j → IsLawfulWithFalls decl site ds turn
+      → Keeps (j.records ++ option_to_list move.turn.write) move.site
       → Stands (ds ++ turn_deeds n turn)
   posted ds move j n turn at journal law keeps = record {
     s = move.site;
@@ -231,14 +153,16 @@ module _ (decl : Declaration) (site : ℕ) (is : is_site decl site ≡ true) whe
     at = site_new decl site is;
     keeps = record { locks = λ p never. absurd never; dones = λ tx done never. absurd never };
   }
-  stands ds up (serves before g turn n served ok lawful) on = by turn.append (was_written turn.append on) (stands before true served refl)
+  stands ds up (serves before g turn n served ok lawful) on =
+      by turn.append (was_written turn.append on) (stands before true served refl)
     where
       by : (end : Appended) → end ≡ ends.Done → Stands before → Stands (before ++ Takes g ∷ deeds_as end n turn)
       by ends.Done done old = subst Stands (append_assoc before (Takes g ∷ []) (turn_deeds n turn))
           (posted (before ++ Takes g ∷ []) (site_takes decl old.s g) (journal_after before) n turn
           (actor_more decl site before (Takes g ∷ []) ∙ ap (λ (v : Actor). actor_takes decl v g) old.at)
           (fold-append journal_at no_journal before (Takes g ∷ [])) lawful
-          (move_keeps (journal_after before).records old.s (site_takes decl old.s g) old.keeps (taken decl old.s g old.keeps.locks)))
+          (move_keeps (journal_after before).records old.s (site_takes decl old.s g) old.keeps
+              (taken decl old.s g old.keeps.locks)))
       by ends.Failed done old = absurd (let never : ⊥ = cc in never)
       by ends.Stopped done old = absurd (let never : ⊥ = cc in never)
   stands ds up (crashes before served) on = absurd (let never : ⊥ = cc in never)

@@ -5,7 +5,7 @@ use Rattle.std.proofs.Common.{append_assoc}
 use Rattle.std.proofs.lemmas.List.Sums.{fold-append}
 use Rattle.laws_due.proofs.Standing.{actor_more}
 use Rattle.qc_core.proofs.ByNumber.{site_new, site_risen}
-use Rattle.qc_core.proofs.LivesLaws.{rises as actor_rising}
+use Rattle.qc_core.proofs.LivesOfActors.{rises as actor_rising}
 use Rattle.qc_core.specs.Names.{ActorMove, IsLawfulWithFalls, Serves, actor_after, actor_takes, by_site, crashes}
 use Rattle.qc_core.specs.Names.{journal_after, journal_at, rises, serves, stays_up, unopened}
 use Rattle.qc_core.specs.Sites.{starts}
@@ -41,7 +41,8 @@ use Rattle.qc_msg.specs.declared.turn.Appended.{Appended}
 use Rattle.qc_msg.specs.declared.turn.Appended.TheVariants as ends
 use Rattle.qc_msg.specs.declared.turn.Turn.{Turn}
 use Rattle.laws_refinement.proofs.Held.{given_case, lock_more, lock_new}
-use Rattle.qc_site.proofs.Cases.{close_cases, install_cases}
+use Rattle.qc_site.proofs.RequestCases.{close_cases}
+use Rattle.qc_site.proofs.Cases.{install_cases}
 use Rattle.qc_site.specs.Names.{SiteMove, SiteState, answers, appends_by, clock_after, clock_asked, clock_told, dropped}
 use Rattle.qc_site.specs.Names.{fault_of, finishes, grants, holds, installs, is_prepared, joins, latest, moved}
 use Rattle.qc_site.specs.Names.{names_declared, new_site, passed, prepared_of, promise_of, promised, reads_by}

@@ -9,10 +9,11 @@ use Rattle.qc_decl.specs.declared.declaration.Declaration.{Declaration}
 use Rattle.qc_entry.specs.declared.record.Commit.{Commit as CommitRecord}
 use Rattle.laws_guarantees.proofs.Accounts.{HasGrounds, WasGranted, WasSent, WasTaken}
 use Rattle.laws_guarantees.proofs.DueStamps.{due_stamp}
-use Rattle.laws_guarantees.proofs.Grounds.{has_grounds}
+use Rattle.laws_guarantees.proofs.RequestGrounds.{has_grounds}
 use Rattle.laws_guarantees.proofs.Mailed.{sent_as, sent_mail, taken_mail}
 use Rattle.laws_votes.specs.Names.{HasPromised, HaveAllPromised, IsRecorded}
-use Rattle.laws_votes.proofs.CommitDue.{IsAskedAndFor, IsVotedFor, asked_for, due_votes}
+use Rattle.laws_votes.proofs.VotesFor.{IsVotedFor, due_votes}
+use Rattle.laws_votes.proofs.CommitDue.{IsAskedAndFor, asked_for}
 use Rattle.laws_votes.proofs.Clients.{IsCommitting}
 use Rattle.laws_votes.proofs.Nets.{at_number, backed, listed, net, now, one_request, reached}
 use Rattle.laws_votes.proofs.Recording.{Moment, all_recorded}

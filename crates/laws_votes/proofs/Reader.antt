@@ -13,7 +13,7 @@ use Rattle.laws_votes.proofs.Nets.{refined}
 use Rattle.laws_votes.proofs.Promising.{IsRecording, recording}
 use Rattle.laws_votes.specs.Names.{AreWriting, IsToldBy}
 use Rattle.qc_list.specs.Names.{In}
-use Rattle.qc_msg.proofs.Growth.{deeds-append, deeds-other}
+use Rattle.qc_msg.proofs.DeedsGrow.{deeds-append, deeds-other}
 use Rattle.qc_msg.specs.Names.{Deed, Entry, by, deeds, mail, marked}
 use Rattle.qc_msg.specs.declared.record.Record.{Record}
 use Rattle.qc_msg.specs.declared.record.Record.TheVariants as records

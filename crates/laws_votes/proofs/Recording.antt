@@ -1,110 +1,44 @@
 -- Each commit record in a client's journal, or pending there, was written, or was being written, in a post of that client,
 -- where it was due.
-use Rattle.std.proofs.Common.{◌≡◌, ◌⊎◌, ◌+◌, ◌==◌, ℕ, Bool, true, false, List, [], ◌∷◌, ◌++◌, inl, inr, length, Option, Some, None, option_to_list, slice_get, refl, sym, ap, ◌∙◌, subst, append_assoc, eqb-true}
+use Rattle.std.proofs.Common.{◌≡◌, ◌⊎◌, ◌+◌, ◌==◌, ℕ, Bool, true, false, List, ◌∷◌, ◌++◌, inl, inr, length}
+use Rattle.std.proofs.Common.{Some, None, slice_get, refl, sym, ap, ◌∙◌, subst, append_assoc, eqb-true}
 use Rattle.laws_due.proofs.Standing.{actor_more, turn_is}
 use Rattle.qc_client.specs.Names.{client_takes}
 use Rattle.qc_core.specs.Names.{ActorMove, IsLawfulWithFalls, actor_after, actor_takes, journal_after, journal_at}
 use Rattle.qc_core.specs.Names.{with_record}
 use Rattle.qc_core.proofs.ByNumber.{client_risen}
 use Rattle.qc_core.proofs.LivesLaws.{journal}
-use Rattle.qc_core.proofs.LivesLaws as actor_laws
+use Rattle.qc_core.proofs.LivesOfActors as actor_laws
 use Rattle.qc_decl.specs.Names.{IsAccepted, controller, is_client}
 use Rattle.qc_decl.specs.declared.declaration.Declaration.{Declaration}
 use Rattle.qc_entry.specs.declared.record.Commit.{Commit as CommitRecord}
 use Rattle.laws_votes.specs.Names.{AreWriting}
 use Rattle.laws_votes.proofs.Clients.{IsCommitting, client_at, committing}
-use Rattle.laws_votes.proofs.SiteLives.{journal_next}
 use Rattle.qc_list.specs.Names.{In}
-use Rattle.qc_msg.proofs.Growth.{deeds-append, deeds-other, deeds-posted_as, deeds-rose}
-use Rattle.qc_msg.specs.Names.{Deed, Entry, Rises, Takes, by, deeds, deeds_as, mail, marked, own, posted_as, sents}
-use Rattle.qc_msg.specs.Names.{step_of, told}
-use Rattle.qc_msg.specs.Steps as post
+use Rattle.qc_msg.proofs.DeedsGrow.{deeds-append, deeds-other, deeds-rose}
+use Rattle.qc_msg.proofs.Growth.{deeds-posted_as}
+use Rattle.qc_msg.specs.Names.{Deed, Entry, Rises, Takes, by, deeds, deeds_as, mail, marked, own, posted_as}
+use Rattle.qc_msg.specs.Names.{step_of}
 use Rattle.qc_msg.specs.declared.record.Record.{Record}
 use Rattle.qc_msg.specs.declared.record.Record.TheVariants.{Commit, Life}
-use Rattle.qc_msg.specs.declared.reply.Reply.TheVariants.{Unknown}
-use Rattle.qc_msg.specs.declared.step.Control.{Control}
-use Rattle.qc_msg.specs.declared.step.Control.TheVariants as controls
 use Rattle.qc_msg.specs.declared.step.Fall.TheVariants as causes
-use Rattle.qc_msg.specs.declared.step.Input.{Input}
 use Rattle.qc_msg.specs.declared.step.Input.TheVariants as given
 use Rattle.qc_msg.specs.declared.step.Step.{Step}
 use Rattle.qc_msg.specs.declared.step.Step.TheVariants as steps
-use Rattle.qc_msg.specs.declared.turn.Appended.{Appended}
-use Rattle.qc_msg.specs.declared.turn.Appended.TheVariants as ends
 use Rattle.qc_msg.specs.declared.turn.Turn.{Turn}
-use Rattle.theory_onecopy.proofs.Lists.{in_split}
 use Rattle.qc_promise.specs.Names.{IsGivenBack, Journal, Kept, journal_of, journal_with, no_journal}
 use Rattle.laws_reach.proofs.Growing.{ended_journal, journal_posted}
 use Rattle.laws_reach.proofs.RunsStand.{kept_of_first}
-use Rattle.qc_script.specs.Names.{IsScriptFor, RunsWithFalls, begins, control, controller_step, damaged, falls, phase}
+use Rattle.qc_script.specs.Names.{IsScriptFor, RunsWithFalls, begins, control, damaged, falls, phase}
 use Rattle.qc_script.specs.Names.{phase_of, posts, rises, takes, unopened}
 use Rattle.qc_script.specs.declared.script.Script.{Script}
 use Rattle.std.proofs.lemmas.List.Sums.{fold-append}
+use Rattle.laws_votes.proofs.Recorded.{IsKnown, posted_known, back_known, given_known, taken_same, controlled_same}
+use Rattle.laws_votes.proofs.Recorded.{entry_same, first_post}
 
--- it is in the journal, or pending there
-abbrev pub IsKnown : CommitRecord → Journal → Type 0
-IsKnown c j = In (Commit c) j.records ⊎ (j.pending ≡ Some (Commit c))
-
-only : (o : Option Record) (c : CommitRecord) → In (Commit c) (option_to_list o) → o ≡ Some (Commit c)
-only None c among = absurd among
-only (Some r) c (inl same) = ap Some (sym same)
-only (Some r) c (inr never) = absurd never
-
--- what a post makes known was known before, or is the turn's record
-posted_known : (c : CommitRecord) (end : Appended) (write : Option Record) (j : Journal) → IsKnown c (ended_journal end write j) → IsKnown c j ⊎ (write ≡ Some (Commit c))
-posted_known c ends.Done write j (inl among) = elim (in_split (Commit c) j.records (option_to_list write) among) [ inl old ↦ inl (inl old) | inr new ↦ inr (only write c new) ]
-posted_known c ends.Done write j (inr is) = inl (inr is)
-posted_known c ends.Failed None j known = inl known
-posted_known c ends.Failed (Some r) j (inl among) = inl (inl among)
-posted_known c ends.Failed (Some r) j (inr is) = inr is
-posted_known c ends.Stopped None j known = inl known
-posted_known c ends.Stopped (Some r) j (inl among) = inl (inl among)
-posted_known c ends.Stopped (Some r) j (inr is) = inr is
-
--- what is given back was known
-back_known : (c : CommitRecord) (j : Journal) (given : List Record) → IsGivenBack j given → In (Commit c) given → IsKnown c j
-back_known c j given (inl same) among = inl (subst (In (Commit c)) same among)
-back_known c j given (inr more) among = elim (in_split (Commit c) j.records (option_to_list j.pending) (subst (In (Commit c)) more among)) [ inl old ↦ inl old | inr new ↦ inr (only j.pending c new) ]
-
-given_known : (c : CommitRecord) (given : List Record) → IsKnown c (record { records = given; pending = None }) → In (Commit c) given
-given_known c given (inl among) = among
-given_known c given (inr is) = absurd (let never : ⊥ = cc in never)
-
--- steps that put nothing into a journal
-
-taken_same : (c : CommitRecord) (j : Journal) (g : Input) → IsKnown c (journal_with j (step_of g)) → IsKnown c j
-taken_same c j (given.Called command) known = known
-taken_same c j (given.Got envelope) known = known
-taken_same c j (given.Lost number) known = known
-
-controlled_same : (c : CommitRecord) (j : Journal) (line : Control) (step : Step) → controller_step line ≡ Some step → IsKnown c (journal_with j step) → IsKnown c j
-controlled_same c j (controls.Phase k) step is known = absurd (let never : ⊥ = cc in never)
-controlled_same c j (controls.Cut a b) step is known = subst (λ (x : Step). IsKnown c (journal_with j x)) (let same : step ≡ steps.Cut a b = cc in same) known
-controlled_same c j (controls.Heal a b) step is known = subst (λ (x : Step). IsKnown c (journal_with j x)) (let same : step ≡ steps.Heal a b = cc in same) known
-controlled_same c j (controls.Armed actor kind at) step is known = subst (λ (x : Step). IsKnown c (journal_with j x)) (let same : step ≡ steps.Armed actor kind at = cc in same) known
-controlled_same c j (controls.Crash a) step is known = absurd (let never : ⊥ = cc in never)
-controlled_same c j (controls.Restart a) step is known = absurd (let never : ⊥ = cc in never)
-
--- an entry of such a step
-entry_same : (c : CommitRecord) (a : ℕ) (h : List Entry) (e : Entry) → ((j : Journal) → IsKnown c (journal_with j e.step) → IsKnown c j) → IsKnown c (journal_of (own a (h ++ e ∷ []))) → IsKnown c (journal_of (own a h))
-entry_same c a h e silent known = by (e.actor == a) refl
-  where
-    by : (t : Bool) → (e.actor == a) ≡ t → IsKnown c (journal_of (own a h))
-    by true same = silent (journal_of (own a h)) (subst (IsKnown c) (journal_next a h e true same) known)
-    by false other = subst (IsKnown c) (journal_next a h e false other) known
-
--- a commit turn's steps, for each end of its record
-
-first_post : (a n : ℕ) (turn : Turn) (c : CommitRecord) (end : Appended) → turn.write ≡ Some (Commit c) → turn.failed_sends ≡ [] → turn.failed_told ≡ Some Unknown → (xs : List Step) × (rest : List Entry) × AreWriting xs c × (by a (posted_as end n turn) ≡ by a xs ++ rest)
-first_post a n turn c ends.Done wrote none says =
-    (steps.Wrote (Commit c) ∷ [], by a (sents n turn.sends ++ told turn.told), inl refl, λ i. by a (post.wrote (wrote i) ++ (sents n turn.sends ++ told turn.told)))
-first_post a n turn c ends.Failed wrote none says =
-    (steps.Told Unknown ∷ steps.Fell causes.Disk (Some (Commit c)) ∷ [], [], inr (causes.Disk, refl), λ i. by a (sents n (none i) ++ (told (says i) ++ steps.Fell causes.Disk (wrote i) ∷ [])))
-first_post a n turn c ends.Stopped wrote none says =
-    (steps.Told Unknown ∷ steps.Fell causes.Stop (Some (Commit c)) ∷ [], [], inr (causes.Stop, refl), λ i. by a (told (says i) ++ steps.Fell causes.Stop (wrote i) ∷ []))
-
-module _ (fits : ℕ → List Record → Type 0) (decl : Declaration) (script : Script) (accepted : IsAccepted decl) (sound : IsScriptFor decl script) where
-  abbrev pub IsRun : List Entry → List Bool → Type 0
+module _ (fits : ℕ → List Record → Type 0) (decl : Declaration) (script : Script) (accepted : IsAccepted decl)
+    (sound : IsScriptFor decl script) where
+  abbrev IsRun : List Entry → List Bool → Type 0
   IsRun h inputs = RunsWithFalls (IsLawfulWithFalls decl) fits decl script h inputs
 
   -- a client's post that writes the record, or falls as it does, and the run before it
@@ -129,7 +63,9 @@ module _ (fits : ℕ → List Record → Type 0) (decl : Declaration) (script : 
     taken = m.taken;
     steps = m.steps;
     after = m.after ++ xs;
-    stands = ap (λ (k : List Entry). k ++ xs) m.stands ∙ append_assoc m.before (by a m.steps ++ m.after) xs ∙ ap (λ (k : List Entry). m.before ++ k) (append_assoc (by a m.steps) m.after xs);
+    stands =
+        ap (λ (k : List Entry). k ++ xs) m.stands ∙ append_assoc m.before (by a m.steps ++ m.after) xs
+        ∙ ap (λ (k : List Entry). m.before ++ k) (append_assoc (by a m.steps) m.after xs);
     writing = m.writing;
     commits = m.commits;
   }
@@ -138,26 +74,37 @@ module _ (fits : ℕ → List Record → Type 0) (decl : Declaration) (script : 
   AreRecorded h = (a : ℕ) (c : CommitRecord) → is_client decl a ≡ true → IsKnown c (journal_of (own a h)) → Moment h a c
 
   -- an entry that puts nothing into any journal
-  mute : (h : List Entry) (e : Entry) → ((c : CommitRecord) (j : Journal) → IsKnown c (journal_with j e.step) → IsKnown c j) → AreRecorded h → AreRecorded (h ++ e ∷ [])
+  mute : (h : List Entry) (e : Entry)
+      → ((c : CommitRecord) (j : Journal) → IsKnown c (journal_with j e.step) → IsKnown c j) → AreRecorded h
+      → AreRecorded (h ++ e ∷ [])
   mute h e silent old a c client known = longer h (e ∷ []) a c (old a c client (entry_same c a h e (silent c) known))
 
   -- another actor's entries
-  elsewhere : (h : List Entry) (xs : List Step) (b a : ℕ) (c : CommitRecord) → (b == a) ≡ false → IsKnown c (journal_of (own a (h ++ by b xs))) → IsKnown c (journal_of (own a h))
+  elsewhere : (h : List Entry) (xs : List Step) (b a : ℕ) (c : CommitRecord) → (b == a) ≡ false
+      → IsKnown c (journal_of (own a (h ++ by b xs))) → IsKnown c (journal_of (own a h))
   elsewhere h xs b a c other known =
-      subst (IsKnown c) (sym (journal a (h ++ by b xs)) ∙ ap journal_after (deeds-other b a [] h xs other) ∙ journal a h) known
+      subst (IsKnown c)
+          (sym (journal a (h ++ by b xs)) ∙ ap journal_after (deeds-other b a [] h xs other) ∙ journal a h) known
 
   module _ (h : List Entry) (inputs : List Bool) (run : IsRun h inputs) (kept : Kept h) (old : AreRecorded h) where
-    posted : (b : ℕ) (turn : Turn) → slice_get inputs b ≡ Some true → IsLawfulWithFalls decl b (deeds b [] h) turn → AreRecorded (h ++ by b (posted_as turn.append (length (mail h)) turn))
+    posted : (b : ℕ) (turn : Turn) → slice_get inputs b ≡ Some true → IsLawfulWithFalls decl b (deeds b [] h) turn
+        → AreRecorded (h ++ by b (posted_as turn.append (length (mail h)) turn))
     posted b turn taken law a c client known = at (b == a) refl
       where
-        new : is_client decl b ≡ true → turn.write ≡ Some (Commit c) → Moment (h ++ by b (posted_as turn.append (length (mail h)) turn)) b c
+        new : is_client decl b ≡ true → turn.write ≡ Some (Commit c)
+            → Moment (h ++ by b (posted_as turn.append (length (mail h)) turn)) b c
         new mine writes =
             let k : IsCommitting decl b (deeds b [] h) c = committing decl b mine (deeds b [] h) (client_at fits decl script h inputs accepted sound run kept b mine true taken) turn law c writes in
             let same : (client_takes decl k.tied.state k.input).turn ≡ with_record turn = committing_turn k mine in
             elim k.turn [
-              | inl none ↦ absurd (let no : None ≡ Some (Commit c) = sym none ∙ ap (λ (t : Turn). t.write) same ∙ writes in let never : ⊥ = cc in never)
+              | inl none ↦
+                  absurd (let no : None ≡ Some (Commit c) = sym none ∙ ap (λ (t : Turn). t.write) same ∙ writes in
+                          let never : ⊥ = cc in never)
               | inr t ↦ (
-                  let p = first_post b (length (mail h)) turn c turn.append writes (ap (λ (x : Turn). x.failed_sends) (sym same) ∙ t.failed_sends) (ap (λ (x : Turn). x.failed_told) (sym same) ∙ t.failed_told) in
+                  let p =
+                          first_post b (length (mail h)) turn c turn.append writes
+                            (ap (λ (x : Turn). x.failed_sends) (sym same) ∙ t.failed_sends)
+                            (ap (λ (x : Turn). x.failed_told) (sym same) ∙ t.failed_told) in
                   record {
                     before = h;
                     open_inputs = inputs;
@@ -172,57 +119,90 @@ module _ (fits : ℕ → List Record → Type 0) (decl : Declaration) (script : 
                   })
             ]
           where
-            committing_turn : (k : IsCommitting decl b (deeds b [] h) c) → is_client decl b ≡ true → (client_takes decl k.tied.state k.input).turn ≡ with_record turn
+            committing_turn : (k : IsCommitting decl b (deeds b [] h) c) → is_client decl b ≡ true
+                → (client_takes decl k.tied.state k.input).turn ≡ with_record turn
             committing_turn k mine =
                 ap (λ (v : _). (actor_takes decl v k.input).turn) (sym k.tied.actor)
-                ∙ ap (λ (m : ActorMove). m.turn) (sym (ap (actor_after decl b) k.is ∙ actor_more decl b k.before (Takes k.input ∷ []))) ∙ turn_is decl b mine (deeds b [] h) turn law
+                ∙ ap (λ (m : ActorMove). m.turn)
+                    (sym (ap (actor_after decl b) k.is ∙ actor_more decl b k.before (Takes k.input ∷ [])))
+                    ∙ turn_is decl b mine (deeds b [] h) turn law
 
         here : b ≡ a → IsKnown c (journal_of (own b h)) ⊎ (turn.write ≡ Some (Commit c))
         here same =
             elim (posted_known c turn.append turn.write (journal_after (deeds b [] h))
-            (subst (IsKnown c) (sym (journal b (h ++ by b (posted_as turn.append (length (mail h)) turn))) ∙ ap journal_after (deeds-posted_as turn.append b (length (mail h)) h turn) ∙ journal_posted (deeds b [] h) turn.append (length (mail h)) turn)
+            (subst (IsKnown c)
+                (sym (journal b (h ++ by b (posted_as turn.append (length (mail h)) turn)))
+                  ∙ ap journal_after (deeds-posted_as turn.append b (length (mail h)) h turn)
+                  ∙ journal_posted (deeds b [] h) turn.append (length (mail h)) turn)
             (subst (λ (n : ℕ). IsKnown c (journal_of (own n (h ++ by b (posted_as turn.append (length (mail h)) turn))))) (sym same) known))) [
               | inl before ↦ inl (subst (IsKnown c) (journal b h) before)
               | inr now ↦ inr now
             ]
 
         at : (t : Bool) → (b == a) ≡ t → Moment (h ++ by b (posted_as turn.append (length (mail h)) turn)) a c
-        at false other = longer h (by b (posted_as turn.append (length (mail h)) turn)) a c (old a c client (elsewhere h (posted_as turn.append (length (mail h)) turn) b a c other known))
+        at false other =
+            longer h (by b (posted_as turn.append (length (mail h)) turn)) a c
+            (old a c client (elsewhere h (posted_as turn.append (length (mail h)) turn) b a c other known))
         at true same =
             let is : b ≡ a = eqb-true b a same in
             elim (here is) [
-              | inl before ↦ longer h (by b (posted_as turn.append (length (mail h)) turn)) a c (old a c client (subst (λ (n : ℕ). IsKnown c (journal_of (own n h))) is before))
-              | inr now ↦ subst (λ (n : ℕ). Moment (h ++ by b (posted_as turn.append (length (mail h)) turn)) n c) is (new (subst (λ (n : ℕ). is_client decl n ≡ true) (sym is) client) now)
+              | inl before ↦
+                  longer h (by b (posted_as turn.append (length (mail h)) turn)) a c
+                  (old a c client (subst (λ (n : ℕ). IsKnown c (journal_of (own n h))) is before))
+              | inr now ↦
+                  subst (λ (n : ℕ). Moment (h ++ by b (posted_as turn.append (length (mail h)) turn)) n c) is
+                  (new (subst (λ (n : ℕ). is_client decl n ≡ true) (sym is) client) now)
             ]
 
-    risen : (b : ℕ) (given : List Record) (turn : Turn) → IsLawfulWithFalls decl b (deeds b [] (h ++ marked b (steps.Rose given) ∷ [])) turn → IsGivenBack (journal_of (own b h)) given
+    risen : (b : ℕ) (given : List Record) (turn : Turn)
+        → IsLawfulWithFalls decl b (deeds b [] (h ++ marked b (steps.Rose given) ∷ [])) turn
+        → IsGivenBack (journal_of (own b h)) given
         → AreRecorded (h ++ by b (steps.Rose given ∷ posted_as turn.append (length (mail h)) turn))
-    risen b given turn law back a c client known = longer h (by b (steps.Rose given ∷ posted_as turn.append (length (mail h)) turn)) a c (old a c client (at (b == a) refl))
+    risen b given turn law back a c client known =
+        longer h (by b (steps.Rose given ∷ posted_as turn.append (length (mail h)) turn)) a c
+        (old a c client (at (b == a) refl))
       where
         rose : deeds b [] (h ++ marked b (steps.Rose given) ∷ []) ≡ deeds b [] h ++ Rises given ∷ []
-        rose = deeds-append b [] h (by b (steps.Rose given ∷ [])) ∙ ap (λ (v : List Deed). deeds b [] h ++ v) (deeds-rose b (mail h) given)
+        rose =
+            deeds-append b [] h (by b (steps.Rose given ∷ []))
+            ∙ ap (λ (v : List Deed). deeds b [] h ++ v) (deeds-rose b (mail h) given)
 
-        deeds_now : deeds b [] (h ++ by b (steps.Rose given ∷ posted_as turn.append (length (mail h)) turn)) ≡ (deeds b [] h ++ Rises given ∷ []) ++ deeds_as turn.append (length (mail h)) turn
+        deeds_now : deeds b [] (h ++ by b (steps.Rose given ∷ posted_as turn.append (length (mail h)) turn))
+            ≡ (deeds b [] h ++ Rises given ∷ []) ++ deeds_as turn.append (length (mail h)) turn
         deeds_now =
-            ap (deeds b []) (sym (append_assoc h (marked b (steps.Rose given) ∷ []) (by b (posted_as turn.append (length (mail h)) turn))))
-            ∙ deeds-posted_as turn.append b (length (mail h)) (h ++ marked b (steps.Rose given) ∷ []) turn ∙ ap (λ (v : List Deed). v ++ deeds_as turn.append (length (mail h)) turn) rose
+            ap (deeds b [])
+                (sym (append_assoc h (marked b (steps.Rose given) ∷ [])
+                  (by b (posted_as turn.append (length (mail h)) turn))))
+            ∙ deeds-posted_as turn.append b (length (mail h)) (h ++ marked b (steps.Rose given) ∷ []) turn
+                ∙ ap (λ (v : List Deed). v ++ deeds_as turn.append (length (mail h)) turn) rose
 
-        journal_now : journal_of (own b (h ++ by b (steps.Rose given ∷ posted_as turn.append (length (mail h)) turn))) ≡ ended_journal turn.append turn.write (record { records = given; pending = None })
+        journal_now : journal_of (own b (h ++ by b (steps.Rose given ∷ posted_as turn.append (length (mail h)) turn)))
+            ≡ ended_journal turn.append turn.write (record { records = given; pending = None })
         journal_now =
-            sym (journal b (h ++ by b (steps.Rose given ∷ posted_as turn.append (length (mail h)) turn))) ∙ ap journal_after deeds_now ∙ journal_posted (deeds b [] h ++ Rises given ∷ []) turn.append (length (mail h)) turn
-            ∙ ap (ended_journal turn.append turn.write) (fold-append journal_at no_journal (deeds b [] h) (Rises given ∷ []))
+            sym (journal b (h ++ by b (steps.Rose given ∷ posted_as turn.append (length (mail h)) turn)))
+                ∙ ap journal_after deeds_now
+                ∙ journal_posted (deeds b [] h ++ Rises given ∷ []) turn.append (length (mail h)) turn
+            ∙ ap (ended_journal turn.append turn.write)
+                (fold-append journal_at no_journal (deeds b [] h) (Rises given ∷ []))
 
         -- a client writes that it rose
         writes_life : is_client decl b ≡ true → turn.write ≡ Some Life
         writes_life mine =
             ap (λ (t : Turn). t.write)
-            (sym (turn_is decl b mine (deeds b [] (h ++ marked b (steps.Rose given) ∷ [])) turn law) ∙ ap (λ (v : List Deed). (actor_after decl b v).turn) rose ∙ ap (λ (m : ActorMove). m.turn) (actor_laws.rises decl b (deeds b [] h) given)
+            (sym (turn_is decl b mine (deeds b [] (h ++ marked b (steps.Rose given) ∷ [])) turn law)
+                ∙ ap (λ (v : List Deed). (actor_after decl b v).turn) rose
+                ∙ ap (λ (m : ActorMove). m.turn) (actor_laws.rises decl b (deeds b [] h) given)
             ∙ ap (λ (m : ActorMove). m.turn) (client_risen decl b mine given))
 
-        given_here : is_client decl b ≡ true → IsKnown c (ended_journal turn.append turn.write (record { records = given; pending = None })) → In (Commit c) given
-        given_here mine here = elim (posted_known c turn.append turn.write (record { records = given; pending = None }) here) [
+        given_here : is_client decl b ≡ true
+            → IsKnown c (ended_journal turn.append turn.write (record { records = given; pending = None }))
+            → In (Commit c) given
+        given_here mine here =
+            elim (posted_known c turn.append turn.write (record { records = given; pending = None }) here) [
           | inl old ↦ given_known c given old
-          | inr new ↦ absurd (let no : Some Life ≡ Some (Commit c) = sym (writes_life mine) ∙ new in let never : ⊥ = cc in never)
+          | inr new ↦
+              absurd
+              (let no : Some Life ≡ Some (Commit c) = sym (writes_life mine) ∙ new in let never : ⊥ = cc in never)
         ]
 
         at : (t : Bool) → (b == a) ≡ t → IsKnown c (journal_of (own a h))
@@ -232,16 +212,35 @@ module _ (fits : ℕ → List Record → Type 0) (decl : Declaration) (script : 
             subst (λ (n : ℕ). IsKnown c (journal_of (own n h))) is
             (back_known c (journal_of (own b h)) given back
             (given_here (subst (λ (n : ℕ). is_client decl n ≡ true) (sym is) client)
-            (subst (IsKnown c) journal_now (subst (λ (n : ℕ). IsKnown c (journal_of (own n (h ++ by b (steps.Rose given ∷ posted_as turn.append (length (mail h)) turn))))) (sym is) known))))
+            (subst (IsKnown c) journal_now
+                (subst (λ (n : ℕ). IsKnown c
+                  (journal_of (own n (h ++ by b (steps.Rose given ∷ posted_as turn.append (length (mail h)) turn)))))
+                  (sym is) known))))
 
   pub all_recorded : (h : List Entry) (inputs : List Bool) → IsRun h inputs → Kept h → AreRecorded h
-  all_recorded h inputs begins kept = λ a c client known. absurd (elim known [ inl never ↦ never | inr none ↦ (let no : None ≡ Some (Commit c) = none in let never : ⊥ = cc in never) ])
-  all_recorded h inputs (takes b g before older run free rdy) kept = mute older (marked b (step_of g)) (λ c j. taken_same c j g) (all_recorded older before run (kept_of_first older _ kept))
-  all_recorded h inputs (posts b turn before older run taken law) kept = posted older before run (kept_of_first older _ kept) (all_recorded older before run (kept_of_first older _ kept)) b turn taken law
-  all_recorded h inputs (phase before older run idle done quiet more) kept = mute older (marked (controller decl) (steps.Phase (phase_of older + 1))) (λ c j known. known) (all_recorded older before run (kept_of_first older _ kept))
-  all_recorded h inputs (control line lines acted before older run left is) kept = mute older (marked (controller decl) acted) (λ c j. controlled_same c j line acted is) (all_recorded older before run (kept_of_first older _ kept))
-  all_recorded h inputs (falls b lines before older run left) kept = mute older (marked b (steps.Fell causes.Script None)) (λ c j known. known) (all_recorded older before run (kept_of_first older _ kept))
+  all_recorded h inputs begins kept =
+      λ a c client known. absurd (elim known
+      [ inl never ↦ never | inr none ↦ (let no : None ≡ Some (Commit c) = none in let never : ⊥ = cc in never) ])
+  all_recorded h inputs (takes b g before older run free rdy) kept =
+      mute older (marked b (step_of g)) (λ c j. taken_same c j g)
+      (all_recorded older before run (kept_of_first older _ kept))
+  all_recorded h inputs (posts b turn before older run taken law) kept =
+      posted older before run (kept_of_first older _ kept) (all_recorded older before run (kept_of_first older _ kept))
+      b turn taken law
+  all_recorded h inputs (phase before older run idle done quiet more) kept =
+      mute older (marked (controller decl) (steps.Phase (phase_of older + 1))) (λ c j known. known)
+      (all_recorded older before run (kept_of_first older _ kept))
+  all_recorded h inputs (control line lines acted before older run left is) kept =
+      mute older (marked (controller decl) acted) (λ c j. controlled_same c j line acted is)
+      (all_recorded older before run (kept_of_first older _ kept))
+  all_recorded h inputs (falls b lines before older run left) kept =
+      mute older (marked b (steps.Fell causes.Script None)) (λ c j known. known)
+      (all_recorded older before run (kept_of_first older _ kept))
   all_recorded h inputs (rises b given turn lines before older run left fit has law) kept =
-      risen older before run (kept_of_first older _ kept) (all_recorded older before run (kept_of_first older _ kept)) b given turn law (kept older _ (marked b (steps.Rose given)) refl)
-  all_recorded h inputs (damaged b offset lines before older run left) kept = absurd (kept older [] (marked b (steps.Damaged offset)) refl)
-  all_recorded h inputs (unopened b cause lines before older run left disk) kept = mute older (marked b (steps.Fell cause None)) (λ c j known. known) (all_recorded older before run (kept_of_first older _ kept))
+      risen older before run (kept_of_first older _ kept) (all_recorded older before run (kept_of_first older _ kept)) b
+          given turn law (kept older _ (marked b (steps.Rose given)) refl)
+  all_recorded h inputs (damaged b offset lines before older run left) kept =
+      absurd (kept older [] (marked b (steps.Damaged offset)) refl)
+  all_recorded h inputs (unopened b cause lines before older run left disk) kept =
+      mute older (marked b (steps.Fell cause None)) (λ c j known. known)
+      (all_recorded older before run (kept_of_first older _ kept))

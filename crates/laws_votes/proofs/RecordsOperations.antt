@@ -7,7 +7,7 @@ use Rattle.qc_core.specs.Names.{IsLawfulWithFalls}
 use Rattle.qc_decl.specs.Names.{IsAccepted, is_client}
 use Rattle.qc_decl.specs.declared.declaration.Declaration.{Declaration}
 use Rattle.laws_votes.proofs.Stamps.{client_due, due_behind}
-use Rattle.qc_msg.proofs.Growth.{deeds-append}
+use Rattle.qc_msg.proofs.DeedsGrow.{deeds-append}
 use Rattle.qc_msg.specs.Names.{Deed, Entry, Tells, deeds, envelope_of, mail, marked}
 use Rattle.qc_msg.specs.declared.record.Record.{Record}
 use Rattle.qc_msg.specs.declared.reply.Reply.{Reply}

@@ -18,10 +18,10 @@ use Rattle.qc_core.specs.declared.actor.Actor.TheVariants as actor
 use Rattle.qc_decl.specs.Names.{IsAccepted, actors, is_client, is_site, most_record_bytes}
 use Rattle.qc_decl.specs.declared.declaration.Declaration.{Declaration}
 use Rattle.laws_guarantees.proofs.Accounts.{HasGrounds, WasSent}
-use Rattle.laws_guarantees.proofs.Grounds.{has_grounds}
+use Rattle.laws_guarantees.proofs.RequestGrounds.{has_grounds}
 use Rattle.laws_guarantees.proofs.Mailed.{sent_as, sent_mail}
 use Rattle.laws_guarantees.proofs.ForgettingAnswers.{Forgets}
-use Rattle.laws_guarantees.proofs.SiteMoves.{IsAnswering, IsAnsweringTo, answers_inputs, answers_request}
+use Rattle.laws_guarantees.proofs.AnswersToInputs.{IsAnswering, IsAnsweringTo, answers_inputs, answers_request}
 use Rattle.laws_guarantees.proofs.SiteMoves.{prepares_remembered}
 use Rattle.laws_guarantees.specs.Names.{IsOpenVote}
 use Rattle.laws_votes.proofs.Nets.{at_number, backed, net, now, reached, refined}
@@ -60,7 +60,7 @@ use Rattle.qc_site.specs.Names.{promise_of, requested, site_at, site_takes}
 use Rattle.qc_stamp.specs.declared.stamp.TxId.{TxId}
 use Rattle.laws_votes.proofs.Holding.{IsGrantedIn, granted, granted_below, is_held_with, still_held}
 use Rattle.laws_votes.proofs.LifeGrounds.{has_life_grounds}
-use Rattle.laws_votes.proofs.LivesTold.{HasParticipant}
+use Rattle.laws_votes.proofs.LivesAdded.{HasParticipant}
 
 -- a request of an earlier epoch, or one that names another life, is refused for that
 

@@ -7,7 +7,7 @@ use Rattle.qc_core.specs.Names.{AreGivenBack, AreSteady, IsLawfulWithFalls, is_u
 use Rattle.qc_decl.specs.Names.{IsAccepted, is_client}
 use Rattle.qc_decl.specs.declared.declaration.Declaration.{Declaration}
 use Rattle.laws_votes.proofs.Stamps.{client_due, due_behind}
-use Rattle.qc_msg.proofs.Growth.{deeds-append}
+use Rattle.qc_msg.proofs.DeedsGrow.{deeds-append}
 use Rattle.qc_msg.specs.Names.{Deed, Entry, deeds, mail, own}
 use Rattle.qc_msg.specs.declared.record.Record.{Record}
 use Rattle.laws_votes.proofs.Live.{is_up_now, life_named}

@@ -15,7 +15,7 @@ use Rattle.laws_guarantees.specs.Names.{IsCounted}
 use Rattle.laws_votes.proofs.Clients.{IsNumbered, numbered}
 use Rattle.laws_votes.specs.Names.{IsCountedInLife, IsRecorded}
 use Rattle.qc_link.specs.Names.{most_actors}
-use Rattle.qc_msg.proofs.Growth.{deeds-append}
+use Rattle.qc_msg.proofs.DeedsGrow.{deeds-append}
 use Rattle.qc_msg.specs.Names.{Deed, Entry, Falls, Rises, Sends, Takes, Tells, Writes, by, deeds, mail}
 use Rattle.qc_msg.specs.declared.message.Message.{Message}
 use Rattle.qc_msg.specs.declared.record.Record.{Record}

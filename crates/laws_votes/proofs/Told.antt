@@ -7,7 +7,7 @@ use Rattle.laws_votes.proofs.Inputs.{deeds-risen}
 use Rattle.laws_votes.proofs.Unforgotten.{AreAll}
 use Rattle.laws_votes.proofs.Counted.{votes_remember}
 use Rattle.qc_core.proofs.AdminOver.{IsAdminMove, admin_over}
-use Rattle.qc_core.proofs.AdminWrites.{IsAdminReply, SaysAsAdmin}
+use Rattle.qc_core.proofs.AdminTurns.{IsAdminReply, SaysAsAdmin}
 use Rattle.qc_core.specs.Names.{IsLawfulWithFalls, actor_after, with_record}
 use Rattle.qc_decl.specs.Names.{IsAccepted, actors, controller, is_client, is_site, most_committed_operations}
 use Rattle.qc_decl.specs.declared.declaration.Declaration.{Declaration}
@@ -22,7 +22,8 @@ use Rattle.qc_link.specs.Names.{most_actors}
 use Rattle.qc_list.specs.Names.{In}
 use Rattle.laws_turns.proofs.ByMailWithFalls.{run_by_turns}
 use Rattle.laws_turns.proofs.Lived.{deeds-fall, line_silent}
-use Rattle.qc_msg.proofs.Growth.{deeds-other, deeds-posted_as, deeds-taken}
+use Rattle.qc_msg.proofs.DeedsGrow.{deeds-other}
+use Rattle.qc_msg.proofs.Growth.{deeds-posted_as, deeds-taken}
 use Rattle.qc_msg.specs.Names.{Deed, Entry, Falls, Rises, Takes, Tells, answered, by, deeds, deeds_as, mail, marked}
 use Rattle.qc_msg.specs.Names.{posted_as, sends_of, step_of, tells_of, writes_of}
 use Rattle.qc_msg.specs.declared.record.Record.{Record}
@@ -45,7 +46,7 @@ use Rattle.qc_promise.specs.Names.{are_votes_in, commit_row, due, first_against,
 use Rattle.qc_promise.specs.Names.{new_account, pending_next, place_after, reply_to, requests_for, row_of, running_row}
 use Rattle.qc_promise.specs.Names.{vote_row}
 use Rattle.qc_promise.specs.Turns as turns
-use Rattle.laws_reach.proofs.Posting.{takes_inputs}
+use Rattle.laws_reach.proofs.PostedTurns.{takes_inputs}
 use Rattle.laws_reach.specs.Names.{TakesInputs}
 use Rattle.qc_script.specs.Names.{IsScriptFor, RunsWithFalls, begins, control, damaged, falls, phase, phase_of, posts}
 use Rattle.qc_script.specs.Names.{rises, takes, unopened}

@@ -15,11 +15,11 @@ use Rattle.qc_decl.specs.Names.{IsAccepted, actors, controller, is_client, is_si
 use Rattle.qc_decl.specs.declared.declaration.Declaration.{Declaration}
 use Rattle.qc_entry.specs.declared.record.Commit.{Commit as CommitRecord}
 use Rattle.laws_guarantees.proofs.Accounts.{WasSent}
-use Rattle.laws_guarantees.proofs.Grounds.{has_grounds}
+use Rattle.laws_guarantees.proofs.RequestGrounds.{has_grounds}
 use Rattle.laws_guarantees.proofs.Mailed.{sent_as, sent_mail}
 use Rattle.laws_guarantees.proofs.ForgettingAnswers.{Forgets}
 use Rattle.laws_guarantees.proofs.Stale.{below_length}
-use Rattle.laws_guarantees.proofs.Unforgotten.{account_silent}
+use Rattle.laws_guarantees.proofs.AccountsStay.{account_silent}
 use Rattle.laws_guarantees.specs.Names.{IsOpenVote}
 use Rattle.laws_votes.proofs.Nets.{at_number, net}
 use Rattle.qc_inbox.proofs.FallMail.{ready_sent}
@@ -59,7 +59,7 @@ use Rattle.qc_site.specs.Names.{SiteState, site_takes}
 use Rattle.laws_votes.proofs.Answering.{never_forgotten}
 use Rattle.laws_votes.proofs.Holding.{granted}
 use Rattle.laws_votes.proofs.LifeGrounds.{has_life_grounds}
-use Rattle.laws_votes.proofs.LivesTold.{HasParticipant}
+use Rattle.laws_votes.proofs.LivesAdded.{HasParticipant}
 
 -- a history that goes on keeps its committed records
 pub records_more : (decl : Declaration) (h k : List Entry) (c : CommitRecord) → In c (records decl h)

@@ -1,41 +1,36 @@
 -- A site that posts a turn votes in the life that its records give it, then and after the turn, where the request names
 -- one; and no other event votes.
-use Rattle.std.proofs.Common.{◌≡◌, ◌≤◌, ◌⊎◌, ℕ, not, Bool, true, false, List, [], ◌∷◌, ◌++◌, inl, inr, length, map, take, Some, option_to_list, slice_get, refl, sym, ap, ◌∙◌, subst, arith}
+use Rattle.std.proofs.Common.{◌≡◌, ◌≤◌, ◌⊎◌, ℕ, Bool, true, false, List, ◌∷◌, ◌++◌, inl, inr, length, map}
+use Rattle.std.proofs.Common.{take, Some, option_to_list, slice_get, refl, sym, ap, ◌∙◌, subst, arith}
 use Rattle.qc_core.specs.declared.actor.Actor.{Actor}
 use Rattle.qc_core.specs.Names.{ActorMove, IsLawfulWithFalls, actor_after, actor_takes, is_up, journal_after}
 use Rattle.qc_core.specs.Names.{with_record}
 use Rattle.qc_core.proofs.ByNumber.{site_risen}
 use Rattle.qc_core.proofs.LivesLaws.{journal}
-use Rattle.qc_core.proofs.LivesLaws as actor_laws
+use Rattle.qc_core.proofs.LivesOfActors as actor_laws
 use Rattle.qc_decl.specs.Names.{IsAccepted, is_site}
 use Rattle.qc_decl.specs.declared.declaration.Declaration.{Declaration}
 use Rattle.laws_votes.specs.Names.{life_at}
 use Rattle.laws_votes.proofs.SiteLives.{life_of}
-use Rattle.qc_inbox.specs.Names.{is_down}
 use Rattle.qc_list.specs.Names.{In}
 use Rattle.qc_list.proofs.Members.{In-second}
 use Rattle.qc_entry.specs.declared.record.Prepared.{Prepared}
 use Rattle.qc_msg.specs.declared.step.Step.TheVariants as steps
-use Rattle.laws_turns.proofs.Downs.{due, tells, up_is}
-use Rattle.qc_msg.proofs.Growth.{deeds-append, deeds-posted_as, deeds-rose}
+use Rattle.laws_turns.proofs.Downs.{due, tells}
+use Rattle.qc_msg.proofs.DeedsGrow.{deeds-append, deeds-rose}
+use Rattle.qc_msg.proofs.Growth.{deeds-posted_as}
 use Rattle.qc_msg.specs.Names.{Deed, Entry, HasRecord, MayEnd, WasSentTo, by, deeds, envelopes, mail, posted_as}
 use Rattle.qc_msg.specs.Names.{sends_as}
 use Rattle.qc_msg.specs.declared.message.Answer.TheVariants as answers
 use Rattle.qc_msg.specs.declared.message.Envelope.{Envelope}
-use Rattle.qc_msg.specs.declared.message.Message.{Message}
 use Rattle.qc_msg.specs.declared.message.Message.TheVariants as messages
-use Rattle.qc_msg.specs.declared.message.Outcome.{Outcome}
-use Rattle.qc_msg.specs.declared.message.Outcome.TheVariants.{Aborted, Active, Committed}
-use Rattle.qc_msg.specs.declared.message.Want.{Want}
-use Rattle.qc_msg.specs.declared.message.Want.TheVariants.{Append, Prepare, Read}
 use Rattle.qc_msg.specs.declared.record.Record.{Record}
-use Rattle.qc_msg.specs.declared.step.Input.{Input}
 use Rattle.qc_msg.specs.declared.step.Input.TheVariants as given
 use Rattle.qc_msg.specs.declared.turn.Appended.{Appended}
 use Rattle.qc_msg.specs.declared.turn.Appended.TheVariants.{Done, Failed, Stopped}
 use Rattle.qc_msg.specs.declared.turn.Posting.{Posting}
 use Rattle.qc_msg.specs.declared.turn.Turn.{Turn}
-use Rattle.laws_refinement.specs.Names.{IsNamedLater, MayCome, Net, Refines, after_site}
+use Rattle.laws_refinement.specs.Names.{MayCome, Net, Refines, after_site}
 use Rattle.laws_refinement.specs.Net as nets
 use Rattle.laws_refinement.specs.Steps as later_nets
 use Rattle.laws_refinement.proofs.Refining.{nets_refine}
@@ -44,101 +39,16 @@ use Rattle.laws_refinement.proofs.VotesLater.{later_votes_name_later_lives}
 use Rattle.qc_promise.specs.Names.{Journal}
 use Rattle.theory_machine.proofs.Names.{put_here}
 use Rattle.laws_reach.proofs.Growing.{journal_posted}
-use Rattle.laws_reach.proofs.Posting.{never_up}
 use Rattle.laws_reach.proofs.Stood.{Stands, Stood, in_site}
 use Rattle.laws_reach.specs.Names.{HasTaken}
 use Rattle.qc_recover.specs.Names.{kept_by, most_inquiries, site_rises}
-use Rattle.qc_site.specs.Names.{SiteMove, SiteState, closed, closes_in, finishes, grants, in_order, passed, prepares}
-use Rattle.qc_site.specs.Names.{shut_answer, site_at, site_takes}
-use Rattle.qc_site.proofs.Cases.{append_cases, close_cases, install_cases, join_cases, prepare_cases, read_cases, request_cases, state_cases}
-use Rattle.qc_stamp.specs.declared.stamp.TxId.{TxId}
+use Rattle.qc_site.specs.Names.{SiteMove, SiteState, closes_in, in_order}
+use Rattle.qc_site.specs.Names.{site_takes}
 use Rattle.laws_atomic.proofs.Stood.{may_come}
+use Rattle.laws_votes.proofs.VoteInputs.{IsCast, IsVote, takes_life, takes_none, fallen}
 
--- a request for a promise that a vote answers, and the life that it names
-pub record IsCast (ms : List Envelope) (to low : ℕ) : Type 0 where
-  pub request : Envelope
-  pub sent : In request ms
-  pub numbered : request.number ≡ to
-  pub tx : _
-  pub epoch : ℕ
-  pub life : ℕ
-  pub named : request.message ≡ messages.Request tx epoch life Prepare
-  pub lives : (life ≡ 0) ⊎ (low ≤ life)
-
-abbrev pub IsVote : Posting → ℕ → Type 0
-IsVote p to = (clock : ℕ) × (p.message ≡ messages.Answer to (answers.Yes clock))
-
--- a site keeps its life as it takes an input, but where it closes its epoch; then it tells no vote
-
-other_life : (decl : Declaration) (s : SiteState) (from number : ℕ) (m : Message) → ((k : ℕ) → m ≡ messages.Close k → ⊥) → (site_at decl s from number m).site.life ≡ s.life
-other_life decl s from number m never =
-    state_cases (λ (t : SiteState). t.life ≡ s.life) decl s from number m refl (λ tx epoch life object inv is. refl) (λ tx epoch life object view own is. refl) (λ tx. refl)
-    (λ tx verdict is final. refl) (λ tx stamp p is. refl) (λ k is. absurd (never k is)) (λ k clock lines is later. refl)
-
-heard_life : (decl : Declaration) (s : SiteState) (from number : ℕ) (m : Message) → closes_in (site_at decl s from number m).turn ≡ false → (site_at decl s from number m).site.life ≡ s.life
-heard_life decl s from number (messages.Request tx epoch life want) stays = other_life decl s from number (messages.Request tx epoch life want) (λ k is. let none : ⊥ = cc in none)
-heard_life decl s from number (messages.Answer to answer) stays = refl
-heard_life decl s from number (messages.Decision tx verdict) stays = other_life decl s from number (messages.Decision tx verdict) (λ k is. let none : ⊥ = cc in none)
-heard_life decl s from number (messages.Inquiry tx) stays = refl
-heard_life decl s from number (messages.Ask tx) stays = refl
-heard_life decl s from number (messages.Close k) stays =
-    close_cases (λ m. closes_in m.turn ≡ false → m.site.life ≡ s.life) s from number k (λ answer none. refl) (λ near later none. absurd (let clash : ⊥ = cc in clash)) stays
-heard_life decl s from number (messages.Install k clock lines) stays =
-    install_cases (λ m. m.site.life ≡ s.life) s from number k clock lines (λ answer. refl) (λ later fits. refl)
-
-takes_life : (decl : Declaration) (s : SiteState) (g : Input) → closes_in (site_takes decl s g).turn ≡ false → (site_takes decl s g).site.life ≡ s.life
-takes_life decl s (given.Called command) stays = refl
-takes_life decl s (given.Got e) stays = heard_life decl (passed s e.message) e.from e.number e.message stays
-takes_life decl s (given.Lost number) stays = refl
-
--- what tells no vote, where the site closes
-
-abbrev TellsNone : SiteMove → Type 0
-TellsNone m = closes_in m.turn ≡ true → (p : Posting) → In p m.turn.sends → (to : ℕ) → IsVote p to → ⊥
-
-promised_none : (s : SiteState) (from number : ℕ) (tx : TxId) → TellsNone (prepares s from number tx)
-promised_none s from number tx =
-    prepare_cases TellsNone s from number tx (λ closes p among to v. let never : ⊥ = cc in never) (λ held stands closes p among to v. let never : ⊥ = cc in never)
-    (λ held made closes p among to v. let never : ⊥ = cc in never)
-
-wanted_none : (decl : Declaration) (s : SiteState) (from number : ℕ) (tx : TxId) (want : Want) → TellsNone (grants decl s from number tx want)
-wanted_none decl s from number tx (Read object inv) =
-    read_cases TellsNone decl s from number tx object inv (λ free closes p among to v. let never : ⊥ = cc in never) (λ c clash closes p among to v. let never : ⊥ = cc in never)
-wanted_none decl s from number tx (Append object view own) =
-    append_cases TellsNone decl s from number tx object view own (λ free closes p among to v. let never : ⊥ = cc in never) (λ c clash closes p among to v. let never : ⊥ = cc in never)
-wanted_none decl s from number tx Prepare = promised_none s from number tx
-
-finished_none : (s : SiteState) (tx : TxId) (verdict : Outcome) → TellsNone (finishes s tx verdict)
-finished_none s tx (Committed stamp) = join_cases TellsNone s tx stamp (λ none closes p among to v. absurd among) (λ q some closes p among to v. absurd among)
-finished_none s tx Aborted = λ closes p among to v. absurd among
-finished_none s tx Active = λ closes p among to v. absurd among
-
-heard_none : (decl : Declaration) (s : SiteState) (from number : ℕ) (m : Message) → TellsNone (site_at decl s from number m)
-heard_none decl s from number (messages.Request tx epoch life want) =
-    request_cases TellsNone decl s from number tx epoch life want (λ closes p among to v. absurd among) (λ fault is closes p among to v. let never : ⊥ = cc in never) (λ is. wanted_none decl s from number tx want)
-heard_none decl s from number (messages.Answer to answer) = λ closes p among to v. absurd among
-heard_none decl s from number (messages.Decision tx verdict) = finished_none s tx verdict
-heard_none decl s from number (messages.Inquiry tx) = λ closes p among to v. absurd among
-heard_none decl s from number (messages.Ask tx) = λ closes p among to v. absurd among
-heard_none decl s from number (messages.Close k) =
-    close_cases TellsNone s from number k (λ answer closes p among to v. let never : ⊥ = cc in never)
-    (λ near later closes p among to v. elim among [ inl first ↦ (let says : p.message ≡ messages.Answer number (shut_answer (closed s k)) = ap (λ (q : Posting). q.message) first in let never : ⊥ = (let told = v.1 in cc) in never) | inr none ↦ none ])
-heard_none decl s from number (messages.Install k clock lines) =
-    install_cases TellsNone s from number k clock lines (λ answer closes p among to v. let never : ⊥ = cc in never) (λ later fits closes p among to v. let never : ⊥ = cc in never)
-
-takes_none : (decl : Declaration) (s : SiteState) (g : Input) → TellsNone (site_takes decl s g)
-takes_none decl s (given.Called command) = λ closes p among to v. absurd among
-takes_none decl s (given.Got e) = heard_none decl (passed s e.message) e.from e.number e.message
-takes_none decl s (given.Lost number) = λ closes p among to v. absurd among
-
-fallen : (ds : List Deed) → is_up ds ≡ false → is_down ds ≡ true
-fallen ds down = by (is_down ds) (up_is ds)
-  where
-    by : (d : Bool) → is_up ds ≡ not d → d ≡ true
-    by true is = refl
-    by false is = absurd (never_up (is_up ds) down is)
-
-module _ (decl : Declaration) (accepted : IsAccepted decl) (h : List Entry) (inputs : List Bool) (old : Stood decl h inputs) (a : ℕ) (site : is_site decl a ≡ true) (turn : Turn) where
+module _ (decl : Declaration) (accepted : IsAccepted decl) (h : List Entry) (inputs : List Bool)
+    (old : Stood decl h inputs) (a : ℕ) (site : is_site decl a ≡ true) (turn : Turn) where
   -- a post
 
   module _ (taken : slice_get inputs a ≡ Some true) (law : IsLawfulWithFalls decl a (deeds a [] h) turn) where
@@ -159,10 +69,14 @@ module _ (decl : Declaration) (accepted : IsAccepted decl) (h : List Entry) (inp
       move = site_takes decl (old.net.sites a) x.given
 
       came : MayCome old.net a x.given
-      came = may_come old.net a x.given (subst (λ (ms : List Envelope). WasSentTo a ms x.given) (sym old.mail_is) x.sent)
+      came =
+          may_come old.net a x.given (subst (λ (ms : List Envelope). WasSentTo a ms x.given) (sym old.mail_is) x.sent)
 
       turn_is : move.turn ≡ with_record turn
-      turn_is = ap (λ (m : ActorMove). m.turn) (sym (x.is ∙ ap (λ (v : Actor). actor_takes decl v x.given) (in_site decl old.net a site))) ∙ due decl a ds turn law
+      turn_is =
+          ap (λ (m : ActorMove). m.turn)
+          (sym (x.is ∙ ap (λ (v : Actor). actor_takes decl v x.given) (in_site decl old.net a site)))
+          ∙ due decl a ds turn law
 
       abbrev next : Net
       next = after_site old.net a move
@@ -176,16 +90,28 @@ module _ (decl : Declaration) (accepted : IsAccepted decl) (h : List Entry) (inp
           let m : Refines decl next = nets_refine decl accepted next reached in
           let n : Refines decl old.net = nets_refine decl accepted old.net old.reached in
           (m.agrees.kept a site).life_is ∙ sym (m.agrees.sites a site (s.up ∙ up)).life
-          ∙ ap (λ (t : SiteState). t.life) (put_here old.net.sites a move.site) ∙ takes_life decl (old.net.sites a) x.given stays
+          ∙ ap (λ (t : SiteState). t.life) (put_here old.net.sites a move.site)
+              ∙ takes_life decl (old.net.sites a) x.given stays
           ∙ (n.agrees.sites a site (s.up ∙ up)).life ∙ sym (n.agrees.kept a site).life_is
 
       records_then : life_at (after Done) a ≡ life_of (next.records a)
       records_then =
-          ap (λ (j : Journal). life_of j.records) (sym (journal a (after Done)) ∙ ap journal_after (deeds-posted_as Done a (length (mail h)) h turn) ∙ journal_posted ds Done (length (mail h)) turn)
-          ∙ sym (ap life_of (put_here old.net.records a (old.net.records a ++ option_to_list move.turn.write) ∙ (λ i. s.records i ++ option_to_list (turn_is i).write)))
+          ap (λ (j : Journal). life_of j.records)
+              (sym (journal a (after Done)) ∙ ap journal_after (deeds-posted_as Done a (length (mail h)) h turn)
+                ∙ journal_posted ds Done (length (mail h)) turn)
+          ∙ sym
+              (ap life_of
+                (put_here old.net.records a (old.net.records a ++ option_to_list move.turn.write)
+                  ∙ (λ i. s.records i ++ option_to_list (turn_is i).write)))
 
-      casts : closes_in move.turn ≡ false → (e : Envelope) (to clock : ℕ) → In e (mail h ++ envelopes a (length (mail h)) turn.sends) → e.from ≡ a → e.message ≡ messages.Answer to (answers.Yes clock) → In e (mail h) ⊎ IsCast (mail h ++ envelopes a (length (mail h)) turn.sends) to (life_at (after Done) a)
-      casts stays e to clock among from is = elim (later_votes_name_later_lives decl accepted old.net old.reached next (later_nets.more old.net next later_nets.same (later_nets.serves a x.given old.net site (s.up ∙ up) came)) e (subst (In e) (sym mail_then) among) (subst (λ (b : ℕ). is_site decl b ≡ true) (sym from) site) to clock is) [
+      casts : closes_in move.turn ≡ false → (e : Envelope) (to clock : ℕ)
+          → In e (mail h ++ envelopes a (length (mail h)) turn.sends) → e.from ≡ a
+          → e.message ≡ messages.Answer to (answers.Yes clock)
+          → In e (mail h) ⊎ IsCast (mail h ++ envelopes a (length (mail h)) turn.sends) to (life_at (after Done) a)
+      casts stays e to clock among from is =
+          elim (later_votes_name_later_lives decl accepted old.net old.reached next
+          (later_nets.more old.net next later_nets.same (later_nets.serves a x.given old.net site (s.up ∙ up) came)) e
+          (subst (In e) (sym mail_then) among) (subst (λ (b : ℕ). is_site decl b ≡ true) (sym from) site) to clock is) [
         | inl before ↦ inl (subst (In e) old.mail_is before)
         | inr v ↦ inr (record {
           request = v.request;
@@ -198,7 +124,8 @@ module _ (decl : Declaration) (accepted : IsAccepted decl) (h : List Entry) (inp
           lives = elim v.low [
             | inl none ↦ inl none
             | inr low ↦ inr (
-                let here : life_of (old.net.records e.from) ≡ life_of (old.net.records a) = ap (λ (b : ℕ). life_of (old.net.records b)) from in
+                let here : life_of (old.net.records e.from) ≡ life_of (old.net.records a) =
+                        ap (λ (b : ℕ). life_of (old.net.records b)) from in
                 let same : life_at (after Done) a ≡ life_of (old.net.records a) = records_then ∙ life_then stays in
                 let low_is : life_of (old.net.records e.from) ≤ v.life = low in
                 omega arith)
@@ -211,11 +138,17 @@ module _ (decl : Declaration) (accepted : IsAccepted decl) (h : List Entry) (inp
 
       -- what is sent where the record isn't written is no vote
       silent : (p : Posting) (to : ℕ) → In p turn.failed_sends → IsVote p to → ⊥
-      silent p to among v = take_silent decl (old.net.sites a) x.given p (subst (λ (t : Turn). In p t.failed_sends) (sym turn_is) among) to v.0 v.1
+      silent p to among v =
+          take_silent decl (old.net.sites a) x.given p (subst (λ (t : Turn). In p t.failed_sends) (sym turn_is) among)
+          to v.0 v.1
 
     -- whatever becomes of its record
-    pub post_casts : (e : Envelope) (p : Posting) (to clock : ℕ) → In e (envelopes a (length (mail h)) (sends_as turn.append turn)) → In p (sends_as turn.append turn) → e.from ≡ a → e.message ≡ p.message → e.message ≡ messages.Answer to (answers.Yes clock)
-        → In e (mail h) ⊎ IsCast (mail h ++ envelopes a (length (mail h)) (sends_as turn.append turn)) to (life_at (after turn.append) a)
+    pub post_casts : (e : Envelope) (p : Posting) (to clock : ℕ)
+        → In e (envelopes a (length (mail h)) (sends_as turn.append turn)) → In p (sends_as turn.append turn)
+        → e.from ≡ a → e.message ≡ p.message → e.message ≡ messages.Answer to (answers.Yes clock)
+        → In e (mail h)
+            ⊎ IsCast (mail h ++ envelopes a (length (mail h)) (sends_as turn.append turn)) to
+              (life_at (after turn.append) a)
     post_casts e p to clock among posted from same is = by (is_up ds) refl turn.append law.may_end among posted
       where
         written : (end : Appended) → is_up ds ≡ false → MayEnd turn.write end → (end ≡ Done) ⊎ (sends_as end turn ≡ [])
@@ -223,34 +156,50 @@ module _ (decl : Declaration) (accepted : IsAccepted decl) (h : List Entry) (inp
         written Failed down may = absurd (subst HasRecord ((tells decl).writes_none a ds turn law (fallen ds down)) may)
         written Stopped down may = inr refl
 
-        by : (u : Bool) → is_up ds ≡ u → (end : Appended) → MayEnd turn.write end → In e (envelopes a (length (mail h)) (sends_as end turn)) → In p (sends_as end turn)
-            → In e (mail h) ⊎ IsCast (mail h ++ envelopes a (length (mail h)) (sends_as end turn)) to (life_at (after end) a)
+        by : (u : Bool) → is_up ds ≡ u → (end : Appended) → MayEnd turn.write end
+            → In e (envelopes a (length (mail h)) (sends_as end turn)) → In p (sends_as end turn)
+            → In e (mail h)
+                ⊎ IsCast (mail h ++ envelopes a (length (mail h)) (sends_as end turn)) to (life_at (after end) a)
         by true up Done may there sent = cast (closes_in (move up).turn) refl
           where
-            cast : (t : Bool) → closes_in (move up).turn ≡ t → In e (mail h) ⊎ IsCast (mail h ++ envelopes a (length (mail h)) turn.sends) to (life_at (after Done) a)
+            cast : (t : Bool) → closes_in (move up).turn ≡ t
+                → In e (mail h)
+                  ⊎ IsCast (mail h ++ envelopes a (length (mail h)) turn.sends) to (life_at (after Done) a)
             cast true closes =
-                absurd (takes_none decl (old.net.sites a) (x up).given closes p (subst (λ (t : Turn). In p t.sends) (sym (turn_is up)) sent) to (clock, sym same ∙ is))
-            cast false stays = casts up stays e to clock (In-second e (mail h) (envelopes a (length (mail h)) turn.sends) there) from is
+                absurd (takes_none decl (old.net.sites a) (x up).given closes p
+                    (subst (λ (t : Turn). In p t.sends) (sym (turn_is up)) sent) to (clock, sym same ∙ is))
+            cast false stays =
+                casts up stays e to clock (In-second e (mail h) (envelopes a (length (mail h)) turn.sends) there) from
+                is
         by true up Failed may there sent = absurd (silent up p to sent (clock, sym same ∙ is))
         by true up Stopped may there sent = absurd sent
         by false down end may there sent = absurd (elim (written end down may) [
-          | inl done ↦ subst (In p) (ap (λ (x : Appended). sends_as x turn) done ∙ (tells decl).sends_none a ds turn law (fallen ds down)) sent
+          | inl done ↦
+              subst (In p)
+              (ap (λ (x : Appended). sends_as x turn) done ∙ (tells decl).sends_none a ds turn law (fallen ds down))
+              sent
           | inr none ↦ subst (In p) none sent
         ])
 
   -- a rise: it asks the clients of its promises
 
-  pub rise_casts : (records : List Record) → IsLawfulWithFalls decl a (deeds a [] (h ++ by a (steps.Rose records ∷ []))) turn → (p : Posting) (to : ℕ) → In p (sends_as turn.append turn) → IsVote p to → ⊥
+  pub rise_casts : (records : List Record)
+      → IsLawfulWithFalls decl a (deeds a [] (h ++ by a (steps.Rose records ∷ []))) turn → (p : Posting) (to : ℕ)
+      → In p (sends_as turn.append turn) → IsVote p to → ⊥
   rise_casts records law p to among v = by turn.append among
     where
       turn_is : (site_rises decl a records).turn ≡ with_record turn
       turn_is =
           ap (λ (m : ActorMove). m.turn) (sym (site_risen decl a site records)
           ∙ sym (actor_laws.rises decl a (deeds a [] h) records)
-          ∙ ap (actor_after decl a) (sym (deeds-append a [] h (by a (steps.Rose records ∷ [])) ∙ ap (λ (v : List Deed). deeds a [] h ++ v) (deeds-rose a (mail h) records))))
+          ∙ ap (actor_after decl a)
+              (sym (deeds-append a [] h (by a (steps.Rose records ∷ []))
+                ∙ ap (λ (v : List Deed). deeds a [] h ++ v) (deeds-rose a (mail h) records))))
           ∙ due decl a (deeds a [] (h ++ by a (steps.Rose records ∷ []))) turn law
 
       by : (end : Appended) → In p (sends_as end turn) → ⊥
-      by Done sent = no_inquiry decl (take most_inquiries (in_order (map (λ (q : Prepared). q.tx) (kept_by records).promises))) p (subst (λ (t : Turn). In p t.sends) (sym turn_is) sent) to v.0 v.1
+      by Done sent =
+          no_inquiry decl (take most_inquiries (in_order (map (λ (q : Prepared). q.tx) (kept_by records).promises))) p
+          (subst (λ (t : Turn). In p t.sends) (sym turn_is) sent) to v.0 v.1
       by Failed sent = subst (λ (t : Turn). In p t.failed_sends) (sym turn_is) sent
       by Stopped sent = sent

@@ -1,147 +1,39 @@
 -- A declaration is what its document spells.
-use Rattle.std.proofs.Common.{◌≡◌, ℕ, zero, suc, List, [], ◌∷◌, ◌++◌, length, map, Option, Some, Ok, refl, sym, ap, ◌∙◌, subst}
-use Rattle.std.specs.Prelude.{◌&&◌, not, codes, slice_get, option_and_then}
-use Rattle.std.specs.List.{list_any}
-use Rattle.std.specs.Str.{bytes_eq}
-use Rattle.std.proofs.lemmas.List.{append-nil, append_assoc}
-use Rattle.std.proofs.lemmas.Option.{cond_some}
-use Rattle.toml.specs.Data.{Data, Members, as_str, as_table, get_member}
+use Rattle.std.proofs.Common.{◌≡◌, ℕ, List, ◌∷◌, ◌++◌, length, map, Option, Some, Ok, refl, sym, ap, ◌∙◌}
+use Rattle.std.proofs.Common.{subst}
+use Rattle.std.specs.Prelude.{codes, option_and_then}
+use Rattle.toml.specs.Data.{Data, Members, as_table, get_member}
 use Rattle.qc_plan.specs.declared.plan.Plan.{Plan}
-use Rattle.qc_decl.proofs.Places.{place_at}
-use Rattle.qc_decl.specs.Names.{greatest_weight, is_name, most_clients, most_epochs, most_objects, most_sites}
+use Rattle.qc_decl.specs.Names.{greatest_weight, most_clients, most_epochs, most_objects, most_sites}
 use Rattle.qc_decl.specs.Names.{most_types}
 use Rattle.qc_decl.specs.declared.declaration.Declaration.{Declaration}
 use Rattle.qc_accept.specs.declared.epochs.Side.TheVariants.{Initial, Final}
-use Rattle.qc_accept.specs.Names.{Answer, AreListed, DraftOf, IsDeclared, IsSpelled, ObjectsOf, StoreOf, TypeOf}
+use Rattle.qc_accept.specs.Names.{Answer, AreListed, DraftOf, IsDeclared, ObjectsOf, StoreOf}
 use Rattle.qc_accept.specs.Names.{TypesOf, accepted, all_admitted, all_certified, array_at, declared, document_of}
-use Rattle.qc_accept.specs.Names.{draft, draft_of, each, epoch_keys, item_path, item_table, items, keys, keys_path}
-use Rattle.qc_accept.specs.Names.{name_among, name_at, needs, no_others, number, number_between, number_of, object_keys}
-use Rattle.qc_accept.specs.Names.{objects_of, plan_in, plan_of, plans_of, read_each, required, text_at, told, type_of}
-use Rattle.qc_accept.specs.Names.{types_of, weights, with_name, with_object, with_plan, with_text, with_type}
+use Rattle.qc_accept.specs.Names.{draft, draft_of, epoch_keys, item_table, items, keys, keys_path}
+use Rattle.qc_accept.specs.Names.{needs, no_others, number, number_between}
+use Rattle.qc_accept.specs.Names.{objects_of, plan_in, plan_of, plans_of, read_each, required, text_at, told}
+use Rattle.qc_accept.specs.Names.{types_of, weights, with_object, with_plan, with_type}
 use Rattle.qc_accept.specs.Names.{with_weight}
-use Rattle.qc_accept.proofs.Answered.{Came, came, found, mapped, same_ok, told_some}
+use Rattle.qc_accept.proofs.Answered.{came, mapped, same_ok, told_some}
 use Rattle.qc_accept.proofs.Listing.{plan_listed}
-use Rattle.qc_accept.proofs.Spelling.{in_order, items_are, type_spelled}
+use Rattle.qc_accept.proofs.Spelling.{in_order, items_are}
 use Rattle.qc_accept.proofs.ItemLists.{Adds, IsFrom, AreFrom, all_from}
-
--- an item's reading adds one to a list, which came from the item
--- the table of an item
-is_table : (key : List ℕ) (place : ℕ) (d : Data) (table : Members) → item_table key place d ≡ Ok table → as_table d ≡ Some table
-is_table key place d table is = told_some (item_path key place) (as_table d) table is
-
-is_member : (path : List ℕ) (table : Members) (key : List ℕ) (d : Data) → required path table key ≡ Ok d → get_member key table ≡ Some d
-is_member path table key d is = told_some (path ++ key) (get_member key table) d is
-
-abbrev ItemText : List ℕ → Data → List ℕ → Type 0
-ItemText key d text = option_and_then (λ item. text_at item key) (as_table d) ≡ Some text
-
--- a name that is read
-pub record IsNewName (known : List (List ℕ)) (d : Data) (next : List (List ℕ)) : Type 0 where
-  pub text : List ℕ
-  pub is_text : as_str d ≡ Some text
-  pub grown : known ++ text ∷ [] ≡ next
-
-new_name : (known : List (List ℕ)) (d : Data) (next : List (List ℕ)) → with_name known d ≡ Some next → IsNewName known d next
-new_name known d next is =
-    let f = found (as_str d) (with_text known) next is in
-    let t = cond_some (is_name f.value && not (list_any (bytes_eq f.value) known)) (known ++ f.value ∷ []) next f.rest in
-    record { text = f.value; is_text = f.first; grown = t.1 }
-
-item_text_is : (key : List ℕ) (d name : Data) (item : Members) (text : List ℕ) → as_table d ≡ Some item → get_member key item ≡ Some name → as_str name ≡ Some text
-    → ItemText key d text
-item_text_is key d name item text is member says =
-    ap (option_and_then (λ (m : Members). text_at m key)) is ∙ ap (option_and_then as_str) member ∙ says
-
--- types
-
-pub record IsTypeFrom (d : Data) (t : TypeOf) : Type 0 where
-  pub item : Members
-  pub is : as_table d ≡ Some item
-  pub spelled : IsSpelled item t
-
-type_from : (types : TypesOf) (d : Data) (next : TypesOf) → with_type types d ≡ Ok next → Adds (λ (x : TypesOf). x.list) IsTypeFrom types d next
-type_from types d next is =
-    let path : List ℕ = keys_path (codes "type") (length types.names) in
-    let a = came (item_table (codes "type") (length types.names) d) _ next is in
-    let b = came (required path a.value (codes "name")) _ next a.rest in
-    let c = came (told (path ++ codes "name") (with_name types.names b.value)) _ next b.rest in
-    let e = came (type_of path a.value (length types.names) (name_at c.value (length types.names))) _ next c.rest in
-    record {
-      one = e.value;
-      grown = ap (λ (x : TypesOf). x.list) (same_ok (record { names = c.value; list = types.list ++ e.value ∷ [] }) next e.rest);
-      from = record {
-        item = a.value;
-        is = is_table (codes "type") (length types.names) d a.value a.first;
-        spelled = type_spelled path a.value (length types.names) (name_at c.value (length types.names)) e.value e.first;
-      };
-    }
-
-type_name_from : (types : TypesOf) (d : Data) (next : TypesOf) → with_type types d ≡ Ok next → Adds (λ (x : TypesOf). x.names) (ItemText (codes "name")) types d next
-type_name_from types d next is =
-    let path : List ℕ = keys_path (codes "type") (length types.names) in
-    let a = came (item_table (codes "type") (length types.names) d) _ next is in
-    let b = came (required path a.value (codes "name")) _ next a.rest in
-    let c = came (told (path ++ codes "name") (with_name types.names b.value)) _ next b.rest in
-    let e = came (type_of path a.value (length types.names) (name_at c.value (length types.names))) _ next c.rest in
-    let n : IsNewName types.names b.value c.value = new_name types.names b.value c.value (told_some (path ++ codes "name") (with_name types.names b.value) c.value c.first) in
-    record {
-      one = n.text;
-      grown = n.grown ∙ ap (λ (x : TypesOf). x.names) (same_ok (record { names = c.value; list = types.list ++ e.value ∷ [] }) next e.rest);
-      from = item_text_is (codes "name") d b.value a.value n.text (is_table (codes "type") (length types.names) d a.value a.first)
-          (is_member path a.value (codes "name") b.value b.first) n.is_text;
-    }
-
--- objects
-
-object_name_from : (types : List (List ℕ)) (objects : ObjectsOf) (d : Data) (next : ObjectsOf) → with_object types objects d ≡ Ok next
-    → Adds (λ (x : ObjectsOf). x.names) (ItemText (codes "name")) objects d next
-object_name_from types objects d next is =
-    let path : List ℕ = keys_path (codes "object") (length objects.names) in
-    let a = came (item_table (codes "object") (length objects.names) d) _ next is in
-    let b = came (required path a.value (codes "name")) _ next a.rest in
-    let c = came (told (path ++ codes "name") (with_name objects.names b.value)) _ next b.rest in
-    let e = came (required path a.value (codes "type")) _ next c.rest in
-    let f = came (told (path ++ codes "type") (name_among types e.value)) _ next e.rest in
-    let g = came (no_others path a.value object_keys) _ next f.rest in
-    let n : IsNewName objects.names b.value c.value = new_name objects.names b.value c.value (told_some (path ++ codes "name") (with_name objects.names b.value) c.value c.first) in
-    record {
-      one = n.text;
-      grown = n.grown ∙ ap (λ (x : ObjectsOf). x.names) (same_ok (record { names = c.value; kinds = objects.kinds ++ f.value ∷ [] }) next g.rest);
-      from = item_text_is (codes "name") d b.value a.value n.text (is_table (codes "object") (length objects.names) d a.value a.first)
-          (is_member path a.value (codes "name") b.value b.first) n.is_text;
-    }
-
-abbrev IsTypeNamed : List (List ℕ) → Data → ℕ → Type 0
-IsTypeNamed types d number = option_and_then (λ item. text_at item (codes "type")) (as_table d) ≡ slice_get types number
-
-object_type_from : (types : List (List ℕ)) (objects : ObjectsOf) (d : Data) (next : ObjectsOf) → with_object types objects d ≡ Ok next
-    → Adds (λ (x : ObjectsOf). x.kinds) (IsTypeNamed types) objects d next
-object_type_from types objects d next is =
-    let path : List ℕ = keys_path (codes "object") (length objects.names) in
-    let a = came (item_table (codes "object") (length objects.names) d) _ next is in
-    let b = came (required path a.value (codes "name")) _ next a.rest in
-    let c = came (told (path ++ codes "name") (with_name objects.names b.value)) _ next b.rest in
-    let e = came (required path a.value (codes "type")) _ next c.rest in
-    let f = came (told (path ++ codes "type") (name_among types e.value)) _ next e.rest in
-    let g = came (no_others path a.value object_keys) _ next f.rest in
-    let n = found (as_str e.value) (number_of types) f.value (told_some (path ++ codes "type") (name_among types e.value) f.value f.first) in
-    record {
-      one = f.value;
-      grown = ap (λ (x : ObjectsOf). x.kinds) (same_ok (record { names = c.value; kinds = objects.kinds ++ f.value ∷ [] }) next g.rest);
-      from = item_text_is (codes "type") d e.value a.value n.value (is_table (codes "object") (length objects.names) d a.value a.first)
-          (is_member path a.value (codes "type") e.value e.first) n.first
-          ∙ sym (place_at types n.value f.value n.rest);
-    }
+use Rattle.qc_accept.proofs.DeclaringItems.{is_table, is_member, ItemText, IsTypeFrom, type_from, type_name_from}
+use Rattle.qc_accept.proofs.DeclaringItems.{object_name_from, IsTypeNamed, object_type_from}
 
 -- plans
 
 weights_in_order : (path : List ℕ) (table : Members) (sites : ℕ) (ws : List ℕ) → weights path table sites ≡ Ok ws
     → map (number_between 0 greatest_weight) (array_at table (codes "weights")) ≡ map Some ws
 weights_in_order path table sites ws is =
-    let c = came (items path table (codes "weights") sites sites) (λ ds. told (path ++ codes "weights") (read_each with_weight [] ds)) ws is in
+    let c =
+            came (items path table (codes "weights") sites sites)
+              (λ ds. told (path ++ codes "weights") (read_each with_weight [] ds)) ws is in
     ap (map (number_between 0 greatest_weight)) (items_are path table (codes "weights") sites sites c.value c.first)
     ∙ in_order (number_between 0 greatest_weight) with_weight
-    (λ so_far d next more. let m = mapped (number_between 0 greatest_weight d) (λ w. so_far ++ w ∷ []) next more in (m.value, m.first, m.rest))
+    (λ so_far d next more. let m = mapped (number_between 0 greatest_weight d) (λ w. so_far ++ w ∷ []) next more in
+                           (m.value, m.first, m.rest))
     c.value ws (told_some (path ++ codes "weights") (read_each with_weight [] c.value) ws c.rest)
 
 weights_of : (path : List ℕ) (table : Members) (store : StoreOf) (plan : Plan) → plan_of path table store ≡ Ok plan
@@ -152,7 +44,8 @@ weights_of path table store plan is =
     let c = came (needs path table store (codes "final") Final) _ plan b.rest in
     let d = came (no_others path table epoch_keys) _ plan c.rest in
     subst (λ (p : Plan). map (number_between 0 greatest_weight) (array_at table (codes "weights")) ≡ map Some p.weights)
-    (same_ok (record { weights = a.value; initial = b.value; last = c.value }) plan d.rest) (weights_in_order path table store.sites a.value a.first)
+    (same_ok (record { weights = a.value; initial = b.value; last = c.value }) plan d.rest)
+        (weights_in_order path table store.sites a.value a.first)
 
 pub record IsPlanFrom (store : StoreOf) (d : Data) (plan : Plan) : Type 0 where
   pub item : Members
@@ -164,7 +57,8 @@ pub record IsPlanFrom (store : StoreOf) (d : Data) (plan : Plan) : Type 0 where
 abbrev plans_list : List Plan → List Plan
 plans_list plans = plans
 
-plan_from : (store : StoreOf) (plans : List Plan) (d : Data) (next : List Plan) → with_plan store plans d ≡ Ok next → Adds plans_list (IsPlanFrom store) plans d next
+plan_from : (store : StoreOf) (plans : List Plan) (d : Data) (next : List Plan) → with_plan store plans d ≡ Ok next
+    → Adds plans_list (IsPlanFrom store) plans d next
 plan_from store plans d next is =
     let path : List ℕ = keys_path (codes "epoch") (length plans) in
     let b = came (plan_in store (length plans) d) _ next is in
@@ -185,39 +79,54 @@ plan_from store plans d next is =
 -- the arrays of a document
 
 pub types_from : (path : List ℕ) (table : Members) (types : TypesOf) → types_of path table ≡ Ok types
-    → AreFrom IsTypeFrom (array_at table (codes "type")) types.list × AreFrom (ItemText (codes "name")) (array_at table (codes "type")) types.names
+    → AreFrom IsTypeFrom (array_at table (codes "type")) types.list
+        × AreFrom (ItemText (codes "name")) (array_at table (codes "type")) types.names
 types_from path table types is =
     let c = came (items path table (codes "type") 1 most_types) _ types is in
-    let array : array_at table (codes "type") ≡ c.value = items_are path table (codes "type") 1 most_types c.value c.first in
-    subst (λ (ds : List Data). AreFrom IsTypeFrom ds types.list × AreFrom (ItemText (codes "name")) ds types.names) (sym array) (
-      all_from with_type (λ (x : TypesOf). x.list) IsTypeFrom type_from (record { names = []; list = [] }) c.value types refl c.rest,
-      all_from with_type (λ (x : TypesOf). x.names) (ItemText (codes "name")) type_name_from (record { names = []; list = [] }) c.value types refl c.rest,
+    let array : array_at table (codes "type") ≡ c.value =
+            items_are path table (codes "type") 1 most_types c.value c.first in
+    subst (λ (ds : List Data). AreFrom IsTypeFrom ds types.list × AreFrom (ItemText (codes "name")) ds types.names)
+        (sym array) (
+      all_from with_type (λ (x : TypesOf). x.list) IsTypeFrom type_from (record { names = []; list = [] }) c.value types
+          refl c.rest,
+      all_from with_type (λ (x : TypesOf). x.names) (ItemText (codes "name")) type_name_from
+          (record { names = []; list = [] }) c.value types refl c.rest,
     )
 
-pub objects_from : (path : List ℕ) (table : Members) (types : TypesOf) (objects : ObjectsOf) → objects_of path table types ≡ Ok objects
-    → AreFrom (ItemText (codes "name")) (array_at table (codes "object")) objects.names × AreFrom (IsTypeNamed types.names) (array_at table (codes "object")) objects.kinds
+pub objects_from : (path : List ℕ) (table : Members) (types : TypesOf) (objects : ObjectsOf)
+    → objects_of path table types ≡ Ok objects
+    → AreFrom (ItemText (codes "name")) (array_at table (codes "object")) objects.names
+        × AreFrom (IsTypeNamed types.names) (array_at table (codes "object")) objects.kinds
 objects_from path table types objects is =
     let c = came (items path table (codes "object") 1 most_objects) _ objects is in
-    let array : array_at table (codes "object") ≡ c.value = items_are path table (codes "object") 1 most_objects c.value c.first in
-    subst (λ (ds : List Data). AreFrom (ItemText (codes "name")) ds objects.names × AreFrom (IsTypeNamed types.names) ds objects.kinds) (sym array) (
-      all_from (with_object types.names) (λ (x : ObjectsOf). x.names) (ItemText (codes "name")) (object_name_from types.names) (record { names = []; kinds = [] }) c.value objects refl c.rest,
-      all_from (with_object types.names) (λ (x : ObjectsOf). x.kinds) (IsTypeNamed types.names) (object_type_from types.names) (record { names = []; kinds = [] }) c.value objects refl c.rest,
+    let array : array_at table (codes "object") ≡ c.value =
+            items_are path table (codes "object") 1 most_objects c.value c.first in
+    subst (λ (ds : List Data). AreFrom (ItemText (codes "name")) ds objects.names
+        × AreFrom (IsTypeNamed types.names) ds objects.kinds) (sym array) (
+      all_from (with_object types.names) (λ (x : ObjectsOf). x.names) (ItemText (codes "name"))
+          (object_name_from types.names) (record { names = []; kinds = [] }) c.value objects refl c.rest,
+      all_from (with_object types.names) (λ (x : ObjectsOf). x.kinds) (IsTypeNamed types.names)
+          (object_type_from types.names) (record { names = []; kinds = [] }) c.value objects refl c.rest,
     )
 
-pub plans_from : (path : List ℕ) (table : Members) (store : StoreOf) (plans : List Plan) → plans_of path table store ≡ Ok plans
+pub plans_from : (path : List ℕ) (table : Members) (store : StoreOf) (plans : List Plan)
+    → plans_of path table store ≡ Ok plans
     → AreFrom (IsPlanFrom store) (array_at table (codes "epoch")) plans
 plans_from path table store plans is =
     let c = came (items path table (codes "epoch") 1 most_epochs) _ plans is in
-    let array : array_at table (codes "epoch") ≡ c.value = items_are path table (codes "epoch") 1 most_epochs c.value c.first in
+    let array : array_at table (codes "epoch") ≡ c.value =
+            items_are path table (codes "epoch") 1 most_epochs c.value c.first in
     subst (λ (ds : List Data). AreFrom (IsPlanFrom store) ds plans) (sym array)
     (all_from (with_plan store) plans_list (IsPlanFrom store) (plan_from store) [] c.value plans refl c.rest)
 
 -- a number under a key
-number_told : (path : List ℕ) (table : Members) (key : List ℕ) (least most n : ℕ) → number path table key least most ≡ Ok n
+number_told : (path : List ℕ) (table : Members) (key : List ℕ) (least most n : ℕ)
+    → number path table key least most ≡ Ok n
     → option_and_then (number_between least most) (get_member key table) ≡ Some n
 number_told path table key least most n is =
     let c = came (required path table key) (λ d. told (path ++ key) (number_between least most d)) n is in
-    ap (option_and_then (number_between least most)) (is_member path table key c.value c.first) ∙ told_some (path ++ key) (number_between least most c.value) n c.rest
+    ap (option_and_then (number_between least most)) (is_member path table key c.value c.first)
+        ∙ told_some (path ++ key) (number_between least most c.value) n c.rest
 
 -- all of a document
 pub draft_declared : (table : Members) (d : DraftOf) → draft_of table ≡ Ok d → IsDeclared table d.decl
@@ -248,20 +157,33 @@ draft_declared table d is =
           let i : IsFrom IsTypeFrom (array_at table (codes "type")) number x = t.0.each_is number x at in
           record { item = i.from.item; at = ap (option_and_then as_table) i.at ∙ i.from.is; spelled = i.from.spelled };
       type_name_at = λ number name at.
-          let i : IsFrom (ItemText (codes "name")) (array_at table (codes "type")) number name = t.1.each_is number name at in
-          ap (λ (x : Option Data). option_and_then (λ item. text_at item (codes "name")) (option_and_then as_table x)) i.at ∙ i.from;
+          let i : IsFrom (ItemText (codes "name")) (array_at table (codes "type")) number name =
+                  t.1.each_is number name at in
+          ap (λ (x : Option Data). option_and_then (λ item. text_at item (codes "name")) (option_and_then as_table x))
+              i.at ∙ i.from;
       object_name_at = λ object name at.
-          let i : IsFrom (ItemText (codes "name")) (array_at table (codes "object")) object name = o.0.each_is object name at in
-          ap (λ (x : Option Data). option_and_then (λ item. text_at item (codes "name")) (option_and_then as_table x)) i.at ∙ i.from;
+          let i : IsFrom (ItemText (codes "name")) (array_at table (codes "object")) object name =
+                  o.0.each_is object name at in
+          ap (λ (x : Option Data). option_and_then (λ item. text_at item (codes "name")) (option_and_then as_table x))
+              i.at ∙ i.from;
       object_type_at = λ object number at.
-          let i : IsFrom (IsTypeNamed c.value.names) (array_at table (codes "object")) object number = o.1.each_is object number at in
-          ap (λ (x : Option Data). option_and_then (λ item. text_at item (codes "type")) (option_and_then as_table x)) i.at ∙ i.from;
+          let i : IsFrom (IsTypeNamed c.value.names) (array_at table (codes "object")) object number =
+                  o.1.each_is object number at in
+          ap (λ (x : Option Data). option_and_then (λ item. text_at item (codes "type")) (option_and_then as_table x))
+              i.at ∙ i.from;
       plan_at = λ place plan at.
           let i : IsFrom (IsPlanFrom (record { sites = a.value; types = c.value; objects = e.value })) (array_at table (codes "epoch")) place plan = p.each_is place plan at in
-          record { item = i.from.item; at = ap (option_and_then as_table) i.at ∙ i.from.is; weights = i.from.weights; initial = i.from.initial; last = i.from.last };
+          record {
+                item = i.from.item;
+                at = ap (option_and_then as_table) i.at ∙ i.from.is;
+                weights = i.from.weights;
+                initial = i.from.initial;
+                last = i.from.last
+              };
     })
 
-pub accepted_declared : (bytes : List ℕ) (table : Members) (decl : Declaration) → document_of bytes ≡ Ok table → accepted bytes ≡ Ok decl → IsDeclared table decl
+pub accepted_declared : (bytes : List ℕ) (table : Members) (decl : Declaration) → document_of bytes ≡ Ok table
+    → accepted bytes ≡ Ok decl → IsDeclared table decl
 accepted_declared bytes table decl document is =
     let a = came (document_of bytes) declared decl is in
     let one : (let x : Answer Members = Ok table in x) ≡ Ok a.value = sym document ∙ a.first in
@@ -269,4 +191,5 @@ accepted_declared bytes table decl document is =
     let b = came (draft_of a.value) _ decl a.rest in
     let c = came (all_certified 0 b.value.decl.kind_names b.value.decl.kinds b.value.triples) _ decl b.rest in
     let e = came (all_admitted b.value.decl 1 b.value.decl.plans) _ decl c.rest in
-    subst (λ (t : Members). IsDeclared t decl) same (subst (IsDeclared a.value) (same_ok b.value.decl decl e.rest) (draft_declared a.value b.value b.first))
+    subst (λ (t : Members). IsDeclared t decl) same
+        (subst (IsDeclared a.value) (same_ok b.value.decl decl e.rest) (draft_declared a.value b.value b.first))

@@ -4,6 +4,7 @@ pub mod Alike
 pub mod Answered
 pub mod Counted
 pub mod ItemLists
+pub mod DeclaringItems
 pub mod Declaring
 pub mod Digits
 pub mod Documents

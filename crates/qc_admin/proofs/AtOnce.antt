@@ -30,7 +30,8 @@ use Rattle.qc_epoch.specs.Names.{installing, installing_takes, most_asks, moved,
 use Rattle.qc_epoch.specs.Names.{replies_with, settles, settles_by, site_set, standing_of, taken_for, with_installed}
 use Rattle.qc_epoch.specs.Names.{with_shut_of}
 use Rattle.qc_admin.specs.Names.{AdminHolds, DoingHolds, IsNumberedAtOnce}
-use Rattle.qc_admin.proofs.Numbered.{all_unasked, asking_new, asks_new, asks_on, installs_new, taken_asked, unsent}
+use Rattle.qc_admin.proofs.NumberedCloses.{asks_new, asks_on, unsent}
+use Rattle.qc_admin.proofs.Numbered.{all_unasked, asking_new, installs_new, taken_asked}
 
 -- moves
 

@@ -30,7 +30,7 @@ use Rattle.qc_admin.specs.Names.{AdminFits, AnswerFits, AreSites, DoingFits, Giv
 use Rattle.qc_admin.specs.Names.{ShutsFit, numbered, sent, sites_in}
 use Rattle.qc_admin.proofs.Bits.{last_bit, taken_bit}
 use Rattle.qc_admin.proofs.Moves.{last_fits, shut_last}
-use Rattle.qc_admin.proofs.Numbered.{from_sites}
+use Rattle.qc_admin.proofs.NumberedCloses.{from_sites}
 use Rattle.qc_admin.proofs.RoundBits.{closed_bits, note_fits, round_begins, row_sites}
 
 -- Installs begin

@@ -4,6 +4,7 @@ pub mod Taken
 pub mod Bits
 pub mod Moves
 pub mod RoundBits
+pub mod NumberedCloses
 pub mod Numbered
 pub mod Fitting
 pub mod AtOnce

@@ -2,8 +2,10 @@ pub mod Allowed
 pub mod Computed
 pub mod Faultless
 pub mod Grouped
+pub mod MarkedTriples
 pub mod Repeats
 pub mod Shared
+pub mod PieceTables
 pub mod Tables
 pub mod Told
 pub mod Walk

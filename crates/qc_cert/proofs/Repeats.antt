@@ -1,165 +1,25 @@
 -- The triples that stand nowhere before tell of all: what is covered, and the first fault.
-use Rattle.std.proofs.Common.{◌≡◌, ℕ, suc, ◌+◌, ◌<◌, Bool, true, false, cond, List, [], ◌∷◌, ◌++◌, All, Option, Some, None, length, get_or, take, drop, refl, sym, ap, ◌∙◌, arith, add-one, ◌≤◌, Ordering}
-use Rattle.std.specs.Prelude.{is_some, not, ◌==◌, ◌&&◌, ◌||◌, option_and_then}
-use Rattle.std.specs.List.{list_any, AllByRecursion}
+use Rattle.std.proofs.Common.{◌≡◌, ℕ, suc, ◌+◌, ◌<◌, Bool, true, false, cond, List, ◌∷◌, ◌++◌, Option, Some}
+use Rattle.std.proofs.Common.{None, length, get_or, drop, refl, sym, ap, ◌∙◌, add-one, ◌≤◌}
+use Rattle.std.specs.Prelude.{is_some, not, ◌==◌, ◌||◌, option_and_then}
 use Rattle.std.specs.Option.{option_or}
-use Rattle.std.specs.Ordering.{is_eq, nat_cmp, ordering_then}
-use Rattle.std.proofs.lemmas.Bool.{eqb-true, and_parts, or_left, or_right, true≢false}
-use Rattle.std.proofs.lemmas.List.{take_more, drop_more, drop_all}
-use Rattle.std.proofs.lemmas.Grind.{common_steps}
-use Rattle.std.proofs.lemmas.List.Elements.{All-from_recursion, recursion_from_All}
-use Rattle.std.proofs.lemmas.List.Folds.{list_any-append}
+use Rattle.std.proofs.lemmas.Bool.{true≢false}
+use Rattle.std.proofs.lemmas.List.{drop_more, drop_all}
 use Rattle.qc_list.specs.Names.{first_below}
 use Rattle.qc_list.proofs.Search.{none_parts, none_from, none_below, below_none}
 use Rattle.qc_table.specs.Names.{events_of, step_of, with_member}
 use Rattle.qc_table.specs.declared.kind.Kind.{Kind}
-use Rattle.qc_cert.specs.Names.{covers, distinct, firsts, firsts_after, inv_fault, inv_of, is_allowed, is_among}
-use Rattle.qc_cert.specs.Names.{is_covered, is_free, is_same, left_out_fault, marked, marked_fault, taken_fault, triple}
+use Rattle.qc_cert.specs.Names.{firsts, firsts_after, inv_fault, inv_of, is_allowed, is_among}
+use Rattle.qc_cert.specs.Names.{is_covered, is_free, is_same, left_out_fault, marked_fault, taken_fault, triple}
 use Rattle.qc_cert.specs.Names.{triple_fault, triples_fault, unequal_fault, unless_covered}
 use Rattle.qc_cert.specs.declared.fault.CertFault.{CertFault}
 use Rattle.qc_cert.specs.declared.fault.CertFault.TheVariants.{Uncovered, Unequal}
 use Rattle.qc_cert.specs.declared.triple.Triple.{Triple}
-
--- ---- what the set's order tells
-number_then : (x y : ℕ) (o : Ordering) (b : Bool) → is_eq o ≡ b → is_eq (ordering_then (nat_cmp x y) o) ≡ ((x == y) && b)
-number_then x y o b e = grind (arith, common_steps, e)
-
--- equal by the order are those that are the same
-abbrev pub TellsSame : (Triple → Triple → Ordering) → Type 0
-TellsSame cmp = (a b : Triple) → is_eq (cmp a b) ≡ is_same a b
-
-abbrev pub triple_cmp : Triple → Triple → Ordering
-triple_cmp a b = ordering_then (nat_cmp a.view b.view) (ordering_then (nat_cmp a.log b.log) (nat_cmp a.out b.out))
-
-number_last : (x y : ℕ) → is_eq (nat_cmp x y) ≡ (x == y)
-number_last x y = grind (arith, common_steps)
-
-pub order_tells : TellsSame triple_cmp
-order_tells a b =
-    number_then a.view b.view (ordering_then (nat_cmp a.log b.log) (nat_cmp a.out b.out)) ((a.log == b.log) && (a.out == b.out))
-    (number_then a.log b.log (nat_cmp a.out b.out) (a.out == b.out) (number_last a.out b.out))
-
--- ---- the same triple
-same_equal : (a b : Triple) → is_same a b ≡ true → a ≡ b
-same_equal a b s =
-    let one : ((a.view == b.view) ≡ true) × (((a.log == b.log) && (a.out == b.out)) ≡ true) = and_parts (a.view == b.view) ((a.log == b.log) && (a.out == b.out)) s in
-    let two : ((a.log == b.log) ≡ true) × ((a.out == b.out) ≡ true) = and_parts (a.log == b.log) (a.out == b.out) one.1 in
-    ap (λ v. triple v a.log a.out) (eqb-true a.view b.view one.0)
-    ∙ ap (λ l. triple b.view l a.out) (eqb-true a.log b.log two.0)
-    ∙ ap (λ o. triple b.view b.log o) (eqb-true a.out b.out two.1)
-
--- a triple that no other is equal to, or that is among those before
-among_more : (before : List Triple) (t q : Triple) → is_among (before ++ t ∷ []) q ≡ (is_among before q || is_same t q)
-among_more before t q = list_any-append (λ a. is_same a q) before (t ∷ []) ∙ ap (λ b. is_among before q || b) (or_none (is_same t q))
-  where
-    or_none : (b : Bool) → (b || false) ≡ b
-    or_none true = refl
-    or_none false = refl
-
--- the same test the other way round
-same_back : (a b : Triple) → is_same a b ≡ is_same b a
-same_back a b = rw (eqb_back a.view b.view, eqb_back a.log b.log, eqb_back a.out b.out) refl
-  where
-    eqb_back : (x y : ℕ) → (x == y) ≡ (y == x)
-    eqb_back x y = grind (arith, common_steps)
-
--- a look-up by the order
-pub among_by : (cmp : Triple → Triple → Ordering) → TellsSame cmp → (ks : List Triple) (t : Triple) → list_any (λ k. is_eq (cmp t k)) ks ≡ is_among ks t
-among_by cmp tells [] t = refl
-among_by cmp tells (k ∷ ks) t = ap (λ b. b || list_any (λ j. is_eq (cmp t j)) ks) (tells t k ∙ same_back t k) ∙ ap (λ b. is_same k t || b) (among_by cmp tells ks t)
-
--- ---- marks
-pub length_firsts : (before ts : List Triple) → length (firsts_after before ts) ≡ length ts
-length_firsts before [] = refl
-length_firsts before (t ∷ ts) = ap suc (length_firsts (before ++ t ∷ []) ts)
-
--- one triple more was marked
-pub marks_more : (list : List Triple) (i : ℕ) (x d : Triple) → i < length list → x ≡ get_or list i d
-    → firsts_after (take i list) (drop i list) ≡ not (is_among (take i list) x) ∷ firsts_after (take (i + 1) list) (drop (i + 1) list)
-marks_more list i x d l e =
-    ap (firsts_after (take i list)) (drop_more list i d l ∙ ap (λ y. y ∷ drop (i + 1) list) (sym e))
-    ∙ ap (λ ts. not (is_among (take i list) x) ∷ firsts_after ts (drop (i + 1) list)) (sym (take_more list i d l ∙ ap (λ y. take i list ++ y ∷ []) (sym e)))
-
--- the triples with a mark, from a place on
-pub marked_more : (marks : List Bool) (list : List Triple) (i : ℕ) (b c : Bool) (x d : Triple) → i < length marks → i < length list → b ≡ get_or marks i c → x ≡ get_or list i d
-    → marked (drop i marks) (drop i list) ≡ cond b (x ∷ marked (drop (i + 1) marks) (drop (i + 1) list)) (marked (drop (i + 1) marks) (drop (i + 1) list))
-marked_more marks list i b c x d m l be xe =
-    ap (λ ms. marked ms (drop i list)) (drop_more marks i c m ∙ ap (λ y. y ∷ drop (i + 1) marks) (sym be))
-    ∙ ap (marked (b ∷ drop (i + 1) marks)) (drop_more list i d l ∙ ap (λ y. y ∷ drop (i + 1) list) (sym xe))
-
--- a triple that was seen
-pub seen_more : (list : List Triple) (i : ℕ) (x d q : Triple) → i < length list → x ≡ get_or list i d
-    → is_among (take (i + 1) list) q ≡ (is_among (take i list) q || is_same x q)
-seen_more list i x d q l e = ap (λ ts. is_among ts q) (take_more list i d l ∙ ap (λ y. take i list ++ y ∷ []) (sym e)) ∙ among_more (take i list) x q
-
--- what the set that was given a triple has
-pub seen_with : (cmp : Triple → Triple → Ordering) → TellsSame cmp → (old new : List Triple) (x : Triple)
-    → ((t : Triple) → list_any (λ k. is_eq (cmp t k)) new ≡ cond (is_eq (cmp x t)) true (list_any (λ k. is_eq (cmp t k)) old))
-    → (t : Triple) → is_among new t ≡ (is_among old t || is_same x t)
-seen_with cmp tells old new x updates t =
-    sym (finds new) ∙ updates t ∙ ap (λ b. cond b true (list_any (λ k. is_eq (cmp t k)) old)) (tells x t) ∙ ap (cond (is_same x t) true) (finds old) ∙ either (is_same x t) (is_among old t)
-  where
-    finds : (ks : List Triple) → list_any (λ k. is_eq (cmp t k)) ks ≡ is_among ks t
-    finds ks = among_by cmp tells ks t
-
-    either : (b c : Bool) → cond b true c ≡ (c || b)
-    either true true = refl
-    either true false = refl
-    either false true = refl
-    either false false = refl
-
--- what holds of each triple holds of each that has a mark
-all_marked : (P : Triple → Type 0) (marks : List Bool) (ts : List Triple) → AllByRecursion P ts → AllByRecursion P (marked marks ts)
-all_marked P [] ts all = tt
-all_marked P (m ∷ ms) [] all = tt
-all_marked P (true ∷ ms) (t ∷ ts) all = (all.0, all_marked P ms ts all.1)
-all_marked P (false ∷ ms) (t ∷ ts) all = all_marked P ms ts all.1
-
-pub All-distinct : (P : Triple → Type 0) (list : List Triple) → All P list → All P (distinct list)
-All-distinct P list all = All-from_recursion P (distinct list) (all_marked P (firsts list) list (recursion_from_All P list all))
-
--- ---- what is covered
-among_covers : (before : List Triple) (x t : Triple) → is_among before x ≡ true → covers x t ≡ true → is_covered before t ≡ true
-among_covers [] x t among c = absurd (true≢false (sym among))
-among_covers (a ∷ before) x t among c = by (is_same a x) refl among (λ later. among_covers before x t later c)
-  where
-    by : (b : Bool) → is_same a x ≡ b → (b || is_among before x) ≡ true → (is_among before x ≡ true → is_covered before t ≡ true) → is_covered (a ∷ before) t ≡ true
-    by true same either later = or_left (covers a t) (is_covered before t) (ap (λ y. covers y t) (same_equal a x same) ∙ c)
-    by false same either later = or_right (covers a t) (is_covered before t) (later either)
-
--- each triple that stands before or after is covered by those before and the first of the others
-covered_after : (before ts : List Triple) (t : Triple) → (is_covered before t || is_covered (marked (firsts_after before ts) ts) t) ≡ (is_covered before t || is_covered ts t)
-covered_after before [] t = refl
-covered_after before (x ∷ ts) t = by (is_among before x) refl
-    (ap (λ b. b || is_covered (marked (firsts_after (before ++ x ∷ []) ts) ts) t) (sym (list_any-append (λ a. covers a t) before (x ∷ [])))
-    ∙ covered_after (before ++ x ∷ []) ts t
-    ∙ ap (λ b. b || is_covered ts t) (list_any-append (λ a. covers a t) before (x ∷ [])))
-  where
-    rest : List Triple
-    rest = marked (firsts_after (before ++ x ∷ []) ts) ts
-
-    first : (b c m n : Bool) → ((b || (c || false)) || m) ≡ ((b || (c || false)) || n) → (b || (c || m)) ≡ (b || (c || n))
-    first true c m n e = refl
-    first false true m n e = refl
-    first false false m n e = e
-
-    again : (b c m n : Bool) → (c ≡ true → b ≡ true) → ((b || (c || false)) || m) ≡ ((b || (c || false)) || n) → (b || m) ≡ (b || (c || n))
-    again true c m n before e = refl
-    again false true m n before e = absurd (true≢false (sym (before refl)))
-    again false false m n before e = e
-
-    by : (b : Bool) → is_among before x ≡ b
-        → ((is_covered before t || (covers x t || false)) || is_covered rest t) ≡ ((is_covered before t || (covers x t || false)) || is_covered ts t)
-        → (is_covered before t || is_covered (cond (not b) (x ∷ rest) rest) t) ≡ (is_covered before t || (covers x t || is_covered ts t))
-    by true among more = again (is_covered before t) (covers x t) (is_covered rest t) (is_covered ts t) (among_covers before x t among) more
-    by false among more = first (is_covered before t) (covers x t) (is_covered rest t) (is_covered ts t) more
-
--- being covered by the distinct triples is being covered by all
-pub covered_once : (list : List Triple) (t : Triple) → is_covered (distinct list) t ≡ is_covered list t
-covered_once list t = covered_after [] list t
+use Rattle.qc_cert.proofs.MarkedTriples.{same_equal, among_more}
 
 -- ---- the first fault: where a triple has none, it has none at any place
-no_fault : (list : List Triple) (f g : CertFault) (t : Triple) → unless_covered list f t ≡ None → unless_covered list g t ≡ None
+no_fault : (list : List Triple) (f g : CertFault) (t : Triple) → unless_covered list f t ≡ None
+    → unless_covered list g t ≡ None
 no_fault list f g t none = by (is_covered list t) none
   where
     by : (b : Bool) → cond b None (Some f) ≡ None → cond b None (Some g) ≡ None
@@ -170,15 +30,20 @@ module _ (kind : Kind) (list : List Triple) (p q : ℕ) (t : Triple) where
   left_out_anywhere : (e : ℕ) → left_out_fault kind list p t e ≡ None → left_out_fault kind list q t e ≡ None
   left_out_anywhere e none = by (step_of kind.table.rows t.log e) none
     where
-      by : (o : Option ℕ) → option_and_then (λ h. unless_covered list (Uncovered p e false) (triple t.view h (with_member t.out e))) o ≡ None
-          → option_and_then (λ h. unless_covered list (Uncovered q e false) (triple t.view h (with_member t.out e))) o ≡ None
+      by : (o : Option ℕ)
+          → option_and_then (λ h. unless_covered list (Uncovered p e false) (triple t.view h (with_member t.out e))) o
+            ≡ None
+          → option_and_then (λ h. unless_covered list (Uncovered q e false) (triple t.view h (with_member t.out e))) o
+              ≡ None
       by None e = refl
-      by (Some h) n = no_fault list (Uncovered p e false) (Uncovered q e false) (triple t.view h (with_member t.out e)) n
+      by (Some h) n =
+          no_fault list (Uncovered p e false) (Uncovered q e false) (triple t.view h (with_member t.out e)) n
 
   unequal_anywhere : (inv resp : ℕ) → unequal_fault kind p t inv resp ≡ None → unequal_fault kind q t inv resp ≡ None
   unequal_anywhere inv resp none = by (is_allowed kind t.view inv resp) (is_allowed kind t.log inv resp) none
     where
-      by : (a b : Bool) → cond a (cond b None (Some (Unequal p inv resp))) (cond b (Some (Unequal p inv resp)) None) ≡ None
+      by : (a b : Bool)
+          → cond a (cond b None (Some (Unequal p inv resp))) (cond b (Some (Unequal p inv resp)) None) ≡ None
           → cond a (cond b None (Some (Unequal q inv resp))) (cond b (Some (Unequal q inv resp)) None) ≡ None
       by true true n = refl
       by true false n = absurd (let never : ⊥ = cc in never)
@@ -186,11 +51,16 @@ module _ (kind : Kind) (list : List Triple) (p q : ℕ) (t : Triple) where
       by false false n = refl
 
   taken_anywhere : (inv e : ℕ) → taken_fault kind list p t inv e ≡ None → taken_fault kind list q t inv e ≡ None
-  taken_anywhere inv e none = by (inv_of kind e == inv) (step_of kind.table.rows t.view e) (step_of kind.table.rows t.log e) none
+  taken_anywhere inv e none =
+      by (inv_of kind e == inv) (step_of kind.table.rows t.view e) (step_of kind.table.rows t.log e) none
     where
       by : (b : Bool) (view log : Option ℕ)
-          → cond b (option_and_then (λ g. option_and_then (λ h. unless_covered list (Uncovered p e true) (triple g h t.out)) log) view) None ≡ None
-          → cond b (option_and_then (λ g. option_and_then (λ h. unless_covered list (Uncovered q e true) (triple g h t.out)) log) view) None ≡ None
+          → cond b
+              (option_and_then (λ g. option_and_then (λ h. unless_covered list (Uncovered p e true) (triple g h t.out))
+                log) view) None ≡ None
+          → cond b
+              (option_and_then (λ g. option_and_then (λ h. unless_covered list (Uncovered q e true) (triple g h t.out))
+                log) view) None ≡ None
       by false view log n = refl
       by true None log n = refl
       by true (Some g) None n = refl
@@ -205,37 +75,54 @@ module _ (kind : Kind) (list : List Triple) (p q : ℕ) (t : Triple) where
       events : ℕ → Option CertFault
       events place = first_below (length (events_of kind.table.rows)) (taken_fault kind list place t inv)
 
-      by : (b : Bool) → cond b (option_or (responses p) (events p)) None ≡ None → cond b (option_or (responses q) (events q)) None ≡ None
+      by : (b : Bool) → cond b (option_or (responses p) (events p)) None ≡ None
+          → cond b (option_or (responses q) (events q)) None ≡ None
       by false n = refl
       by true n =
           let both : (responses p ≡ None) × (events p ≡ None) = none_parts (responses p) (events p) n in
           none_from (responses q) (events q)
-          (below_none kind.table.resps (unequal_fault kind q t inv) (λ resp less. unequal_anywhere inv resp (none_below kind.table.resps (unequal_fault kind p t inv) both.0 resp less)))
-          (below_none (length (events_of kind.table.rows)) (taken_fault kind list q t inv) (λ e less. taken_anywhere inv e (none_below (length (events_of kind.table.rows)) (taken_fault kind list p t inv) both.1 e less)))
+          (below_none kind.table.resps (unequal_fault kind q t inv)
+              (λ resp less. unequal_anywhere inv resp
+                (none_below kind.table.resps (unequal_fault kind p t inv) both.0 resp less)))
+          (below_none (length (events_of kind.table.rows)) (taken_fault kind list q t inv)
+              (λ e less. taken_anywhere inv e
+                (none_below (length (events_of kind.table.rows)) (taken_fault kind list p t inv) both.1 e less)))
 
   pub none_anywhere : triple_fault kind list p t ≡ None → triple_fault kind list q t ≡ None
   none_anywhere none =
-      let both = none_parts (first_below (length (events_of kind.table.rows)) (left_out_fault kind list p t)) (first_below kind.table.invs (inv_fault kind list p t)) none in
-      none_from (first_below (length (events_of kind.table.rows)) (left_out_fault kind list q t)) (first_below kind.table.invs (inv_fault kind list q t))
-      (below_none (length (events_of kind.table.rows)) (left_out_fault kind list q t) (λ e less. left_out_anywhere e (none_below (length (events_of kind.table.rows)) (left_out_fault kind list p t) both.0 e less)))
-      (below_none kind.table.invs (inv_fault kind list q t) (λ inv less. inv_anywhere inv (none_below kind.table.invs (inv_fault kind list p t) both.1 inv less)))
+      let both =
+              none_parts (first_below (length (events_of kind.table.rows)) (left_out_fault kind list p t))
+                (first_below kind.table.invs (inv_fault kind list p t)) none in
+      none_from (first_below (length (events_of kind.table.rows)) (left_out_fault kind list q t))
+          (first_below kind.table.invs (inv_fault kind list q t))
+      (below_none (length (events_of kind.table.rows)) (left_out_fault kind list q t)
+          (λ e less. left_out_anywhere e
+            (none_below (length (events_of kind.table.rows)) (left_out_fault kind list p t) both.0 e less)))
+      (below_none kind.table.invs (inv_fault kind list q t)
+          (λ inv less. inv_anywhere inv (none_below kind.table.invs (inv_fault kind list p t) both.1 inv less)))
 
 -- one triple more without a fault
-none_more : (kind : Kind) (list before : List Triple) (place : ℕ) (x : Triple) → ((t : Triple) → is_among before t ≡ true → triple_fault kind list 0 t ≡ None)
-    → triple_fault kind list place x ≡ None → (t : Triple) → is_among (before ++ x ∷ []) t ≡ true → triple_fault kind list 0 t ≡ None
-none_more kind list before place x none here t among = by (is_among before t) (is_same x t) refl refl (sym (among_more before x t) ∙ among)
+none_more : (kind : Kind) (list before : List Triple) (place : ℕ) (x : Triple)
+    → ((t : Triple) → is_among before t ≡ true → triple_fault kind list 0 t ≡ None)
+    → triple_fault kind list place x ≡ None → (t : Triple) → is_among (before ++ x ∷ []) t ≡ true
+        → triple_fault kind list 0 t ≡ None
+none_more kind list before place x none here t among =
+    by (is_among before t) (is_same x t) refl refl (sym (among_more before x t) ∙ among)
   where
     by : (b s : Bool) → is_among before t ≡ b → is_same x t ≡ s → (b || s) ≡ true → triple_fault kind list 0 t ≡ None
     by true s old same either = none t old
-    by false true old same either = ap (triple_fault kind list 0) (sym (same_equal x t same)) ∙ none_anywhere kind list place 0 x here
+    by false true old same either =
+        ap (triple_fault kind list 0) (sym (same_equal x t same)) ∙ none_anywhere kind list place 0 x here
     by false false old same either = absurd (true≢false (sym either))
 
 -- where those before have no fault, the first of the others tell the first fault
-fault_after : (kind : Kind) (list before : List Triple) (place : ℕ) (ts : List Triple) → ((t : Triple) → is_among before t ≡ true → triple_fault kind list 0 t ≡ None)
+fault_after : (kind : Kind) (list before : List Triple) (place : ℕ) (ts : List Triple)
+    → ((t : Triple) → is_among before t ≡ true → triple_fault kind list 0 t ≡ None)
     → marked_fault kind list place (firsts_after before ts) ts ≡ triples_fault kind list place ts
 fault_after kind list before place [] none = refl
 fault_after kind list before place (x ∷ ts) none =
-    by (is_among before x) (triple_fault kind list place x) refl refl (λ here. fault_after kind list (before ++ x ∷ []) (suc place) ts (none_more kind list before place x none here))
+    by (is_among before x) (triple_fault kind list place x) refl refl
+        (λ here. fault_after kind list (before ++ x ∷ []) (suc place) ts (none_more kind list before place x none here))
   where
     rest : Option CertFault
     rest = marked_fault kind list (suc place) (firsts_after (before ++ x ∷ []) ts) ts
@@ -244,25 +131,38 @@ fault_after kind list before place (x ∷ ts) none =
         → (triple_fault kind list place x ≡ None → rest ≡ triples_fault kind list (suc place) ts)
         → option_or (cond (not b) o None) rest ≡ option_or o (triples_fault kind list (suc place) ts)
     by true None among here more = more here
-    by true (Some f) among here more = absurd (let nothing : triple_fault kind list place x ≡ None = none_anywhere kind list 0 place x (none x among) in let never : ⊥ = cc in never)
+    by true (Some f) among here more =
+        absurd (let nothing : triple_fault kind list place x ≡ None =
+                        none_anywhere kind list 0 place x (none x among) in
+                let never : ⊥ = cc in never)
     by false None among here more = more here
     by false (Some f) among here more = refl
 
 -- the first fault of the triples that stand nowhere before is the first fault of all
-pub fault_once : (kind : Kind) (list : List Triple) → marked_fault kind list 0 (firsts list) list ≡ triples_fault kind list 0 list
+pub fault_once : (kind : Kind) (list : List Triple)
+    → marked_fault kind list 0 (firsts list) list ≡ triples_fault kind list 0 list
 fault_once kind list = fault_after kind list [] 0 list (λ t among. absurd (true≢false (sym among)))
 
 -- one triple more
-pub fault_more : (kind : Kind) (list ts : List Triple) (marks : List Bool) (i : ℕ) (b c : Bool) (x d : Triple) → i < length marks → i < length ts → b ≡ get_or marks i c → x ≡ get_or ts i d
-    → marked_fault kind list i (drop i marks) (drop i ts) ≡ option_or (cond b (triple_fault kind list i x) None) (marked_fault kind list (i + 1) (drop (i + 1) marks) (drop (i + 1) ts))
+pub fault_more : (kind : Kind) (list ts : List Triple) (marks : List Bool) (i : ℕ) (b c : Bool) (x d : Triple)
+    → i < length marks → i < length ts → b ≡ get_or marks i c → x ≡ get_or ts i d
+    → marked_fault kind list i (drop i marks) (drop i ts)
+        ≡ option_or (cond b (triple_fault kind list i x) None)
+          (marked_fault kind list (i + 1) (drop (i + 1) marks) (drop (i + 1) ts))
 fault_more kind list ts marks i b c x d m l be xe =
-    ap (λ ms. marked_fault kind list i ms (drop i ts)) (drop_more marks i c m ∙ ap (λ y. y ∷ drop (i + 1) marks) (sym be))
-    ∙ ap (marked_fault kind list i (b ∷ drop (i + 1) marks)) (drop_more ts i d l ∙ ap (λ y. y ∷ drop (i + 1) ts) (sym xe))
-    ∙ ap (λ place. option_or (cond b (triple_fault kind list i x) None) (marked_fault kind list place (drop (i + 1) marks) (drop (i + 1) ts))) (sym (add-one i))
+    ap (λ ms. marked_fault kind list i ms (drop i ts))
+        (drop_more marks i c m ∙ ap (λ y. y ∷ drop (i + 1) marks) (sym be))
+    ∙ ap (marked_fault kind list i (b ∷ drop (i + 1) marks))
+        (drop_more ts i d l ∙ ap (λ y. y ∷ drop (i + 1) ts) (sym xe))
+    ∙ ap
+        (λ place. option_or (cond b (triple_fault kind list i x) None)
+          (marked_fault kind list place (drop (i + 1) marks) (drop (i + 1) ts))) (sym (add-one i))
 
 -- none is left
-pub fault_past : (kind : Kind) (list ts : List Triple) (marks : List Bool) (i : ℕ) → length ts ≤ i → marked_fault kind list i (drop i marks) (drop i ts) ≡ None
-fault_past kind list ts marks i past = ap (marked_fault kind list i (drop i marks)) (drop_all i ts past) ∙ by (drop i marks)
+pub fault_past : (kind : Kind) (list ts : List Triple) (marks : List Bool) (i : ℕ) → length ts ≤ i
+    → marked_fault kind list i (drop i marks) (drop i ts) ≡ None
+fault_past kind list ts marks i past =
+    ap (marked_fault kind list i (drop i marks)) (drop_all i ts past) ∙ by (drop i marks)
   where
     by : (ms : List Bool) → marked_fault kind list i ms [] ≡ None
     by [] = refl
@@ -278,6 +178,9 @@ found_later None p q none same = ap (λ r. option_or r q) same
 found_later (Some f) p q none same = absurd (true≢false none)
 
 -- the same of marks and items that are the list's
-pub fault_of_firsts : (kind : Kind) (list : List Triple) (marks : List Bool) (items : List Triple) → marks ≡ firsts list → items ≡ list
+pub fault_of_firsts : (kind : Kind) (list : List Triple) (marks : List Bool) (items : List Triple) → marks ≡ firsts list
+    → items ≡ list
     → marked_fault kind list 0 marks items ≡ triples_fault kind list 0 list
-fault_of_firsts kind list marks items m i = ap (λ ms. marked_fault kind list 0 ms items) m ∙ ap (marked_fault kind list 0 (firsts list)) i ∙ fault_once kind list
+fault_of_firsts kind list marks items m i =
+    ap (λ ms. marked_fault kind list 0 ms items) m ∙ ap (marked_fault kind list 0 (firsts list)) i
+    ∙ fault_once kind list

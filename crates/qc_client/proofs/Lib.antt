@@ -1,3 +1,4 @@
+mod FrontSends
 mod Fronts
 mod Names
 mod Outcomes

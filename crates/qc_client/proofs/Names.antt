@@ -34,7 +34,8 @@ use Rattle.qc_client.specs.declared.client.Client.{Client}
 use Rattle.qc_client.specs.Names.{AreReady, ClientMove, IsFree, IsReady, NumberedInput, after_input, after_inputs}
 use Rattle.qc_client.specs.Names.{answered, answered_by, by_desk, by_front, called, client_takes, commits, heard, moved}
 use Rattle.qc_client.specs.Names.{name_of, new_client, sent, sent_by}
-use Rattle.qc_client.proofs.Fronts.{IsFrontMove, IsNamed, called-goes, takes-goes}
+use Rattle.qc_client.proofs.FrontSends.{IsFrontMove, IsNamed}
+use Rattle.qc_client.proofs.Fronts.{called-goes, takes-goes}
 
 -- of what a client has: its records, what the front end has begun and counted, the transaction that the desk has in
 -- hand

@@ -36,7 +36,8 @@ use Rattle.qc_client.specs.declared.client.Client.{Client}
 use Rattle.qc_client.specs.Names.{ClientMove, IsReady, NumberedInput, TellsOutcome, after_input, after_inputs, answered}
 use Rattle.qc_client.specs.Names.{answered_by, by_desk, by_front, called, client_takes, commits, heard, is_begun}
 use Rattle.qc_client.specs.Names.{name_of, outcome_by, outcome_of, sent, sent_by}
-use Rattle.qc_client.proofs.Fronts.{IsFrontMove, IsSending, IsVerdict, called-goes, takes-goes}
+use Rattle.qc_client.proofs.FrontSends.{IsFrontMove, IsSending, IsVerdict}
+use Rattle.qc_client.proofs.Fronts.{called-goes, takes-goes}
 use Rattle.qc_client.proofs.Names.{IsWell}
 
 -- how a transaction stands, by what is known of it

@@ -16,7 +16,8 @@ use Rattle.qc_core.specs.declared.actor.Actor.{Actor}
 use Rattle.qc_core.specs.declared.actor.Actor.TheVariants.{Site, Client, Admin, Down}
 use Rattle.qc_core.specs.Names.{ActorMove, actor_after, actor_does, actor_rises, actor_sends, actor_takes, by_admin}
 use Rattle.qc_core.specs.Names.{moved, new_actor}
-use Rattle.qc_core.proofs.AdminWrites.{IsAdminTurn, SaysAsAdmin, WritesDecision, admin_written}
+use Rattle.qc_core.proofs.AdminTurns.{IsAdminTurn, SaysAsAdmin, WritesDecision}
+use Rattle.qc_core.proofs.AdminWrites.{admin_written}
 use Rattle.qc_core.proofs.ByNumber.{admin_new, admin_no_client, admin_no_site, admin_risen}
 
 abbrev pub IsAdminOrDown : Actor → Type 0

@@ -22,10 +22,11 @@ use Rattle.qc_core.specs.declared.actor.Actor.TheVariants as actor
 use Rattle.qc_core.specs.Names.{ActorMove, IsLawfulWithFalls, actor_after, actor_rises, actor_takes, by_admin}
 use Rattle.qc_core.specs.Names.{by_client, by_site, with_record}
 use Rattle.qc_core.proofs.ByTurns.{after_takes, called_turn}
-use Rattle.qc_core.proofs.LivesLaws.{rises}
+use Rattle.qc_core.proofs.LivesOfActors.{rises}
 use Rattle.qc_core.proofs.FrontWrites.{NoAnswer}
 use Rattle.qc_core.proofs.SiteWrites.{IsAnswerTo, IsSiteTurn, site_written}
-use Rattle.qc_core.proofs.AdminWrites.{admin_written, no_answers}
+use Rattle.qc_core.proofs.AdminTurns.{no_answers}
+use Rattle.qc_core.proofs.AdminWrites.{admin_written}
 use Rattle.qc_core.proofs.Written.{client_answers, client_written, none_answers}
 
 record Answering (P : Posting → Type 0) (t : Turn) : Type 0 where

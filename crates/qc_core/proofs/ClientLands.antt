@@ -19,7 +19,8 @@ use Rattle.qc_front.specs.Conduct as fronts
 use Rattle.qc_front.specs.Names.{aborts, begins, gives_up, is_idle, moved as front_moved}
 use Rattle.qc_front.proofs.AtOnce.{called_at_once, takes_at_once}
 use Rattle.qc_front.proofs.Goes.{do_goes, takes_goes}
-use Rattle.qc_front.proofs.Keeping.{called_holds, takes_holds}
+use Rattle.qc_front.proofs.CommandsKeep.{called_holds}
+use Rattle.qc_front.proofs.Keeping.{takes_holds}
 use Rattle.qc_front.proofs.Sending.{called_sent, takes_sent}
 use Rattle.qc_msg.specs.declared.begun.Begun.{Begun}
 use Rattle.qc_msg.specs.declared.message.Answer.{Answer}

@@ -30,10 +30,12 @@ pub mod SiteReaches
 pub mod ActorFits
 pub mod SiteWrites
 pub mod FrontWrites
+pub mod AdminTurns
 pub mod AdminWrites
 pub mod ByNumber
 pub mod AdminOver
 pub mod Written
+pub mod LivesOfActors
 pub mod LivesLaws
 pub mod SiteLives
 pub mod RestingPlaces

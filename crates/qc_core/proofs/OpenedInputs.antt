@@ -33,8 +33,9 @@ use Rattle.qc_core.specs.Names.{ActorMove, AreUncommanded, IsLawfulWithFalls, Is
 use Rattle.qc_core.specs.Names.{actor_after, actor_does, actor_rises, actor_sends, actor_takes, by_admin, by_client}
 use Rattle.qc_core.specs.Names.{by_site, down_takes, is_up, moved, up_at, with_record}
 use Rattle.qc_core.specs.Lives as lives
-use Rattle.qc_core.proofs.AdminWrites.{FaultsAlone, IsAdminTurn, TellsNone, admin_written, no_life}
-use Rattle.qc_core.proofs.LivesLaws.{down, rises, turn_by, up}
+use Rattle.qc_core.proofs.AdminTurns.{FaultsAlone, IsAdminTurn, TellsNone, no_life}
+use Rattle.qc_core.proofs.AdminWrites.{admin_written}
+use Rattle.qc_core.proofs.LivesOfActors.{down, rises, turn_by, up}
 use Rattle.qc_core.proofs.FrontWrites.{FailsAlone, IsClientTurn, says_neither, says_unwritten, tells_neither}
 use Rattle.qc_core.proofs.FrontWrites.{tells_unwritten}
 use Rattle.qc_core.proofs.SiteWrites.{IsSiteTurn, site_written, writes_no_life}

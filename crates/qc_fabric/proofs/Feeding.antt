@@ -21,7 +21,7 @@ use Rattle.qc_fabric.specs.Names.{ArmsNone, ArmsNoneBehind, Fed, HasGrown, IsFab
 use Rattle.qc_fabric.specs.Names.{before_last_event, full_of}
 use Rattle.qc_fabric.proofs.Fed.{length-by, length_set, rooms_kept}
 use Rattle.qc_fabric.proofs.Gains.{Gain, end_else, end_here, gain, saw, unarmed_by}
-use Rattle.qc_fabric.proofs.Kept.{all_of, right_of, rooms_of, unarmed_of}
+use Rattle.qc_fabric.proofs.KeptParts.{all_of, right_of, rooms_of, unarmed_of}
 
 module _ {L : ℕ → List Deed → Turn → Type 0} {F : ℕ → List Record → Type 0} {D : Declaration} {S : Script} {z : TableId}
     {w : Script} {lg : Logged} {mb : Roomy} {op hd : List Bool} {ph rsv sp : ℕ} {tb : TableId}

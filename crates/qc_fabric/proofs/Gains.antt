@@ -9,7 +9,7 @@ use native.Mathlib.Decide.{ℕ_discrete}
 use Rattle.qc_list.proofs.Members.{every-append}
 use Rattle.qc_msg.specs.Names.{Entry, by, deeds, own}
 use Rattle.qc_msg.specs.declared.step.Step.{Step}
-use Rattle.qc_msg.proofs.Growth.{own-append}
+use Rattle.qc_msg.proofs.DeedsGrow.{own-append}
 use Rattle.qc_pass.specs.declared.token.Pass.{Pass}
 use Rattle.qc_pass.specs.declared.token.Right.{Right}
 use Rattle.qc_pass.specs.Names.{Met, all, ends, mine, number, seen}

@@ -9,6 +9,7 @@ pub mod Phased
 pub mod Ready
 pub mod Stopped
 pub mod Advancing
+pub mod KeptParts
 pub mod Kept
 pub mod Taking
 pub mod Feeding

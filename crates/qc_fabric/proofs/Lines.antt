@@ -22,7 +22,7 @@ use Rattle.qc_msg.specs.declared.step.Step.{Step}
 use Rattle.qc_msg.specs.declared.step.Step.TheVariants as steps
 use Rattle.qc_msg.specs.declared.turn.Turn.{Turn}
 use Rattle.qc_msg.specs.Names.{Deed, Entry, Falls, deeds, mail, marked}
-use Rattle.qc_msg.proofs.Growth.{deeds-append, deeds-fell}
+use Rattle.qc_msg.proofs.DeedsGrow.{deeds-append, deeds-fell}
 use Rattle.qc_outside.specs.declared.disk.ArmKind.{ArmKind}
 use Rattle.qc_pass.specs.declared.token.Pass.{Pass}
 use Rattle.qc_pass.specs.declared.token.Right.{Right}
@@ -34,7 +34,7 @@ use Rattle.qc_fabric.specs.Names.{Sees, before_last_event, full_of, most_history
 use Rattle.qc_fabric.proofs.Events.{before_event}
 use Rattle.qc_fabric.proofs.Fed.{deeds_of_front, rooms_kept}
 use Rattle.qc_fabric.proofs.Gains.{Gain, end_else, end_here, gain, saw, unarmed_on}
-use Rattle.qc_fabric.proofs.Kept.{all_of, right_of, rooms_of, steps_on, unarmed_of}
+use Rattle.qc_fabric.proofs.KeptParts.{all_of, right_of, rooms_of, steps_on, unarmed_of}
 use Rattle.qc_fabric.proofs.Ordered.{Lines, lines_of}
 use Rattle.qc_fabric.proofs.Phased.{phase_more}
 

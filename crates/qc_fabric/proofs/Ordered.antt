@@ -27,7 +27,7 @@ use Rattle.qc_script.specs.declared.script.PhaseLines.{PhaseLines}
 use Rattle.qc_script.specs.declared.script.Script.{Script}
 use Rattle.qc_fabric.specs.Names.{Does, HasGrown, IsFabricState, Logged, MayDo, control_step, full_of, most_history}
 use Rattle.qc_fabric.proofs.Events.{begins_control}
-use Rattle.qc_fabric.proofs.Kept.{all_of, steps_on}
+use Rattle.qc_fabric.proofs.KeptParts.{all_of, steps_on}
 use Rattle.qc_fabric.proofs.Phased.{phase_control, phase_more}
 
 phase_now : (h : List Entry) (a k : ℕ) → phase_of (h ++ marked a (steps.Phase k) ∷ []) ≡ k

@@ -31,7 +31,7 @@ use Rattle.qc_fabric.specs.Names.{size_of}
 use Rattle.qc_fabric.proofs.Events.{before_more}
 use Rattle.qc_fabric.proofs.Fed.{get_else, length-posted, length_set, sends_few, sum-set}
 use Rattle.qc_fabric.proofs.Feeding.{before_is, deeds_then, fed_same, feeds_on, gained, mine_now, rooms_after, seen_now}
-use Rattle.qc_fabric.proofs.Kept.{no_room_at, rooms_of}
+use Rattle.qc_fabric.proofs.KeptParts.{no_room_at, rooms_of}
 use Rattle.qc_fabric.proofs.Phased.{phase_plain}
 use Rattle.qc_fabric.proofs.Plain.{IsPlain, plain_arms_none, plain_begins_none, posted_plain}
 use Rattle.qc_link.specs.Names.{most_actors}

@@ -17,7 +17,8 @@ use Rattle.qc_msg.specs.declared.step.Step.{Step}
 use Rattle.qc_msg.specs.declared.step.Step.TheVariants as steps
 use Rattle.qc_msg.specs.declared.turn.Turn.{Turn}
 use Rattle.qc_msg.specs.Names.{Deed, Entry, IsByDisk, Rises, by, deeds, deeds_as, mail, marked, posted_as}
-use Rattle.qc_msg.proofs.Growth.{deeds-append, deeds-fell, deeds-posted_as, deeds-rose}
+use Rattle.qc_msg.proofs.DeedsGrow.{deeds-append, deeds-fell, deeds-rose}
+use Rattle.qc_msg.proofs.Growth.{deeds-posted_as}
 use Rattle.qc_pass.specs.declared.token.Pass.{Pass}
 use Rattle.qc_pass.specs.declared.token.Right.{Right}
 use Rattle.qc_pass.specs.Names.{Met, all, number, room, rooms, seen}
@@ -31,7 +32,7 @@ use Rattle.qc_fabric.specs.declared.rising.Rising.TheVariants.{Rose, Damaged, No
 use Rattle.qc_fabric.proofs.Events.{before_event}
 use Rattle.qc_fabric.proofs.Fed.{length-posted, sends_few, set_again}
 use Rattle.qc_fabric.proofs.Feeding.{before_is, deeds_then, fed_same, feeds_on, gained, mine_now, rooms_after, seen_now}
-use Rattle.qc_fabric.proofs.Kept.{rooms_of}
+use Rattle.qc_fabric.proofs.KeptParts.{rooms_of}
 use Rattle.qc_fabric.proofs.Ordered.{Lines, lines_of}
 use Rattle.qc_fabric.proofs.Phased.{phase_more, phase_rise}
 use Rattle.qc_fabric.proofs.Plain.{may_end, plain_arms_none, plain_begins_none, posted_plain}

@@ -31,7 +31,7 @@ use Rattle.qc_fabric.specs.Names.{full_of, given_by, most_history}
 use Rattle.qc_fabric.proofs.Events.{begins_input}
 use Rattle.qc_fabric.proofs.Fed.{bit_clear, bit_set, deeds_of_front, get_else, get_here, get_within, length_set}
 use Rattle.qc_fabric.proofs.Gains.{Gain, gain}
-use Rattle.qc_fabric.proofs.Kept.{all_of, steps_on, unarmed_of}
+use Rattle.qc_fabric.proofs.KeptParts.{all_of, steps_on, unarmed_of}
 use Rattle.qc_fabric.proofs.Phased.{phase_input}
 use Rattle.qc_fabric.proofs.Ready.{given_ready, none_ready}
 use Rattle.qc_link.specs.Names.{most_actors}

@@ -35,9 +35,11 @@ use Rattle.qc_front.specs.Names.{read_with, reading_takes, reads, request_of, ro
 use Rattle.qc_front.specs.Names.{standing_of, takes, takes_in}
 use Rattle.qc_front.proofs.Apart.{AreApart}
 use Rattle.qc_front.proofs.Awaited.{asking_awaits, unnoted}
-use Rattle.qc_front.proofs.Keeping.{called_holds, takes_holds}
+use Rattle.qc_front.proofs.CommandsKeep.{called_holds}
+use Rattle.qc_front.proofs.Keeping.{takes_holds}
 use Rattle.qc_front.proofs.Learning.{append_learns, learned, read_learns}
-use Rattle.qc_front.proofs.Noting.{no_calls, note_numbered, note_wants, noted_awaits, round_apart}
+use Rattle.qc_front.proofs.NotedRounds.{note_wants, round_apart}
+use Rattle.qc_front.proofs.Noting.{no_calls, note_numbered, noted_awaits}
 use Rattle.qc_front.proofs.Numbering.{asks_numbered, asks_told}
 
 -- each awaited site has an open request, and while one is awaited nobody else is wanted

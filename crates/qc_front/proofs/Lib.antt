@@ -1,8 +1,10 @@
 pub mod OneByOne
 pub mod Apart
 pub mod Awaited
+pub mod NotedRounds
 pub mod Noting
 pub mod Recording
+pub mod CommandsKeep
 pub mod Keeping
 pub mod Numbering
 pub mod AtOnce
@@ -11,6 +13,7 @@ pub mod Telling
 pub mod Lives
 pub mod Goes
 pub mod Once
+pub mod ClockMoves
 pub mod Clocks
 pub mod Fitting
 pub mod Drafts

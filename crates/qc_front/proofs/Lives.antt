@@ -25,7 +25,7 @@ use Rattle.qc_front.specs.declared.transaction.Transaction.{Transaction}
 use Rattle.qc_front.specs.Names.{IsGrant, KeepsLives, answer_of, answered, append_by, appended_with, appending_takes}
 use Rattle.qc_front.specs.Names.{asked_at, asked_in, learns, lived, lives_of, next_own, read_by, read_with}
 use Rattle.qc_front.specs.Names.{reading_takes, round_for, standing_of, takes, takes_in}
-use Rattle.qc_front.proofs.Keeping.{view_keeps}
+use Rattle.qc_front.proofs.CommandsKeep.{view_keeps}
 
 -- the lives after what came of a request
 abbrev lives_with : List LifeAt → ℕ → Option Answer → List LifeAt

@@ -19,9 +19,10 @@ use Rattle.qc_front.specs.Names.{AppendCame, AppendingHolds, BegunHolds, DoTold,
 use Rattle.qc_front.specs.Names.{ReadCame, ReadingHolds, answer_of, answered, append_by, appended_with, appending_takes}
 use Rattle.qc_front.specs.Names.{learns, moved, performs, read_by, read_with, reading_takes, reads, round_for}
 use Rattle.qc_front.specs.Names.{standing_of, takes, takes_in}
-use Rattle.qc_front.proofs.Keeping.{KeepsOps, appended_is, read_keeps, started_round}
+use Rattle.qc_front.proofs.CommandsKeep.{started_round}
+use Rattle.qc_front.proofs.Keeping.{KeepsOps, appended_is, read_keeps}
 use Rattle.qc_front.proofs.Learning.{client_kept}
-use Rattle.qc_front.proofs.Noting.{note_round}
+use Rattle.qc_front.proofs.NotedRounds.{note_round}
 
 module _ (decl : Declaration) (before : Option Transaction) where
   abbrev Told : ℕ → FrontMove → Type 0

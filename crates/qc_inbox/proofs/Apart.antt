@@ -12,7 +12,8 @@ use Rattle.qc_msg.specs.Names.{Entry, marked, step_of}
 use Rattle.qc_script.specs.Names.{Inbox, comes, comes_with, command_called, copy_taken, count_of, goes, goes_with}
 use Rattle.qc_script.specs.Names.{inbox, inbox_at, is_up, loss_taken, reply_told}
 use Rattle.qc_script.specs.declared.script.Script.{Script}
-use Rattle.qc_script.proofs.Inboxes.{InCommon, inboxes_have_in_common}
+use Rattle.qc_script.proofs.InboxesSend.{InCommon}
+use Rattle.qc_script.proofs.Inboxes.{inboxes_have_in_common}
 use Rattle.qc_inbox.proofs.Keeping.{inbox_after}
 
 -- an inbox that a test leaves as it is

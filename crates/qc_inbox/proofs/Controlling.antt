@@ -11,7 +11,7 @@ use Rattle.qc_msg.specs.declared.step.Control.TheVariants as controls
 use Rattle.qc_msg.specs.declared.step.Step.{Step}
 use Rattle.qc_msg.specs.declared.step.Step.TheVariants.{Armed, Cut, Damaged, Heal, Phase}
 use Rattle.qc_msg.specs.Names.{Entry, marked}
-use Rattle.qc_script.proofs.Inboxes as opens
+use Rattle.qc_script.proofs.InboxesSend as opens
 use Rattle.qc_script.specs.Names.{Inbox, acting, commands_for, control_acted, controller_step, count_of, if_up, inbox}
 use Rattle.qc_script.specs.Names.{is_up, opened, opened_by, phase_begun}
 use Rattle.qc_script.specs.declared.script.CommandLine.{CommandLine}

@@ -20,7 +20,8 @@ use Rattle.qc_msg.specs.declared.turn.Posting.{Posting}
 use Rattle.qc_msg.specs.declared.turn.Turn.{Turn}
 use Rattle.qc_msg.specs.Names.{Deed, Entry, by, deed_at, deeds, deeds_as, heard, mail, marked, posted_as, sends_of}
 use Rattle.qc_msg.specs.Names.{step_of, tells_of, turn_deeds, writes_of}
-use Rattle.qc_msg.proofs.Growth.{deeds-append, deeds-other, deeds-posted_as}
+use Rattle.qc_msg.proofs.DeedsGrow.{deeds-append, deeds-other}
+use Rattle.qc_msg.proofs.Growth.{deeds-posted_as}
 use Rattle.qc_script.specs.Names.{is_up}
 use Rattle.qc_inbox.specs.Names.{down_at, is_down}
 

@@ -17,7 +17,7 @@ use Rattle.qc_script.specs.Names.{copies_at_once, count_of, emptied, goes, goes_
 use Rattle.qc_script.specs.Names.{is_up, opened, opened_by, reply_told, request_answered, requests_to}
 use Rattle.qc_script.specs.Names.{requests_to_others, with_copies, with_lost}
 use Rattle.qc_script.specs.declared.script.Script.{Script}
-use Rattle.qc_script.proofs.Inboxes.{opened_keeps, sends_does}
+use Rattle.qc_script.proofs.InboxesSend.{opened_keeps, sends_does}
 use Rattle.qc_inbox.specs.Names.{IsEmptied}
 
 emptied_if : (t : Bool) (i j : Inbox) → IsEmptied i → IsEmptied j → IsEmptied (if t then i else j)

@@ -24,7 +24,8 @@ use Rattle.qc_script.proofs.AllUp.{actor_up}
 use Rattle.qc_inbox.proofs.Apart.{one_controls}
 use Rattle.qc_inbox.proofs.FallRuns.{run_stands}
 use Rattle.qc_inbox.proofs.FallTrays.{up_kept}
-use Rattle.qc_inbox.proofs.Lined.{Lined, run_lined}
+use Rattle.qc_inbox.proofs.LinedSteps.{Lined}
+use Rattle.qc_inbox.proofs.Lined.{run_lined}
 use Rattle.qc_inbox.proofs.Standing.{ClosedWhile, IsSettled, Stands}
 
 -- between lines

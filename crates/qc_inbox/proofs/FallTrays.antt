@@ -17,7 +17,7 @@ use Rattle.qc_msg.specs.declared.turn.Posting.{Posting}
 use Rattle.qc_msg.specs.declared.turn.Turn.{Turn}
 use Rattle.qc_msg.specs.Names.{Entry, HasRecord, by, fell, mail, marked, posted_as, sends_as, sents, told, wrote}
 use Rattle.qc_msg.proofs.GrownMail.{by-append}
-use Rattle.qc_script.proofs.Inboxes as opens
+use Rattle.qc_script.proofs.InboxesSend as opens
 use Rattle.qc_script.specs.Names.{Inbox, actor_fell, control_acted, emptied, inbox, is_by_line, is_up, requests_to}
 use Rattle.qc_script.specs.Names.{requests_to_others, with_lost}
 use Rattle.qc_script.specs.declared.script.Script.{Script}

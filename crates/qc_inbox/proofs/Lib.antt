@@ -9,6 +9,7 @@ pub mod Seeing
 pub mod Controlling
 pub mod FallTrays
 pub mod Picking
+pub mod AmongSteps
 pub mod Among
 pub mod Bounds
 pub mod Apart
@@ -17,9 +18,11 @@ mod Emptied
 mod Downs
 mod Standing
 mod Inputs
+mod LinedSteps
 mod Lined
 mod Falling
 mod FallRuns
+pub mod OwnMessages
 pub mod Owned
 pub mod FallMail
 pub mod FallLaws

@@ -18,7 +18,7 @@ use Rattle.qc_script.specs.Names.{Inbox, acting, actor_fell, commands_for, contr
 use Rattle.qc_script.specs.Names.{inbox_at, is_by_line, is_up, opened, phase_begun, wrote_record}
 use Rattle.qc_script.specs.declared.script.PhaseLines.{PhaseLines}
 use Rattle.qc_script.specs.declared.script.Script.{Script}
-use Rattle.qc_script.proofs.Inboxes.{opened_keeps}
+use Rattle.qc_script.proofs.InboxesSend.{opened_keeps}
 use Rattle.qc_inbox.specs.Names.{IsEmptied, is_down}
 use Rattle.qc_inbox.proofs.Downs.{AreTied, tied_on, up_other, up_same}
 use Rattle.qc_inbox.proofs.Emptied.{Passes, after, fell_controls, fell_emptied, fell_up, opened_emptied, sents_pass}

@@ -17,7 +17,7 @@ use Rattle.qc_stamp.proofs.Orders.{tx_order}
 use Rattle.qc_lock.specs.declared.places.Place.{Place}
 use Rattle.qc_lock.specs.Names.{IsFirst, holder_at, is_there, place_cmp, same_tx}
 use Rattle.qc_lock.proofs.Entries.{same_self, tx_apart}
-use Rattle.qc_lock.proofs.Numbers.{cmp_self, nat_self}
+use Rattle.qc_lock.proofs.NumberedEntries.{cmp_self, nat_self}
 
 abbrev pub place : ℕ → ℕ → TxId → Place
 place object number tx = record { object = object; number = number; tx = tx }

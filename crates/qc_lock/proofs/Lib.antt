@@ -1,9 +1,11 @@
+pub mod SmallestOf
 pub mod Conflicts
 pub mod Entries
 pub mod Holding
 pub mod Indexing
 pub mod Lowest
 pub mod Numbering
+pub mod NumberedEntries
 pub mod Numbers
 pub mod Ones
 pub mod Order

@@ -9,7 +9,7 @@ use Rattle.std.proofs.lemmas.Nat.Bits.{bit_at-zero, bit_at_above, bit_at_clear_s
 use Rattle.std.proofs.lemmas.Nat.Bits.{bit_at-trailing_zeros}
 use Rattle.qc_lock.specs.declared.clash.Clash.{Clash}
 use Rattle.qc_lock.specs.Names.{IsSmallest, smaller_of}
-use Rattle.qc_lock.proofs.Conflicts.{smallest_by}
+use Rattle.qc_lock.proofs.SmallestOf.{smallest_by}
 use Rattle.qc_lock.proofs.Smallest.{smallest_both}
 use Rattle.qc_table.specs.Names.{has}
 

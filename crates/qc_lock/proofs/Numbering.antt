@@ -10,7 +10,8 @@ use Rattle.qc_lock.specs.Names.{AreBelow, AreNumbered, IsOneForEach, number_of}
 use Rattle.qc_lock.specs.Numbered.{same_tx}
 use Rattle.qc_lock.proofs.Entries.{tx_apart}
 use Rattle.qc_lock.proofs.Ones.{once-put, once-filter}
-use Rattle.qc_lock.proofs.Numbers.{tx_same, values_known, number_known, below_known, values_new, number_new, below_more}
+use Rattle.qc_lock.proofs.NumberedEntries.{tx_same, values_known, number_known}
+use Rattle.qc_lock.proofs.Numbers.{below_known, values_new, number_new, below_more}
 use Rattle.qc_lock.proofs.Numbers.{below_put, values_taken, number_taken, below_taken}
 
 -- the map has this at one key, and what the other map has at others

@@ -19,9 +19,10 @@ use Rattle.qc_lock.specs.declared.places.Place.{Place}
 use Rattle.qc_lock.specs.Names.{AreOfOthers, In, IsAppendConflict, IsAppendPlaced, IsFirst, IsIndex, IsPlaced}
 use Rattle.qc_lock.specs.Names.{IsReadConflict, IsReadPlaced, IsSingle, IsSmallest, append_clash, clash_cmp, entry_of}
 use Rattle.qc_lock.specs.Names.{has_line, has_read, held_of, is_there, lines_held, read_clash, reads_held, same_tx}
-use Rattle.qc_lock.proofs.Conflicts.{append_smallest, read_smallest, smallest_by}
+use Rattle.qc_lock.proofs.SmallestOf.{smallest_by}
+use Rattle.qc_lock.proofs.Conflicts.{append_smallest, read_smallest}
 use Rattle.qc_lock.proofs.Entries.{same_self, tx_apart}
-use Rattle.qc_lock.proofs.Numbers.{nat_self}
+use Rattle.qc_lock.proofs.NumberedEntries.{nat_self}
 use Rattle.qc_lock.proofs.Ones.{holder}
 use Rattle.qc_lock.proofs.Smallest.{smallest_one}
 

@@ -12,7 +12,7 @@ use Rattle.qc_entry.specs.declared.line.OwnLine.{OwnLine}
 use Rattle.qc_list.specs.Names.{by_order}
 use Rattle.qc_lock.specs.declared.clash.Clash.{Clash}
 use Rattle.qc_lock.specs.Names.{In, IsSmallest, clash_cmp, smaller_of}
-use Rattle.qc_lock.proofs.Conflicts.{clash_total, in-append, in-append_left, in-append_right, smallest_by, turned}
+use Rattle.qc_lock.proofs.SmallestOf.{clash_total, in-append, in-append_left, in-append_right, smallest_by, turned}
 
 -- the smallest of two, and of one kind alone
 

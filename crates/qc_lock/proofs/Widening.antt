@@ -17,7 +17,7 @@ use Rattle.qc_lock.specs.declared.places.Place.{Place}
 use Rattle.qc_lock.specs.Names.{Narrows, Sets, Widens, is_there, place_cmp, same_tx}
 use Rattle.qc_lock.proofs.Entries.{apart_sym, same_self, tx_apart}
 use Rattle.qc_lock.proofs.Holding.{place}
-use Rattle.qc_lock.proofs.Numbers.{tx_same}
+use Rattle.qc_lock.proofs.NumberedEntries.{tx_same}
 
 -- one test passes what the other does, and these numbers
 abbrev pub Grows : (ℕ → ℕ → Bool) → (ℕ → ℕ → Bool) → ℕ → ℕ → Type 0

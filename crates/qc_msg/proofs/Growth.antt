@@ -1,15 +1,11 @@
 -- How what is read off a history grows, as the history does.
-use Rattle.std.proofs.Common.{◌≡◌, ℕ, suc, ◌+◌, ◌==◌, ◌≤◌, Bool, true, false, cond, List, [], ◌∷◌, ◌++◌, map, filter, length, sum_by, Option, Some, None, option_to_list, refl, ap, subst, sym, ◌∙◌, arith, append_assoc}
+use Rattle.std.proofs.Common.{◌≡◌, ℕ, ◌+◌, ◌==◌, ◌≤◌, Bool, true, false, cond, List, ◌∷◌, ◌++◌, map, filter}
+use Rattle.std.proofs.Common.{sum_by, Option, Some, None, option_to_list, refl, ap, subst, sym, ◌∙◌, arith}
 use Rattle.std.specs.List.{AllByRecursion as Every, cons_option}
 use Rattle.std.specs.Prelude.{fold}
-use Rattle.std.proofs.lemmas.Bool.{eq-eqb}
-use Rattle.std.proofs.lemmas.List.{append-nil, map-append}
-use Rattle.std.proofs.lemmas.List.Elements.{filter-append, filter_map-append}
+use Rattle.std.proofs.lemmas.List.{append-nil}
 use Rattle.std.proofs.lemmas.List.Sums.{fold-append, sum_by-cons}
 use Rattle.qc_msg.specs.declared.message.Envelope.{Envelope}
-use Rattle.qc_msg.specs.declared.record.Record.{Record}
-use Rattle.qc_msg.specs.declared.reply.Reply.{Reply}
-use Rattle.qc_msg.specs.declared.step.Fall.{Fall}
 use Rattle.qc_msg.specs.declared.step.Fall.TheVariants as causes
 use Rattle.qc_msg.specs.declared.step.Input.{Input}
 use Rattle.qc_msg.specs.declared.step.Input.TheVariants as inputs
@@ -18,160 +14,64 @@ use Rattle.qc_msg.specs.declared.step.Step.TheVariants as steps
 use Rattle.qc_msg.specs.declared.step.Step.TheVariants.{Fell, Rose, Wrote, Sent, Told}
 use Rattle.qc_msg.specs.declared.turn.Appended.{Appended}
 use Rattle.qc_msg.specs.declared.turn.Appended.TheVariants.{Done, Failed, Stopped}
-use Rattle.qc_msg.specs.declared.turn.Posting.{Posting}
 use Rattle.qc_msg.specs.declared.turn.Turn.{Turn}
-use Rattle.qc_msg.specs.Names.{Deed, Entry, Falls, IsNoRise, Rises, Sends, Takes, Tally, WasSentTo, answered}
+use Rattle.qc_msg.specs.Names.{Deed, Entry, IsNoRise, Takes, Tally, WasSentTo, answered}
 use Rattle.qc_msg.specs.Names.{answered_at, answered_in, by, commit_in, deed_at, deeds, deeds_as, envelope_of}
 use Rattle.qc_msg.specs.Names.{envelopes, fell, heard, mail, marked, no_tally, operations_of, own, posted, posted_as}
-use Rattle.qc_msg.specs.Names.{sends_as, sends_of, sents, standing_after, step_of, tally_of, tally_with, tells_of, told}
-use Rattle.qc_msg.specs.Names.{turn_deeds, writes_of, written, wrote}
+use Rattle.qc_msg.specs.Names.{sends_as, sents, standing_after, step_of, tally_of, tally_with, told}
+use Rattle.qc_msg.specs.Names.{turn_deeds, written}
 use Rattle.qc_entry.specs.declared.record.Commit.{Commit}
-use Rattle.qc_msg.proofs.GrownMail.{by-append, by-posted, mail-append, mail-sents, mail-told, mail-posted}
-
--- an actor's own steps
-
-same_actor : (a : ℕ) → (a == a) ≡ true
-same_actor a = eq-eqb a a refl
-
-pub own-append : (a : ℕ) (h k : List Entry) → own a (h ++ k) ≡ own a h ++ own a k
-own-append a h k =
-    ap (λ (v : List Entry). map (λ (e : Entry). e.step) v) (filter-append (λ (e : Entry). e.actor == a) h k)
-    ∙ map-append (λ (e : Entry). e.step) (filter (λ (e : Entry). e.actor == a) h) (filter (λ (e : Entry). e.actor == a) k)
-
-pub own-by_same : (a : ℕ) (xs : List Step) → own a (by a xs) ≡ xs
-own-by_same a [] = refl
-own-by_same a (x ∷ xs) =
-    ap (λ (v : Bool). map (λ (e : Entry). e.step) (cond v (marked a x ∷ filter (λ (e : Entry). e.actor == a) (by a xs)) (filter (λ (e : Entry). e.actor == a) (by a xs)))) (same_actor a)
-    ∙ ap (λ (v : List Step). x ∷ v) (own-by_same a xs)
-
-pub own-by_other : (a b : ℕ) (xs : List Step) → (a == b) ≡ false → own b (by a xs) ≡ []
-own-by_other a b [] other = refl
-own-by_other a b (x ∷ xs) other =
-    ap (λ (v : Bool). map (λ (e : Entry). e.step) (cond v (marked a x ∷ filter (λ (e : Entry). e.actor == b) (by a xs)) (filter (λ (e : Entry). e.actor == b) (by a xs)))) other
-    ∙ own-by_other a b xs other
-
--- a history that goes on by an actor's steps
-pub own-more : (a : ℕ) (h : List Entry) (xs : List Step) → own a (h ++ by a xs) ≡ own a h ++ xs
-own-more a h xs = own-append a h (by a xs) ∙ ap (λ (v : List Step). own a h ++ v) (own-by_same a xs)
-
-pub own-other : (a b : ℕ) (h : List Entry) (xs : List Step) → (a == b) ≡ false → own b (h ++ by a xs) ≡ own b h
-own-other a b h xs other = own-append b h (by a xs) ∙ ap (λ (v : List Step). own b h ++ v) (own-by_other a b xs other) ∙ append-nil (own b h)
-
--- deeds
-
-cons_option-append : (o : Option Envelope) (es : List Envelope) → cons_option o es ≡ option_to_list o ++ es
-cons_option-append None es = refl
-cons_option-append (Some e) es = refl
-
-pub deeds-append : (a : ℕ) (ms : List Envelope) (h k : List Entry) → deeds a ms (h ++ k) ≡ deeds a ms h ++ deeds a (ms ++ mail h) k
-deeds-append a ms [] k = ap (λ (v : List Envelope). deeds a v k) (sym (append-nil ms))
-deeds-append a ms (e ∷ h) k =
-    let here : List Deed = cond (e.actor == a) (deed_at ms e.step) [] in
-    let more : List Envelope = option_to_list (envelope_of e) in
-    ap (λ (v : List Deed). here ++ v) (deeds-append a (ms ++ more) h k)
-    ∙ sym (append_assoc here (deeds a (ms ++ more) h) (deeds a ((ms ++ more) ++ mail h) k))
-    ∙ ap (λ (v : List Envelope). (here ++ deeds a (ms ++ more) h) ++ deeds a v k)
-    (append_assoc ms more (mail h) ∙ ap (λ (v : List Envelope). ms ++ v) (sym (cons_option-append (envelope_of e) (mail h))))
-
--- steps of another actor are no deeds
-pub deeds-none : (a b : ℕ) (ms : List Envelope) (xs : List Step) → (a == b) ≡ false → deeds b ms (by a xs) ≡ []
-deeds-none a b ms [] other = refl
-deeds-none a b ms (x ∷ xs) other =
-    ap (λ (v : Bool). cond v (deed_at ms x) [] ++ deeds b (ms ++ option_to_list (envelope_of (marked a x))) (by a xs)) other
-    ∙ deeds-none a b (ms ++ option_to_list (envelope_of (marked a x))) xs other
-
--- so the deeds stay where another actor goes on
-pub deeds-other : (a b : ℕ) (ms : List Envelope) (h : List Entry) (xs : List Step) → (a == b) ≡ false → deeds b ms (h ++ by a xs) ≡ deeds b ms h
-deeds-other a b ms h xs other =
-    deeds-append b ms h (by a xs)
-    ∙ ap (λ (v : List Deed). deeds b ms h ++ v) (deeds-none a b (ms ++ mail h) xs other)
-    ∙ append-nil (deeds b ms h)
-
-deeds-wrote : (a : ℕ) (ms : List Envelope) (write : Option Record) → deeds a ms (by a (wrote write)) ≡ writes_of write
-deeds-wrote a ms None = refl
-deeds-wrote a ms (Some written) = ap (λ (v : Bool). cond v (deed_at ms (Wrote written)) [] ++ []) (same_actor a)
-
-deeds-told : (a : ℕ) (ms : List Envelope) (reply : Option Reply) → deeds a ms (by a (told reply)) ≡ tells_of reply
-deeds-told a ms None = refl
-deeds-told a ms (Some reply) = ap (λ (v : Bool). cond v (deed_at ms (Told reply)) [] ++ []) (same_actor a)
-
-deeds-sents : (a n : ℕ) (ms : List Envelope) (ps : List Posting) → deeds a ms (by a (sents n ps)) ≡ sends_of n ps
-deeds-sents a n ms [] = refl
-deeds-sents a n ms (p ∷ ps) =
-    let more : List Envelope = ms ++ option_to_list (envelope_of (marked a (Sent n p.to p.message))) in
-    ap (λ (v : Bool). cond v (deed_at ms (Sent n p.to p.message)) [] ++ deeds a more (by a (sents (n + 1) ps))) (same_actor a)
-    ∙ ap (λ (v : List Deed). Sends n p.to p.message ∷ v) (deeds-sents a (n + 1) more ps)
-
--- what a turn does
-pub deeds-by_same : (a n : ℕ) (ms : List Envelope) (turn : Turn) → deeds a ms (by a (posted n turn)) ≡ turn_deeds n turn
-deeds-by_same a n ms turn =
-    let w : List Entry = by a (wrote turn.write) in
-    let s : List Entry = by a (sents n turn.sends) in
-    let t : List Entry = by a (told turn.told) in
-    ap (λ (v : List Entry). deeds a ms v) (by-posted a n turn)
-    ∙ deeds-append a ms w (s ++ t)
-    ∙ ap (λ (v : List Deed). v ++ deeds a (ms ++ mail w) (s ++ t)) (deeds-wrote a ms turn.write)
-    ∙ ap (λ (v : List Deed). writes_of turn.write ++ v)
-    (deeds-append a (ms ++ mail w) s t
-    ∙ ap (λ (v : List Deed). v ++ deeds a ((ms ++ mail w) ++ mail s) t) (deeds-sents a n (ms ++ mail w) turn.sends)
-    ∙ ap (λ (v : List Deed). sends_of n turn.sends ++ v) (deeds-told a ((ms ++ mail w) ++ mail s) turn.told))
-
--- posts by what became of the record
-
-deeds-two : (a : ℕ) (ms : List Envelope) (xs ys : List Step) (ds es : List Deed) → ((ns : List Envelope) → deeds a ns (by a xs) ≡ ds) → ((ns : List Envelope) → deeds a ns (by a ys) ≡ es) → deeds a ms (by a (xs ++ ys)) ≡ ds ++ es
-deeds-two a ms xs ys ds es first second =
-    ap (λ (v : List Entry). deeds a ms v) (by-append a xs ys)
-    ∙ deeds-append a ms (by a xs) (by a ys)
-    ∙ ap (λ (v : List Deed). v ++ deeds a (ms ++ mail (by a xs)) (by a ys)) (first ms)
-    ∙ ap (λ (v : List Deed). ds ++ v) (second (ms ++ mail (by a xs)))
-
-pub deeds-fell : (a : ℕ) (ms : List Envelope) (cause : Fall) (pending : Option Record) → deeds a ms (by a (fell cause pending)) ≡ Falls cause pending ∷ []
-deeds-fell a ms cause pending = ap (λ (v : Bool). cond v (deed_at ms (Fell cause pending)) [] ++ []) (same_actor a)
-
-pub deeds-rose : (a : ℕ) (ms : List Envelope) (records : List Record) → deeds a ms (by a (Rose records ∷ [])) ≡ Rises records ∷ []
-deeds-rose a ms records = ap (λ (v : Bool). cond v (deed_at ms (Rose records)) [] ++ []) (same_actor a)
-
-deeds-as_same : (end : Appended) (a n : ℕ) (ms : List Envelope) (turn : Turn) → deeds a ms (by a (posted_as end n turn)) ≡ deeds_as end n turn
-deeds-as_same Done a n ms turn = deeds-by_same a n ms turn
-deeds-as_same Failed a n ms turn = deeds-two a ms (sents n turn.failed_sends) (told turn.failed_told ++ fell causes.Disk turn.write) (sends_of n turn.failed_sends) (tells_of turn.failed_told ++ Falls causes.Disk turn.write ∷ [])
-    (λ ns. deeds-sents a n ns turn.failed_sends) (λ ns. deeds-two a ns (told turn.failed_told) (fell causes.Disk turn.write) (tells_of turn.failed_told) (Falls causes.Disk turn.write ∷ []) (λ os. deeds-told a os turn.failed_told) (λ os. deeds-fell a os causes.Disk turn.write))
-deeds-as_same Stopped a n ms turn = deeds-two a ms (told turn.failed_told) (fell causes.Stop turn.write) (tells_of turn.failed_told) (Falls causes.Stop turn.write ∷ []) (λ ns. deeds-told a ns turn.failed_told) (λ ns. deeds-fell a ns causes.Stop turn.write)
+use Rattle.qc_msg.proofs.GrownMail.{by-append, mail-append, mail-sents, mail-told, mail-posted}
+use Rattle.qc_msg.proofs.DeedsGrow.{same_actor, own-append, deeds-append, deeds-by_same, deeds-as_same}
 
 -- the actor's deeds go on by its post
-pub deeds-posted_as : (end : Appended) (a n : ℕ) (h : List Entry) (turn : Turn) → deeds a [] (h ++ by a (posted_as end n turn)) ≡ deeds a [] h ++ deeds_as end n turn
+pub deeds-posted_as : (end : Appended) (a n : ℕ) (h : List Entry) (turn : Turn)
+    → deeds a [] (h ++ by a (posted_as end n turn)) ≡ deeds a [] h ++ deeds_as end n turn
 deeds-posted_as end a n h turn =
     deeds-append a [] h (by a (posted_as end n turn))
     ∙ ap (λ (v : List Deed). deeds a [] h ++ v) (deeds-as_same end a n (mail h) turn)
 
-mail-two : (a : ℕ) (xs ys : List Step) (es fs : List Envelope) → mail (by a xs) ≡ es → mail (by a ys) ≡ fs → mail (by a (xs ++ ys)) ≡ es ++ fs
-mail-two a xs ys es fs first second = ap mail (by-append a xs ys) ∙ mail-append (by a xs) (by a ys) ∙ ap (λ (v : List Envelope). v ++ mail (by a ys)) first ∙ ap (λ (v : List Envelope). es ++ v) second
+mail-two : (a : ℕ) (xs ys : List Step) (es fs : List Envelope) → mail (by a xs) ≡ es → mail (by a ys) ≡ fs
+    → mail (by a (xs ++ ys)) ≡ es ++ fs
+mail-two a xs ys es fs first second =
+    ap mail (by-append a xs ys) ∙ mail-append (by a xs) (by a ys)
+    ∙ ap (λ (v : List Envelope). v ++ mail (by a ys)) first ∙ ap (λ (v : List Envelope). es ++ v) second
 
 -- what a post sends
-pub mail-posted_as : (end : Appended) (a n : ℕ) (turn : Turn) → mail (by a (posted_as end n turn)) ≡ envelopes a n (sends_as end turn)
+pub mail-posted_as : (end : Appended) (a n : ℕ) (turn : Turn)
+    → mail (by a (posted_as end n turn)) ≡ envelopes a n (sends_as end turn)
 mail-posted_as Done a n turn = mail-posted a n turn
-mail-posted_as Failed a n turn = mail-two a (sents n turn.failed_sends) (told turn.failed_told ++ fell causes.Disk turn.write) (envelopes a n turn.failed_sends) [] (mail-sents a n turn.failed_sends)
-    (mail-two a (told turn.failed_told) (fell causes.Disk turn.write) [] [] (mail-told a turn.failed_told) refl) ∙ append-nil (envelopes a n turn.failed_sends)
-mail-posted_as Stopped a n turn = mail-two a (told turn.failed_told) (fell causes.Stop turn.write) [] [] (mail-told a turn.failed_told) refl
+mail-posted_as Failed a n turn =
+    mail-two a (sents n turn.failed_sends) (told turn.failed_told ++ fell causes.Disk turn.write)
+    (envelopes a n turn.failed_sends) [] (mail-sents a n turn.failed_sends)
+    (mail-two a (told turn.failed_told) (fell causes.Disk turn.write) [] [] (mail-told a turn.failed_told) refl)
+        ∙ append-nil (envelopes a n turn.failed_sends)
+mail-posted_as Stopped a n turn =
+    mail-two a (told turn.failed_told) (fell causes.Stop turn.write) [] [] (mail-told a turn.failed_told) refl
 
 -- what an input does
-pub deed_at-given : (a : ℕ) (ms : List Envelope) (input : Input) → WasSentTo a ms input → deed_at ms (step_of input) ≡ Takes input ∷ []
+pub deed_at-given : (a : ℕ) (ms : List Envelope) (input : Input) → WasSentTo a ms input
+    → deed_at ms (step_of input) ≡ Takes input ∷ []
 deed_at-given a ms (inputs.Called command) sent = refl
 deed_at-given a ms (inputs.Got envelope) sent = ap heard sent.0
 deed_at-given a ms (inputs.Lost number) sent = refl
 
-deeds-input : (a : ℕ) (ms : List Envelope) (input : Input) → WasSentTo a ms input → deeds a ms (marked a (step_of input) ∷ []) ≡ Takes input ∷ []
+deeds-input : (a : ℕ) (ms : List Envelope) (input : Input) → WasSentTo a ms input
+    → deeds a ms (marked a (step_of input) ∷ []) ≡ Takes input ∷ []
 deeds-input a ms input sent =
     ap (λ (v : Bool). cond v (deed_at ms (step_of input)) [] ++ []) (same_actor a)
     ∙ ap (λ (v : List Deed). v ++ []) (deed_at-given a ms input sent)
 
 -- the actor's own deeds go on by its input
-pub deeds-taken : (a : ℕ) (h : List Entry) (input : Input) → WasSentTo a (mail h) input → deeds a [] (h ++ marked a (step_of input) ∷ []) ≡ deeds a [] h ++ Takes input ∷ []
+pub deeds-taken : (a : ℕ) (h : List Entry) (input : Input) → WasSentTo a (mail h) input
+    → deeds a [] (h ++ marked a (step_of input) ∷ []) ≡ deeds a [] h ++ Takes input ∷ []
 deeds-taken a h input sent =
     deeds-append a [] h (marked a (step_of input) ∷ [])
     ∙ ap (λ (v : List Deed). deeds a [] h ++ v) (deeds-input a (mail h) input sent)
 
 -- and by its turn
-pub deeds-posted : (a n : ℕ) (h : List Entry) (turn : Turn) → deeds a [] (h ++ by a (posted n turn)) ≡ deeds a [] h ++ turn_deeds n turn
+pub deeds-posted : (a n : ℕ) (h : List Entry) (turn : Turn)
+    → deeds a [] (h ++ by a (posted n turn)) ≡ deeds a [] h ++ turn_deeds n turn
 deeds-posted a n h turn =
     deeds-append a [] h (by a (posted n turn))
     ∙ ap (λ (v : List Deed). deeds a [] h ++ v) (deeds-by_same a n (mail h) turn)
@@ -179,18 +79,24 @@ deeds-posted a n h turn =
 -- an actor whose own steps stay has the deeds that it had
 pub deeds-none_own : (a : ℕ) (ms : List Envelope) (k : List Entry) → own a k ≡ [] → deeds a ms k ≡ []
 deeds-none_own a ms [] none = refl
-deeds-none_own a ms (e ∷ k) none = by_actor (e.actor == a) none (deeds-none_own a (ms ++ option_to_list (envelope_of e)) k)
+deeds-none_own a ms (e ∷ k) none =
+    by_actor (e.actor == a) none (deeds-none_own a (ms ++ option_to_list (envelope_of e)) k)
   where
-    by_actor : (mine : Bool) → map (λ (x : Entry). x.step) (cond mine (e ∷ filter (λ (x : Entry). x.actor == a) k) (filter (λ (x : Entry). x.actor == a) k)) ≡ []
-        → (own a k ≡ [] → deeds a (ms ++ option_to_list (envelope_of e)) k ≡ []) → cond mine (deed_at ms e.step) [] ++ deeds a (ms ++ option_to_list (envelope_of e)) k ≡ []
+    by_actor : (mine : Bool)
+        → map (λ (x : Entry). x.step)
+          (cond mine (e ∷ filter (λ (x : Entry). x.actor == a) k) (filter (λ (x : Entry). x.actor == a) k)) ≡ []
+        → (own a k ≡ [] → deeds a (ms ++ option_to_list (envelope_of e)) k ≡ [])
+            → cond mine (deed_at ms e.step) [] ++ deeds a (ms ++ option_to_list (envelope_of e)) k ≡ []
     by_actor true h rest = absurd (let never : ⊥ = cc in never)
     by_actor false h rest = rest h
 
 -- an actor that makes no step keeps its deeds: runs over several actors will say so of all that don't move
-pub same_deeds : (a : ℕ) (ms : List Envelope) (h k : List Entry) → own a (h ++ k) ≡ own a h → deeds a ms (h ++ k) ≡ deeds a ms h
+pub same_deeds : (a : ℕ) (ms : List Envelope) (h k : List Entry) → own a (h ++ k) ≡ own a h
+    → deeds a ms (h ++ k) ≡ deeds a ms h
 same_deeds a ms h k same =
     let none : own a k ≡ [] = nothing_more (own a h) (own a k) (sym (own-append a h k) ∙ same) in
-    deeds-append a ms h k ∙ ap (λ (v : List Deed). deeds a ms h ++ v) (deeds-none_own a (ms ++ mail h) k none) ∙ append-nil (deeds a ms h)
+    deeds-append a ms h k ∙ ap (λ (v : List Deed). deeds a ms h ++ v) (deeds-none_own a (ms ++ mail h) k none)
+        ∙ append-nil (deeds a ms h)
   where
     nothing_more : (xs ys : List Step) → xs ++ ys ≡ xs → ys ≡ []
     nothing_more [] ys h = h
@@ -201,10 +107,13 @@ same_deeds a ms h k same =
 pub tally-more : (h : List Entry) (e : Entry) → tally_of (h ++ e ∷ []) ≡ tally_with (tally_of h) e
 tally-more h e = fold-append tally_with no_tally h (e ∷ [])
 
-pub operations-more : (h : List Entry) (e : Entry) → operations_of (h ++ e ∷ []) ≡ operations_of h + answered_at ((tally_of h).standing e.actor) e.step
+pub operations-more : (h : List Entry) (e : Entry)
+    → operations_of (h ++ e ∷ []) ≡ operations_of h + answered_at ((tally_of h).standing e.actor) e.step
 operations-more h e = ap (λ (t : Tally). t.operations) (tally-more h e)
 
-pub standing-more : (h : List Entry) (e : Entry) (a : ℕ) → (tally_of (h ++ e ∷ [])).standing a ≡ cond (a == e.actor) (standing_after ((tally_of h).standing a) e.step) ((tally_of h).standing a)
+pub standing-more : (h : List Entry) (e : Entry) (a : ℕ)
+    → (tally_of (h ++ e ∷ [])).standing a
+      ≡ cond (a == e.actor) (standing_after ((tally_of h).standing a) e.step) ((tally_of h).standing a)
 standing-more h e a = ap (λ (t : Tally). t.standing a) (tally-more h e)
 
 tally_grows : (t : Tally) (k : List Entry) → t.operations ≤ (fold tally_with t k).operations
@@ -212,14 +121,17 @@ tally_grows t [] = omega arith
 tally_grows t (e ∷ k) = omega (arith, tally_grows (tally_with t e) k)
 
 pub operations-grow : (h k : List Entry) → operations_of h ≤ operations_of (h ++ k)
-operations-grow h k = subst (λ (t : Tally). operations_of h ≤ t.operations) (sym (fold-append tally_with no_tally h k)) (tally_grows (tally_of h) k)
+operations-grow h k =
+    subst (λ (t : Tally). operations_of h ≤ t.operations) (sym (fold-append tally_with no_tally h k))
+    (tally_grows (tally_of h) k)
 
 -- without rises the committed operations are those of the records that were written
 
 abbrev answered_by : Commit → ℕ
 answered_by c = answered c.ops
 
-operations-cons : (o : Option Commit) (cs : List Commit) → answered_in o + sum_by answered_by cs ≡ sum_by answered_by (cons_option o cs)
+operations-cons : (o : Option Commit) (cs : List Commit)
+    → answered_in o + sum_by answered_by cs ≡ sum_by answered_by (cons_option o cs)
 operations-cons None cs = omega arith
 operations-cons (Some c) cs = sym (sum_by-cons answered_by c cs)
 
@@ -238,13 +150,19 @@ answered_written n (steps.Fell cause pending) none = refl
 answered_written n (steps.Rose records) never = absurd never
 answered_written n (steps.Damaged offset) none = refl
 
-tally_written : (t : Tally) (h : List Entry) → Every (λ (e : Entry). IsNoRise e.step) h → (fold tally_with t h).operations ≡ t.operations + sum_by answered_by (written h)
+tally_written : (t : Tally) (h : List Entry) → Every (λ (e : Entry). IsNoRise e.step) h
+    → (fold tally_with t h).operations ≡ t.operations + sum_by answered_by (written h)
 tally_written t [] none = let nothing : sum_by answered_by [] ≡ 0 = refl in omega arith
 tally_written t (e ∷ h) none =
     let rest : (fold tally_with (tally_with t e) h).operations ≡ (t.operations + answered_at (t.standing e.actor) e.step) + sum_by answered_by (written h) = tally_written (tally_with t e) h none.1 in
-    let one : answered_at (t.standing e.actor) e.step ≡ answered_in (commit_in e.step) = answered_written (t.standing e.actor) e.step none.0 in
-    let all : answered_in (commit_in e.step) + sum_by answered_by (written h) ≡ sum_by answered_by (written (e ∷ h)) = operations-cons (commit_in e.step) (written h) in
+    let one : answered_at (t.standing e.actor) e.step ≡ answered_in (commit_in e.step) =
+            answered_written (t.standing e.actor) e.step none.0 in
+    let all : answered_in (commit_in e.step) + sum_by answered_by (written h) ≡ sum_by answered_by (written (e ∷ h)) =
+            operations-cons (commit_in e.step) (written h) in
     omega arith
 
-pub operations-written : (h : List Entry) → Every (λ (e : Entry). IsNoRise e.step) h → operations_of h ≡ sum_by answered_by (written h)
-operations-written h none = let all : operations_of h ≡ 0 + sum_by answered_by (written h) = tally_written no_tally h none in omega arith
+pub operations-written : (h : List Entry) → Every (λ (e : Entry). IsNoRise e.step) h
+    → operations_of h ≡ sum_by answered_by (written h)
+operations-written h none =
+    let all : operations_of h ≡ 0 + sum_by answered_by (written h) = tally_written no_tally h none in
+    omega arith

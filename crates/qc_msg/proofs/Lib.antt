@@ -1,2 +1,3 @@
 pub mod GrownMail
+pub mod DeedsGrow
 pub mod Growth

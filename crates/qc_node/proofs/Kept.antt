@@ -16,7 +16,7 @@ use Rattle.qc_script.specs.declared.script.Script.{Script}
 use Rattle.qc_fabric.specs.Names.{HasNone, Sees, Takes, Waits}
 use Rattle.qc_node.specs.Names.{IsCell, IsIdle, IsKnown, IsLeft, fits_of}
 use Rattle.qc_node.proofs.Rises.{process_over_others}
-use Rattle.qc_node.proofs.Served.{saw_goes, took_goes}
+use Rattle.qc_node.proofs.ServedStores.{saw_goes, took_goes}
 
 -- a store that was given up, over others, and over an input
 

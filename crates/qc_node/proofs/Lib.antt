@@ -1,6 +1,7 @@
 pub mod Turns
 pub mod News
 pub mod Turned
+pub mod ServedStores
 pub mod Served
 pub mod Lines
 pub mod Rises

@@ -4,7 +4,7 @@ use Rattle.std.proofs.Common.{◌≡◌, ℕ, ◌<◌, ◌≤◌, not, Bool, tru
 use Rattle.std.proofs.Common.{refl, sym, ap, ◌∙◌, arith, subst}
 use Rattle.qc_core.specs.Names.{IsLawfulWithFalls, actor_after, is_up, up_at}
 use Rattle.qc_core.specs.declared.actor.Actor.TheVariants.{Down}
-use Rattle.qc_core.proofs.LivesLaws.{down, up}
+use Rattle.qc_core.proofs.LivesOfActors.{down, up}
 use Rattle.qc_decl.specs.Names.{actors, administrator}
 use Rattle.qc_decl.specs.declared.declaration.Declaration.{Declaration}
 use Rattle.qc_inbox.specs.Names.{down_at}

@@ -5,7 +5,7 @@ use Rattle.std.proofs.lemmas.Bool.{ne_eqb}
 use Rattle.atomic_table.specs.Seated.{TableId}
 use Rattle.qc_core.specs.declared.actor.Actor.TheVariants.{Down}
 use Rattle.qc_core.specs.Names.{ActorMove, IsLawfulWithFalls, actor_after}
-use Rattle.qc_core.proofs.LivesLaws.{falls}
+use Rattle.qc_core.proofs.LivesOfActors.{falls}
 use Rattle.qc_decl.specs.Names.{IsAccepted, actors, controller}
 use Rattle.qc_decl.specs.declared.declaration.Declaration.{Declaration}
 use Rattle.qc_link.specs.Names.{most_actors}

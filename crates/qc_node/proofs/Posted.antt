@@ -24,7 +24,8 @@ use Rattle.qc_script.specs.declared.script.Script.{Script}
 use Rattle.qc_fabric.specs.Names.{Posts, Sees, Takes}
 use Rattle.qc_node.specs.Names.{IsCell, IsRunnable, fits_of}
 use Rattle.qc_node.proofs.Kept.{cell_stored}
-use Rattle.qc_node.proofs.Served.{few_asked, few_open, may_write, posts_go, process_last, short_after, stored_now}
+use Rattle.qc_node.proofs.ServedStores.{few_open}
+use Rattle.qc_node.proofs.Served.{few_asked, may_write, posts_go, process_last, short_after, stored_now}
 use Rattle.qc_node.proofs.Served.{stored_then}
 
 -- only a turn with a record ends otherwise than done

@@ -11,7 +11,7 @@ use Rattle.laws_bounds.proofs.Rising.{risen_asks_few, risen_turn_short}
 use Rattle.qc_core.specs.declared.actor.Actor.{Actor}
 use Rattle.qc_core.specs.declared.actor.Actor.TheVariants as actors_of
 use Rattle.qc_core.specs.Names.{ActorMove, AsksFew, IsLawfulWithFalls, actor_after, actor_rises, actor_sent, moved}
-use Rattle.qc_core.proofs.LivesLaws.{falls, rises}
+use Rattle.qc_core.proofs.LivesOfActors.{falls, rises}
 use Rattle.qc_core.proofs.Written.{after_written}
 use Rattle.qc_epoch.specs.Names.{most_asks}
 use Rattle.qc_decl.specs.Names.{actors}
@@ -38,7 +38,7 @@ use Rattle.qc_fabric.specs.Names.{GoesToActors, IsRising, RisesAs, Sees, size_of
 use Rattle.qc_fabric.specs.declared.rising.Rising.{Rising}
 use Rattle.qc_fabric.specs.declared.rising.Rising.TheVariants as risings
 use Rattle.qc_node.specs.Names.{Appends, IsAppended, IsRecorded, fits_of, opened_of, with_end}
-use Rattle.qc_node.proofs.Served.{saw_goes, stored_over_others}
+use Rattle.qc_node.proofs.ServedStores.{saw_goes, stored_over_others}
 use Rattle.qc_node.proofs.Turned.{same_deeds, same_record, turned}
 use Rattle.qc_node.proofs.Turns.{turn_is_lawful}
 

@@ -1,8 +1,6 @@
 -- A turn in a cell: what its calls ask, and what is known of the process once the turn was posted.
-use Rattle.std.proofs.Common.{◌≡◌, ℕ, ◌+◌, ◌^◌, ◌<◌, ◌≤◌, Bool, false, List, [], ◌∷◌, ◌++◌, length, Option, Some, None}
+use Rattle.std.proofs.Common.{◌≡◌, ℕ, ◌+◌, ◌^◌, ◌<◌, ◌≤◌, Bool, false, List, ◌∷◌, ◌++◌, length, Option, Some, None}
 use Rattle.std.proofs.Common.{refl, sym, ap, ◌∙◌, subst, arith, append_assoc, length-append}
-use Rattle.std.specs.Prelude.{IfSome}
-use Rattle.std.proofs.lemmas.List.{append-nil}
 use Rattle.qc_core.specs.declared.actor.Actor.{Actor}
 use Rattle.qc_core.specs.declared.actor.Actor.TheVariants as actors_of
 use Rattle.qc_core.specs.Names.{ActorFits, ActorMove, AsksFew, IsLawfulWithFalls, actor_after, actor_sent, actor_takes}
@@ -14,7 +12,6 @@ use Rattle.qc_decl.specs.Names.{IsAccepted, actors, most_steps}
 use Rattle.qc_decl.specs.declared.declaration.Declaration.{Declaration}
 use Rattle.qc_msg.specs.declared.record.Record.{Record}
 use Rattle.qc_msg.specs.declared.step.Input.{Input}
-use Rattle.qc_msg.specs.declared.step.Input.TheVariants as inputs
 use Rattle.qc_msg.specs.declared.step.Step.{Step}
 use Rattle.qc_msg.specs.declared.turn.Appended.{Appended}
 use Rattle.qc_msg.specs.declared.turn.Appended.TheVariants.{Done}
@@ -24,10 +21,8 @@ use Rattle.qc_msg.specs.Names.{posted_as, step_of}
 use Rattle.qc_msg.proofs.GrownMail.{length-mail}
 use Rattle.qc_pass.specs.declared.token.Pass.{Pass}
 use Rattle.qc_pass.specs.Names.{number, seen}
-use Rattle.qc_process.specs.Names.{Goes, HasFewRecords, IsPlaced, IsProcess, IsReadable, IsStored, IsUp, IsWritable}
-use Rattle.qc_process.specs.Names.{MayWrite, OpenJournal, ProcessView, StoreView}
-use Rattle.qc_process.proofs.Going.{plain_on}
-use Rattle.qc_process.proofs.Plain.{ArePlain}
+use Rattle.qc_process.specs.Names.{Goes, HasFewRecords, IsProcess, IsReadable, IsStored, IsUp, IsWritable}
+use Rattle.qc_process.specs.Names.{MayWrite, ProcessView, StoreView}
 use Rattle.qc_script.specs.Names.{IsScriptFor}
 use Rattle.qc_script.specs.declared.script.Script.{Script}
 use Rattle.laws_bounds.proofs.TurnsSpelled.{turn_spelled}
@@ -36,50 +31,7 @@ use Rattle.qc_fabric.proofs.Limits.{none_reached}
 use Rattle.qc_node.specs.Names.{IsServed, fits_of}
 use Rattle.qc_node.proofs.Turned.{same_deeds, same_record, turned}
 use Rattle.qc_node.proofs.Turns.{asks_few, fits, numbered, readable, short_failed, short_turn, turn_is_lawful}
-
--- what others did, and then the input
-
-pub took_goes : (decl : Declaration) (script : Script) (p q : Pass Step) (g : Input)
-    → Takes (IsLawfulWithFalls decl) (fits_of decl) decl script p q g → Goes (number p) (seen p) (step_of g ∷ []) (seen q)
-took_goes decl script p q g took = record { others = took.others; not_own = took.not_own; now_is = took.seen_is }
-
--- what others did, and nothing else
-
-pub saw_goes : (p q : Pass Step) → Sees p q → Goes (number p) (seen p) [] (seen q)
-saw_goes p q saw = record { others = saw.others; not_own = saw.not_own; now_is = saw.seen_is ∙ sym (append-nil (seen p ++ saw.others)) }
-
-plain_input : (g : Input) → ArePlain (step_of g ∷ [])
-plain_input (inputs.Called command) = (refl, tt)
-plain_input (inputs.Got e) = (refl, tt)
-plain_input (inputs.Lost n) = (refl, tt)
-
--- so a store stays as it was, but for the spelling
-
-pub stored_over_input : (tells : Bool) (decl : Declaration) (a : ℕ) (h now : List Entry) (g : Input)
-    (s new : StoreView) → new.told ≡ s.told → new.fuse ≡ s.fuse → new.journal ≡ s.journal
-    → Goes a h (step_of g ∷ []) now → IsStored tells decl a h s → IsStored tells decl a now new
-stored_over_input tells decl a h now g s new told fuse journal goes is =
-    plain_on tells decl a h now (step_of g ∷ []) s new (plain_input g) told fuse journal goes is
-
-pub stored_over_others : (tells : Bool) (decl : Declaration) (a : ℕ) (h now : List Entry) (s new : StoreView)
-    → new.told ≡ s.told → new.fuse ≡ s.fuse → new.journal ≡ s.journal → Goes a h [] now
-    → IsStored tells decl a h s → IsStored tells decl a now new
-stored_over_others tells decl a h now s new told fuse journal goes is =
-    plain_on tells decl a h now [] s new tt told fuse journal goes is
-
--- a store of few enough records takes one more
-
-pub few_open : (h : List Entry) (s : StoreView) (tells : Bool) (decl : Declaration) (a : ℕ) → length h ≤ most_history + 1
-    → IsStored tells decl a h s → HasFewRecords s
-few_open h s tells decl a short is = by s.journal refl
-  where
-    by : (o : Option OpenJournal) → s.journal ≡ o → IfSome o (λ (o : OpenJournal). o.records < 2 ^ 32)
-    by None e = tt
-    by (Some o) e =
-        let placed = subst (λ (x : Option OpenJournal). IsPlaced s.told x is.records) e is.placed in
-        let few : length is.records.records ≤ 2 ^ 31 + length h = is.told_by.few in
-        let same : o.records ≡ length is.records.records = placed.2 in
-        omega (arith, few, same, short)
+use Rattle.qc_node.proofs.ServedStores.{took_goes, saw_goes, stored_over_input, stored_over_others, few_open}
 
 -- an actor took an input: what its calls ask
 
@@ -95,18 +47,21 @@ module _ (tells : Bool) (decl : Declaration) (script : Script) (accepted : IsAcc
   pub short_after : length (seen q) ≤ most_history + 1
   short_after =
       let front : length (seen p ++ took.others) ≤ most_history = took.few in
-      omega (arith, front, ap (λ (l : List Entry). length l) took.seen_is, length-append (seen p ++ took.others) (marked (number p) (step_of g) ∷ []))
+      omega (arith, front, ap (λ (l : List Entry). length l) took.seen_is,
+          length-append (seen p ++ took.others) (marked (number p) (step_of g) ∷ []))
 
   module _ (pr : ProcessView) (known : IsProcess tells decl (number p) (seen p) pr) where
     pub input_fits : ActorFits pr.actor
     input_fits =
         subst ActorFits
         (ap (λ (ds : List Deed). (actor_after decl (number p) ds).actor) took.does_before ∙ sym known.actor_is)
-        (fits decl script accepted (number p) (seen p ++ took.others) took.run_before.0 took.run_before.1 short_before took.is_closed)
+        (fits decl script accepted (number p) (seen p ++ took.others) took.run_before.0 took.run_before.1 short_before
+            took.is_closed)
 
     pub input_readable : IsReadable g
     input_readable =
-        readable decl script accepted (number p) (seen p ++ took.others) took.run_before.0 took.run_before.1 short_before g took.is_ready
+        readable decl script accepted (number p) (seen p ++ took.others) took.run_before.0 took.run_before.1
+            short_before g took.is_ready
 
     -- it acted
 
@@ -153,7 +108,8 @@ module _ (tells : Bool) (decl : Declaration) (script : Script) (accepted : IsAcc
               omega (arith, front, length-append (seen p) took.others)
 
           few : HasFewRecords s
-          few = subst HasFewRecords (sym same) (few_open (seen p) pr.store tells decl (number p) short_seen known.stored)
+          few =
+              subst HasFewRecords (sym same) (few_open (seen p) pr.store tells decl (number p) short_seen known.stored)
 
           by : (w : Option Record) → turn.write ≡ w → MayWrite w s
           by None is = tt
@@ -161,14 +117,19 @@ module _ (tells : Bool) (decl : Declaration) (script : Script) (accepted : IsAcc
 
       pub to_actors : (end : Appended) → GoesToActors (record turn { append = end })
       to_actors end = record {
-        sends = (short_turn decl script accepted (number p) (seen q) took.run.0 took.run.1 took.is_open (record turn { append = Done }) lawful).receivers;
-        failed_sends = (short_failed decl script accepted (number p) (seen q) took.run.0 took.run.1 took.is_open (record turn { append = Done }) lawful).receivers;
+        sends =
+            (short_turn decl script accepted (number p) (seen q) took.run.0 took.run.1 took.is_open
+            (record turn { append = Done }) lawful).receivers;
+        failed_sends =
+            (short_failed decl script accepted (number p) (seen q) took.run.0 took.run.1 took.is_open
+            (record turn { append = Done }) lawful).receivers;
       }
 
       pub few_asked : AsksFew after
       few_asked =
           subst AsksFew after_is
-          (asks_few decl script accepted (number p) (seen q) took.run.0 took.run.1 took.is_open (record turn { append = Done }) lawful)
+          (asks_few decl script accepted (number p) (seen q) took.run.0 took.run.1 took.is_open
+              (record turn { append = Done }) lawful)
 
       -- the store, when the input was taken
 
@@ -194,7 +155,8 @@ module _ (tells : Bool) (decl : Declaration) (script : Script) (accepted : IsAcc
         lawful_now end may =
             subst (λ (n : ℕ). IsLawfulWithFalls decl n (deeds (number p2) [] (seen p2)) (record turn { append = end }))
             (sym number_is)
-            (subst (λ (ds : List Deed). IsLawfulWithFalls decl (number p) ds (record turn { append = end })) (sym deeds_then)
+            (subst (λ (ds : List Deed). IsLawfulWithFalls decl (number p) ds (record turn { append = end }))
+                (sym deeds_then)
             (lawful_end end may))
 
         pub stored_now : (s : StoreView) → IsStored tells decl (number p) (seen q) s
@@ -248,13 +210,17 @@ module _ (tells : Bool) (decl : Declaration) (script : Script) (accepted : IsAcc
               number_is = known.number_is ∙ sym number_last;
               actor_is =
                   sym (ap (λ (n : ℕ). (actor_after decl n (deeds (number r) [] (seen r))).actor) number_last
-                  ∙ (ap (λ (ds : List Deed). (actor_after decl (number p) ds).actor) deeds_last ∙ actor_then v kept down));
+                  ∙
+                      (ap (λ (ds : List Deed). (actor_after decl (number p) ds).actor) deeds_last
+                        ∙ actor_then v kept down));
               stored = subst (λ (n : ℕ). IsStored tells decl n (seen r) s) (sym posts.pass.number_is) is;
             }
 
-            turn_here : (actor_takes decl (actor_after decl (number p) (deeds (number p) [] (seen p))).actor g).turn ≡ turn
+            turn_here : (actor_takes decl (actor_after decl (number p) (deeds (number p) [] (seen p))).actor g).turn
+                ≡ turn
             turn_here =
-                ap (λ (v : Actor). (actor_takes decl v g).turn) (sym known.actor_is) ∙ ap (λ (m : ActorMove). m.turn) acted
+                ap (λ (v : Actor). (actor_takes decl v g).turn) (sym known.actor_is)
+                    ∙ ap (λ (m : ActorMove). m.turn) acted
 
             pub served : (b c : Bool) (x : ProcessView) → c ≡ false
                 → IsServed decl (record { number = number p; seen = seen p; given_up = b; process = pr })
@@ -272,11 +238,13 @@ module _ (tells : Bool) (decl : Declaration) (script : Script) (accepted : IsAcc
                   deeds_last
                   ∙ (ap (λ (ds : List Deed). ds ++ deeds_as end first ended) took.does
                   ∙ (ap (λ (ds : List Deed). (deeds (number p) [] (seen p) ++ TakesInput g ∷ []) ++ ds) (same_deeds end first turn)
-                  ∙ ap (λ (t : Turn). (deeds (number p) [] (seen p) ++ TakesInput g ∷ []) ++ deeds_as end first t) (sym turn_here)));
+                  ∙ ap (λ (t : Turn). (deeds (number p) [] (seen p) ++ TakesInput g ∷ []) ++ deeds_as end first t)
+                      (sym turn_here)));
               up = up;
             }
               where
-                four : (a b c d e f : List Entry) → (((a ++ b) ++ c) ++ d) ++ (e ++ f) ≡ a ++ (((b ++ c) ++ d) ++ (e ++ f))
+                four : (a b c d e f : List Entry)
+                    → (((a ++ b) ++ c) ++ d) ++ (e ++ f) ≡ a ++ (((b ++ c) ++ d) ++ (e ++ f))
                 four a b c d e f = simp append_assoc
 
                 seen_last : seen p ++ (((took.others ++ marked (number p) (step_of g) ∷ []) ++ saw.others)

@@ -22,7 +22,7 @@ use Rattle.laws_bounds.proofs.Falls.{none_spent, one_spent}
 use Rattle.qc_store.specs.Names.{IsCounted}
 use Rattle.qc_node.specs.Names.{IsKnown, IsLeft, IsSettling}
 use Rattle.qc_node.proofs.Misfits.{misfits_of}
-use Rattle.qc_node.proofs.Served.{saw_goes}
+use Rattle.qc_node.proofs.ServedStores.{saw_goes}
 use Rattle.qc_node.proofs.Starts.{put_tells}
 
 nobody_is : (a : ℕ) → nobody a ≡ true → ⊥

@@ -1,164 +1,51 @@
 -- Met rounds weigh what is needed, and to ask one by one is to ask all that is wanted.
-use Rattle.std.proofs.Common.{◌≡◌, ℕ, zero, suc, ◌+◌, ◌-◌, map, slice_index, append_assoc, length-take, ◌<◌, ◌≤◌, ◌==◌, ◌||◌, ◌&&◌, nat_lt, nat_le, Bool, true, false, cond, List, [], ◌∷◌, ◌++◌, Option, Some, None, unwrap_or, length, take, drop, set, refl, sym, ◌∙◌, ap, subst, arith}
-use Rattle.std.specs.List.{list_any, list_all, range_with_len}
+use Rattle.std.proofs.Common.{◌≡◌, ℕ, zero, suc, ◌+◌, ◌-◌, map, slice_index, append_assoc, length-take, ◌<◌, ◌≤◌}
+use Rattle.std.proofs.Common.{nat_lt, Bool, true, false, cond, List, ◌∷◌, ◌++◌, Some}
+use Rattle.std.proofs.Common.{unwrap_or, length, take, drop, set, refl, sym, ◌∙◌, ap, subst, arith}
+use Rattle.std.specs.List.{range_with_len}
 use Rattle.std.proofs.lemmas.List.{drop-set-lt, set_past, map-append}
 use Rattle.std.proofs.Math.Seq.{take-set-lt}
-use Rattle.std.specs.Option.{option_or}
 use Rattle.std.proofs.lemmas.Bool.Decides.{nat_tests}
-use Rattle.std.proofs.lemmas.List.Folds.{list_any-append, list_all-append}
-use Rattle.qc_plan.specs.Names.{RoundState, all_noted, asking_all, asking_first, asking_in_turn, asking_next, asking_on}
-use Rattle.qc_plan.specs.Names.{clash_at, closed_at, cyclic, first, first_clash, first_closed, has_granted, is_asked}
-use Rattle.qc_plan.specs.Names.{is_granted, is_waiting, may_ask, next_site, note_in, place_in, prefix, refusal, settled}
+use Rattle.qc_plan.specs.Names.{RoundState, all_noted, asking_all, asking_in_turn}
+use Rattle.qc_plan.specs.Names.{cyclic, has_granted}
+use Rattle.qc_plan.specs.Names.{is_waiting, note_in, place_in, prefix, refusal, settled}
 use Rattle.qc_plan.specs.Names.{start, verdict, wanted, weighing, weight}
 use Rattle.qc_plan.specs.declared.standing.Asked.{Asked}
 use Rattle.qc_plan.specs.declared.standing.Standing.{Standing}
-use Rattle.qc_plan.specs.declared.standing.Standing.TheVariants as standings
-use Rattle.qc_plan.specs.declared.standing.Verdict.{Verdict}
 use Rattle.qc_plan.specs.declared.standing.Verdict.TheVariants as verdicts
-
--- noting is a write at the site's place
-pub note_put : (site : ℕ) (standing : Standing) (asked : List Asked) → note_in site standing asked ≡ set asked (place_in site asked) (record { site = site; standing = Some standing })
-note_put site standing [] = refl
-note_put site standing (a ∷ rest) = by (a.site == site) (note_put site standing rest) where
-  by : (t : Bool) → note_in site standing rest ≡ set rest (place_in site rest) (record { site = site; standing = Some standing })
-      → cond t (record { site = site; standing = Some standing } ∷ rest) (a ∷ note_in site standing rest) ≡ set (a ∷ rest) (cond t 0 (suc (place_in site rest))) (record { site = site; standing = Some standing })
-  by true more = refl
-  by false more = ap (λ (more : List Asked). a ∷ more) more
-
--- what refuses isn't Met
-
-abbrev is_met : Verdict → Bool
-is_met verdicts.Waiting = false
-is_met verdicts.Met = true
-is_met (verdicts.Closed epoch site) = false
-is_met (verdicts.Clash tx site) = false
-is_met (verdicts.Short got need) = false
-
-abbrev IsNoMet : Option Verdict → Type 0
-IsNoMet None = Unit {0}
-IsNoMet (Some v) = is_met v ≡ false
-
-or_no : (a b : Option Verdict) → IsNoMet a → IsNoMet b → IsNoMet (option_or a b)
-or_no None b x y = y
-or_no (Some v) b x y = x
-
-closed_no : (site : ℕ) (standing : Option Standing) → IsNoMet (closed_at site standing)
-closed_no site None = tt
-closed_no site (Some standings.Granted) = tt
-closed_no site (Some (standings.Clash tx)) = tt
-closed_no site (Some (standings.Closed epoch)) = refl
-closed_no site (Some standings.Missing) = tt
-
-clash_no : (site : ℕ) (standing : Option Standing) → IsNoMet (clash_at site standing)
-clash_no site None = tt
-clash_no site (Some standings.Granted) = tt
-clash_no site (Some (standings.Clash tx)) = refl
-clash_no site (Some (standings.Closed epoch)) = tt
-clash_no site (Some standings.Missing) = tt
-
-closed_nowhere : (asked : List Asked) → IsNoMet (first_closed asked)
-closed_nowhere [] = tt
-closed_nowhere (a ∷ rest) = or_no (closed_at a.site a.standing) (first_closed rest) (closed_no a.site a.standing) (closed_nowhere rest)
-
-clash_nowhere : (asked : List Asked) → IsNoMet (first_clash asked)
-clash_nowhere [] = tt
-clash_nowhere (a ∷ rest) = or_no (clash_at a.site a.standing) (first_clash rest) (clash_no a.site a.standing) (clash_nowhere rest)
-
-met_by : (noted enough last : Bool) (refused : Option Verdict) (got need : ℕ) → IsNoMet refused
-    → cond noted (unwrap_or refused (cond enough verdicts.Met (cond last (verdicts.Short got need) verdicts.Waiting))) verdicts.Waiting ≡ verdicts.Met → enough ≡ true
-met_by false enough last refused got need free is = absurd (cc)
-met_by true true last refused got need free is = refl
-met_by true false true None got need free is = absurd (cc)
-met_by true false false None got need free is = absurd (cc)
-met_by true false last (Some v) got need free is = let met : is_met v ≡ true = ap is_met is in absurd (cc)
-
-enough_weighs : (need got : ℕ) → nat_le need got ≡ true → need ≤ got
-enough_weighs need got is = grind (arith, nat_tests)
-
--- a met round has grants of the weight that is needed
-pub met_weighs : (r : RoundState) → verdict r ≡ verdicts.Met → r.need ≤ weight (has_granted r.asked) r.weights
-met_weighs r is =
-    let refused : IsNoMet (refusal r.asked) = or_no (first_closed r.asked) (first_clash r.asked) (closed_nowhere r.asked) (clash_nowhere r.asked) in
-    enough_weighs r.need (weight (has_granted r.asked) r.weights)
-    (met_by (all_noted r.asked) (nat_le r.need (weight (has_granted r.asked) r.weights)) (length r.rest == 0) (refusal r.asked) (weight (has_granted r.asked) r.weights) r.need refused is)
-
--- more sites weigh no less
-
-weight_mono : (ws : List ℕ) (a b : ℕ → Bool) → ((k : ℕ) → a k ≡ true → b k ≡ true) → weight a ws ≤ weight b ws
-weight_mono [] a b more = omega arith
-weight_mono (w ∷ ws) a b more = by (a 0) (b 0) (more 0) (weight_mono ws (λ k. a (suc k)) (λ k. b (suc k)) (λ k. more (suc k))) where
-  by : (x y : Bool) → (x ≡ true → y ≡ true) → weight (λ k. a (suc k)) ws ≤ weight (λ k. b (suc k)) ws → cond x w 0 + weight (λ k. a (suc k)) ws ≤ cond y w 0 + weight (λ k. b (suc k)) ws
-  by true true here rest = omega arith
-  by true false here rest = let never : false ≡ true = here refl in absurd (cc)
-  by false true here rest = omega arith
-  by false false here rest = omega arith
-
--- a site that was asked just now
-
-abbrev with_site : List Asked → ℕ → List Asked
-with_site asked site = asked ++ record { site = site; standing = None } ∷ []
-
-or_left : (a b : Bool) → a ≡ true → (a || b) ≡ true
-or_left true b h = refl
-or_left false b h = absurd (cc)
-
-asked_more : (asked : List Asked) (site k : ℕ) → is_asked asked k ≡ true → is_asked (with_site asked site) k ≡ true
-asked_more asked site k is = list_any-append (λ (a : Asked). a.site == k) asked (record { site = site; standing = None } ∷ []) ∙ or_left (is_asked asked k) (is_asked (record { site = site; standing = None } ∷ []) k) is
-
-heavy_still : (need a b : ℕ) → a ≤ b → nat_lt a need ≡ false → nat_lt b need ≡ false
-heavy_still need a b le is = grind (arith, nat_tests)
-
-stays_heavy : (weights : List ℕ) (need : ℕ) (asked : List Asked) (site : ℕ) → nat_lt (weight (is_asked asked) weights) need ≡ false → nat_lt (weight (is_asked (with_site asked site)) weights) need ≡ false
-stays_heavy weights need asked site is =
-    heavy_still need (weight (is_asked asked) weights) (weight (is_asked (with_site asked site)) weights)
-    (weight_mono weights (is_asked asked) (is_asked (with_site asked site)) (asked_more asked site)) is
-
-and_none : (a : Bool) → (a && false) ≡ false
-and_none true = refl
-and_none false = refl
-
-unknown : (asked : List Asked) (site : ℕ) → all_noted (with_site asked site) ≡ false
-unknown asked site = list_all-append _ asked (record { site = site; standing = None } ∷ []) ∙ and_none (all_noted asked)
-
--- one by one
-
-abbrev state : List ℕ → ℕ → List Asked → List ℕ → RoundState
-state weights need asked rest = record { weights = weights; need = need; asked = asked; rest = rest }
-
-abbrev is_light : List ℕ → ℕ → List Asked → Bool
-is_light weights need asked = nat_lt (weight (is_asked asked) weights) need
-
-abbrev IsWanted : ℕ → RoundState → Type 0
-IsWanted turns r = asking_in_turn turns r ≡ (wanted r, asking_all r (wanted r))
-
--- the wanted sites, and a turn, by the three tests
-abbrev wanted_by : Bool → Bool → Bool → RoundState → List ℕ
-wanted_by waits light noted r = cond waits (cond light (prefix r.weights r.need r.asked r.rest) (cond noted (take 1 r.rest) [])) []
-
-abbrev turn_by : Bool → Bool → Bool → RoundState → (RoundState → List ℕ × RoundState) → List ℕ × RoundState
-turn_by waits light noted r more =
-    asking_on r (cond (waits && (light || noted)) (first r.rest) None) (cond (waits && (light || noted)) (asking_first r r.rest) r) more
+use Rattle.qc_plan.proofs.RoundsMet.{note_put, with_site, stays_heavy, unknown, state, is_light, IsWanted, wanted_by}
+use Rattle.qc_plan.proofs.RoundsMet.{turn_by}
 
 -- what is wanted while an answer is awaited
-awaited : (weights : List ℕ) (need : ℕ) (asked : List Asked) (rest : List ℕ) → all_noted asked ≡ false → wanted (state weights need asked rest) ≡ prefix weights need asked rest
+awaited : (weights : List ℕ) (need : ℕ) (asked : List Asked) (rest : List ℕ) → all_noted asked ≡ false
+    → wanted (state weights need asked rest) ≡ prefix weights need asked rest
 awaited weights need asked rest noted =
-    ap (λ n. cond (is_waiting (cond n (unwrap_or (refusal asked) (settled (state weights need asked rest) (weight (has_granted asked) weights))) verdicts.Waiting)) (cond (is_light weights need asked) (prefix weights need asked rest) (cond n (take 1 rest) [])) []) noted
+    ap (λ n. cond (is_waiting (cond n
+        (unwrap_or (refusal asked) (settled (state weights need asked rest) (weight (has_granted asked) weights)))
+        verdicts.Waiting))
+        (cond (is_light weights need asked) (prefix weights need asked rest) (cond n (take 1 rest) [])) []) noted
     ∙ light rest (is_light weights need asked) refl where
-      light : (sites : List ℕ) (t : Bool) → is_light weights need asked ≡ t → cond t (prefix weights need asked sites) [] ≡ prefix weights need asked sites
+      light : (sites : List ℕ) (t : Bool) → is_light weights need asked ≡ t
+          → cond t (prefix weights need asked sites) [] ≡ prefix weights need asked sites
       light sites true is = refl
       light [] false is = refl
-      light (site ∷ sites) false is = ap (λ t. cond t (site ∷ prefix weights need (with_site asked site) sites) []) (sym is)
+      light (site ∷ sites) false is =
+          ap (λ t. cond t (site ∷ prefix weights need (with_site asked site) sites) []) (sym is)
 
 by_tests : (turns : ℕ) (weights : List ℕ) (need : ℕ) (asked : List Asked) (rest : List ℕ) (waits light noted : Bool)
     → is_light weights need asked ≡ light
-    → ((site : ℕ) (sites : List ℕ) → rest ≡ site ∷ sites → IsWanted turns (state weights need (with_site asked site) sites))
-    → turn_by waits light noted (state weights need asked rest) (asking_in_turn turns) ≡ (wanted_by waits light noted (state weights need asked rest), asking_all (state weights need asked rest) (wanted_by waits light noted (state weights need asked rest)))
+    → ((site : ℕ) (sites : List ℕ) → rest ≡ site ∷ sites
+        → IsWanted turns (state weights need (with_site asked site) sites))
+    → turn_by waits light noted (state weights need asked rest) (asking_in_turn turns)
+        ≡ (wanted_by waits light noted (state weights need asked rest),
+          asking_all (state weights need asked rest) (wanted_by waits light noted (state weights need asked rest)))
 by_tests turns weights need asked rest false light noted heavy more = refl
 by_tests turns weights need asked [] true true noted heavy more = refl
 by_tests turns weights need asked (site ∷ sites) true true noted heavy more =
     let after : RoundState = state weights need (with_site asked site) sites in
     let next : IsWanted turns after = more site sites refl in
-    let same : wanted after ≡ prefix weights need (with_site asked site) sites = awaited weights need (with_site asked site) sites (unknown asked site) in
+    let same : wanted after ≡ prefix weights need (with_site asked site) sites =
+            awaited weights need (with_site asked site) sites (unknown asked site) in
     let here : cond (is_light weights need asked) (site ∷ prefix weights need (with_site asked site) sites) [] ≡ site ∷ prefix weights need (with_site asked site) sites = ap (λ t. cond t (site ∷ prefix weights need (with_site asked site) sites) []) heavy in
     ap (λ (p : List ℕ × RoundState). (site ∷ p.0, p.1)) next
     ∙ ap (λ (ss : List ℕ). (site ∷ ss, asking_all after ss)) same
@@ -168,9 +55,13 @@ by_tests turns weights need asked [] true false true heavy more = refl
 by_tests turns weights need asked (site ∷ sites) true false true heavy more =
     let after : RoundState = state weights need (with_site asked site) sites in
     let next : IsWanted turns after = more site sites refl in
-    let same : wanted after ≡ [] = awaited weights need (with_site asked site) sites (unknown asked site) ∙ none sites (stays_heavy weights need asked site heavy) in
-    ap (λ (p : List ℕ × RoundState). (site ∷ p.0, p.1)) next ∙ ap (λ (ss : List ℕ). (site ∷ ss, asking_all after ss)) same where
-      none : (ss : List ℕ) → is_light weights need (with_site asked site) ≡ false → prefix weights need (with_site asked site) ss ≡ []
+    let same : wanted after ≡ [] =
+            awaited weights need (with_site asked site) sites (unknown asked site)
+              ∙ none sites (stays_heavy weights need asked site heavy) in
+    ap (λ (p : List ℕ × RoundState). (site ∷ p.0, p.1)) next
+        ∙ ap (λ (ss : List ℕ). (site ∷ ss, asking_all after ss)) same where
+      none : (ss : List ℕ) → is_light weights need (with_site asked site) ≡ false
+          → prefix weights need (with_site asked site) ss ≡ []
       none [] is = refl
       none (s ∷ ss) is = ap (λ t. cond t (s ∷ prefix weights need (with_site (with_site asked site) s) ss) []) is
 
@@ -179,36 +70,47 @@ nothing_left [] h = refl
 nothing_left (site ∷ sites) h = absurd (omega arith)
 
 no_rest : (weights : List ℕ) (need : ℕ) (asked : List Asked) → wanted (state weights need asked []) ≡ []
-no_rest weights need asked = by (is_waiting (verdict (state weights need asked []))) (is_light weights need asked) (all_noted asked) where
+no_rest weights need asked =
+    by (is_waiting (verdict (state weights need asked []))) (is_light weights need asked) (all_noted asked) where
   by : (waits light noted : Bool) → wanted_by waits light noted (state weights need asked []) ≡ []
   by false light noted = refl
   by true true noted = refl
   by true false true = refl
   by true false false = refl
 
-shorter : (turns : ℕ) (site : ℕ) (sites rest : List ℕ) → length rest ≤ suc turns → rest ≡ site ∷ sites → length sites ≤ turns
+shorter : (turns : ℕ) (site : ℕ) (sites rest : List ℕ) → length rest ≤ suc turns → rest ≡ site ∷ sites
+    → length sites ≤ turns
 shorter turns site sites rest few is = let same : length rest ≡ length (site ∷ sites) = ap length is in omega arith
 
-one_by_one_in : (turns : ℕ) (weights : List ℕ) (need : ℕ) (asked : List Asked) (rest : List ℕ) → length rest ≤ turns → IsWanted turns (state weights need asked rest)
+one_by_one_in : (turns : ℕ) (weights : List ℕ) (need : ℕ) (asked : List Asked) (rest : List ℕ) → length rest ≤ turns
+    → IsWanted turns (state weights need asked rest)
 one_by_one_in zero weights need asked rest few =
     subst (λ (ss : List ℕ). IsWanted 0 (state weights need asked ss)) (sym (nothing_left rest few))
     (ap (λ (ss : List ℕ). (ss, asking_all (state weights need asked []) ss)) (sym (no_rest weights need asked)))
 one_by_one_in (suc turns) weights need asked rest few =
-    by_tests turns weights need asked rest (is_waiting (verdict (state weights need asked rest))) (is_light weights need asked) (all_noted asked) refl
-    (λ site sites is. one_by_one_in turns weights need (with_site asked site) sites (shorter turns site sites rest few is))
+    by_tests turns weights need asked rest (is_waiting (verdict (state weights need asked rest)))
+        (is_light weights need asked) (all_noted asked) refl
+    (λ site sites is. one_by_one_in turns weights need (with_site asked site) sites
+        (shorter turns site sites rest few is))
 
-pub one_by_one : (turns : ℕ) (r : RoundState) → length r.rest ≤ turns → asking_in_turn turns r ≡ (wanted r, asking_all r (wanted r))
+pub one_by_one : (turns : ℕ) (r : RoundState) → length r.rest ≤ turns
+    → asking_in_turn turns r ≡ (wanted r, asking_all r (wanted r))
 one_by_one turns r few = one_by_one_in turns r.weights r.need r.asked r.rest few
 
 -- the sites of positive weight from one on
 
-range_more : (site end : ℕ) → site < end → range_with_len site (end - site) ≡ site ∷ range_with_len (site + 1) (end - (site + 1))
-range_more site end low = let more : end - site ≡ suc (end - (site + 1)) = omega arith in ap (λ n. range_with_len site n) more
+range_more : (site end : ℕ) → site < end
+    → range_with_len site (end - site) ≡ site ∷ range_with_len (site + 1) (end - (site + 1))
+range_more site end low =
+    let more : end - site ≡ suc (end - (site + 1)) = omega arith in
+    ap (λ n. range_with_len site n) more
 
 weighing_step : (weights xs : List ℕ) (site end : ℕ) (t : Bool) → nat_lt 0 (slice_index weights site) ≡ t → site < end
-    → cond t (xs ++ site ∷ []) xs ++ weighing weights (range_with_len (site + 1) (end - (site + 1))) ≡ xs ++ weighing weights (range_with_len site (end - site))
+    → cond t (xs ++ site ∷ []) xs ++ weighing weights (range_with_len (site + 1) (end - (site + 1)))
+        ≡ xs ++ weighing weights (range_with_len site (end - site))
 weighing_step weights xs site end t is low =
-    by t ∙ ap (λ u. xs ++ cond u (site ∷ rest) rest) (sym is) ∙ ap (λ ns. xs ++ weighing weights ns) (sym (range_more site end low)) where
+    by t ∙ ap (λ u. xs ++ cond u (site ∷ rest) rest) (sym is)
+        ∙ ap (λ ns. xs ++ weighing weights ns) (sym (range_more site end low)) where
       rest : List ℕ
       rest = weighing weights (range_with_len (site + 1) (end - (site + 1)))
 
@@ -222,38 +124,52 @@ is_positive n h = grind (arith, nat_tests)
 is_zero : (n : ℕ) → n ≤ 0 → nat_lt 0 n ≡ false
 is_zero n h = grind (arith, nat_tests)
 
-sites_push : (items : List Asked) (a : Asked) → map (λ (x : Asked). x.site) (items ++ a ∷ []) ≡ map (λ (x : Asked). x.site) items ++ a.site ∷ []
+sites_push : (items : List Asked) (a : Asked)
+    → map (λ (x : Asked). x.site) (items ++ a ∷ []) ≡ map (λ (x : Asked). x.site) items ++ a.site ∷ []
 sites_push items a = map-append (λ (x : Asked). x.site) items (a ∷ [])
 
-pub weighing_on : (weights : List ℕ) (items : List Asked) (a : Asked) (site end : ℕ) → a.site ≡ site → 0 < slice_index weights site → site < end
-    → map (λ (x : Asked). x.site) (items ++ a ∷ []) ++ weighing weights (range_with_len (site + 1) (end - (site + 1))) ≡ map (λ (x : Asked). x.site) items ++ weighing weights (range_with_len site (end - site))
+pub weighing_on : (weights : List ℕ) (items : List Asked) (a : Asked) (site end : ℕ) → a.site ≡ site
+    → 0 < slice_index weights site → site < end
+    → map (λ (x : Asked). x.site) (items ++ a ∷ []) ++ weighing weights (range_with_len (site + 1) (end - (site + 1)))
+        ≡ map (λ (x : Asked). x.site) items ++ weighing weights (range_with_len site (end - site))
 weighing_on weights items a site end same some low =
-    ap (λ ns. ns ++ weighing weights (range_with_len (site + 1) (end - (site + 1)))) (sites_push items a ∙ ap (λ n. map (λ (x : Asked). x.site) items ++ n ∷ []) same)
-    ∙ weighing_step weights (map (λ (x : Asked). x.site) items) site end true (is_positive (slice_index weights site) some) low
+    ap (λ ns. ns ++ weighing weights (range_with_len (site + 1) (end - (site + 1))))
+        (sites_push items a ∙ ap (λ n. map (λ (x : Asked). x.site) items ++ n ∷ []) same)
+    ∙ weighing_step weights (map (λ (x : Asked). x.site) items) site end true
+        (is_positive (slice_index weights site) some) low
 
 pub weighing_past : (weights : List ℕ) (items : List Asked) (site end : ℕ) → slice_index weights site ≤ 0 → site < end
-    → map (λ (x : Asked). x.site) items ++ weighing weights (range_with_len (site + 1) (end - (site + 1))) ≡ map (λ (x : Asked). x.site) items ++ weighing weights (range_with_len site (end - site))
-weighing_past weights items site end none low = weighing_step weights (map (λ (x : Asked). x.site) items) site end false (is_zero (slice_index weights site) none) low
+    → map (λ (x : Asked). x.site) items ++ weighing weights (range_with_len (site + 1) (end - (site + 1)))
+        ≡ map (λ (x : Asked). x.site) items ++ weighing weights (range_with_len site (end - site))
+weighing_past weights items site end none low =
+    weighing_step weights (map (λ (x : Asked). x.site) items) site end false (is_zero (slice_index weights site) none)
+    low
 
 -- a note in the sites of a round
 
-pub note_some : (weights : List ℕ) (need : ℕ) (sites : List Asked) (n p site : ℕ) (standing : Standing) → p < n → p ≡ place_in site (take n sites)
-    → state weights need (take n (set sites p (record { site = site; standing = Some standing }))) (map (λ (a : Asked). a.site) (drop n (set sites p (record { site = site; standing = Some standing }))))
+pub note_some : (weights : List ℕ) (need : ℕ) (sites : List Asked) (n p site : ℕ) (standing : Standing) → p < n
+    → p ≡ place_in site (take n sites)
+    → state weights need (take n (set sites p (record { site = site; standing = Some standing })))
+        (map (λ (a : Asked). a.site) (drop n (set sites p (record { site = site; standing = Some standing }))))
     ≡ state weights need (note_in site standing (take n sites)) (map (λ (a : Asked). a.site) (drop n sites))
 note_some weights need sites n p site standing low place =
     let front : take n (set sites p (record { site = site; standing = Some standing })) ≡ note_in site standing (take n sites) =
     take-set-lt n sites p (record { site = site; standing = Some standing }) low
-    ∙ ap (λ k. set (take n sites) k (record { site = site; standing = Some standing })) place ∙ sym (note_put site standing (take n sites)) in
-    let back : drop n (set sites p (record { site = site; standing = Some standing })) ≡ drop n sites = drop-set-lt n sites p (record { site = site; standing = Some standing }) low in
+    ∙ ap (λ k. set (take n sites) k (record { site = site; standing = Some standing })) place
+        ∙ sym (note_put site standing (take n sites)) in
+    let back : drop n (set sites p (record { site = site; standing = Some standing })) ≡ drop n sites =
+            drop-set-lt n sites p (record { site = site; standing = Some standing }) low in
     λ i. state weights need (front i) (map (λ (a : Asked). a.site) (back i))
 
-pub note_none : (weights : List ℕ) (need : ℕ) (sites : List Asked) (n p site : ℕ) (standing : Standing) (rest : List ℕ) → n ≤ p → p ≡ place_in site (take n sites)
+pub note_none : (weights : List ℕ) (need : ℕ) (sites : List Asked) (n p site : ℕ) (standing : Standing) (rest : List ℕ)
+    → n ≤ p → p ≡ place_in site (take n sites)
     → state weights need (take n sites) rest ≡ state weights need (note_in site standing (take n sites)) rest
 note_none weights need sites n p site standing rest past place =
     let size : length (take n sites) ≤ n = simp length-take (omega arith) in
     let same : note_in site standing (take n sites) ≡ take n sites =
     note_put site standing (take n sites)
-    ∙ ap (λ k. set (take n sites) k (record { site = site; standing = Some standing })) (sym place) ∙ set_past (take n sites) p (record { site = site; standing = Some standing }) (omega arith) in
+    ∙ ap (λ k. set (take n sites) k (record { site = site; standing = Some standing })) (sym place)
+        ∙ set_past (take n sites) p (record { site = site; standing = Some standing }) (omega arith) in
     λ i. state weights need (sym same i) rest
 
 -- a round over no site

@@ -4,7 +4,7 @@ use Rattle.std.proofs.Common.{append_assoc, cond, true, false}
 use Rattle.std.proofs.Common.{append-nil}
 use Rattle.qc_core.specs.Names.{ActorMove, actor_after}
 use Rattle.qc_core.specs.declared.actor.Actor.TheVariants.{Down}
-use Rattle.qc_core.proofs.LivesLaws.{falls as after_fall}
+use Rattle.qc_core.proofs.LivesOfActors.{falls as after_fall}
 use Rattle.qc_decl.specs.declared.declaration.Declaration.{Declaration}
 use Rattle.qc_msg.specs.Names.{Deed, Entry, Falls, by, deeds, deeds_as, fell, mail, marked, posted_as, sends_of}
 use Rattle.qc_msg.specs.Names.{tells_of}
@@ -15,7 +15,8 @@ use Rattle.qc_msg.specs.declared.step.Step.TheVariants as steps
 use Rattle.qc_msg.specs.declared.turn.Appended.{Appended}
 use Rattle.qc_msg.specs.declared.turn.Appended.TheVariants.{Done, Failed, Stopped}
 use Rattle.qc_msg.specs.declared.turn.Turn.{Turn}
-use Rattle.qc_msg.proofs.Growth.{deeds-append, deeds-fell, deeds-posted_as, same_deeds}
+use Rattle.qc_msg.proofs.DeedsGrow.{deeds-append, deeds-fell}
+use Rattle.qc_msg.proofs.Growth.{deeds-posted_as, same_deeds}
 use Rattle.qc_outside.specs.declared.disk.ArmKind.{ArmKind}
 use Rattle.qc_promise.specs.Names.{IsOfOthers}
 use Rattle.qc_process.specs.Names.{Goes, GoesArmed, IsProcess, IsStored, ProcessView}

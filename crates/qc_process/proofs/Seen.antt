@@ -7,7 +7,7 @@ use Rattle.qc_decl.specs.declared.declaration.Declaration.{Declaration}
 use Rattle.qc_msg.specs.Names.{Entry, by, own}
 use Rattle.qc_msg.specs.declared.step.Step.{Step}
 use Rattle.qc_msg.proofs.GrownMail.{by-append}
-use Rattle.qc_msg.proofs.Growth.{own-append}
+use Rattle.qc_msg.proofs.DeedsGrow.{own-append}
 use Rattle.qc_promise.specs.Names.{IsKeptOrUnfit, Journal, journal_of}
 use Rattle.qc_process.specs.Names.{AreKeptOrUnfit, Goes, HasFewRecords, IsPlaced, IsStored, OpenJournal, StoreView}
 use Rattle.qc_process.specs.Names.{journal_fits}

@@ -1,8 +1,8 @@
 -- A record has a spelling exactly where its numbers are in their ranges and its lists in their orders.
-use Rattle.std.proofs.Common.{◌≡◌, ◌↔◌, inl, inr, ℕ, ◌-◌, ◌^◌, ◌<◌, Bool, true, false, not, ◌==◌, ◌&&◌, ◌||◌, nat_eq, nat_lt, List, [], ◌∷◌, length, Option, Some, None, refl, sym, ap, ◌∙◌, arith}
+use Rattle.std.proofs.Common.{◌≡◌, ◌↔◌, inl, inr, ℕ, ◌-◌, ◌^◌, ◌<◌, Bool, true, false, ◌==◌, nat_eq}
+use Rattle.std.proofs.Common.{nat_lt, List, ◌∷◌, length, Some, None, refl, sym, ap, ◌∙◌, arith}
 use Rattle.std.proofs.lemmas.Bool.Decides.{nat_tests}
 use Rattle.std.specs.Cmp.{nat_cmp_is}
-use Rattle.std.specs.List.{AllByRecursion as Every}
 use Rattle.std.specs.Ordering.{nat_cmp, ordering_then}
 use Rattle.std.specs.declared.cmp.Ordering.{Ordering}
 use Rattle.std.specs.declared.cmp.Ordering.TheVariants.{Less, Equal, Greater}
@@ -15,143 +15,20 @@ use Rattle.qc_list.specs.Names.{IsBelowAll}
 use Rattle.qc_msg.specs.declared.record.Record.{Record}
 use Rattle.qc_msg.specs.declared.record.Record.TheVariants as records
 use Rattle.qc_record.specs.Names.{AreLines, AreLocks, AreOps, AreOwns, IsInForm, IsLine, IsLock, IsLockBelow, IsOp}
-use Rattle.qc_record.specs.Names.{IsOwn, IsOwnBelow, IsResponse, IsStart, IsTx, Rises, climbs, from_client, from_event}
-use Rattle.qc_record.specs.Names.{from_life, from_number, from_object, from_op, greatest_clock, is_legal, is_own_stamp}
-use Rattle.qc_record.specs.Names.{is_response, items_are_legal, line_form, lines_form, lock_floor, lock_form}
-use Rattle.qc_record.specs.Names.{locks_form, op_form, ops_form, own_floor, own_form, owns_form, response_form}
-use Rattle.qc_record.specs.Names.{start_form, tied, tops, tx_form, within}
+use Rattle.qc_record.specs.Names.{IsOwn, IsOwnBelow, IsStart, Rises, from_client, from_event}
+use Rattle.qc_record.specs.Names.{from_life, from_number, from_object, from_op, greatest_clock, is_legal}
+use Rattle.qc_record.specs.Names.{items_are_legal, line_form, lines_form, lock_form}
+use Rattle.qc_record.specs.Names.{locks_form, op_form, ops_form, own_form, owns_form}
+use Rattle.qc_record.specs.Names.{start_form, within}
 use Rattle.qc_record.proofs.Cuts.{both_true}
 use Rattle.qc_record.proofs.Exact.{same_number}
 use Rattle.qc_record.proofs.Exactness.{true_both}
 use Rattle.qc_record.proofs.Logs.{Rise, rise, equal, flat, ascends}
-use Rattle.qc_record.proofs.Ranges.{ranged, in_range, at_most, climb_range, top_range, free_climb, free_top, fall, last, last_of, each_of, rises_of, legal_of}
-use Rattle.qc_stamp.specs.declared.stamp.TxId.{TxId}
-
--- transactions
-
-tx_of : (tx : TxId) → tx_form.is_legal tx ≡ true → IsTx tx
-tx_of tx e =
-    let b = both_true _ _ e in
-    let c = both_true _ _ b.1 in
-    record { client = (ranged 0 15 tx.client b.0).1; life = ranged 1 (2 ^ 32 - 1) tx.life c.0; number = ranged 1 (2 ^ 32 - 1) tx.number c.1 }
-
-of_tx : (tx : TxId) → IsTx tx → tx_form.is_legal tx ≡ true
-of_tx tx h = true_both _ _ (in_range 0 15 tx.client (at_most 15 tx.client h.client)) (true_both _ _ (in_range 1 (2 ^ 32 - 1) tx.life h.life) (in_range 1 (2 ^ 32 - 1) tx.number h.number))
-
--- locks
-
-lock_of : (before : Option ReadLock) (l : ReadLock) → (lock_form before).is_legal l ≡ true → IsLock l
-lock_of before l e =
-    let b = both_true (climbs 0 15 (lock_floor before) l.object) (tops 0 31 (tied (lock_floor before) l.object) l.inv) e in
-    record { object = (climb_range 0 15 l.object (lock_floor before) b.0).1; inv = (top_range 0 31 l.inv (tied (lock_floor before) l.object) b.1).1 }
-
-lock_above : (a l : ReadLock) → (lock_form (Some a)).is_legal l ≡ true → IsLockBelow a l
-lock_above a l e = rise 0 15 a.object l.object (a.inv ∷ []) (λ f. tops 0 31 f l.inv) e (λ h. last_of 0 31 a.inv l.inv h)
-
-of_lock : (l : ReadLock) → IsLock l → (lock_form None).is_legal l ≡ true
-of_lock l h = true_both (climbs 0 15 [] l.object) (tops 0 31 [] l.inv) (free_climb 0 15 l.object (at_most 15 l.object h.object)) (free_top 0 31 l.inv (at_most 31 l.inv h.inv))
-
-of_lock_above : (a l : ReadLock) → IsLock a → IsLock l → IsLockBelow a l → (lock_form (Some a)).is_legal l ≡ true
-of_lock_above a l ha h below =
-    let inv = at_most 31 l.inv h.inv in
-    fall 0 15 a.object l.object (a.inv ∷ []) (λ f. tops 0 31 f l.inv) (at_most 15 l.object h.object) below (free_top 0 31 l.inv inv) (λ up. last 0 31 a.inv l.inv inv up)
-
--- own lines
-
-own_of : (before : Option OwnLine) (o : OwnLine) → (own_form before).is_legal o ≡ true → IsOwn o
-own_of before o e =
-    let b = both_true (tops 1 16 (own_floor before) o.op) (within 0 15 o.object && within 0 63 o.event) e in
-    let c = both_true (within 0 15 o.object) (within 0 63 o.event) b.1 in
-    record { op = top_range 1 16 o.op (own_floor before) b.0; object = (ranged 0 15 o.object c.0).1; event = (ranged 0 63 o.event c.1).1 }
-
-own_above : (a o : OwnLine) → (own_form (Some a)).is_legal o ≡ true → IsOwnBelow a o
-own_above a o e = last_of 1 16 a.op o.op (both_true (tops 1 16 (a.op ∷ []) o.op) (within 0 15 o.object && within 0 63 o.event) e).0
-
-own_rest : (o : OwnLine) → IsOwn o → (within 0 15 o.object && within 0 63 o.event) ≡ true
-own_rest o h = true_both _ _ (in_range 0 15 o.object (at_most 15 o.object h.object)) (in_range 0 63 o.event (at_most 63 o.event h.event))
-
-of_own : (o : OwnLine) → IsOwn o → (own_form None).is_legal o ≡ true
-of_own o h = true_both (tops 1 16 [] o.op) (within 0 15 o.object && within 0 63 o.event) (free_top 1 16 o.op h.op) (own_rest o h)
-
-of_own_above : (a o : OwnLine) → IsOwn a → IsOwn o → IsOwnBelow a o → (own_form (Some a)).is_legal o ≡ true
-of_own_above a o ha h below = true_both (tops 1 16 (a.op ∷ []) o.op) (within 0 15 o.object && within 0 63 o.event) (last 1 16 a.op o.op h.op below) (own_rest o h)
-
--- operations
-
-response_of : (resp : Option ℕ) → response_form.is_legal resp ≡ true → IsResponse resp
-response_of None e = tt
-response_of (Some n) e =
-    let b = both_true (not (n == 255)) (is_response n) e in
-    let apart : not (n == 255) ≡ true = b.0 in
-    let known : (within 0 31 n || (n == 255)) ≡ true = b.1 in
-    grind (arith, nat_tests, apart, known)
-
-of_response : (resp : Option ℕ) → IsResponse resp → response_form.is_legal resp ≡ true
-of_response None h = refl
-of_response (Some n) h =
-    let apart : not (n == 255) ≡ true = grind (arith, nat_tests, h) in
-    let known : (within 0 31 n || (n == 255)) ≡ true = grind (arith, nat_tests, h) in
-    true_both _ _ apart known
-
-op_of : (before : Option Op) (o : Op) → (op_form before).is_legal o ≡ true → IsOp o
-op_of before o e =
-    let b = both_true _ _ e in
-    let c = both_true _ _ b.1 in
-    record { object = (ranged 0 15 o.object b.0).1; inv = (ranged 0 31 o.inv c.0).1; resp = response_of o.resp c.1 }
-
-of_op : (o : Op) → IsOp o → (before : Option Op) → (op_form before).is_legal o ≡ true
-of_op o h before = true_both _ _ (in_range 0 15 o.object (at_most 15 o.object h.object)) (true_both _ _ (in_range 0 31 o.inv (at_most 31 o.inv h.inv)) (of_response o.resp h.resp))
-
-of_ops : (before : Option Op) (ops : List Op) → Every IsOp ops → items_are_legal op_form before ops ≡ true
-of_ops before [] every = refl
-of_ops before (o ∷ ops) every = true_both _ _ (of_op o every.0 before) (of_ops (Some o) ops every.1)
-
--- lines
-
-of_true : (l : Line) → is_own_stamp l ≡ true → l.stamp.client ≡ l.tx.client
-of_true l e = same_number l.stamp.client l.tx.client e
-
-line_of : (before : Option Line) (l : Line) → (line_form before).is_legal l ≡ true → IsLine l
-line_of before l e =
-    let s = both_true _ _ e in
-    let c = both_true _ _ s.1 in
-    let k = both_true _ _ c.1 in
-    let i = both_true _ _ k.1 in
-    let n = both_true _ _ i.1 in
-    let o = both_true _ _ n.1 in
-    let j = both_true _ _ o.1 in
-    record {
-      stamp = of_true l s.0;
-      clock = climb_range 1 greatest_clock l.stamp.clock _ c.0;
-      tx = record { client = (climb_range 0 15 l.tx.client _ k.0).1; life = climb_range 1 (2 ^ 32 - 1) l.tx.life _ i.0; number = climb_range 1 (2 ^ 32 - 1) l.tx.number _ n.0 };
-      op = climb_range 1 16 l.op _ o.0;
-      object = (climb_range 0 15 l.object _ j.0).1;
-      event = (top_range 0 63 l.event _ j.1).1;
-    }
-
-free_event : (l : Line) → IsLine l → (from_event []).is_legal l.event ≡ true
-free_event l h = free_top 0 63 l.event (at_most 63 l.event h.event)
-
-free_object : (l : Line) → IsLine l → (from_object []).is_legal (l.object, l.event) ≡ true
-free_object l h = true_both _ _ (free_climb 0 15 l.object (at_most 15 l.object h.object)) (free_event l h)
-
-free_op : (l : Line) → IsLine l → (from_op []).is_legal (l.op, (l.object, l.event)) ≡ true
-free_op l h = true_both _ _ (free_climb 1 16 l.op h.op) (free_object l h)
-
-free_number : (l : Line) → IsLine l → (from_number []).is_legal (l.tx.number, (l.op, (l.object, l.event))) ≡ true
-free_number l h = true_both _ _ (free_climb 1 (2 ^ 32 - 1) l.tx.number h.tx.number) (free_op l h)
-
-free_life : (l : Line) → IsLine l → (from_life []).is_legal (l.tx.life, (l.tx.number, (l.op, (l.object, l.event)))) ≡ true
-free_life l h = true_both _ _ (free_climb 1 (2 ^ 32 - 1) l.tx.life h.tx.life) (free_number l h)
-
-free_client : (l : Line) → IsLine l → (from_client []).is_legal (l.tx.client, (l.tx.life, (l.tx.number, (l.op, (l.object, l.event))))) ≡ true
-free_client l h = true_both _ _ (free_climb 0 15 l.tx.client (at_most 15 l.tx.client h.tx.client)) (free_life l h)
-
-own_stamp : (l : Line) → IsLine l → is_own_stamp l ≡ true
-own_stamp l h = let same = h.stamp in grind (arith, nat_tests, same)
-
-of_line : (l : Line) → IsLine l → (line_form None).is_legal l ≡ true
-of_line l h = true_both _ _ (own_stamp l h) (true_both _ _ (free_climb 1 greatest_clock l.stamp.clock h.clock) (free_client l h))
+use Rattle.qc_record.proofs.Ranges.{ranged, in_range, at_most, fall, last}
+use Rattle.qc_record.proofs.Ranges.{each_of, rises_of, legal_of}
+use Rattle.qc_record.proofs.LinesInForm.{tx_of, of_tx, lock_of, lock_above, of_lock, of_lock_above, own_of, own_above}
+use Rattle.qc_record.proofs.LinesInForm.{of_own, of_own_above, op_of, of_ops, line_of, free_event, free_object, free_op}
+use Rattle.qc_record.proofs.LinesInForm.{free_number, free_life, free_client, own_stamp, of_line}
 
 -- the order of lines tells where they rise
 
@@ -163,7 +40,9 @@ unrise a b o e = by (nat_lt a b) (nat_eq a b) refl refl
   where
     by : (t u : Bool) → nat_lt a b ≡ t → nat_eq a b ≡ u → Rise a b (o ≡ Less)
     by true u low tie = let below : a < b = grind (arith, nat_tests, low) in inl below
-    by false true low tie = let same : a ≡ b = grind (arith, nat_tests, tie) in inr (same, sym (ap (λ x. ordering_then x o) (equal a b same)) ∙ e)
+    by false true low tie =
+        let same : a ≡ b = grind (arith, nat_tests, tie) in
+        inr (same, sym (ap (λ x. ordering_then x o) (equal a b same)) ∙ e)
     by false false low tie =
         let over : b < a = grind (arith, nat_tests, low, tie) in
         let no : Greater ≡ Less = sym (ap (λ x. ordering_then x o) (greater a b over)) ∙ e in
@@ -184,7 +63,8 @@ unless a b e = by (nat_lt a b) (nat_eq a b) refl refl
         absurd cc
 
 -- the stamp's clients, and the transactions'
-untwice : (s t a b : ℕ) (o : Ordering) → s ≡ a → t ≡ b → ordering_then (nat_cmp s t) (ordering_then (nat_cmp a b) o) ≡ Less → Rise a b (o ≡ Less)
+untwice : (s t a b : ℕ) (o : Ordering) → s ≡ a → t ≡ b
+    → ordering_then (nat_cmp s t) (ordering_then (nat_cmp a b) o) ≡ Less → Rise a b (o ≡ Less)
 untwice s t a b o p q e = by (unrise s t (ordering_then (nat_cmp a b) o) e)
   where
     by : Rise s t (ordering_then (nat_cmp a b) o ≡ Less) → Rise a b (o ≡ Less)
@@ -211,7 +91,8 @@ of_line_above a l ha h below =
 abbrev IsLineBelow : Line → Line → Type 0
 IsLineBelow a b = line_cmp a b ≡ Less
 
-line_rises_from : (a : Line) (xs : List Line) → IsBelowAll line_cmp a xs → IsAscending xs → Rises IsLineBelow (Some a) xs
+line_rises_from : (a : Line) (xs : List Line) → IsBelowAll line_cmp a xs → IsAscending xs
+    → Rises IsLineBelow (Some a) xs
 line_rises_from a [] below ascending = tt
 line_rises_from a (x ∷ xs) below ascending = (below.0, line_rises_from x xs ascending.0 ascending.1)
 
@@ -224,26 +105,44 @@ line_rises (x ∷ xs) ascending = (tt, line_rises_from x xs ascending.0 ascendin
 locks_of : (xs : List ReadLock) → locks_form.is_legal xs ≡ true → AreLocks xs
 locks_of xs e =
     let b = both_true (within 0 (2 ^ 16 - 1) (length xs)) (items_are_legal lock_form None xs) e in
-    record { few = (ranged 0 (2 ^ 16 - 1) (length xs) b.0).1; each_is = each_of lock_form IsLock lock_of None xs b.1; rise = rises_of lock_form IsLockBelow lock_above xs b.1 }
+    record {
+          few = (ranged 0 (2 ^ 16 - 1) (length xs) b.0).1;
+          each_is = each_of lock_form IsLock lock_of None xs b.1;
+          rise = rises_of lock_form IsLockBelow lock_above xs b.1
+        }
 
 of_locks : (xs : List ReadLock) → AreLocks xs → locks_form.is_legal xs ≡ true
-of_locks xs h = true_both _ _ (in_range 0 (2 ^ 16 - 1) (length xs) (at_most (2 ^ 16 - 1) (length xs) h.few)) (legal_of lock_form IsLock IsLockBelow of_lock of_lock_above xs h.each_is h.rise)
+of_locks xs h =
+    true_both _ _ (in_range 0 (2 ^ 16 - 1) (length xs) (at_most (2 ^ 16 - 1) (length xs) h.few))
+    (legal_of lock_form IsLock IsLockBelow of_lock of_lock_above xs h.each_is h.rise)
 
 owns_of : (xs : List OwnLine) → owns_form.is_legal xs ≡ true → AreOwns xs
 owns_of xs e =
     let b = both_true (within 0 16 (length xs)) (items_are_legal own_form None xs) e in
-    record { few = (ranged 0 16 (length xs) b.0).1; each_is = each_of own_form IsOwn own_of None xs b.1; rise = rises_of own_form IsOwnBelow own_above xs b.1 }
+    record {
+          few = (ranged 0 16 (length xs) b.0).1;
+          each_is = each_of own_form IsOwn own_of None xs b.1;
+          rise = rises_of own_form IsOwnBelow own_above xs b.1
+        }
 
 of_owns : (xs : List OwnLine) → AreOwns xs → owns_form.is_legal xs ≡ true
-of_owns xs h = true_both _ _ (in_range 0 16 (length xs) (at_most 16 (length xs) h.few)) (legal_of own_form IsOwn IsOwnBelow of_own of_own_above xs h.each_is h.rise)
+of_owns xs h =
+    true_both _ _ (in_range 0 16 (length xs) (at_most 16 (length xs) h.few))
+    (legal_of own_form IsOwn IsOwnBelow of_own of_own_above xs h.each_is h.rise)
 
 lines_of : (xs : List Line) → lines_form.is_legal xs ≡ true → AreLines xs
 lines_of xs e =
     let b = both_true (within 0 (2 ^ 32 - 1) (length xs)) (items_are_legal line_form None xs) e in
-    record { few = (ranged 0 (2 ^ 32 - 1) (length xs) b.0).1; each_is = each_of line_form IsLine line_of None xs b.1; rise = ascends None xs b.1 }
+    record {
+          few = (ranged 0 (2 ^ 32 - 1) (length xs) b.0).1;
+          each_is = each_of line_form IsLine line_of None xs b.1;
+          rise = ascends None xs b.1
+        }
 
 of_lines : (xs : List Line) → AreLines xs → lines_form.is_legal xs ≡ true
-of_lines xs h = true_both _ _ (in_range 0 (2 ^ 32 - 1) (length xs) (at_most (2 ^ 32 - 1) (length xs) h.few)) (legal_of line_form IsLine IsLineBelow of_line of_line_above xs h.each_is (line_rises xs h.rise))
+of_lines xs h =
+    true_both _ _ (in_range 0 (2 ^ 32 - 1) (length xs) (at_most (2 ^ 32 - 1) (length xs) h.few))
+    (legal_of line_form IsLine IsLineBelow of_line of_line_above xs h.each_is (line_rises xs h.rise))
 
 ops_of : (xs : List Op) → ops_form.is_legal xs ≡ true → AreOps xs
 ops_of xs e =
@@ -255,14 +154,23 @@ ops_are xs h = true_both _ _ (in_range 0 16 (length xs) (at_most 16 (length xs) 
 
 -- records
 
-start_of : (epoch clock : ℕ) (lines : List Line) → start_form.is_legal (epoch, (clock, lines)) ≡ true → IsStart epoch clock lines
+start_of : (epoch clock : ℕ) (lines : List Line) → start_form.is_legal (epoch, (clock, lines)) ≡ true
+    → IsStart epoch clock lines
 start_of epoch clock lines e =
     let b = both_true _ _ e in
     let c = both_true _ _ b.1 in
-    record { epoch_is = ranged 1 8 epoch b.0; clock_is = (ranged 0 greatest_clock clock c.0).1; lines_are = lines_of lines c.1 }
+    record {
+          epoch_is = ranged 1 8 epoch b.0;
+          clock_is = (ranged 0 greatest_clock clock c.0).1;
+          lines_are = lines_of lines c.1
+        }
 
-of_start : (epoch clock : ℕ) (lines : List Line) → IsStart epoch clock lines → start_form.is_legal (epoch, (clock, lines)) ≡ true
-of_start epoch clock lines h = true_both _ _ (in_range 1 8 epoch h.epoch_is) (true_both _ _ (in_range 0 greatest_clock clock (at_most greatest_clock clock h.clock_is)) (of_lines lines h.lines_are))
+of_start : (epoch clock : ℕ) (lines : List Line) → IsStart epoch clock lines
+    → start_form.is_legal (epoch, (clock, lines)) ≡ true
+of_start epoch clock lines h =
+    true_both _ _ (in_range 1 8 epoch h.epoch_is)
+    (true_both _ _ (in_range 0 greatest_clock clock (at_most greatest_clock clock h.clock_is))
+      (of_lines lines h.lines_are))
 
 form_of : (rec : Record) → is_legal rec ≡ true → IsInForm rec
 form_of records.Life e = tt
@@ -271,7 +179,13 @@ form_of (records.Prepare p) e =
     let b = both_true _ _ t.1 in
     let k = both_true _ _ b.1 in
     let o = both_true _ _ k.1 in
-    record { tx = tx_of p.tx t.0; epoch = ranged 1 8 p.epoch b.0; locks = locks_of p.locks k.0; own = owns_of p.own o.0; lines = lines_of p.lines o.1 }
+    record {
+          tx = tx_of p.tx t.0;
+          epoch = ranged 1 8 p.epoch b.0;
+          locks = locks_of p.locks k.0;
+          own = owns_of p.own o.0;
+          lines = lines_of p.lines o.1
+        }
 form_of (records.Done tx clock) e = let b = both_true _ _ e in (tx_of tx b.0, ranged 1 greatest_clock clock b.1)
 form_of (records.Close epoch) e = ranged 1 8 epoch e
 form_of (records.Install epoch clock lines) e = start_of epoch clock lines e
@@ -279,19 +193,29 @@ form_of (records.Commit c) e =
     let s = both_true _ _ e in
     let t = both_true _ _ s.1 in
     let k = both_true _ _ t.1 in
-    record { stamp = same_number c.stamp.client c.tx.client s.0; tx = tx_of c.tx t.0; clock = ranged 1 greatest_clock c.stamp.clock k.0; ops = ops_of c.ops k.1 }
+    record {
+          stamp = same_number c.stamp.client c.tx.client s.0;
+          tx = tx_of c.tx t.0;
+          clock = ranged 1 greatest_clock c.stamp.clock k.0;
+          ops = ops_of c.ops k.1
+        }
 form_of (records.Decide epoch clock lines) e = start_of epoch clock lines e
 
 of_form : (rec : Record) → IsInForm rec → is_legal rec ≡ true
 of_form records.Life h = refl
-of_form (records.Prepare p) h = true_both _ _ (of_tx p.tx h.tx) (true_both _ _ (in_range 1 8 p.epoch h.epoch) (true_both _ _ (of_locks p.locks h.locks) (true_both _ _ (of_owns p.own h.own) (of_lines p.lines h.lines))))
+of_form (records.Prepare p) h =
+    true_both _ _ (of_tx p.tx h.tx)
+    (true_both _ _ (in_range 1 8 p.epoch h.epoch)
+      (true_both _ _ (of_locks p.locks h.locks) (true_both _ _ (of_owns p.own h.own) (of_lines p.lines h.lines))))
 of_form (records.Done tx clock) h = true_both _ _ (of_tx tx h.0) (in_range 1 greatest_clock clock h.1)
 of_form (records.Close epoch) h = in_range 1 8 epoch h
 of_form (records.Install epoch clock lines) h = of_start epoch clock lines h
 of_form (records.Commit c) h =
     let same = h.stamp in
     let own : (c.stamp.client == c.tx.client) ≡ true = grind (arith, nat_tests, same) in
-    true_both _ _ own (true_both _ _ (of_tx c.tx h.tx) (true_both _ _ (in_range 1 greatest_clock c.stamp.clock h.clock) (ops_are c.ops h.ops)))
+    true_both _ _ own
+        (true_both _ _ (of_tx c.tx h.tx)
+          (true_both _ _ (in_range 1 greatest_clock c.stamp.clock h.clock) (ops_are c.ops h.ops)))
 of_form (records.Decide epoch clock lines) h = of_start epoch clock lines h
 
 pub legal_is : (rec : Record) → (is_legal rec ≡ true) ↔ IsInForm rec

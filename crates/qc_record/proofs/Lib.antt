@@ -8,6 +8,7 @@ pub mod Frames
 pub mod Ends
 pub mod Logs
 pub mod Ranges
+pub mod LinesInForm
 pub mod InForm
 pub mod Puts
 pub mod Lengths

@@ -25,7 +25,7 @@ use Rattle.qc_script.specs.Names.{wrote_record}
 use Rattle.qc_script.specs.Runs.{begins, takes, posts, phase, control}
 use Rattle.qc_script.specs.declared.script.PhaseLines.{PhaseLines}
 use Rattle.qc_script.specs.declared.script.Script.{Script}
-use Rattle.qc_script.proofs.Inboxes.{opened_keeps, sends_does}
+use Rattle.qc_script.proofs.InboxesSend.{opened_keeps, sends_does}
 
 all_true : (n a : ℕ) → get_or (replicate n true) a true ≡ true
 all_true zero a = refl

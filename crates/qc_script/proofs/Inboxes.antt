@@ -1,207 +1,58 @@
 -- What the inboxes of two actors have in common: cuts, who is up, control lines, and the number of messages from the one
 -- to the other. So a message has one fate, for its sender and for its receiver.
-use Rattle.std.proofs.Common.{◌≡◌, ℕ, ◌+◌, ◌-◌, ◌<◌, ◌==◌, ◌&&◌, Bool, true, false, if◌then◌else◌, List, [], ◌∷◌, length, Option, Some, None, refl, ap, sym, subst, ◌∙◌}
+use Rattle.std.proofs.Common.{◌≡◌, ℕ, ◌+◌, ◌-◌, ◌<◌, ◌==◌, Bool, true, false, if◌then◌else◌, List, ◌∷◌}
+use Rattle.std.proofs.Common.{length, refl, ap, sym, ◌∙◌}
 use Rattle.std.specs.Prelude.{drop, set, slice_get}
 use Rattle.std.specs.List.{fold}
-use Rattle.std.specs.Option.{option_map_or}
-use Rattle.std.proofs.lemmas.Bool.{eqb-false, eqb-true}
-use Rattle.std.proofs.lemmas.List.{get_or-replicate, get_or-set_other, get_or-set_same, length-set}
+use Rattle.std.proofs.lemmas.List.{get_or-replicate}
 use Rattle.qc_link.specs.Names.{fate, most_actors, with_cut, without_cut}
 use Rattle.qc_link.specs.declared.plan.Link.{Link}
-use Rattle.qc_link.specs.declared.rule.Fate.{Fate}
 use Rattle.qc_msg.specs.declared.message.Envelope.{Envelope}
-use Rattle.qc_msg.specs.declared.message.Message.{Message}
-use Rattle.qc_msg.specs.declared.message.Message.TheVariants as messages
 use Rattle.qc_msg.specs.declared.step.Control.{Control}
 use Rattle.qc_msg.specs.declared.step.Fall.{Fall}
 use Rattle.qc_msg.specs.declared.step.Step.{Step}
 use Rattle.qc_msg.specs.declared.step.Step.TheVariants as steps
 use Rattle.qc_msg.specs.Names.{Entry}
-use Rattle.qc_script.specs.declared.script.PhaseLines.{PhaseLines}
 use Rattle.qc_script.specs.declared.script.Script.{Script}
-use Rattle.qc_script.specs.Names.{Inbox, acting, actor_fell, answers_by, comes, comes_at_once, comes_with}
-use Rattle.qc_script.specs.Names.{command_called, control_acted, copy_taken, count_of, emptied, empty_inbox, fell_by}
-use Rattle.qc_script.specs.Names.{goes, goes_with, has_request, inbox, inbox_at, is_by_line, is_request, is_up}
-use Rattle.qc_script.specs.Names.{loss_taken, one_more, opened, opened_by, phase_begun, reply_told, request_answered}
-use Rattle.qc_script.specs.Names.{request_sent, requests_to, requests_to_others, with_copies, with_lost, wrote_record}
-
--- another inbox with the same cuts, control lines and counts
-pub record Keeps (i j : Inbox) : Type 0 where
-  pub cuts : j.cuts ≡ i.cuts
-  pub up : j.up ≡ i.up
-  pub controls : j.controls ≡ i.controls
-  pub from_each : j.from_each ≡ i.from_each
-  pub to_each : j.to_each ≡ i.to_each
-
-same : (i : Inbox) → Keeps i i
-same i = record { cuts = refl; up = refl; controls = refl; from_each = refl; to_each = refl }
-
--- which of two inboxes, by a test
-by_test : (P : Inbox → Type 0) (t : Bool) (i j : Inbox) → P i → P j → P (if t then i else j)
-by_test P true i j here there = here
-by_test P false i j here there = there
-
-answered_keeps : (i : Inbox) (number : ℕ) (f : Fate) → Keeps i (request_answered i number f)
-answered_keeps i number f = by_test (Keeps i) (has_request i.unanswered number) _ i (record { cuts = refl; up = refl; controls = refl; from_each = refl; to_each = refl }) (same i)
-
-answers_keep : (i : Inbox) (m : Message) (f : Fate) → Keeps i (answers_by i m f)
-answers_keep i (messages.Request tx epoch life want) f = same i
-answers_keep i (messages.Answer to answer) f = answered_keeps i to f
-answers_keep i (messages.Decision tx verdict) f = same i
-answers_keep i (messages.Inquiry tx) f = same i
-answers_keep i (messages.Ask tx) f = same i
-answers_keep i (messages.Close epoch) f = same i
-answers_keep i (messages.Install epoch clock log) f = same i
-
-sent_keeps : (i : Inbox) (number to : ℕ) (f : Fate) → Keeps i (request_sent i number to f)
-sent_keeps i number to f =
-    by_test (Keeps i) (comes_at_once f && is_up i.up to) _ _
-    (record { cuts = refl; up = refl; controls = refl; from_each = refl; to_each = refl })
-    (record { cuts = refl; up = refl; controls = refl; from_each = refl; to_each = refl })
-
-pub opened_keeps : (a : ℕ) (lines : List Control) (i : Inbox) → Keeps i (opened_by a lines i)
-opened_keeps a [] i = record { cuts = refl; up = refl; controls = refl; from_each = refl; to_each = refl }
-opened_keeps a (line ∷ lines) i = same i
-
-emptied_keeps : (t : Bool) (i : Inbox) → Keeps i (emptied t i)
-emptied_keeps true i = record { cuts = refl; up = refl; controls = refl; from_each = refl; to_each = refl }
-emptied_keeps false i = same i
-
--- the inbox of a, and that of b, as far as they have in common; b sends to a
-pub record InCommon (a b : ℕ) (i j : Inbox) : Type 0 where
-  pub cuts : i.cuts ≡ j.cuts
-  pub up : i.up ≡ j.up
-  pub controls : i.controls ≡ j.controls
-  pub from_length : length i.from_each ≡ most_actors
-  pub to_length : length j.to_each ≡ most_actors
-  pub count : count_of i.from_each b ≡ count_of j.to_each a
-
--- what keeps each of the two keeps what they have in common
-kept : (a b : ℕ) (i j k l : Inbox) → InCommon a b i j → Keeps i k → Keeps j l → InCommon a b k l
-kept a b i j k l common first second = record {
-  cuts = first.cuts ∙ (common.cuts ∙ sym second.cuts);
-  up = first.up ∙ (common.up ∙ sym second.up);
-  controls = first.controls ∙ (common.controls ∙ sym second.controls);
-  from_length = ap (λ (c : List ℕ). length c) first.from_each ∙ common.from_length;
-  to_length = ap (λ (c : List ℕ). length c) second.to_each ∙ common.to_length;
-  count = ap (λ (c : List ℕ). count_of c b) first.from_each ∙ (common.count ∙ ap (λ (c : List ℕ). count_of c a) (sym second.to_each));
-}
-
--- a message that is sent: its receiver counts it by its sender, its sender by its receiver
-
-pub record Sends (i j : Inbox) (from_now to_now : List ℕ) : Type 0 where
-  pub cuts : j.cuts ≡ i.cuts
-  pub up : j.up ≡ i.up
-  pub controls : j.controls ≡ i.controls
-  pub from_each : j.from_each ≡ from_now
-  pub to_each : j.to_each ≡ to_now
-
-comes_with_does : (up : Bool) (i : Inbox) (e : Envelope) (f : Fate) → Sends i (comes_with up i e f) (one_more i.from_each e.from) i.to_each
-comes_with_does up i e f =
-    let after : Keeps (with_copies up i e f) (answers_by (with_copies up i e f) e.message f) = answers_keep (with_copies up i e f) e.message f in
-    record { cuts = after.cuts; up = after.up; controls = after.controls; from_each = after.from_each; to_each = after.to_each }
-
-comes_does : (links : List Link) (a : ℕ) (i : Inbox) (e : Envelope) → Sends i (comes links a i e) (if e.to == a then one_more i.from_each e.from else i.from_each) i.to_each
-comes_does links a i e = by (e.to == a)
-  where
-    by : (t : Bool) → Sends i (if t then comes_with (is_up i.up a) i e (fate links i.cuts e.from e.to (count_of i.from_each e.from + 1)) else i) (if t then one_more i.from_each e.from else i.from_each) i.to_each
-    by true = comes_with_does (is_up i.up a) i e (fate links i.cuts e.from e.to (count_of i.from_each e.from + 1))
-    by false = record { cuts = refl; up = refl; controls = refl; from_each = refl; to_each = refl }
-
-goes_with_does : (i : Inbox) (e : Envelope) (f : Fate) → Sends i (goes_with i e f) i.from_each (one_more i.to_each e.to)
-goes_with_does i e f = by (is_request e.message)
-  where
-    by : (t : Bool) → Sends i (if t then request_sent (record i { to_each = one_more i.to_each e.to }) e.number e.to f else (record i { to_each = one_more i.to_each e.to })) i.from_each (one_more i.to_each e.to)
-    by true =
-        let after : Keeps (record i { to_each = one_more i.to_each e.to }) (request_sent (record i { to_each = one_more i.to_each e.to }) e.number e.to f) = sent_keeps (record i { to_each = one_more i.to_each e.to }) e.number e.to f in
-        record { cuts = after.cuts; up = after.up; controls = after.controls; from_each = after.from_each; to_each = after.to_each }
-    by false = record { cuts = refl; up = refl; controls = refl; from_each = refl; to_each = refl }
-
-goes_does : (links : List Link) (a : ℕ) (i : Inbox) (e : Envelope) → Sends i (goes links a i e) i.from_each (if e.from == a then one_more i.to_each e.to else i.to_each)
-goes_does links a i e = by (e.from == a)
-  where
-    by : (t : Bool) → Sends i (if t then goes_with i e (fate links i.cuts e.from e.to (count_of i.to_each e.to + 1)) else i) i.from_each (if t then one_more i.to_each e.to else i.to_each)
-    by true = goes_with_does i e (fate links i.cuts e.from e.to (count_of i.to_each e.to + 1))
-    by false = record { cuts = refl; up = refl; controls = refl; from_each = refl; to_each = refl }
-
-pub sends_does : (links : List Link) (a : ℕ) (i : Inbox) (e : Envelope)
-    → Sends i (goes links a (comes links a i e) e) (if e.to == a then one_more i.from_each e.from else i.from_each) (if e.from == a then one_more i.to_each e.to else i.to_each)
-sends_does links a i e =
-    let first : Sends i (comes links a i e) (if e.to == a then one_more i.from_each e.from else i.from_each) i.to_each = comes_does links a i e in
-    let second : Sends (comes links a i e) (goes links a (comes links a i e) e) (comes links a i e).from_each (if e.from == a then one_more (comes links a i e).to_each e.to else (comes links a i e).to_each) =
-    goes_does links a (comes links a i e) e in
-    record {
-      cuts = second.cuts ∙ first.cuts;
-      up = second.up ∙ first.up;
-      controls = second.controls ∙ first.controls;
-      from_each = second.from_each ∙ first.from_each;
-      to_each = second.to_each ∙ ap (λ (c : List ℕ). if e.from == a then one_more c e.to else c) first.to_each;
-    }
-
--- counts with one message more
-
-count_same : (xs : List ℕ) (k : ℕ) → k < length xs → count_of (one_more xs k) k ≡ count_of xs k + 1
-count_same xs k within = get_or-set_same xs k (count_of xs k + 1) 0 within
-
-count_other : (xs : List ℕ) (k j : ℕ) → (j ≡ k → ⊥) → count_of (one_more xs k) j ≡ count_of xs j
-count_other xs k j differs = get_or-set_other xs k j (count_of xs k + 1) 0 differs
-
-length_more : (t : Bool) (xs : List ℕ) (k n : ℕ) → length xs ≡ n → length (if t then one_more xs k else xs) ≡ n
-length_more true xs k n is = length-set xs k (count_of xs k + 1) ∙ is
-length_more false xs k n is = is
-
-one_count : (a b to from : ℕ) (xs ys : List ℕ) → a < most_actors → b < most_actors → length xs ≡ most_actors → length ys ≡ most_actors → count_of xs b ≡ count_of ys a
-    → count_of (if to == a then one_more xs from else xs) b ≡ count_of (if from == b then one_more ys to else ys) a
-one_count a b to from xs ys a_within b_within xs_long ys_long count = by (to == a) (from == b) refl refl
-  where
-    by : (s t : Bool) → (to == a) ≡ s → (from == b) ≡ t → count_of (if s then one_more xs from else xs) b ≡ count_of (if t then one_more ys to else ys) a
-    by false false there other = count
-    by true false here other = count_other xs from b (λ e. eqb-false from b other (sym e)) ∙ count
-    by false true there mine = count ∙ sym (count_other ys to a (λ e. eqb-false to a there (sym e)))
-    by true true here mine =
-        let to_is : to ≡ a = eqb-true to a here in
-        let from_is : from ≡ b = eqb-true from b mine in
-        subst (λ (k : ℕ). count_of (one_more xs k) b ≡ count_of (one_more ys to) a) (sym from_is)
-        (subst (λ (k : ℕ). count_of (one_more xs b) b ≡ count_of (one_more ys k) a) (sym to_is)
-        (count_same xs b (subst (λ (n : ℕ). b < n) (sym xs_long) b_within)
-        ∙ (ap (λ (n : ℕ). n + 1) count ∙ sym (count_same ys a (subst (λ (n : ℕ). a < n) (sym ys_long) a_within)))))
-
--- each step
-
-settled_both : (a b : ℕ) (i j : Inbox) → InCommon a b i j
-    → InCommon a b (record i { controls = acting i.up i.controls }) (record j { controls = acting j.up j.controls })
-settled_both a b i j common = record {
-  cuts = common.cuts;
-  up = common.up;
-  controls = λ k. acting (common.up k) (common.controls k);
-  from_length = common.from_length;
-  to_length = common.to_length;
-  count = common.count;
-}
-
-opened_both : (a b : ℕ) (i j : Inbox) → InCommon a b i j → InCommon a b (opened a i) (opened b j)
-opened_both a b i j common =
-    kept a b _ _ (opened a i) (opened b j) (settled_both a b i j common)
-    (opened_keeps a (acting i.up i.controls) (record i { controls = acting i.up i.controls }))
-    (opened_keeps b (acting j.up j.controls) (record j { controls = acting j.up j.controls }))
-
-phases_both : (a b : ℕ) (i j : Inbox) (phase : Option PhaseLines) → InCommon a b i j → InCommon a b (option_map_or (phase_begun a i) phase i) (option_map_or (phase_begun b j) phase j)
-phases_both a b i j None common = common
-phases_both a b i j (Some phase) common =
-    opened_both a b _ _ (record { cuts = common.cuts; up = common.up; controls = refl; from_length = common.from_length; to_length = common.to_length; count = common.count })
+use Rattle.qc_script.specs.Names.{Inbox, actor_fell, comes}
+use Rattle.qc_script.specs.Names.{command_called, control_acted, copy_taken, count_of, empty_inbox, fell_by}
+use Rattle.qc_script.specs.Names.{goes, inbox, inbox_at, is_by_line, is_up}
+use Rattle.qc_script.specs.Names.{loss_taken, one_more, reply_told}
+use Rattle.qc_script.specs.Names.{requests_to, requests_to_others, with_lost, wrote_record}
+use Rattle.qc_script.proofs.InboxesSend.{Keeps, same, by_test, emptied_keeps, InCommon, kept, Sends, sends_does}
+use Rattle.qc_script.proofs.InboxesSend.{length_more, one_count, opened_both, phases_both}
 
 -- a control line acts
 acted_both : (a b : ℕ) (i j : Inbox) → InCommon a b i j → InCommon a b (control_acted a i) (control_acted b j)
 acted_both a b i j common =
-    opened_both a b _ _ (record { cuts = common.cuts; up = common.up; controls = ap (λ (lines : List Control). drop 1 lines) common.controls; from_length = common.from_length; to_length = common.to_length; count = common.count })
+    opened_both a b _ _
+        (record {
+            cuts = common.cuts;
+            up = common.up;
+            controls = ap (λ (lines : List Control). drop 1 lines) common.controls;
+            from_length = common.from_length;
+            to_length = common.to_length;
+            count = common.count
+          })
 
-cuts_both : (a b : ℕ) (i j : Inbox) (change : List Bool → List Bool) → InCommon a b i j → InCommon a b (control_acted a (record i { cuts = change i.cuts })) (control_acted b (record j { cuts = change j.cuts }))
+cuts_both : (a b : ℕ) (i j : Inbox) (change : List Bool → List Bool) → InCommon a b i j
+    → InCommon a b (control_acted a (record i { cuts = change i.cuts }))
+      (control_acted b (record j { cuts = change j.cuts }))
 cuts_both a b i j change common =
-    acted_both a b _ _ (record { cuts = ap change common.cuts; up = common.up; controls = common.controls; from_length = common.from_length; to_length = common.to_length; count = common.count })
+    acted_both a b _ _
+        (record {
+            cuts = ap change common.cuts;
+            up = common.up;
+            controls = common.controls;
+            from_length = common.from_length;
+            to_length = common.to_length;
+            count = common.count
+          })
 
 -- who is up decides in both
 
-either_both : (a b : ℕ) (i j k l : Inbox) (s t : Bool) → s ≡ t → InCommon a b k l → InCommon a b i j → InCommon a b (if s then k else i) (if t then l else j)
+either_both : (a b : ℕ) (i j k l : Inbox) (s t : Bool) → s ≡ t → InCommon a b k l → InCommon a b i j
+    → InCommon a b (if s then k else i) (if t then l else j)
 either_both a b i j k l true true e first second = first
 either_both a b i j k l false false e first second = second
 either_both a b i j k l true false e first second = absurd (let never : ⊥ = cc in never)
@@ -210,27 +61,59 @@ either_both a b i j k l false true e first second = absurd (let never : ⊥ = cc
 fallen_both : (a b : ℕ) (i j : Inbox) (r : ℕ) → InCommon a b i j → InCommon a b (actor_fell a i r) (actor_fell b j r)
 fallen_both a b i j r common =
     kept a b _ _ (actor_fell a i r) (actor_fell b j r)
-    (record { cuts = common.cuts; up = ap (λ (up : List Bool). set up r false) common.up; controls = common.controls; from_length = common.from_length; to_length = common.to_length; count = common.count })
-    (emptied_keeps (r == a) (record i { up = set i.up r false; unanswered = requests_to_others r i.unanswered; lost = with_lost (requests_to r i.unanswered) i.lost }))
-    (emptied_keeps (r == b) (record j { up = set j.up r false; unanswered = requests_to_others r j.unanswered; lost = with_lost (requests_to r j.unanswered) j.lost }))
+    (record {
+          cuts = common.cuts;
+          up = ap (λ (up : List Bool). set up r false) common.up;
+          controls = common.controls;
+          from_length = common.from_length;
+          to_length = common.to_length;
+          count = common.count
+        })
+    (emptied_keeps (r == a)
+        (record i
+          {
+              up = set i.up r false;
+              unanswered = requests_to_others r i.unanswered;
+              lost = with_lost (requests_to r i.unanswered) i.lost
+            }))
+    (emptied_keeps (r == b)
+        (record j
+          {
+              up = set j.up r false;
+              unanswered = requests_to_others r j.unanswered;
+              lost = with_lost (requests_to r j.unanswered) j.lost
+            }))
 
-fell_both : (a b : ℕ) (i j : Inbox) (r : ℕ) (cause : Fall) → InCommon a b i j → InCommon a b (fell_by a i r cause) (fell_by b j r cause)
+fell_both : (a b : ℕ) (i j : Inbox) (r : ℕ) (cause : Fall) → InCommon a b i j
+    → InCommon a b (fell_by a i r cause) (fell_by b j r cause)
 fell_both a b i j r cause common =
     let fallen : InCommon a b (actor_fell a i r) (actor_fell b j r) = fallen_both a b i j r common in
-    either_both a b _ _ _ _ (is_by_line (is_up i.up r) cause) (is_by_line (is_up j.up r) cause) (ap (λ (up : List Bool). is_by_line (is_up up r) cause) common.up)
+    either_both a b _ _ _ _ (is_by_line (is_up i.up r) cause) (is_by_line (is_up j.up r) cause)
+        (ap (λ (up : List Bool). is_by_line (is_up up r) cause) common.up)
     (acted_both a b _ _ fallen) fallen
 
 wrote_both : (a b : ℕ) (i j : Inbox) (r : ℕ) → InCommon a b i j → InCommon a b (wrote_record a i r) (wrote_record b j r)
 wrote_both a b i j r common =
     either_both a b _ _ i j (is_up i.up r) (is_up j.up r) (ap (λ (up : List Bool). is_up up r) common.up) common
-    (acted_both a b _ _ (record { cuts = common.cuts; up = ap (λ (up : List Bool). set up r true) common.up; controls = common.controls; from_length = common.from_length; to_length = common.to_length; count = common.count }))
+    (acted_both a b _ _
+        (record {
+            cuts = common.cuts;
+            up = ap (λ (up : List Bool). set up r true) common.up;
+            controls = common.controls;
+            from_length = common.from_length;
+            to_length = common.to_length;
+            count = common.count
+          }))
 
 -- an actor's own step changes nothing of it
-own_both : (a b : ℕ) (i j k l : Inbox) (s t : Bool) → InCommon a b i j → Keeps i k → Keeps j l → InCommon a b (if s then k else i) (if t then l else j)
+own_both : (a b : ℕ) (i j k l : Inbox) (s t : Bool) → InCommon a b i j → Keeps i k → Keeps j l
+    → InCommon a b (if s then k else i) (if t then l else j)
 own_both a b i j k l s t common first second =
-    kept a b i j (if s then k else i) (if t then l else j) common (by_test (Keeps i) s k i first (same i)) (by_test (Keeps j) t l j second (same j))
+    kept a b i j (if s then k else i) (if t then l else j) common (by_test (Keeps i) s k i first (same i))
+        (by_test (Keeps j) t l j second (same j))
 
-sends_both : (links : List Link) (a b : ℕ) (i j : Inbox) (e : Envelope) → a < most_actors → b < most_actors → InCommon a b i j
+sends_both : (links : List Link) (a b : ℕ) (i j : Inbox) (e : Envelope) → a < most_actors → b < most_actors
+    → InCommon a b i j
     → InCommon a b (goes links a (comes links a i e) e) (goes links b (comes links b j e) e)
 sends_both links a b i j e a_within b_within common =
     let first : Sends i (goes links a (comes links a i e) e) (if e.to == a then one_more i.from_each e.from else i.from_each) (if e.from == a then one_more i.to_each e.to else i.to_each) = sends_does links a i e in
@@ -239,47 +122,80 @@ sends_both links a b i j e a_within b_within common =
       cuts = first.cuts ∙ (common.cuts ∙ sym second.cuts);
       up = first.up ∙ (common.up ∙ sym second.up);
       controls = first.controls ∙ (common.controls ∙ sym second.controls);
-      from_length = ap (λ (c : List ℕ). length c) first.from_each ∙ length_more (e.to == a) i.from_each e.from most_actors common.from_length;
-      to_length = ap (λ (c : List ℕ). length c) second.to_each ∙ length_more (e.from == b) j.to_each e.to most_actors common.to_length;
+      from_length =
+          ap (λ (c : List ℕ). length c) first.from_each
+          ∙ length_more (e.to == a) i.from_each e.from most_actors common.from_length;
+      to_length =
+          ap (λ (c : List ℕ). length c) second.to_each
+          ∙ length_more (e.from == b) j.to_each e.to most_actors common.to_length;
       count =
           ap (λ (c : List ℕ). count_of c b) first.from_each
           ∙ (one_count a b e.to e.from i.from_each j.to_each a_within b_within common.from_length common.to_length common.count
           ∙ ap (λ (c : List ℕ). count_of c a) (sym second.to_each));
     }
 
-unchanged : (i j : Inbox) → j.cuts ≡ i.cuts → j.up ≡ i.up → j.controls ≡ i.controls → j.from_each ≡ i.from_each → j.to_each ≡ i.to_each → Keeps i j
-unchanged i j cuts up controls from_each to_each = record { cuts = cuts; up = up; controls = controls; from_each = from_each; to_each = to_each }
+unchanged : (i j : Inbox) → j.cuts ≡ i.cuts → j.up ≡ i.up → j.controls ≡ i.controls → j.from_each ≡ i.from_each
+    → j.to_each ≡ i.to_each → Keeps i j
+unchanged i j cuts up controls from_each to_each =
+    record { cuts = cuts; up = up; controls = controls; from_each = from_each; to_each = to_each }
 
-step_both : (script : Script) (a b : ℕ) (i j : Inbox) (by : ℕ) (step : Step) → a < most_actors → b < most_actors → InCommon a b i j → InCommon a b (inbox_at script a i by step) (inbox_at script b j by step)
-step_both script a b i j by (steps.Phase k) a_within b_within common = phases_both a b i j (slice_get script.phases (k - 1)) common
-step_both script a b i j by (steps.Cut x y) a_within b_within common = cuts_both a b i j (λ cuts. with_cut cuts x y) common
-step_both script a b i j by (steps.Heal x y) a_within b_within common = cuts_both a b i j (λ cuts. without_cut cuts x y) common
+step_both : (script : Script) (a b : ℕ) (i j : Inbox) (by : ℕ) (step : Step) → a < most_actors → b < most_actors
+    → InCommon a b i j → InCommon a b (inbox_at script a i by step) (inbox_at script b j by step)
+step_both script a b i j by (steps.Phase k) a_within b_within common =
+    phases_both a b i j (slice_get script.phases (k - 1)) common
+step_both script a b i j by (steps.Cut x y) a_within b_within common =
+    cuts_both a b i j (λ cuts. with_cut cuts x y) common
+step_both script a b i j by (steps.Heal x y) a_within b_within common =
+    cuts_both a b i j (λ cuts. without_cut cuts x y) common
 step_both script a b i j by (steps.Armed actor kind at) a_within b_within common = acted_both a b i j common
-step_both script a b i j by (steps.Called command) a_within b_within common = own_both a b i j _ _ (by == a) (by == b) common (unchanged i (command_called i) refl refl refl refl refl) (unchanged j (command_called j) refl refl refl refl refl)
-step_both script a b i j by (steps.Got n) a_within b_within common = own_both a b i j _ _ (by == a) (by == b) common (unchanged i (copy_taken i) refl refl refl refl refl) (unchanged j (copy_taken j) refl refl refl refl refl)
-step_both script a b i j by (steps.Lost n) a_within b_within common = own_both a b i j _ _ (by == a) (by == b) common (unchanged i (loss_taken i) refl refl refl refl refl) (unchanged j (loss_taken j) refl refl refl refl refl)
+step_both script a b i j by (steps.Called command) a_within b_within common =
+    own_both a b i j _ _ (by == a) (by == b) common (unchanged i (command_called i) refl refl refl refl refl)
+    (unchanged j (command_called j) refl refl refl refl refl)
+step_both script a b i j by (steps.Got n) a_within b_within common =
+    own_both a b i j _ _ (by == a) (by == b) common (unchanged i (copy_taken i) refl refl refl refl refl)
+    (unchanged j (copy_taken j) refl refl refl refl refl)
+step_both script a b i j by (steps.Lost n) a_within b_within common =
+    own_both a b i j _ _ (by == a) (by == b) common (unchanged i (loss_taken i) refl refl refl refl refl)
+    (unchanged j (loss_taken j) refl refl refl refl refl)
 step_both script a b i j by (steps.Wrote written) a_within b_within common = wrote_both a b i j by common
 step_both script a b i j by (steps.Sent n to message) a_within b_within common =
-    sends_both script.links a b i j (record { number = n; from = by; to = to; message = message }) a_within b_within common
-step_both script a b i j by (steps.Told reply) a_within b_within common = own_both a b i j _ _ (by == a) (by == b) common (unchanged i (reply_told i) refl refl refl refl refl) (unchanged j (reply_told j) refl refl refl refl refl)
+    sends_both script.links a b i j (record { number = n; from = by; to = to; message = message }) a_within b_within
+        common
+step_both script a b i j by (steps.Told reply) a_within b_within common =
+    own_both a b i j _ _ (by == a) (by == b) common (unchanged i (reply_told i) refl refl refl refl refl)
+    (unchanged j (reply_told j) refl refl refl refl refl)
 step_both script a b i j by (steps.Fell cause pending) a_within b_within common = fell_both a b i j by cause common
 step_both script a b i j by (steps.Rose written) a_within b_within common = common
 step_both script a b i j by (steps.Damaged offset) a_within b_within common = acted_both a b i j common
 
-steps_both : (script : Script) (a b : ℕ) (h : List Entry) (i j : Inbox) → a < most_actors → b < most_actors → InCommon a b i j
-    → InCommon a b (fold (λ i e. inbox_at script a i e.actor e.step) i h) (fold (λ i e. inbox_at script b i e.actor e.step) j h)
+steps_both : (script : Script) (a b : ℕ) (h : List Entry) (i j : Inbox) → a < most_actors → b < most_actors
+    → InCommon a b i j
+    → InCommon a b (fold (λ i e. inbox_at script a i e.actor e.step) i h)
+        (fold (λ i e. inbox_at script b i e.actor e.step) j h)
 steps_both script a b [] i j a_within b_within common = common
 steps_both script a b (e ∷ h) i j a_within b_within common =
-    steps_both script a b h (inbox_at script a i e.actor e.step) (inbox_at script b j e.actor e.step) a_within b_within (step_both script a b i j e.actor e.step a_within b_within common)
+    steps_both script a b h (inbox_at script a i e.actor e.step) (inbox_at script b j e.actor e.step) a_within b_within
+        (step_both script a b i j e.actor e.step a_within b_within common)
 
-pub inboxes_have_in_common : (script : Script) (a b : ℕ) (h : List Entry) → a < most_actors → b < most_actors → InCommon a b (inbox script a h) (inbox script b h)
+pub inboxes_have_in_common : (script : Script) (a b : ℕ) (h : List Entry) → a < most_actors → b < most_actors
+    → InCommon a b (inbox script a h) (inbox script b h)
 inboxes_have_in_common script a b h a_within b_within =
-    steps_both script a b h empty_inbox empty_inbox a_within b_within (record { cuts = refl; up = refl; controls = refl; from_length = refl; to_length = refl; count = get_or-replicate most_actors b 0 0 b_within ∙ sym (get_or-replicate most_actors a 0 0 a_within) })
+    steps_both script a b h empty_inbox empty_inbox a_within b_within
+        (record {
+            cuts = refl;
+            up = refl;
+            controls = refl;
+            from_length = refl;
+            to_length = refl;
+            count = get_or-replicate most_actors b 0 0 b_within ∙ sym (get_or-replicate most_actors a 0 0 a_within)
+          })
 
 -- a message from b to a has the fate for its receiver that it has for its sender
 pub one_fate : (script : Script) (a b : ℕ) (h : List Entry) → a < most_actors → b < most_actors
-    → fate script.links (inbox script a h).cuts b a (count_of (inbox script a h).from_each b + 1) ≡ fate script.links (inbox script b h).cuts b a (count_of (inbox script b h).to_each a + 1)
+    → fate script.links (inbox script a h).cuts b a (count_of (inbox script a h).from_each b + 1)
+        ≡ fate script.links (inbox script b h).cuts b a (count_of (inbox script b h).to_each a + 1)
 one_fate script a b h a_within b_within =
-    let common : InCommon a b (inbox script a h) (inbox script b h) = inboxes_have_in_common script a b h a_within b_within in
+    let common : InCommon a b (inbox script a h) (inbox script b h) =
+            inboxes_have_in_common script a b h a_within b_within in
     ap (λ (cuts : List Bool). fate script.links cuts b a (count_of (inbox script a h).from_each b + 1)) common.cuts
     ∙ ap (λ (n : ℕ). fate script.links (inbox script b h).cuts b a (n + 1)) common.count

@@ -8,6 +8,7 @@ pub mod WrittenLines
 pub mod WrittenScripts
 pub mod WrittenTexts
 pub mod WrittenWords
+pub mod InboxesSend
 pub mod Inboxes
 pub mod AllUp
 pub mod Fallless

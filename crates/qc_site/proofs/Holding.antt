@@ -25,7 +25,7 @@ use Rattle.qc_msg.specs.declared.message.Outcome.TheVariants.{Committed, Aborted
 use Rattle.qc_msg.specs.declared.message.Want.TheVariants.{Read, Append}
 use Rattle.qc_site.specs.Names.{HasOperation, SiteMove, SiteState, ends, finishes, grants_in, is_final, passed}
 use Rattle.qc_site.specs.Names.{prepared_of, site_at, site_on, without_prepared}
-use Rattle.qc_site.proofs.Cases.{append_cases, fault_grants_not, never, join_cases, read_cases, request_cases}
+use Rattle.qc_site.proofs.RequestCases.{append_cases, fault_grants_not, never, join_cases, read_cases, request_cases}
 use Rattle.qc_site.proofs.Cases.{steady_cases, IsSteady}
 use Rattle.qc_site.proofs.Votes.{not_ended, prepared-without, prepared-without_other}
 

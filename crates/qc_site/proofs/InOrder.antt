@@ -14,7 +14,7 @@ use Rattle.qc_list.specs.Names.{Ascends, In, IsBelowAll, by_order, inserted}
 use Rattle.qc_list.proofs.Members.{every-from_In}
 use Rattle.qc_list.proofs.Order.{ascends-inserted}
 use Rattle.qc_lock.specs.Names.{AreOfOthers, IsOneForEach}
-use Rattle.qc_lock.proofs.Numbers.{tx_same}
+use Rattle.qc_lock.proofs.NumberedEntries.{tx_same}
 use Rattle.qc_site.specs.Names.{in_order, is_prepared, prepared_of, promise_cmp, promises_in_order}
 use Rattle.qc_stamp.specs.declared.stamp.TxId.{TxId}
 use Rattle.qc_stamp.specs.Names.{same_tx, tx_cmp}

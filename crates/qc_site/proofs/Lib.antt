@@ -2,6 +2,7 @@ pub mod Holders
 pub mod Promised
 pub mod Ascending
 pub mod InOrder
+pub mod RequestCases
 pub mod Cases
 pub mod Clocks
 pub mod Refusals

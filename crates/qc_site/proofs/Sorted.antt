@@ -25,7 +25,8 @@ use Rattle.qc_site.specs.Names.{AreDeedsSorted, ArePromisesSorted, IsGivenSorted
 use Rattle.qc_site.specs.Names.{SiteMove, SiteState, dropped, holds, joins, lines_of, moved, new_site, passed}
 use Rattle.qc_site.specs.Names.{promise_of, promised, site_after, site_at, site_does, site_on, site_takes, stamped}
 use Rattle.qc_site.specs.Names.{with_stamped}
-use Rattle.qc_site.proofs.Cases.{choose, state_cases}
+use Rattle.qc_site.proofs.RequestCases.{choose}
+use Rattle.qc_site.proofs.Cases.{state_cases}
 
 -- what is held, with something given to a transaction
 pub sound-held : (held : List Held) (tx : TxId) (locks : List ReadLock) (own : List OwnLine) → IsSound held

@@ -18,7 +18,8 @@ use Rattle.qc_msg.specs.declared.message.Want.TheVariants.{Read, Append, Prepare
 use Rattle.qc_site.specs.Names.{IsBacked, SiteMove, SiteState, answers, ends, fault_of, grants, installs_in, is_final}
 use Rattle.qc_site.specs.Names.{is_prepared, is_vote, moved, passed, prepared_of, prepares, promise_of, site_at}
 use Rattle.qc_site.specs.Names.{site_on, votes_in, without_prepared}
-use Rattle.qc_site.proofs.Cases.{append_cases, fault_is, lasting_cases, never, prepare_cases, read_cases, request_cases}
+use Rattle.qc_site.proofs.RequestCases.{append_cases, fault_is, never, prepare_cases, read_cases, request_cases}
+use Rattle.qc_site.proofs.Cases.{lasting_cases}
 
 -- promises, one more
 

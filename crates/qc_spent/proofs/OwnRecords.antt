@@ -4,7 +4,7 @@ use Rattle.std.proofs.Common.{append_assoc, append-nil, if◌then◌else◌}
 use Rattle.std.proofs.lemmas.Bool.{eq-eqb, eqb-true}
 use Rattle.qc_msg.specs.Names.{Entry, marked, own}
 use Rattle.qc_msg.specs.declared.step.Step.{Step}
-use Rattle.qc_msg.proofs.Growth.{own-append}
+use Rattle.qc_msg.proofs.DeedsGrow.{own-append}
 use Rattle.qc_promise.specs.Names.{AreKept, IsKeptAt, Kept}
 use Rattle.qc_spent.proofs.Ends.{CutAt, at_end, cut_at, inside}
 

@@ -31,9 +31,11 @@ use Rattle.qc_front.specs.declared.transaction.Transaction.{Transaction}
 use Rattle.qc_front.specs.Names.{FrontHolds, FrontMove, answer_of, answered, append_by, appended_with, ended, learns}
 use Rattle.qc_front.specs.Names.{read_by, read_with, round_for, standing_of}
 use Rattle.qc_front.specs.Conduct as fronts
-use Rattle.qc_front.proofs.Clocks.{called_clock, called_count, takes_count}
+use Rattle.qc_front.proofs.ClockMoves.{called_clock, called_count}
+use Rattle.qc_front.proofs.Clocks.{takes_count}
 use Rattle.qc_front.proofs.Fitting.{fits}
-use Rattle.qc_front.proofs.Keeping.{called_holds, takes_holds, new_holds, ended_holds}
+use Rattle.qc_front.proofs.CommandsKeep.{called_holds}
+use Rattle.qc_front.proofs.Keeping.{takes_holds, new_holds, ended_holds}
 use Rattle.qc_front.proofs.Numbering.{sent_holds}
 use Rattle.qc_client.specs.declared.client.Client.{Client}
 use Rattle.qc_client.specs.Names.{ClientFits, ClientMove, by_desk, by_front, new_client, promise_in}

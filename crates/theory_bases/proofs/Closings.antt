@@ -11,7 +11,8 @@ use Rattle.theory_machine.specs.Names.{Act, Committed, Deed, Granted, Grants, Is
 use Rattle.theory_machine.specs.Names.{Snapshot, StateLaws, done_records, empty_site, epoch_from, site_after, state}
 use Rattle.theory_machine.proofs.Decided.{IsPast, past, tells}
 use Rattle.theory_machine.proofs.Keeps.{laws}
-use Rattle.theory_machine.proofs.Order.{ended, first_done_recorded, holds_granted, spared, stamp_of}
+use Rattle.theory_machine.proofs.Grants.{holds_granted}
+use Rattle.theory_machine.proofs.Order.{ended, first_done_recorded, spared, stamp_of}
 
 module _ (decl : Declaration) (accepted : IsAccepted decl) (acts : List Act) (run : IsRun decl acts) where
   state_laws : StateLaws decl (state acts)

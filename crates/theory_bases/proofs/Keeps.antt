@@ -21,7 +21,7 @@ use Rattle.theory_machine.specs.Names.{state}
 use Rattle.theory_machine.proofs.Names.{put_case, put_tx_case}
 use Rattle.theory_machine.proofs.SiteOrder.{after_append}
 use Rattle.theory_machine.proofs.Epochs.{epoch-append, upward}
-use Rattle.theory_machine.proofs.Order.{site_laws}
+use Rattle.theory_machine.proofs.Grants.{site_laws}
 use Rattle.theory_machine.proofs.Keeps.{laws}
 use Rattle.theory_machine.proofs.LogKeeps.{log_laws}
 use Rattle.theory_bases.specs.Names.{AreDisciplined, BelongsTo, EpochLaws, EpochLawsOf, IsAppendOfEpoch, IsDisciplined}

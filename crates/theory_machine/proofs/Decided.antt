@@ -26,7 +26,8 @@ use Rattle.theory_machine.proofs.SiteOrder.{after_append, laws_after, logged_fro
 use Rattle.theory_machine.proofs.Epochs.{epoch-append, installed, none_between, rising-left, rising-right, shut-append, still_shut, prepared_or_done}
 use Rattle.theory_machine.proofs.Keeps.{laws}
 use Rattle.theory_machine.proofs.LogKeeps.{log_laws}
-use Rattle.theory_machine.proofs.Order.{between, ended, first_done_recorded, holds_granted, site_laws, stamp_of, spared, spares_front}
+use Rattle.theory_machine.proofs.Grants.{between, holds_granted, site_laws, spares_front}
+use Rattle.theory_machine.proofs.Order.{ended, first_done_recorded, stamp_of, spared}
 use Rattle.theory_machine.proofs.Quorums.{closed_last, closed_read, closing_site, heavy}
 
 -- a front and a place in one list

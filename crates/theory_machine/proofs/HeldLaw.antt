@@ -10,7 +10,8 @@ use Rattle.theory_machine.specs.Names.{HaveNoInstall, Installs, IsBound, IsRun, 
 use Rattle.theory_machine.specs.Names.{LearnsCommit, Prepares, Rises, Site, SparesUntilDone, StateLaws, after_deed}
 use Rattle.theory_machine.specs.Names.{empty_site, items_of, site_after, site_from, state}
 use Rattle.theory_machine.proofs.Keeps.{laws}
-use Rattle.theory_machine.proofs.Order.{ended, holds_granted}
+use Rattle.theory_machine.proofs.Grants.{holds_granted}
+use Rattle.theory_machine.proofs.Order.{ended}
 use Rattle.theory_machine.proofs.Outcomes.{committed_record}
 use Rattle.theory_machine.proofs.SiteOrder.{after_append, held_or_done}
 

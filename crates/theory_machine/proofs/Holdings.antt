@@ -16,7 +16,8 @@ use Rattle.theory_machine.specs.Names.{StateLaws, Status, Voting, after_deed, em
 use Rattle.theory_machine.specs.Names.{site_after, site_from, state}
 use Rattle.theory_machine.proofs.Keeps.{laws}
 use Rattle.theory_machine.proofs.LogKeeps.{log_laws}
-use Rattle.theory_machine.proofs.Order.{between, ended, holds_granted}
+use Rattle.theory_machine.proofs.Grants.{between, holds_granted}
+use Rattle.theory_machine.proofs.Order.{ended}
 use Rattle.theory_machine.proofs.Places.{at}
 use Rattle.theory_machine.proofs.SiteOrder.{after_append, held_or_done}
 

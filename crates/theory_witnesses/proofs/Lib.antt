@@ -10,6 +10,7 @@ pub mod Begun
 pub mod Allowed
 pub mod Broken
 pub mod Disorder
+pub mod RelationsRight
 pub mod Accepted
 pub mod Needs
 pub mod WrongOperations

@@ -1,4 +1,4 @@
-use Rattle.laws_guarantees.proofs.Counted.{counted_remembered, never_told}
+use Rattle.laws_guarantees.proofs.Remembered.{counted_remembered, never_told}
 use Rattle.laws_guarantees.proofs.votes.votes_are_never_stale.Goals as goal
 use Rattle.qc_msg.specs.declared.message.Answer.TheVariants.{Stale, Behind}
 

@@ -2,7 +2,7 @@ use Rattle.std.specs.Prelude.{◌||◌}
 use Rattle.std.proofs.Common.{◌≡◌, ◌+◌, ◌<◌, ◌∷◌, false, cond, List, [], length, get_or, drop, refl, sym, ap, ◌∙◌}
 use Rattle.std.proofs.Common.{arith}
 use Rattle.qc_cert.proofs.Grouped.{group_more}
-use Rattle.qc_cert.proofs.Repeats.{marked_more}
+use Rattle.qc_cert.proofs.MarkedTriples.{marked_more}
 use Rattle.qc_cert.proofs.groups.add_triples.Goals as goal
 use Rattle.qc_cert.proofs.groups.add_triples.Goals.{then-marks-place+in_ok-add_triple, else-marks-place}
 use Rattle.qc_cert.specs.Names.{any_within, marked, outs_at, parts_within, triple}

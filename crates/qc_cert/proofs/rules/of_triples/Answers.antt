@@ -1,5 +1,6 @@
 use Rattle.std.proofs.Common.{◌≡◌, ◌<◌, true, false, length, [], refl, sym, ap, ◌∙◌, arith}
-use Rattle.qc_cert.proofs.Repeats.{length_firsts, fault_of_firsts, fault_more, fault_past, found_here, found_later}
+use Rattle.qc_cert.proofs.MarkedTriples.{length_firsts}
+use Rattle.qc_cert.proofs.Repeats.{fault_of_firsts, fault_more, fault_past, found_here, found_later}
 use Rattle.qc_cert.proofs.rules.of_triples.Goals as goal
 use Rattle.qc_cert.proofs.rules.of_triples.Goals.{then-firsts-place+else-is_some, else-firsts-place}
 use Rattle.qc_cert.specs.Names.{triple}

@@ -1,4 +1,5 @@
-use Rattle.qc_front.proofs.Clocks.{called_clock, called_epoch, ended_clock, takes_learns}
+use Rattle.qc_front.proofs.ClockMoves.{called_clock, called_epoch}
+use Rattle.qc_front.proofs.Clocks.{ended_clock, takes_learns}
 use Rattle.qc_front.proofs.laws.clocks_pass_grants.Goals as goal
 
 pub returns-clause-answers : goal.returns-clause-answers

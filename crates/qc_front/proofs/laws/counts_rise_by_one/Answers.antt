@@ -1,4 +1,5 @@
-use Rattle.qc_front.proofs.Clocks.{called_count, takes_count}
+use Rattle.qc_front.proofs.ClockMoves.{called_count}
+use Rattle.qc_front.proofs.Clocks.{takes_count}
 use Rattle.qc_front.proofs.laws.counts_rise_by_one.Goals as goal
 
 pub returns-clause-commands : goal.returns-clause-commands

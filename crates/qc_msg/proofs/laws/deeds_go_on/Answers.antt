@@ -1,5 +1,6 @@
 use Rattle.std.proofs.Common.{[]}
-use Rattle.qc_msg.proofs.Growth.{deeds-other, deeds-posted, deeds-taken}
+use Rattle.qc_msg.proofs.DeedsGrow.{deeds-other}
+use Rattle.qc_msg.proofs.Growth.{deeds-posted, deeds-taken}
 use Rattle.qc_msg.proofs.laws.deeds_go_on.Goals as goal
 
 pub returns : goal.returns

@@ -2,7 +2,7 @@ use Rattle.std.proofs.Common.{◌≡◌, ℕ, ◌+◌, ◌<◌, ◌≤◌, List,
 use Rattle.qc_plan.specs.Names.{RoundState, has_granted, need_of, total, verdict, weight}
 use Rattle.qc_plan.specs.declared.standing.Verdict.TheVariants.{Met}
 use Rattle.qc_plan.proofs.Meet.{meet}
-use Rattle.qc_plan.proofs.Rounds.{met_weighs}
+use Rattle.qc_plan.proofs.RoundsMet.{met_weighs}
 use Rattle.qc_plan.proofs.round_laws.met_rounds_share_a_site.Goals as goal
 
 -- what a met round weighs by the weights of its plan

@@ -6,7 +6,7 @@ use Rattle.qc_entry.specs.Names.{line_cmp}
 use Rattle.qc_entry.proofs.Orders.{line_order}
 use Rattle.qc_list.specs.Names.{In}
 use Rattle.qc_list.proofs.Members.{every-at, every-from_In}
-use Rattle.qc_lock.proofs.Numbers.{equal_is}
+use Rattle.qc_lock.proofs.NumberedEntries.{equal_is}
 use Rattle.qc_recover.proofs.lines.is_last.Goals as goal
 
 pub returns-in-Some : goal.returns-in-Some

@@ -1,4 +1,4 @@
-use Rattle.qc_cert.proofs.Tables.{all_left, row_more}
+use Rattle.qc_cert.proofs.PieceTables.{all_left, row_more}
 use Rattle.qc_cert.proofs.blocks.Block.left.Goals as goal
 
 pub loop-number-init : goal.loop-number-init

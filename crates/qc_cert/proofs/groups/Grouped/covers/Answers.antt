@@ -2,7 +2,7 @@ use Rattle.std.proofs.Common.{ℕ, List, ◌≤◌, ◌<◌, ◌⊎◌, length, 
 use Rattle.std.proofs.lemmas.List.{get_or_read}
 use Rattle.qc_cert.specs.Names.{AreStates, any_within, distinct, is_covered, outs_at, parts_within, place_of}
 use Rattle.qc_cert.proofs.Grouped.{covered_in, uncovered_past}
-use Rattle.qc_cert.proofs.Repeats.{All-distinct, covered_once}
+use Rattle.qc_cert.proofs.MarkedTriples.{All-distinct, covered_once}
 use Rattle.qc_cert.proofs.groups.Grouped.covers.Goals as goal
 use Rattle.qc_cert.proofs.groups.Grouped.covers.Goals.{then-triple-ge-MOST_STATES-via-then-triple-ge-MOST_STATES}
 use Rattle.qc_cert.proofs.groups.Grouped.covers.Goals.{then-triple-ge-MOST_STATES-via-else-triple-ge-MOST_STATES+then-triple-ge-MOST_STATES-2}

@@ -1,5 +1,5 @@
 use Rattle.std.proofs.Common.{ap, ◌∙◌, length, []}
-use Rattle.qc_cert.proofs.Repeats.{length_firsts}
+use Rattle.qc_cert.proofs.MarkedTriples.{length_firsts}
 use Rattle.qc_cert.proofs.groups.Grouped.new.Goals as goal
 
 pub add_triples-requires-clause-marks : goal.add_triples-requires-clause-marks

@@ -4,7 +4,7 @@ use Rattle.qc_msg.specs.declared.step.Control.TheVariants as controls
 use Rattle.qc_msg.specs.declared.step.Step.TheVariants as steps
 use Rattle.qc_pass.specs.Names.{Met, all, number, room}
 use Rattle.qc_fabric.specs.Names.{Arms, HasGrown, MayDo, Shown, most_history}
-use Rattle.qc_fabric.proofs.Kept.{other_memory}
+use Rattle.qc_fabric.proofs.KeptParts.{other_memory}
 use Rattle.qc_fabric.proofs.Lines.{armed, arms_on}
 use Rattle.qc_fabric.proofs.Ordered.{first_within}
 use Rattle.qc_fabric.proofs.state.FabricState.arm.Goals as goal

@@ -1,6 +1,7 @@
 use Rattle.std.proofs.Common.{◌∙◌, arith, sym}
 use Rattle.qc_fabric.proofs.Gains.{saw}
-use Rattle.qc_fabric.proofs.Kept.{leaves_on, room_kept, unarmed_of}
+use Rattle.qc_fabric.proofs.KeptParts.{unarmed_of}
+use Rattle.qc_fabric.proofs.Kept.{leaves_on, room_kept}
 use Rattle.qc_fabric.proofs.state.FabricState.leave.Goals as goal
 
 pub overflow_sub-self : goal.overflow_sub-self

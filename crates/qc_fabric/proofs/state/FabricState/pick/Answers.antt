@@ -1,6 +1,6 @@
 use Rattle.std.proofs.Common.{◌∙◌, refl, true}
 use Rattle.qc_fabric.proofs.Fed.{length_set}
-use Rattle.qc_fabric.proofs.Kept.{other_memory}
+use Rattle.qc_fabric.proofs.KeptParts.{other_memory}
 use Rattle.qc_fabric.proofs.state.FabricState.pick.Goals as goal
 
 pub invariant_of-self : goal.invariant_of-self

@@ -4,7 +4,8 @@ use Rattle.qc_pass.specs.Names.{number}
 use Rattle.qc_fabric.specs.Names.{most_history}
 use Rattle.qc_fabric.proofs.Fed.{bit_set}
 use Rattle.qc_fabric.proofs.Gains.{saw}
-use Rattle.qc_fabric.proofs.Kept.{other_memory, reserves_on, unarmed_of}
+use Rattle.qc_fabric.proofs.KeptParts.{other_memory, unarmed_of}
+use Rattle.qc_fabric.proofs.Kept.{reserves_on}
 use Rattle.qc_fabric.proofs.state.FabricState.reserve.Goals as goal
 
 pub invariant_of-self : goal.invariant_of-self

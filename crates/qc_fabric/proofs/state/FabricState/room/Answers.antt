@@ -1,6 +1,6 @@
 use Rattle.std.proofs.Common.{rules, ◌+◌, ◌≤◌, arith, length, refl}
 use Rattle.qc_fabric.specs.Names.{most_history}
-use Rattle.qc_fabric.proofs.Kept.{other_memory, other_spare}
+use Rattle.qc_fabric.proofs.KeptParts.{other_memory, other_spare}
 use Rattle.qc_fabric.proofs.state.FabricState.room.Goals as goal
 
 pub invariant_of-self : goal.invariant_of-self

@@ -5,7 +5,7 @@ use Rattle.qc_inbox.proofs.Bounds.{calls_few}
 use Rattle.qc_msg.specs.Names.{marked, step_of}
 use Rattle.qc_pass.specs.Names.{Met, all, number, room}
 use Rattle.qc_fabric.specs.Names.{HasGrown, HasNext, HasNone, IsInputFor, Shown, most_history}
-use Rattle.qc_fabric.proofs.Kept.{other_memory}
+use Rattle.qc_fabric.proofs.KeptParts.{other_memory}
 use Rattle.qc_fabric.proofs.Ready.{input_as, input_there}
 use Rattle.qc_fabric.proofs.Taking.{next_for, none_for, takes_on, took, waits}
 use Rattle.qc_fabric.proofs.state.FabricState.take.Goals as goal

@@ -2,7 +2,8 @@ use Rattle.std.proofs.Common.{rules, ◌≡◌, ◌+◌, List, None, sym, ◌∙
 use Rattle.std.specs.Map.{values_of}
 use Rattle.qc_lock.specs.declared.held.Held.{Held}
 use Rattle.qc_lock.specs.Names.{AreNumbered, entry_of, number_of, with_entry}
-use Rattle.qc_lock.proofs.Numbers.{lookup_new, number_none, values_new}
+use Rattle.qc_lock.proofs.NumberedEntries.{number_none}
+use Rattle.qc_lock.proofs.Numbers.{lookup_new, values_new}
 use Rattle.qc_lock.proofs.Numbering.{numbered_again, numbered_new}
 use Rattle.qc_lock.proofs.Ones.{holder, put_entry}
 use Rattle.qc_lock.proofs.numbered.Entries.push.Goals as goal

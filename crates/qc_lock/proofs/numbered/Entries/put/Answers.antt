@@ -2,7 +2,7 @@ use Rattle.std.proofs.Common.{◌≡◌, IfOk, Option, None, Some, sym, ◌∙�
 use Rattle.std.specs.Map.{values_of}
 use Rattle.qc_lock.specs.declared.held.Held.{Held}
 use Rattle.qc_lock.specs.Names.{entry_of, number_of, with_entry}
-use Rattle.qc_lock.proofs.Numbers.{entry_at, entry_none, values_known}
+use Rattle.qc_lock.proofs.NumberedEntries.{entry_at, entry_none, values_known}
 use Rattle.qc_lock.proofs.Numbering.{numbered_known}
 use Rattle.qc_lock.proofs.Ones.{holder, put_entry}
 use Rattle.qc_lock.proofs.numbered.Entries.put.Goals as goal

@@ -5,7 +5,7 @@ use Rattle.std.specs.BTreeMap.{is_at}
 use Rattle.std.specs.BTreeSet.{contains}
 use Rattle.std.specs.List.{list_any}
 use Rattle.qc_entry.specs.declared.record.Commit.{Commit}
-use Rattle.qc_lock.proofs.Numbers.{tx_same}
+use Rattle.qc_lock.proofs.NumberedEntries.{tx_same}
 use Rattle.qc_stamp.specs.declared.stamp.TxId.{TxId}
 use Rattle.qc_stamp.specs.Names.{same_tx, tx_cmp}
 use Rattle.qc_recover.specs.Names.{last_of}

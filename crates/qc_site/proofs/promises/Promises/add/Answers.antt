@@ -2,7 +2,8 @@ use Rattle.std.proofs.Common.{rules, ◌≡◌, ◌++◌, ◌∷◌, [], ◌+◌
 use Rattle.std.specs.Map.{values_of}
 use Rattle.qc_entry.specs.declared.record.Prepared.{Prepared}
 use Rattle.qc_lock.specs.Names.{AreNumbered, number_of}
-use Rattle.qc_lock.proofs.Numbers.{number_none, values_new}
+use Rattle.qc_lock.proofs.NumberedEntries.{number_none}
+use Rattle.qc_lock.proofs.Numbers.{values_new}
 use Rattle.qc_lock.proofs.Numbering.{numbered_again, numbered_new}
 use Rattle.qc_lock.proofs.Ones.{put_last}
 use Rattle.qc_site.specs.Names.{prepared_of}

@@ -1,0 +1,186 @@
+-- The sites of positive weight in a client's order, and the halves of a `do` as requests go to the next of them.
+use Rattle.std.proofs.Common.{◌≡◌, ℕ, zero, suc, ◌+◌, ◌&&◌, max, Bool, true, false, cond, List, ◌∷◌, ◌++◌}
+use Rattle.std.proofs.Common.{map, length, Option, Some, None, option_map, refl, sym, ap, ◌∙◌}
+use Rattle.std.proofs.Common.{eqb-true}
+use Rattle.std.specs.Prelude.{drop, filter, take}
+use Rattle.std.specs.List.{find}
+use Rattle.qc_entry.specs.declared.line.Line.{Line}
+use Rattle.qc_decl.specs.Names.{first_site}
+use Rattle.qc_decl.specs.declared.declaration.Declaration.{Declaration}
+use Rattle.qc_plan.specs.Names.{cyclic, first, weighing}
+use Rattle.qc_msg.specs.declared.message.Answer.{Answer}
+use Rattle.qc_msg.specs.declared.message.Answer.TheVariants as answers
+use Rattle.qc_msg.specs.declared.message.Message.{Message}
+use Rattle.qc_msg.specs.declared.message.Message.TheVariants as messages
+use Rattle.qc_msg.specs.declared.message.Want.{Want}
+use Rattle.qc_msg.specs.declared.message.Want.TheVariants.{Append, Prepare, Read}
+use Rattle.qc_msg.specs.declared.record.Record.{Record}
+use Rattle.qc_msg.specs.declared.record.Record.TheVariants as records
+use Rattle.qc_msg.specs.declared.step.Input.{Input}
+use Rattle.qc_msg.specs.declared.step.Input.TheVariants as inputs
+use Rattle.qc_promise.specs.Names.{Account, ClientRequest, Current, account_heard}
+use Rattle.qc_promise.specs.Names.{account_taken, account_written}
+use Rattle.qc_promise.specs.Names.{counted, counted_for, granted}
+use Rattle.qc_promise.specs.Names.{is_append, is_open, is_read, is_this, lived}
+use Rattle.qc_promise.specs.Names.{promised, taken_for, told_by, weights_of}
+use Rattle.qc_promise.specs.Names.{with_current, with_read}
+use Rattle.laws_guarantees.proofs.Accounts.{told_requests}
+
+-- the sites of positive weight in a client's order
+abbrev pub order : Declaration → ℕ → ℕ → List ℕ
+order decl client epoch =
+    weighing (weights_of decl epoch) (cyclic (length (weights_of decl epoch)) (first_site decl client))
+
+abbrev pub epoch_of : Account → Option ℕ
+epoch_of d = option_map (λ (t : Current). t.epoch) d.current
+
+abbrev pub sites_in : (Want → Bool) → List ClientRequest → List ℕ
+sites_in half qs = map (λ (q : ClientRequest). q.site) (filter (λ (q : ClientRequest). half q.want) qs)
+
+abbrev pub count_in : (Want → Bool) → List ClientRequest → ℕ
+count_in half qs = length (filter (λ (q : ClientRequest). half q.want) qs)
+
+abbrev pub IsInOrder : Declaration → (Want → Bool) → Account → Type 0
+IsInOrder decl half d =
+    (epoch : ℕ) → epoch_of d ≡ Some epoch
+    → sites_in half d.requests ≡ take (count_in half d.requests) (order decl d.client epoch)
+
+-- something is taken: sites and wants stay, and the epoch
+
+sites_taken : (half : Want → Bool) (n : ℕ) (answer : Option Answer) (qs : List ClientRequest)
+    → (sites_in half (taken_for n answer qs) ≡ sites_in half qs)
+      × (count_in half (taken_for n answer qs) ≡ count_in half qs)
+sites_taken half n answer [] = (refl, refl)
+sites_taken half n answer (q ∷ qs) = by (is_open n q) (half q.want) refl (sites_taken half n answer qs)
+  where
+    by : (o t : Bool) → half q.want ≡ t
+        → (sites_in half (taken_for n answer qs) ≡ sites_in half qs)
+          × (count_in half (taken_for n answer qs) ≡ count_in half qs)
+        → (sites_in half (cond o (record q { taken = Some answer }) q ∷ taken_for n answer qs) ≡ sites_in half (q ∷ qs))
+            × (count_in half (cond o (record q { taken = Some answer }) q ∷ taken_for n answer qs)
+              ≡ count_in half (q ∷ qs))
+    by o true is rest = one o
+      where
+        one : (o : Bool)
+            → (sites_in half (cond o (record q { taken = Some answer }) q ∷ taken_for n answer qs)
+              ≡ sites_in half (q ∷ qs))
+              × (count_in half (cond o (record q { taken = Some answer }) q ∷ taken_for n answer qs)
+                ≡ count_in half (q ∷ qs))
+        one true = rw is (ap (λ (v : List ℕ). q.site ∷ v) rest.0, ap suc rest.1)
+        one false = rw is (ap (λ (v : List ℕ). q.site ∷ v) rest.0, ap suc rest.1)
+    by o false is rest = one o
+      where
+        one : (o : Bool)
+            → (sites_in half (cond o (record q { taken = Some answer }) q ∷ taken_for n answer qs)
+              ≡ sites_in half (q ∷ qs))
+              × (count_in half (cond o (record q { taken = Some answer }) q ∷ taken_for n answer qs)
+                ≡ count_in half (q ∷ qs))
+        one true = rw is rest
+        one false = rw is rest
+
+same_epoch : (d : Account) (change : Current → Current) → ((t : Current) → (change t).epoch ≡ t.epoch)
+    → epoch_of (with_current d change) ≡ epoch_of d
+same_epoch d change same = by d.current
+  where
+    by : (o : Option Current)
+        → option_map (λ (t : Current). t.epoch) (option_map change o) ≡ option_map (λ (t : Current). t.epoch) o
+    by None = refl
+    by (Some t) = ap (λ (e : ℕ). Some e) (same t)
+
+-- the same client, in the same epoch
+pub record KeepsEpoch (d e : Account) : Type 0 where
+  pub client : e.client ≡ d.client
+  pub epoch : epoch_of e ≡ epoch_of d
+
+granted_epoch : (d : Account) (site life clock : ℕ) (log : List Line) (want : Want)
+    → KeepsEpoch d (granted d site life clock log want)
+granted_epoch d site life clock log (Read object inv) =
+    record {
+      client = refl;
+      epoch = same_epoch (record d { clock = max d.clock clock })
+          (λ (t : Current). with_read (lived t site life) object log) (λ t. refl)
+    }
+granted_epoch d site life clock log (Append object view own) =
+    record {
+      client = refl;
+      epoch = same_epoch (record d { clock = max d.clock clock }) (λ (t : Current). lived t site life) (λ t. refl)
+    }
+granted_epoch d site life clock log Prepare = record { client = refl; epoch = refl }
+
+promised_epoch : (d : Account) (clock : ℕ) (want : Want) → KeepsEpoch d (promised d clock want)
+promised_epoch d clock (Read object inv) = record { client = refl; epoch = refl }
+promised_epoch d clock (Append object view own) = record { client = refl; epoch = refl }
+promised_epoch d clock Prepare = record { client = refl; epoch = refl }
+
+told_epoch : (d : Account) (q : ClientRequest) (answer : Option Answer) → KeepsEpoch d (told_by d q answer)
+told_epoch d q None = record { client = refl; epoch = refl }
+told_epoch d q (Some (answers.Granted life clock log)) = granted_epoch d q.site life clock log q.want
+told_epoch d q (Some (answers.Clash holder inv event)) = record { client = refl; epoch = refl }
+told_epoch d q (Some (answers.Closed epoch)) = record { client = refl; epoch = refl }
+told_epoch d q (Some (answers.Behind epoch)) = record { client = refl; epoch = refl }
+told_epoch d q (Some (answers.Restarted life)) = record { client = refl; epoch = refl }
+told_epoch d q (Some answers.Stale) = record { client = refl; epoch = refl }
+told_epoch d q (Some answers.Fault) = record { client = refl; epoch = refl }
+told_epoch d q (Some (answers.Yes clock)) = promised_epoch d clock q.want
+told_epoch d q (Some (answers.Shut clock log prepared)) = record { client = refl; epoch = refl }
+told_epoch d q (Some answers.Installed) = record { client = refl; epoch = refl }
+told_epoch d q (Some (answers.Answered verdict)) = record { client = refl; epoch = refl }
+
+module _ (decl : Declaration) (half : Want → Bool) where
+  counted_order : (d : Account) (n : ℕ) (answer : Option Answer) → IsInOrder decl half d
+      → IsInOrder decl half (counted d n answer)
+  counted_order d n answer old = by (find (is_open n) d.requests)
+    where
+      by : (o : Option ClientRequest) → IsInOrder decl half (counted_for d n answer o)
+      by None epoch is = old epoch is
+      by (Some p) epoch is =
+          let e : Account = record d { requests = taken_for n answer d.requests } in
+          let k : KeepsEpoch (record d { requests = taken_for n answer d.requests }) (told_by (record d { requests = taken_for n answer d.requests }) p answer) = told_epoch (record d { requests = taken_for n answer d.requests }) p answer in
+          let s : (sites_in half (taken_for n answer d.requests) ≡ sites_in half d.requests) × (count_in half (taken_for n answer d.requests) ≡ count_in half d.requests) = sites_taken half n answer d.requests in
+          let same : (told_by (record d { requests = taken_for n answer d.requests }) p answer).requests ≡ taken_for n answer d.requests = (told_requests (record d { requests = taken_for n answer d.requests }) p answer).0 in
+          ap (sites_in half) same ∙ s.0 ∙ old epoch (sym k.epoch ∙ is)
+          ∙ (λ i. take (sym (ap (count_in half) same ∙ s.1) i) (order decl (sym k.client i) epoch))
+
+  heard_order : (d : Account) (m : Message) → IsInOrder decl half d → IsInOrder decl half (account_heard d m)
+  heard_order d (messages.Request tx epoch life want) old = old
+  heard_order d (messages.Answer to answer) old = counted_order d to (Some answer) old
+  heard_order d (messages.Decision tx verdict) old = old
+  heard_order d (messages.Inquiry tx) old = old
+  heard_order d (messages.Ask tx) old = old
+  heard_order d (messages.Close epoch) old = old
+  heard_order d (messages.Install epoch clock log) old = old
+
+  pub taken_order : (d : Account) (g : Input) → IsInOrder decl half d → IsInOrder decl half (account_taken d g)
+  taken_order d (inputs.Called command) old epoch is = refl
+  taken_order d (inputs.Got e) old epoch is = heard_order d e.message old epoch is
+  taken_order d (inputs.Lost n) old epoch is = counted_order d n None old epoch is
+
+  pub written_order : (d : Account) (w : Record) → IsInOrder decl half d → IsInOrder decl half (account_written d w)
+  written_order d records.Life old = old
+  written_order d (records.Prepare prepared) old = old
+  written_order d (records.Done tx clock) old = old
+  written_order d (records.Close epoch) old = old
+  written_order d (records.Install epoch clock lines) old = old
+  written_order d (records.Commit commit) old = old
+  written_order d (records.Decide epoch clock lines) old = old
+
+-- a request goes to the next site
+
+pub first_drop : (xs : List ℕ) (n s : ℕ) → is_this s (first (drop n xs)) ≡ true → take (suc n) xs ≡ take n xs ++ s ∷ []
+first_drop [] zero s is = absurd (let never : ⊥ = cc in never)
+first_drop [] (suc n) s is = absurd (let never : ⊥ = cc in never)
+first_drop (x ∷ xs) zero s is = ap (λ (y : ℕ). y ∷ []) (eqb-true x s is)
+first_drop (x ∷ xs) (suc n) s is = ap (λ (v : List ℕ). x ∷ v) (first_drop xs n s is)
+
+pub first_of_two : (x y : Bool) → (x && y) ≡ true → x ≡ true
+first_of_two true y is = refl
+first_of_two false y is = absurd (let never : ⊥ = cc in never)
+
+pub second_of_two : (x y : Bool) → (x && y) ≡ true → y ≡ true
+second_of_two true y is = is
+second_of_two false y is = absurd (let never : ⊥ = cc in never)
+
+-- the halves of a `do`
+pub data IsHalf : (Want → Bool) → Type 0 where
+  of_reads : IsHalf is_read
+  of_appends : IsHalf is_append
