@@ -1,6 +1,6 @@
 -- A reply is due only where no request of the command is open.
-use Rattle.std.proofs.Common.{◌≡◌, ℕ, ◌==◌, ◌&&◌, nat_le, Bool, true, false, cond, List, filter}
-use Rattle.std.proofs.Common.{length, map, Option, Some, None, refl, sym, ap, ◌∙◌, subst}
+use Rattle.std.proofs.Common.{◌≡◌, ℕ, ◌==◌, ◌&&◌, nat_le, Bool, true, false, cond, List, filter, length, map, Option}
+use Rattle.std.proofs.Common.{Some, None, refl, sym, ap, ◌∙◌, subst}
 use Rattle.std.specs.Prelude.{is_some, option_and_then}
 use Rattle.std.specs.List.{AllByRecursion as Every, find, list_all}
 use Rattle.qc_list.specs.Names.{In}
@@ -76,7 +76,7 @@ module _ (decl : Declaration) (n : ℕ) (answer : Option Answer) (d : Account) w
         let h : HasNow q.want r.t e.current = now_of q.want r.t d.current e.current r.runs.current i.current in
         let f : IsFound n d.requests q = found n d.requests q is_it in
         let appending : is_append q.want ≡ true =
-                every-In (IsOpenIn is_append) q d.requests r.all f.among f.open_still in
+        every-In (IsOpenIn is_append) q d.requests r.all f.among f.open_still in
         record {
           object = r.object;
           inv = r.inv;
@@ -87,14 +87,14 @@ module _ (decl : Declaration) (n : ℕ) (answer : Option Answer) (d : Account) w
               (λ k. verdict (round_with decl (i.client k) (h.same.epoch k)
               (read_need_of decl (h.same.epoch k) r.object r.inv)
               ((ap (λ (qs : List ClientRequest). filter (λ (x : ClientRequest). is_read x.want) qs) i.requests
-                ∙ reads_kept n answer d.requests r.all) k))) ∙ r.met;
+              ∙ reads_kept n answer d.requests r.all) k))) ∙ r.met;
           chosen =
               (λ k. answer_of decl (record r.t { read_grants = h.same.grants appending k; own = h.same.own k }) r.object
               r.inv) ∙ r.chosen;
           all =
               subst (λ (qs : List ClientRequest). Every (IsOpenIn is_append) qs) (sym i.requests)
               (every_taken (IsOpenIn is_append) n answer (λ x y. λ open_still. absurd (let never : ⊥ = cc in never))
-                d.requests r.all);
+              d.requests r.all);
         }
 
     commits_on : DoesCommit d → DoesCommit e
@@ -114,8 +114,8 @@ module _ (decl : Declaration) (n : ℕ) (answer : Option Answer) (d : Account) w
     goes_on : Goes decl d → Goes decl e
     goes_on (asks_none none) =
         absurd (let never : find (is_open n) [] ≡ Some q =
-                        subst (λ (qs : List ClientRequest). find (is_open n) qs ≡ Some q) none is_it in
-                let no : ⊥ = cc in no)
+        subst (λ (qs : List ClientRequest). find (is_open n) qs ≡ Some q) none is_it in
+        let no : ⊥ = cc in no)
     goes_on (does_read r) = does_read (reads_on r)
     goes_on (does_append r) = does_append (appends_on r)
     goes_on (does_commit r) = does_commit (commits_on r)
@@ -144,7 +144,7 @@ module _ (decl : Declaration) (d : Account) (reply : Reply) (is_due : running_ro
       by true noted q among is =
           noted_none (requests_for is_read d) noted q
           (in_half is_read d.requests q among
-            (every-In (λ (x : ClientRequest). is_read x.want ≡ true) q d.requests r.all among)) is
+          (every-In (λ (x : ClientRequest). is_read x.want ≡ true) q d.requests r.all among)) is
       by false waits q among is =
           let none : running_row decl d false ≡ None = do_row_is decl d r.t r.object r.inv r.runs ∙ ap (read_row decl d r.t r.object r.inv) (waiting_verdict (round_of decl d r.t is_read (read_need_of decl r.t.epoch r.object r.inv)) waits) in
           let never : ⊥ = cc in never
@@ -156,14 +156,14 @@ module _ (decl : Declaration) (d : Account) (reply : Reply) (is_due : running_ro
       by true noted q among is =
           noted_none (requests_for is_append d) noted q
           (in_half is_append d.requests q among
-            (every-In (IsOpenIn is_append) q d.requests r.all among (untaken_is q is))) is
+          (every-In (IsOpenIn is_append) q d.requests r.all among (untaken_is q is))) is
       by false waits q among is =
           let none : running_row decl d false ≡ None =
           do_row_is decl d r.t r.object r.inv r.runs ∙ ap (read_row decl d r.t r.object r.inv) r.met
-              ∙ ap (answer_row decl d r.t r.object) r.chosen
+          ∙ ap (answer_row decl d r.t r.object) r.chosen
           ∙ ap (append_row decl r.object r.event)
-              (waiting_verdict (round_of decl d r.t is_append (append_need_of decl r.t.epoch r.object r.event)) waits)
-              in
+          (waiting_verdict (round_of decl d r.t is_append (append_need_of decl r.t.epoch r.object r.event)) waits)
+          in
           let never : ⊥ = cc in never
 
   commits_done : DoesCommit d → NoneOpen d.requests
@@ -179,20 +179,20 @@ module _ (decl : Declaration) (d : Account) (reply : Reply) (is_due : running_ro
           ap (λ (o : Option Command). option_and_then (row_of decl d false d.current) o) r.command
           ∙ ap (λ (o : Option Current). row_of decl d false o commands.Commit) r.current
           ∙ ap
-              (λ (b : Bool). cond b (Some (replies.Aborted causes.Doomed))
-                (cond (are_votes_in decl d r.t) (vote_row d false (first_against (requests_for is_prepare d))) None))
-              r.live
+          (λ (b : Bool). cond b (Some (replies.Aborted causes.Doomed))
+          (cond (are_votes_in decl d r.t) (vote_row d false (first_against (requests_for is_prepare d))) None))
+          r.live
 
       by : (b : Bool) → list_all (λ (q : ClientRequest). is_some q.taken) (requests_for is_prepare d) ≡ b
           → NoneOpen d.requests
       by true in_are q among is =
           taken_none (requests_for is_prepare d) in_are q
           (in_half is_prepare d.requests q among
-            (every-In (λ (x : ClientRequest). is_prepare x.want ≡ true) q d.requests r.all among)) is
+          (every-In (λ (x : ClientRequest). is_prepare x.want ≡ true) q d.requests r.all among)) is
       by false waits q among is =
           let out : are_votes_in decl d r.t ≡ false =
-                  ap (λ (b : Bool). (length (participants decl d r.t) == length (requests_for is_prepare d)) && b) waits
-                    ∙ last_false (length (participants decl d r.t) == length (requests_for is_prepare d)) in
+          ap (λ (b : Bool). (length (participants decl d r.t) == length (requests_for is_prepare d)) && b) waits
+          ∙ last_false (length (participants decl d r.t) == length (requests_for is_prepare d)) in
           let none : running_row decl d false ≡ None = row ∙ ap (λ (b : Bool). cond b (vote_row d false (first_against (requests_for is_prepare d))) None) out in
           let never : ⊥ = cc in never
 

@@ -1,5 +1,6 @@
 -- Each run of a script is one of the net: the net stands still as an input is taken, and makes both at the post.
-use Rattle.std.proofs.Common.{◌≡◌, ◌≢◌, ℕ, ◌+◌, ◌-◌, ◌==◌, Bool, true, false, if◌then◌else◌, List, [], ◌∷◌, ◌++◌, length, Some, None, slice_get, refl, sym, ap, ◌∙◌, subst, eqb-true}
+use Rattle.std.proofs.Common.{◌≡◌, ◌≢◌, ℕ, ◌+◌, ◌-◌, ◌==◌, Bool, true, false, if◌then◌else◌, List, [], ◌∷◌, ◌++◌}
+use Rattle.std.proofs.Common.{length, Some, None, slice_get, refl, sym, ap, ◌∙◌, subst, eqb-true}
 use Rattle.std.specs.Prelude.{fold, replicate, slice_set}
 use Rattle.std.proofs.lemmas.List.{append-nil}
 use Rattle.std.proofs.lemmas.List.Sums.{fold-append}
@@ -48,9 +49,11 @@ use Rattle.laws_refinement.proofs.Machine.{put_one}
 use Rattle.laws_atomic.proofs.Asked.{ready_named}
 use Rattle.laws_atomic.proofs.Calm as calm
 use Rattle.laws_atomic.proofs.Names.{script_named}
-use Rattle.laws_atomic.proofs.Posted.{client_posted, control_writes, site_posted, site_taken, taken_writes, written_posted, written_same}
+use Rattle.laws_atomic.proofs.Posted.{client_posted, control_writes, site_posted, site_taken, taken_writes}
+use Rattle.laws_atomic.proofs.Posted.{written_posted, written_same}
 use Rattle.laws_atomic.proofs.Silent.{site_silent}
-use Rattle.laws_atomic.proofs.Stood.{ClientStands, OpenClient, OpenSite, SiteStands, Stood, apart, both, client_stays, false_true, may_come, not_now, site_stays, sent_calm, slot_other, true_false}
+use Rattle.laws_atomic.proofs.Stood.{ClientStands, OpenClient, OpenSite, SiteStands, Stood, apart, both, client_stays}
+use Rattle.laws_atomic.proofs.Stood.{false_true, may_come, not_now, site_stays, sent_calm, slot_other, true_false}
 use Rattle.laws_turns.proofs.Up.{run_up}
 
 module _ (decl : Declaration) (script : Script) (accepted : IsAccepted decl) (sound : IsScriptFor decl script) where
@@ -61,7 +64,8 @@ module _ (decl : Declaration) (script : Script) (accepted : IsAccepted decl) (so
   idle_is (Reading object inv calls round) is = absurd (let never : ⊥ = cc in never)
   idle_is (Appending object inv event calls round) is = absurd (let never : ⊥ = cc in never)
 
-  module _ (h : List Entry) (open_inputs : List Bool) (run : Runs (IsLawful decl) decl script h open_inputs) (old : Stood decl h open_inputs) where
+  module _ (h : List Entry) (open_inputs : List Bool) (run : Runs (IsLawful decl) decl script h open_inputs)
+      (old : Stood decl h open_inputs) where
     module _ (a : ℕ) (g : Input) (free : slice_get open_inputs a ≡ Some false) (rdy : ready decl script a h ≡ Some g) where
       abbrev now_taken : List Entry
       now_taken = h ++ marked a (step_of g) ∷ []
@@ -75,21 +79,27 @@ module _ (decl : Declaration) (script : Script) (accepted : IsAccepted decl) (so
       grows : mail now_taken ≡ mail h ++ []
       grows = mail-taken h a g ∙ sym (append-nil (mail h))
 
-      still : is_client decl a ≡ true → (command : Command) → g ≡ inputs.Called command → is_waiting (client_after decl (a - decl.sites) (deeds a [] h)).client ≡ false
+      still : is_client decl a ≡ true → (command : Command) → g ≡ inputs.Called command
+          → is_waiting (client_after decl (a - decl.sites) (deeds a [] h)).client ≡ false
       still client command is =
-          client_replies decl a (at (is_site decl a) refl) client (deeds a [] h) false (run_acts decl script h open_inputs run a false free).above (run_acts decl script h open_inputs run a false free).acts
+          client_replies decl a (at (is_site decl a) refl) client (deeds a [] h) false
+          (run_acts decl script h open_inputs run a false free).above
+          (run_acts decl script h open_inputs run a false free).acts
           (subst (MayTake (deeds a [] h)) is (what_is_ready_may_be_taken decl script a h (run_up (IsLawful decl) decl script h open_inputs run a) g rdy))
         where
           at : (t : Bool) → is_site decl a ≡ t → t ≡ false
           at true site = absurd (both decl a site client)
           at false none = refl
 
-      may : (x : Input) → g ≡ x → is_client decl a ≡ true → MayCommand decl (client_after decl (a - decl.sites) (deeds a [] h)).client x
+      may : (x : Input) → g ≡ x → is_client decl a ≡ true
+          → MayCommand decl (client_after decl (a - decl.sites) (deeds a [] h)).client x
       may (inputs.Called command) is client =
           let c : Client = (client_after decl (a - decl.sites) (deeds a [] h)).client in
-          let rests : is_waiting (client_after decl (a - decl.sites) (deeds a [] h)).client ≡ false = still client command is in (
+          let rests : is_waiting (client_after decl (a - decl.sites) (deeds a [] h)).client ≡ false =
+          still client command is in (
             record { voting = votes_none c rests; doing = idle_is c.front.doing (round_none c rests) },
-            ready_named decl script (script_named decl accepted script sound) h open_inputs run a command free (rdy ∙ ap (λ (v : Input). Some v) is),
+            ready_named decl script (script_named decl accepted script sound) h open_inputs run a command free
+                (rdy ∙ ap (λ (v : Input). Some v) is),
           )
       may (inputs.Got envelope) is client = tt
       may (inputs.Lost number) is client = tt
@@ -104,33 +114,55 @@ module _ (decl : Declaration) (script : Script) (accepted : IsAccepted decl) (so
         clients_are = λ b client. by_client b client (a == b) refl;
       }
         where
-          by_site : (b : ℕ) → is_site decl b ≡ true → (t : Bool) → (a == b) ≡ t → SiteStands decl (old.net.sites b) b now_taken (slice_get (slice_set open_inputs a true) b)
-          by_site b site false other = site_stays decl (old.net.sites b) b h now_taken [] (slice_get open_inputs b) (slice_get (slice_set open_inputs a true) b) (deeds-other a b [] h (step_of g ∷ []) other) grows (slot_other open_inputs a b true other) (old.sites_are b site)
-          by_site b site true same = subst (λ (k : ℕ). SiteStands decl (old.net.sites k) k now_taken (slice_get (slice_set open_inputs a true) k)) (eqb-true a b same) (record {
-            closed = λ e. absurd (not_now open_inputs a true false false free true_false e);
-            opened = λ e. record {
-              given = g;
-              sent = sent_now;
-              is = ap (site_after decl a) (deeds-taken a h g sent) ∙ site_taken decl a (deeds a [] h) g
-                  ∙ ap (λ (s : SiteState). site_takes decl s g) (sym ((old.sites_are a (subst (λ (k : ℕ). is_site decl k ≡ true) (sym (eqb-true a b same)) site)).closed free));
-            };
-          })
+          by_site : (b : ℕ) → is_site decl b ≡ true → (t : Bool) → (a == b) ≡ t
+              → SiteStands decl (old.net.sites b) b now_taken (slice_get (slice_set open_inputs a true) b)
+          by_site b site false other =
+              site_stays decl (old.net.sites b) b h now_taken [] (slice_get open_inputs b)
+              (slice_get (slice_set open_inputs a true) b) (deeds-other a b [] h (step_of g ∷ []) other) grows
+              (slot_other open_inputs a b true other) (old.sites_are b site)
+          by_site b site true same =
+              subst (λ (k : ℕ). SiteStands decl (old.net.sites k) k now_taken
+              (slice_get (slice_set open_inputs a true) k)) (eqb-true a b same) (record {
+                closed = λ e. absurd (not_now open_inputs a true false false free true_false e);
+                opened = λ e. record {
+                  given = g;
+                  sent = sent_now;
+                  is = ap (site_after decl a) (deeds-taken a h g sent) ∙ site_taken decl a (deeds a [] h) g
+                      ∙ ap (λ (s : SiteState). site_takes decl s g) (sym ((old.sites_are a (subst (λ (k : ℕ). is_site decl k ≡ true) (sym (eqb-true a b same)) site)).closed free));
+                };
+              })
 
-          by_client : (b : ℕ) → is_client decl b ≡ true → (t : Bool) → (a == b) ≡ t → ClientStands decl (old.net.clients b) b now_taken (slice_get (slice_set open_inputs a true) b)
-          by_client b client false other = client_stays decl (old.net.clients b) b h now_taken [] (slice_get open_inputs b) (slice_get (slice_set open_inputs a true) b) (deeds-other a b [] h (step_of g ∷ []) other) grows (slot_other open_inputs a b true other) (old.clients_are b client)
+          by_client : (b : ℕ) → is_client decl b ≡ true → (t : Bool) → (a == b) ≡ t
+              → ClientStands decl (old.net.clients b) b now_taken (slice_get (slice_set open_inputs a true) b)
+          by_client b client false other =
+              client_stays decl (old.net.clients b) b h now_taken [] (slice_get open_inputs b)
+              (slice_get (slice_set open_inputs a true) b) (deeds-other a b [] h (step_of g ∷ []) other) grows
+              (slot_other open_inputs a b true other) (old.clients_are b client)
           by_client b client true same =
-              let here : is_client decl a ≡ true = subst (λ (k : ℕ). is_client decl k ≡ true) (sym (eqb-true a b same)) client in
-              let was : old.net.clients a ≡ (client_after decl (a - decl.sites) (deeds a [] h)).client = (old.clients_are a here).closed free in
-              subst (λ (k : ℕ). ClientStands decl (old.net.clients k) k now_taken (slice_get (slice_set open_inputs a true) k)) (eqb-true a b same) (record {
+              let here : is_client decl a ≡ true =
+              subst (λ (k : ℕ). is_client decl k ≡ true) (sym (eqb-true a b same)) client in
+              let was : old.net.clients a ≡ (client_after decl (a - decl.sites) (deeds a [] h)).client =
+              (old.clients_are a here).closed free in
+              subst (λ (k : ℕ). ClientStands decl (old.net.clients k) k now_taken
+              (slice_get (slice_set open_inputs a true) k)) (eqb-true a b same) (record {
                 closed = λ e. absurd (not_now open_inputs a true false false free true_false e);
                 opened = λ e. record {
                   given = g;
                   sent = sent_now;
                   may = subst (λ (c : Client). MayCommand decl c g) (sym was) (may g refl here);
-                  is = ap (client_after decl (a - decl.sites)) (deeds-taken a h g sent) ∙ after_taken decl (a - decl.sites) (deeds a [] h) g ∙ ap (λ (c : Client). client_takes decl c g) (sym was);
+                  is =
+                      ap (client_after decl (a - decl.sites)) (deeds-taken a h g sent)
+                      ∙ after_taken decl (a - decl.sites) (deeds a [] h) g
+                      ∙ ap (λ (c : Client). client_takes decl c g) (sym was);
                   was = account decl a h;
-                  tied = subst (Ties decl (account decl a h)) (sym was) (clients_tied decl a here (deeds a [] h) (run_acts decl script h open_inputs run a false free).above (run_acts decl script h open_inputs run a false free).acts);
-                  now_is = ap (fold (account_at decl) (new_account (a - decl.sites))) (deeds-taken a h g sent) ∙ fold-append (account_at decl) (new_account (a - decl.sites)) (deeds a [] h) (Takes g ∷ []);
+                  tied =
+                      subst (Ties decl (account decl a h)) (sym was)
+                      (clients_tied decl a here (deeds a [] h)
+                      (run_acts decl script h open_inputs run a false free).above
+                      (run_acts decl script h open_inputs run a false free).acts);
+                  now_is =
+                      ap (fold (account_at decl) (new_account (a - decl.sites))) (deeds-taken a h g sent)
+                      ∙ fold-append (account_at decl) (new_account (a - decl.sites)) (deeds a [] h) (Takes g ∷ []);
                 };
               })
 
@@ -141,18 +173,31 @@ module _ (decl : Declaration) (script : Script) (accepted : IsAccepted decl) (so
       now_posted = h ++ by a (posted (length (mail h)) turn)
 
       mail_now : mail now_posted ≡ mail h ++ envelopes a (length (mail h)) turn.sends
-      mail_now = mail-append h (by a (posted (length (mail h)) turn)) ∙ ap (λ (ms : List Envelope). mail h ++ ms) (mail-posted a (length (mail h)) turn)
+      mail_now =
+          mail-append h (by a (posted (length (mail h)) turn))
+          ∙ ap (λ (ms : List Envelope). mail h ++ ms) (mail-posted a (length (mail h)) turn)
 
-      mail_after : (sends : List Posting) → sends ≡ turn.sends → old.net.mail ++ envelopes a (length old.net.mail) sends ≡ mail now_posted
-      mail_after sends is = ap (λ (ps : List Posting). old.net.mail ++ envelopes a (length old.net.mail) ps) is ∙ ap (λ (ms : List Envelope). ms ++ envelopes a (length ms) turn.sends) old.mail_is ∙ sym mail_now
+      mail_after : (sends : List Posting) → sends ≡ turn.sends
+          → old.net.mail ++ envelopes a (length old.net.mail) sends ≡ mail now_posted
+      mail_after sends is =
+          ap (λ (ps : List Posting). old.net.mail ++ envelopes a (length old.net.mail) ps) is
+          ∙ ap (λ (ms : List Envelope). ms ++ envelopes a (length ms) turn.sends) old.mail_is ∙ sym mail_now
 
-      site_elsewhere : (b : ℕ) → is_site decl b ≡ true → (a == b) ≡ false → SiteStands decl (old.net.sites b) b now_posted (slice_get (slice_set open_inputs a false) b)
+      site_elsewhere : (b : ℕ) → is_site decl b ≡ true → (a == b) ≡ false
+          → SiteStands decl (old.net.sites b) b now_posted (slice_get (slice_set open_inputs a false) b)
       site_elsewhere b site other =
-          site_stays decl (old.net.sites b) b h now_posted (envelopes a (length (mail h)) turn.sends) (slice_get open_inputs b) (slice_get (slice_set open_inputs a false) b) (deeds-other a b [] h (posted (length (mail h)) turn) other) mail_now (slot_other open_inputs a b false other) (old.sites_are b site)
+          site_stays decl (old.net.sites b) b h now_posted (envelopes a (length (mail h)) turn.sends)
+          (slice_get open_inputs b) (slice_get (slice_set open_inputs a false) b)
+          (deeds-other a b [] h (posted (length (mail h)) turn) other) mail_now
+          (slot_other open_inputs a b false other) (old.sites_are b site)
 
-      client_elsewhere : (b : ℕ) → is_client decl b ≡ true → (a == b) ≡ false → ClientStands decl (old.net.clients b) b now_posted (slice_get (slice_set open_inputs a false) b)
+      client_elsewhere : (b : ℕ) → is_client decl b ≡ true → (a == b) ≡ false
+          → ClientStands decl (old.net.clients b) b now_posted (slice_get (slice_set open_inputs a false) b)
       client_elsewhere b client other =
-          client_stays decl (old.net.clients b) b h now_posted (envelopes a (length (mail h)) turn.sends) (slice_get open_inputs b) (slice_get (slice_set open_inputs a false) b) (deeds-other a b [] h (posted (length (mail h)) turn) other) mail_now (slot_other open_inputs a b false other) (old.clients_are b client)
+          client_stays decl (old.net.clients b) b h now_posted (envelopes a (length (mail h)) turn.sends)
+          (slice_get open_inputs b) (slice_get (slice_set open_inputs a false) b)
+          (deeds-other a b [] h (posted (length (mail h)) turn) other) mail_now
+          (slot_other open_inputs a b false other) (old.clients_are b client)
 
       differs : (b : ℕ) → b ≢ a → (a == b) ≡ false
       differs b other = apart a b (λ same. other (sym same))

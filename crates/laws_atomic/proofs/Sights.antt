@@ -1,6 +1,6 @@
 -- What a client takes, sends and writes keeps its sight and the account of its deeds in agreement.
-use Rattle.std.proofs.Common.{◌≡◌, ◌≢◌, ◌<◌, ℕ, ◌+◌, Bool, true, false, cond, List, ◌∷◌, ◌++◌}
-use Rattle.std.proofs.Common.{inl, inr, Option, Some, None, option_map, refl, sym, ap, ◌∙◌, subst, arith}
+use Rattle.std.proofs.Common.{◌≡◌, ◌≢◌, ◌<◌, ℕ, ◌+◌, Bool, true, false, cond, List, ◌∷◌, ◌++◌, inl, inr, Option, Some}
+use Rattle.std.proofs.Common.{None, option_map, refl, sym, ap, ◌∙◌, subst, arith}
 use Rattle.std.specs.List.{cons_option}
 use Rattle.qc_stamp.specs.declared.stamp.Stamp.{Stamp}
 use Rattle.qc_stamp.specs.declared.stamp.TxId.{TxId}
@@ -18,14 +18,13 @@ use Rattle.qc_msg.specs.declared.record.Record.{Record}
 use Rattle.qc_msg.specs.declared.record.Record.TheVariants as records
 use Rattle.qc_msg.specs.Names.{commit_of as commit_in}
 use Rattle.qc_promise.specs.Names.{Account, ClientRequest, Current, HasBefore, IsRecordDue, Sight, Status, account_sent}
-use Rattle.qc_promise.specs.Names.{account_written, given_up, is_begun, running_row}
-use Rattle.qc_promise.specs.Names.{sight_sent, status_sent, status_written}
+use Rattle.qc_promise.specs.Names.{account_written, given_up, is_begun, running_row, sight_sent, status_sent}
+use Rattle.qc_promise.specs.Names.{status_written}
 use Rattle.qc_promise.specs.Status as statuses
 use Rattle.laws_due.specs.Names.{IsSendDue}
 use Rattle.laws_atomic.proofs.Counted.{IsOpen, name_of}
 use Rattle.laws_atomic.proofs.Seeing.{HasCommitted, Sees, is_before, stays_committed}
 use Rattle.laws_atomic.proofs.Stamps.{due_stamp}
-use Rattle.laws_atomic.proofs.SightsTaken.{_}
 
 module _ (commits : List Commit) (tx : TxId) (d : Account) (s : Sight) (wrote : List Commit) (st : Status)
     (w : Sees commits tx d s wrote st) where
@@ -61,26 +60,25 @@ module _ (commits : List Commit) (tx : TxId) (d : Account) (s : Sight) (wrote : 
 
   pub sent_sees : (decl : Declaration) (number to : ℕ) (message : Message) → IsSendDue decl d to message
       → Sees commits tx (account_sent decl d number to message) (sight_sent s number message) wrote
-        (status_sent tx st message)
+      (status_sent tx st message)
   sent_sees decl number to (messages.Request other epoch life want) is =
       subst (λ (b : Bool). Sees commits tx
-          (cond b
-            (record d
-              {
-                  requests =
-                      d.requests ++ record { number = number; site = to; life = life; want = want; taken = None } ∷ []
-                }) d) (record s { waiting = s.waiting ++ number ∷ [] }) wrote st) (sym is)
+      (cond b
+      (record d {
+        requests =
+            d.requests ++ record { number = number; site = to; life = life; want = want; taken = None } ∷ [];
+      }) d) (record s { waiting = s.waiting ++ number ∷ [] }) wrote st) (sym is)
       (record {
         begun = w.begun;
         waiting = λ n among. elim (In-more n number s.waiting among) [
           | inl old ↦
               (let o : IsOpen n d.requests = w.waiting n old in
-               record {
-                     request = o.request;
-                     among = In-first o.request d.requests (new ∷ []) o.among;
-                     number = o.number;
-                     untaken = o.untaken
-                   })
+              record {
+                request = o.request;
+                among = In-first o.request d.requests (new ∷ []) o.among;
+                number = o.number;
+                untaken = o.untaken;
+              })
           | inr same ↦ record { request = new; among = In-last new d.requests; number = sym same; untaken = refl }
         ];
         shown = w.shown;
@@ -113,7 +111,7 @@ module _ (commits : List Commit) (tx : TxId) (d : Account) (s : Sight) (wrote : 
   commit_sees : (decl : Declaration) (c : Commit) → In c commits
       → IsRecordDue d (running_row decl d false) (records.Commit c)
       → Sees commits tx (record d { written = Some c }) s (c ∷ wrote)
-        (cond (same_tx c.tx tx) (statuses.Committed c.stamp) st)
+      (cond (same_tx c.tx tx) (statuses.Committed c.stamp) st)
   commit_sees decl c there due_is = record {
     begun = w.begun;
     waiting = w.waiting;
@@ -140,16 +138,16 @@ module _ (commits : List Commit) (tx : TxId) (d : Account) (s : Sight) (wrote : 
           → HasBefore commits t r.stamp
       before_one r (inl same) its t among other =
           subst (λ (x : Commit). HasBefore commits t x.stamp) (sym same)
-              (is_before commits t d.clock c.stamp above
-                (w.seen (begins (sym (ap (λ (x : Commit). x.tx) same) ∙ its)) t among))
+          (is_before commits t d.clock c.stamp above
+          (w.seen (begins (sym (ap (λ (x : Commit). x.tx) same) ∙ its)) t among))
       before_one r (inr old) its t among other = w.before r old its t among other
 
       ended_one : (r : Commit) → In r (c ∷ wrote) → r.tx ≡ tx
           → HasCommitted (cond (same_tx c.tx tx) (statuses.Committed c.stamp) st)
       ended_one r (inl same) its =
           subst (λ (b : Bool). HasCommitted (cond b (statuses.Committed c.stamp) st))
-              (sym (subst (λ (x : TxId). same_tx c.tx x ≡ true) (sym (ap (λ (x : Commit). x.tx) same) ∙ its)
-                (same_tx_itself c.tx))) tt
+          (sym (subst (λ (x : TxId). same_tx c.tx x ≡ true) (sym (ap (λ (x : Commit). x.tx) same) ∙ its)
+          (same_tx_itself c.tx))) tt
       ended_one r (inr old) its = by (same_tx c.tx tx)
         where
           by : (b : Bool) → HasCommitted (cond b (statuses.Committed c.stamp) st)
@@ -160,12 +158,12 @@ module _ (commits : List Commit) (tx : TxId) (d : Account) (s : Sight) (wrote : 
       stands_one r (inl same) its is = ap (λ (x : Commit). Some x) (sym same)
       stands_one r (inr old) its is =
           absurd (let wrote_it : d.written ≡ Some r = w.stands r old its is in
-                  let none : d.written ≡ None = due_is.2 in let never : ⊥ = cc in never)
+          let none : d.written ≡ None = due_is.2 in let never : ⊥ = cc in never)
 
   pub wrote_sees : (decl : Declaration) (written : Record) → ((c : Commit) → written ≡ records.Commit c → In c commits)
       → IsRecordDue d (running_row decl d false) written
       → Sees commits tx (account_written d written) s (cons_option (commit_in written) wrote)
-        (status_written tx st written)
+      (status_written tx st written)
   wrote_sees decl records.Life there is = record {
     begun = w.begun;
     waiting = w.waiting;

@@ -1,7 +1,6 @@
 -- What a client takes keeps its sight and the account of its deeds in agreement.
-use Rattle.std.proofs.Common.{◌≡◌, ◌≢◌, ℕ, ◌+◌, ◌==◌, ◌||◌, not, Bool, true, false, cond, List, ◌∷◌, ◌++◌, ◌⊎◌}
-use Rattle.std.proofs.Common.{inl, inr, filter, map, Some, None, refl, sym, ap, ◌∙◌, subst}
-use Rattle.std.proofs.Common.{eq-eqb, eqb-true}
+use Rattle.std.proofs.Common.{◌≡◌, ◌≢◌, ℕ, ◌+◌, ◌==◌, ◌||◌, not, Bool, true, false, cond, List, ◌∷◌, ◌++◌, ◌⊎◌, inl}
+use Rattle.std.proofs.Common.{inr, filter, map, Some, None, refl, sym, ap, ◌∙◌, subst, eq-eqb, eqb-true}
 use Rattle.std.specs.List.{list_any}
 use Rattle.qc_stamp.specs.declared.stamp.TxId.{TxId}
 use Rattle.qc_list.specs.Names.{In}
@@ -11,9 +10,7 @@ use Rattle.qc_entry.specs.declared.record.Commit.{Commit}
 use Rattle.qc_msg.specs.declared.message.Answer.{Answer}
 use Rattle.qc_msg.specs.declared.message.Answer.TheVariants as answers
 use Rattle.qc_msg.specs.declared.step.Command.{Command}
-use Rattle.qc_promise.specs.Names.{Account, HasBefore, Sight, Status}
-use Rattle.qc_promise.specs.Names.{answered, counted, is_begun, sees}
-use Rattle.qc_promise.specs.Names.{waits}
+use Rattle.qc_promise.specs.Names.{Account, HasBefore, Sight, Status, answered, counted, is_begun, sees, waits}
 use Rattle.qc_promise.specs.Seen.{granted}
 use Rattle.laws_atomic.proofs.Counted.{AsksForGrants, IsCounted, IsOpen, counts, passes}
 use Rattle.laws_atomic.proofs.Seeing.{IsUpTo, Sees, higher, in_split}
@@ -96,7 +93,7 @@ module _ (commits : List Commit) (tx : TxId) (d : Account) (s : Sight) (wrote : 
       seen =
           λ is t among. either t s.seen (w.seen is t)
           (in_split t s.seen (map (λ (l : Line). l.tx) lines)
-            (subst (λ (b : Bool). In t (cond b (s.seen ++ map (λ (l : Line). l.tx) lines) s.seen)) is among));
+          (subst (λ (b : Bool). In t (cond b (s.seen ++ map (λ (l : Line). l.tx) lines) s.seen)) is among));
       before = λ r among its. on_seen r among its (is_begun tx s.begun) refl;
       ended = w.ended;
       stands = λ r among its is. c.written ∙ w.stands r among its is;
@@ -131,8 +128,8 @@ module _ (commits : List Commit) (tx : TxId) (d : Account) (s : Sight) (wrote : 
       → In t (map (λ (l : Line). l.tx) (granted answer)) → IsUpTo commits t (counted d n (Some answer)).clock
   of_answer n (answers.Granted life clock log) f o t among =
       higher commits t clock (counted d n (Some (answers.Granted life clock log))).clock
-          (passes n d life clock log o (f.asked life clock log refl))
-          (of_lines clock log (f.lines life clock log refl) t among)
+      (passes n d life clock log o (f.asked life clock log refl))
+      (of_lines clock log (f.lines life clock log refl) t among)
   of_answer n (answers.Clash holder inv event) f o t among = absurd among
   of_answer n (answers.Closed epoch) f o t among = absurd among
   of_answer n (answers.Behind epoch) f o t among = absurd among
@@ -146,7 +143,7 @@ module _ (commits : List Commit) (tx : TxId) (d : Account) (s : Sight) (wrote : 
 
   pub answer_sees : d.written ≡ None → (n : ℕ) (answer : Answer) → IsFounded n answer
       → Sees commits tx (counted d n (Some answer)) (cond (waits s n) (sees tx (answered s n) (granted answer)) s) wrote
-        st
+      st
   answer_sees unwritten n answer f = by (waits s n) refl
     where
       by : (b : Bool) → waits s n ≡ b

@@ -1,6 +1,6 @@
 -- What runs, as far as replies wait for its requests: where the client has no open input, it waits for some.
-use Rattle.std.proofs.Common.{◌≡◌, ℕ, ◌==◌, ◌&&◌, Bool, true, false, cond, List, ◌∷◌, inl, inr, filter}
-use Rattle.std.proofs.Common.{length, map, Option, Some, None, option_map, refl, sym, ap, ◌∙◌}
+use Rattle.std.proofs.Common.{◌≡◌, ℕ, ◌==◌, ◌&&◌, Bool, true, false, cond, List, ◌∷◌, inl, inr, filter, length, map}
+use Rattle.std.proofs.Common.{Option, Some, None, option_map, refl, sym, ap, ◌∙◌}
 use Rattle.std.specs.Prelude.{drop, is_none, is_some}
 use Rattle.std.specs.List.{AllByRecursion as Every, list_all}
 use Rattle.qc_list.specs.Names.{In}
@@ -13,10 +13,8 @@ use Rattle.qc_msg.specs.declared.step.Command.TheVariants as commands
 use Rattle.qc_plan.specs.declared.standing.Asked.{Asked}
 use Rattle.qc_plan.specs.declared.standing.Verdict.TheVariants as verdicts
 use Rattle.qc_plan.specs.Names.{RoundState, all_noted, start, verdict}
-use Rattle.qc_promise.specs.Names.{Account, ClientRequest, Current, answer_of}
-use Rattle.qc_promise.specs.Names.{asked_by, is_append, is_prepare}
-use Rattle.qc_promise.specs.Names.{is_read, round_of}
-use Rattle.qc_promise.specs.Names.{standing_of, taken_for, weights_of}
+use Rattle.qc_promise.specs.Names.{Account, ClientRequest, Current, answer_of, asked_by, is_append, is_prepare, is_read}
+use Rattle.qc_promise.specs.Names.{round_of, standing_of, taken_for, weights_of}
 use Rattle.qc_client.specs.declared.client.Client.{Client}
 use Rattle.laws_due.specs.Names.{IsDo, IsOpenIn, IsPrepare, Ties, appends, reads, rests, votes}
 
@@ -59,7 +57,7 @@ round_with decl client epoch need hs =
 -- requests that aren't open are no matter of what is taken
 pub reads_kept : (n : ℕ) (answer : Option Answer) (qs : List ClientRequest) → Every (IsOpenIn is_append) qs
     → filter (λ (q : ClientRequest). is_read q.want) (taken_for n answer qs)
-      ≡ filter (λ (q : ClientRequest). is_read q.want) qs
+    ≡ filter (λ (q : ClientRequest). is_read q.want) qs
 reads_kept n answer [] all = refl
 reads_kept n answer (q ∷ qs) all = by (q.number == n) (is_none q.taken) refl (reads_kept n answer qs all.1)
   where
@@ -70,19 +68,19 @@ reads_kept n answer (q ∷ qs) all = by (q.number == n) (is_none q.taken) refl (
 
     by : (u b : Bool) → is_none q.taken ≡ b
         → filter (λ (p : ClientRequest). is_read p.want) (taken_for n answer qs)
-          ≡ filter (λ (p : ClientRequest). is_read p.want) qs
+        ≡ filter (λ (p : ClientRequest). is_read p.want) qs
         → filter (λ (p : ClientRequest). is_read p.want)
-            (cond (u && b) (record q { taken = Some answer }) q ∷ taken_for n answer qs)
-            ≡ filter (λ (p : ClientRequest). is_read p.want) (q ∷ qs)
+        (cond (u && b) (record q { taken = Some answer }) q ∷ taken_for n answer qs)
+        ≡ filter (λ (p : ClientRequest). is_read p.want) (q ∷ qs)
     by true true is e =
         let other : is_read q.want ≡ false = no_read q.want (all.0 is) in
         ap (λ (b : Bool). cond b
-            (record q { taken = Some answer } ∷ filter (λ (p : ClientRequest). is_read p.want) (taken_for n answer qs))
-            (filter (λ (p : ClientRequest). is_read p.want) (taken_for n answer qs))) other
+        (record q { taken = Some answer } ∷ filter (λ (p : ClientRequest). is_read p.want) (taken_for n answer qs))
+        (filter (λ (p : ClientRequest). is_read p.want) (taken_for n answer qs))) other
         ∙ e
-            ∙ sym
-              (ap (λ (b : Bool). cond b (q ∷ filter (λ (p : ClientRequest). is_read p.want) qs)
-                (filter (λ (p : ClientRequest). is_read p.want) qs)) other)
+        ∙ sym
+        (ap (λ (b : Bool). cond b (q ∷ filter (λ (p : ClientRequest). is_read p.want) qs)
+        (filter (λ (p : ClientRequest). is_read p.want) qs)) other)
     by true false is e = ap (λ (v : List ClientRequest). cond (is_read q.want) (q ∷ v) v) e
     by false b is e = ap (λ (v : List ClientRequest). cond (is_read q.want) (q ∷ v) v) e
 
@@ -137,7 +135,7 @@ goes_of decl d c (appends r) =
       runs = r.runs;
       met = r.met;
       chosen = r.chosen;
-      all = r.appends
+      all = r.appends;
     })
 goes_of decl d c (votes r) =
     does_commit (record {
@@ -145,7 +143,7 @@ goes_of decl d c (votes r) =
       command = r.command;
       current = r.current;
       live = r.live;
-      all = of_prepares d.requests r.prepares
+      all = of_prepares d.requests r.prepares;
     })
   where
     of_prepares : (qs : List ClientRequest) → Every (IsPrepare r.t) qs

@@ -1,6 +1,6 @@
 -- An actor in form goes on so for each input, each post and each rise.
-use Rattle.std.proofs.Common.{◌≡◌, ℕ, ◌-◌, ◌^◌, ◌<◌, ◌≤◌, Bool, true, false, cond, List, [], ◌∷◌, fold, map}
-use Rattle.std.proofs.Common.{length, take, Option, inl, inr, refl, sym, subst, arith}
+use Rattle.std.proofs.Common.{◌≡◌, ℕ, ◌-◌, ◌^◌, ◌<◌, ◌≤◌, Bool, true, false, cond, List, [], ◌∷◌, fold, map, length}
+use Rattle.std.proofs.Common.{take, Option, inl, inr, refl, sym, subst, arith}
 use Rattle.std.specs.Prelude.{option_to_list}
 use Rattle.std.specs.List.{AllByRecursion as Every}
 use Rattle.qc_core.proofs.AdminWrites.{admin_written}

@@ -9,7 +9,7 @@ use Rattle.qc_core.specs.Names.{new_actor, with_record}
 use Rattle.qc_core.specs.Lives as lives
 use Rattle.qc_core.proofs.AdminTurns.{IsSentByAdmin}
 use Rattle.qc_core.proofs.AdminWrites.{admin_written}
-use Rattle.qc_core.proofs.ByTurns.{after_takes, called_turn}
+use Rattle.qc_core.proofs.PostsByTurns.{after_takes, called_turn}
 use Rattle.qc_decl.specs.Names.{is_client, is_site}
 use Rattle.qc_decl.specs.declared.declaration.Declaration.{Declaration}
 use Rattle.qc_entry.specs.declared.record.Prepared.{Prepared}

@@ -12,7 +12,7 @@ use Rattle.qc_core.specs.declared.actor.Actor.{Actor}
 use Rattle.qc_core.specs.declared.actor.Actor.TheVariants as actors_of
 use Rattle.qc_core.specs.Names.{ActorMove, IsLawfulWithFalls, MayTake, actor_after, actor_does, actor_rises, actor_sent}
 use Rattle.qc_core.specs.Names.{actor_takes, by_client, down_takes, is_running}
-use Rattle.qc_core.proofs.ByTurns.{after_takes, called_turn}
+use Rattle.qc_core.proofs.PostsByTurns.{after_takes, called_turn}
 use Rattle.qc_core.proofs.ClientLands.{lands}
 use Rattle.qc_core.proofs.ClientStands.{Lands}
 use Rattle.qc_core.proofs.LivesOfActors.{rises as after_rises}

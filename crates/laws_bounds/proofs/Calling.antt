@@ -19,7 +19,7 @@ use Rattle.qc_core.specs.declared.actor.Actor.{Actor}
 use Rattle.qc_core.specs.declared.actor.Actor.TheVariants as actors_of
 use Rattle.qc_core.specs.Names.{ActorFits, ActorMove, AsksFew, IsFrom, IsLawfulWithFalls, IsShort, MayTake, actor_after}
 use Rattle.qc_core.specs.Names.{actor_takes, is_running, with_record}
-use Rattle.qc_core.proofs.ByTurns.{after_takes, called_turn}
+use Rattle.qc_core.proofs.PostsByTurns.{after_takes, called_turn}
 use Rattle.qc_core.proofs.ClientLands.{lands}
 use Rattle.qc_core.proofs.ClientReaches.{client_reach}
 use Rattle.qc_core.proofs.ClientStands.{Lands, Stands}

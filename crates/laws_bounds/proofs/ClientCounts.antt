@@ -1,6 +1,5 @@
 -- A client's count of transactions grows by at most one with each input, and its life stays.
-use Rattle.std.proofs.Common.{◌≡◌, ℕ, ◌+◌, ◌≤◌, Bool, true, false, cond}
-use Rattle.std.proofs.Common.{Option, Some, None, is_some, refl, arith}
+use Rattle.std.proofs.Common.{◌≡◌, ℕ, ◌+◌, ◌≤◌, Bool, true, false, cond, Option, Some, None, is_some, refl, arith}
 use Rattle.qc_client.specs.declared.client.Client.{Client}
 use Rattle.qc_client.specs.Names.{answered, answered_by, by_desk, by_front, called, client_takes, commits, heard}
 use Rattle.qc_client.specs.Names.{requested, sent_one}

@@ -1,8 +1,7 @@
 -- What an accepted declaration has is in form: objects, invocations, responses and events stay below their limits; so
 -- do commands of it, and answers of views.
 use Rattle.std.proofs.Common.{◌≡◌, ℕ, zero, suc, ◌<◌, ◌≤◌, ◌-◌, ◌==◌, nat_lt, Bool, true, false, cond, length, Option}
-use Rattle.std.proofs.Common.{Some, None, refl}
-use Rattle.std.proofs.Common.{slice_get, subst, arith}
+use Rattle.std.proofs.Common.{Some, None, refl, slice_get, subst, arith}
 use Rattle.std.specs.Prelude.{option_and_then, option_map, position}
 use Rattle.std.proofs.lemmas.Bool.{eqb-false, leb-false}
 use Rattle.std.proofs.lemmas.Option.{slice_get_within}

@@ -1,6 +1,6 @@
 -- A front end whose transaction is in form goes on so, and sends such messages.
-use Rattle.std.proofs.Common.{◌≡◌, ℕ, ◌-◌, ◌^◌, ◌<◌, ◌≤◌, nat_le, Bool, true, false, cond, List, [], length}
-use Rattle.std.proofs.Common.{Option, Some, None, refl, arith}
+use Rattle.std.proofs.Common.{◌≡◌, ℕ, ◌-◌, ◌^◌, ◌<◌, ◌≤◌, nat_le, Bool, true, false, cond, List, [], length, Option}
+use Rattle.std.proofs.Common.{Some, None, refl, arith}
 use Rattle.std.proofs.lemmas.Bool.{leb-false}
 use Rattle.qc_decl.specs.Names.{append_need_of, most_transaction_operations, read_need_of}
 use Rattle.qc_decl.specs.declared.declaration.Declaration.{Declaration}
@@ -21,8 +21,8 @@ use Rattle.qc_plan.specs.declared.standing.Verdict.{Verdict}
 use Rattle.qc_plan.specs.declared.standing.Verdict.TheVariants as verdicts
 use Rattle.qc_record.specs.Names.{IsWithin}
 use Rattle.laws_bounds.proofs.Forms.{CommandInForm, EventInForm, InvocationInForm}
-use Rattle.laws_bounds.proofs.TransactionsInForm.{TransactionInForm, absent_form, asked_form, doomed_form}
-use Rattle.laws_bounds.proofs.TransactionsInForm.{event_form, no_lines, weaker}
+use Rattle.laws_bounds.proofs.TransactionsInForm.{TransactionInForm, absent_form, asked_form, doomed_form, event_form}
+use Rattle.laws_bounds.proofs.TransactionsInForm.{no_lines, weaker}
 
 -- each answer of a view is an event in form
 abbrev pub AnswersInForm : Declaration → Type 0

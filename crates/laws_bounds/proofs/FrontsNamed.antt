@@ -1,6 +1,6 @@
 -- A front end whose transaction names declared things goes on so, and sends such messages.
-use Rattle.std.proofs.Common.{◌≡◌, ℕ, nat_le, Bool, true, false, cond, List, [], length}
-use Rattle.std.proofs.Common.{Option, Some, None, refl, sym, subst}
+use Rattle.std.proofs.Common.{◌≡◌, ℕ, nat_le, Bool, true, false, cond, List, [], length, Option, Some, None, refl, sym}
+use Rattle.std.proofs.Common.{subst}
 use Rattle.qc_list.proofs.Members.{every-from_In}
 use Rattle.qc_decl.specs.Names.{IsAccepted, append_need_of, most_transaction_operations, read_need_of}
 use Rattle.qc_decl.specs.declared.declaration.Declaration.{Declaration}
@@ -30,11 +30,9 @@ use Rattle.qc_plan.specs.Names.{RoundState, note, verdict}
 use Rattle.qc_plan.specs.declared.standing.Verdict.{Verdict}
 use Rattle.qc_plan.specs.declared.standing.Verdict.TheVariants as verdicts
 use Rattle.laws_bounds.proofs.EventsNamed.{EventNamed, answer_named}
-use Rattle.laws_bounds.proofs.Names.{CameNamed, CommandNamed, MessageNamed}
-use Rattle.laws_bounds.proofs.Names.{SendsNamed, WantNamed}
+use Rattle.laws_bounds.proofs.Names.{CameNamed, CommandNamed, MessageNamed, SendsNamed, WantNamed}
 use Rattle.laws_bounds.proofs.TransactionsNamed.{BegunNamed, TransactionNamed, absent_named, appended_named}
-use Rattle.laws_bounds.proofs.TransactionsNamed.{event_named}
-use Rattle.laws_bounds.proofs.TransactionsNamed.{log_named, no_lines, owns_named, read_named}
+use Rattle.laws_bounds.proofs.TransactionsNamed.{event_named, log_named, no_lines, owns_named, read_named}
 
 module _ (decl : Declaration) where
   abbrev pub DoingNamed : Doing → Type 0

@@ -1,6 +1,5 @@
 -- For each command and answer a front end in form stays so, and sends such messages.
-use Rattle.std.proofs.Common.{◌≡◌, ℕ, ◌-◌, ◌^◌, ◌<◌}
-use Rattle.std.proofs.Common.{Option, Some, None, sym, subst}
+use Rattle.std.proofs.Common.{◌≡◌, ℕ, ◌-◌, ◌^◌, ◌<◌, Option, Some, None, sym, subst}
 use Rattle.qc_list.proofs.Members.{every-from_In}
 use Rattle.qc_decl.specs.declared.declaration.Declaration.{Declaration}
 use Rattle.qc_front.specs.declared.doing.Doing.{Doing}
@@ -20,13 +19,11 @@ use Rattle.qc_msg.specs.declared.step.Command.{Command}
 use Rattle.qc_msg.specs.declared.turn.Posting.{Posting}
 use Rattle.qc_msg.specs.Names.{site_called, without_call}
 use Rattle.qc_plan.specs.Names.{note, verdict}
-use Rattle.laws_bounds.proofs.Forms.{CameInForm, CommandInForm, MessageInForm, OrdinalsInForm}
-use Rattle.laws_bounds.proofs.Forms.{SendsInForm, VerdictInForm, WantInForm}
-use Rattle.laws_bounds.proofs.TransactionsInForm.{TransactionInForm, appended_form}
-use Rattle.laws_bounds.proofs.TransactionsInForm.{log_form, owns_form, read_form}
+use Rattle.laws_bounds.proofs.Forms.{CameInForm, CommandInForm, MessageInForm, OrdinalsInForm, SendsInForm}
+use Rattle.laws_bounds.proofs.Forms.{VerdictInForm, WantInForm}
+use Rattle.laws_bounds.proofs.TransactionsInForm.{TransactionInForm, appended_form, log_form, owns_form, read_form}
 use Rattle.laws_bounds.proofs.FrontsInForm.{AnswersInForm, DoingInForm, FrontInForm, OptionInForm, append_goes}
-use Rattle.laws_bounds.proofs.FrontsInForm.{called_goes}
-use Rattle.laws_bounds.proofs.FrontsInForm.{read_goes, room}
+use Rattle.laws_bounds.proofs.FrontsInForm.{called_goes, read_goes, room}
 
 module _ (decl : Declaration) (client : ℕ) where
   -- what is taken for a request

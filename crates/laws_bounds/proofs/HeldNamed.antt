@@ -1,6 +1,6 @@
 -- What is held and promised of declared clients on declared things stays so, and becomes such lines.
-use Rattle.std.proofs.Common.{◌≡◌, ℕ, ◌<◌, ◌==◌, ◌&&◌, Bool, true, false, cond, List, [], ◌∷◌, fold}
-use Rattle.std.proofs.Common.{length, Some, Ordering, Less, Equal, Greater, refl, subst, eqb-true}
+use Rattle.std.proofs.Common.{◌≡◌, ℕ, ◌<◌, ◌==◌, ◌&&◌, Bool, true, false, cond, List, [], ◌∷◌, fold, length, Some}
+use Rattle.std.proofs.Common.{Ordering, Less, Equal, Greater, refl, subst, eqb-true}
 use Rattle.std.specs.Prelude.{unwrap_or}
 use Rattle.std.specs.List.{AllByRecursion as Every}
 use Rattle.qc_list.specs.Names.{by_order, inserted}
@@ -17,8 +17,7 @@ use Rattle.qc_site.specs.Names.{held_by, holds, lines_of, prepared_of, stamped, 
 use Rattle.qc_stamp.specs.declared.stamp.Stamp.{Stamp}
 use Rattle.qc_stamp.specs.declared.stamp.TxId.{TxId}
 use Rattle.qc_stamp.specs.Names.{same_tx}
-use Rattle.laws_bounds.proofs.Names.{LineNamed, LinesNamed, LocksNamed}
-use Rattle.laws_bounds.proofs.Names.{OwnsNamed, PromiseNamed}
+use Rattle.laws_bounds.proofs.Names.{LineNamed, LinesNamed, LocksNamed, OwnsNamed, PromiseNamed}
 
 -- what is put among items in order
 

@@ -1,13 +1,12 @@
 -- In each run with falls in which records rise that are few and in form, all that is said and held is in form, below
 -- 2^31 steps.
-use Rattle.std.proofs.Common.{◌≡◌, ℕ, ◌+◌, ◌^◌, ◌<◌, ◌≤◌, ◌==◌, Bool, true, false, List, [], ◌∷◌, ◌++◌}
-use Rattle.std.proofs.Common.{length, None, Some, refl, sym, ap, ◌∙◌, subst, eqb-true, append_assoc, length-append}
-use Rattle.std.proofs.Common.{arith}
+use Rattle.std.proofs.Common.{◌≡◌, ℕ, ◌+◌, ◌^◌, ◌<◌, ◌≤◌, ◌==◌, Bool, true, false, List, [], ◌∷◌, ◌++◌, length, None}
+use Rattle.std.proofs.Common.{Some, refl, sym, ap, ◌∙◌, subst, eqb-true, append_assoc, length-append, arith}
 use Rattle.std.specs.List.{AllByRecursion as Every}
 use Rattle.std.proofs.lemmas.List.Sums.{fold-append}
 use Rattle.qc_list.proofs.Members.{every-append, every-at}
 use Rattle.qc_core.specs.Names.{IsLawfulWithFalls, actor_after, actor_does, with_record}
-use Rattle.qc_core.proofs.ByTurns.{after_takes, called_turn}
+use Rattle.qc_core.proofs.PostsByTurns.{after_takes, called_turn}
 use Rattle.qc_core.proofs.LivesOfActors.{falls as after_falls, rises as after_rises}
 use Rattle.qc_decl.specs.Names.{IsAccepted, actors, controller}
 use Rattle.qc_link.specs.Names.{most_actors}
@@ -39,8 +38,8 @@ use Rattle.qc_script.specs.Names.{ready, rises, takes, unopened}
 use Rattle.qc_script.specs.declared.script.Script.{Script}
 use Rattle.laws_bounds.proofs.ActorsWithin.{deeds_post}
 use Rattle.laws_bounds.proofs.AskedNamed.{given_named}
-use Rattle.laws_bounds.proofs.AnswersToAsks.{ActorTold, MailTold, MessageTold, SendsTold, TurnTold}
-use Rattle.laws_bounds.proofs.AnswersToAsks.{actor_more, mail_more, sends_more}
+use Rattle.laws_bounds.proofs.AnswersToAsks.{ActorTold, MailTold, MessageTold, SendsTold, TurnTold, actor_more}
+use Rattle.laws_bounds.proofs.AnswersToAsks.{mail_more, sends_more}
 use Rattle.laws_bounds.proofs.AsksAnswered.{AreReady, given_told, posted_asked, posts_told, takes_told}
 use Rattle.laws_bounds.proofs.AsksReady.{new_told, open_ready, risen_ready, rises_told}
 use Rattle.laws_bounds.proofs.CountBounds.{history_counts}

@@ -1,5 +1,6 @@
 pub mod AsksReady
 pub mod AnswersToAsks
+pub mod AnswersSaid
 pub mod AsksAnswered
 pub mod AdminsAsked
 pub mod AdminsInForm

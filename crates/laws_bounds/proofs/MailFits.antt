@@ -36,8 +36,7 @@ use Rattle.qc_promise.specs.Names.{asks_answer}
 use Rattle.qc_site.specs.Names.{AreByClients, SiteMove, SiteState, answers as answered_with, finishes, grants, moved}
 use Rattle.qc_site.specs.Names.{passed, promise_cmp, site_at, site_takes}
 use Rattle.qc_site.proofs.RequestCases.{append_cases, close_rows, fault_is, install_rows, join_cases, prepare_cases}
-use Rattle.qc_site.proofs.RequestCases.{read_cases}
-use Rattle.qc_site.proofs.RequestCases.{request_cases}
+use Rattle.qc_site.proofs.RequestCases.{read_cases, request_cases}
 use Rattle.qc_stamp.specs.declared.stamp.TxId.{TxId}
 
 abbrev pub SendsFit : List Posting → Type 0

@@ -4,7 +4,7 @@ use Rattle.std.proofs.Common.{arith}
 use Rattle.std.specs.Prelude.{option_to_list}
 use Rattle.std.specs.List.{AllByRecursion as Every}
 use Rattle.qc_core.specs.Names.{IsLawfulWithFalls, journal_after, with_record}
-use Rattle.qc_core.proofs.ByTurns.{called_turn}
+use Rattle.qc_core.proofs.PostsByTurns.{called_turn}
 use Rattle.qc_core.proofs.LivesLaws.{journal as journal_is}
 use Rattle.qc_decl.specs.Names.{IsAccepted, actors, most_steps}
 use Rattle.qc_decl.specs.declared.declaration.Declaration.{Declaration}

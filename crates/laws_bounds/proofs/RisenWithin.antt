@@ -1,8 +1,7 @@
 -- What a site, a client and the administrator are by records within a bound, and what they do as they rise, is within
 -- it.
 use Rattle.std.proofs.Common.{ℕ, ◌-◌, ◌≤◌, max, not, Bool, true, false, cond, List, [], ◌∷◌, ◌++◌, fold, map, take}
-use Rattle.std.proofs.Common.{Option}
-use Rattle.std.proofs.Common.{Some, None, arith}
+use Rattle.std.proofs.Common.{Option, Some, None, arith}
 use Rattle.std.specs.List.{AllByRecursion as Every}
 use Rattle.std.specs.Option.{option_map_or}
 use Rattle.qc_list.proofs.Members.{every-append, every-filter}

@@ -5,7 +5,7 @@ use Rattle.std.specs.List.{AllByRecursion as Every}
 use Rattle.qc_list.specs.Names.{In}
 use Rattle.qc_list.proofs.Members.{every-In, every-append}
 use Rattle.qc_core.specs.Names.{ActorMove, AsksFew, IsLawfulWithFalls, actor_after, actor_rises, with_record}
-use Rattle.qc_core.proofs.ByTurns.{called_turn}
+use Rattle.qc_core.proofs.PostsByTurns.{called_turn}
 use Rattle.qc_core.proofs.LivesOfActors.{rises as after_rises}
 use Rattle.qc_decl.specs.Names.{IsAccepted, controller, most_clients, most_steps}
 use Rattle.qc_decl.specs.declared.declaration.Declaration.{Declaration}

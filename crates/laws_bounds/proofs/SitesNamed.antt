@@ -1,7 +1,7 @@
 -- A site that knows, holds and has promised what names declared things goes on so, sends such messages and writes such
 -- records.
-use Rattle.std.proofs.Common.{◌≡◌, ℕ, ◌<◌, ◌==◌, ◌&&◌, nat_lt, not, Bool, true, false, List, [], ◌∷◌}
-use Rattle.std.proofs.Common.{Option, Some, None, refl}
+use Rattle.std.proofs.Common.{◌≡◌, ℕ, ◌<◌, ◌==◌, ◌&&◌, nat_lt, not, Bool, true, false, List, [], ◌∷◌, Option, Some}
+use Rattle.std.proofs.Common.{None, refl}
 use Rattle.std.specs.Prelude.{option_to_list}
 use Rattle.std.specs.List.{AllByRecursion as Every}
 use Rattle.std.proofs.lemmas.Bool.{ltb-true}
@@ -29,15 +29,14 @@ use Rattle.qc_msg.specs.Names.{quiet}
 use Rattle.qc_site.specs.Names.{SiteMove, SiteState, answers, clashing, closes, fault_of, finishes, grants, installs}
 use Rattle.qc_site.specs.Names.{known, learned, lines_of, moved, names_declared, names_object, passed, promise_cmp}
 use Rattle.qc_site.specs.Names.{promise_of, requested, shut_answer, site_at, site_takes}
-use Rattle.qc_site.proofs.RequestCases.{append_cases, choose, close_rows, fault_is, install_rows, join_cases, prepare_cases}
-use Rattle.qc_site.proofs.RequestCases.{read_cases}
+use Rattle.qc_site.proofs.RequestCases.{append_cases, choose, close_rows, fault_is, install_rows, join_cases}
+use Rattle.qc_site.proofs.RequestCases.{prepare_cases, read_cases}
 use Rattle.qc_stamp.specs.declared.stamp.TxId.{TxId}
 use Rattle.qc_stamp.specs.Names.{same_tx}
 use Rattle.laws_bounds.proofs.Names.{AnswerNamed, AreNamed, GivenNamed, LineNamed, LinesNamed, MessageNamed}
 use Rattle.laws_bounds.proofs.Names.{PromiseNamed, SendsNamed, WantNamed}
 use Rattle.laws_bounds.proofs.HeldNamed.{FoundNamed, HasNamed, HeldNamed, every-all_inserted, found_named, has_named}
-use Rattle.laws_bounds.proofs.HeldNamed.{promises_held}
-use Rattle.laws_bounds.proofs.HeldNamed.{held_named, lines_named}
+use Rattle.laws_bounds.proofs.HeldNamed.{promises_held, held_named, lines_named}
 
 module _ (decl : Declaration) where
   pub record SiteNamed (s : SiteState) : Type 0 where

@@ -1,7 +1,7 @@
 -- Through falls and rises a client, and the administrator, stand as their calls rely on, and what a site holds is of
 -- clients.
-use Rattle.std.proofs.Common.{◌≡◌, ◌⊎◌, ℕ, ◌-◌, ◌<◌, Bool, true, false, cond, List, [], ◌∷◌, ◌++◌, fold, Option}
-use Rattle.std.proofs.Common.{Some, None, inl, inr, refl, sym, ap, ◌∙◌, subst, append_assoc}
+use Rattle.std.proofs.Common.{◌≡◌, ◌⊎◌, ℕ, ◌-◌, ◌<◌, Bool, true, false, cond, List, [], ◌∷◌, ◌++◌, fold, Option, Some}
+use Rattle.std.proofs.Common.{None, inl, inr, refl, sym, ap, ◌∙◌, subst, append_assoc}
 use Rattle.std.specs.List.{AllByRecursion as Every}
 use Rattle.std.proofs.lemmas.List.Sums.{fold-append}
 use Rattle.qc_list.specs.Names.{In}
@@ -18,7 +18,7 @@ use Rattle.qc_core.specs.Names.{ActorMove, IsFrom, IsLawfulWithFalls, Lives, May
 use Rattle.qc_core.specs.Names.{actor_rises, actor_takes, by_admin, by_client, down_takes, is_running, new_actor}
 use Rattle.qc_core.specs.Names.{runs_at, runs_given, with_record}
 use Rattle.qc_core.specs.Lives as lives
-use Rattle.qc_core.proofs.ByTurns.{after_takes, called_turn}
+use Rattle.qc_core.proofs.PostsByTurns.{after_takes, called_turn}
 use Rattle.qc_core.proofs.ClientLands.{lands}
 use Rattle.qc_core.proofs.ClientReaches.{AskedFit, ClientReach, client_reach, new_asked, no_sites, sent_asked}
 use Rattle.qc_core.proofs.ClientStands.{Lands, Stands, new_stands, runs_told}

@@ -1,6 +1,5 @@
 -- What a turn's deeds leave: whether a command runs, and what an actor is.
-use Rattle.std.proofs.Common.{◌≡◌, ℕ, ◌+◌, Bool, false, List, [], ◌∷◌, ◌++◌, fold, Option}
-use Rattle.std.proofs.Common.{Some, None, refl, ap, ◌∙◌}
+use Rattle.std.proofs.Common.{◌≡◌, ℕ, ◌+◌, Bool, false, List, [], ◌∷◌, ◌++◌, fold, Option, Some, None, refl, ap, ◌∙◌}
 use Rattle.std.proofs.lemmas.List.Sums.{fold-append}
 use Rattle.laws_due.proofs.Standing.{steady_client}
 use Rattle.qc_client.specs.Names.{ClientMove}

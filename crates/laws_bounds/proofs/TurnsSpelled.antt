@@ -3,7 +3,7 @@ use Rattle.std.proofs.Common.{◌≡◌, ℕ, ◌+◌, ◌^◌, ◌<◌, ◌≤�
 use Rattle.std.specs.Prelude.{option_to_list}
 use Rattle.std.specs.List.{AllByRecursion as Every}
 use Rattle.qc_core.specs.Names.{IsLawfulWithFalls, with_record}
-use Rattle.qc_core.proofs.ByTurns.{called_turn}
+use Rattle.qc_core.proofs.PostsByTurns.{called_turn}
 use Rattle.qc_decl.specs.Names.{IsAccepted, most_record_bytes}
 use Rattle.qc_decl.specs.declared.declaration.Declaration.{Declaration}
 use Rattle.qc_fit.specs.Names.{greatest_clock}

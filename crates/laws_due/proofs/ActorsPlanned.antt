@@ -1,6 +1,5 @@
 -- An actor that rises with no epoch without a plan writes and sends none.
-use Rattle.std.proofs.Common.{ℕ, ◌-◌, Bool, true, false, cond, List, ◌∷◌, Option}
-use Rattle.std.proofs.Common.{inl, inr, sym, subst}
+use Rattle.std.proofs.Common.{ℕ, ◌-◌, Bool, true, false, cond, List, ◌∷◌, Option, inl, inr, sym, subst}
 use Rattle.std.specs.Prelude.{fold, option_to_list}
 use Rattle.std.specs.List.{AllByRecursion as Every}
 use Rattle.qc_core.specs.Names.{ActorMove, IsLawfulWithFalls, actor_does, actor_rises, actor_sends, actor_takes}
@@ -13,7 +12,7 @@ use Rattle.laws_due.proofs.AdminEpochs.{new_admin_planned, risen_admin_planned, 
 use Rattle.qc_client.specs.Names.{client_takes, new_client}
 use Rattle.qc_core.specs.declared.actor.Actor.{Actor}
 use Rattle.qc_core.specs.declared.actor.Actor.TheVariants as actor
-use Rattle.qc_core.proofs.ByTurns.{called_turn}
+use Rattle.qc_core.proofs.PostsByTurns.{called_turn}
 use Rattle.qc_core.proofs.Written.{client_written}
 use Rattle.qc_decl.specs.Names.{is_client, is_site}
 use Rattle.qc_decl.specs.declared.declaration.Declaration.{Declaration}
@@ -24,12 +23,11 @@ use Rattle.qc_msg.specs.declared.step.Input.TheVariants as inputs
 use Rattle.qc_msg.specs.declared.turn.Appended.{Appended}
 use Rattle.qc_msg.specs.declared.turn.Appended.TheVariants.{Done, Failed, Stopped}
 use Rattle.qc_msg.specs.declared.turn.Turn.{Turn}
-use Rattle.qc_msg.specs.Names.{Deed, Falls, Rises, Sends, Takes, Tells, Writes}
-use Rattle.qc_msg.specs.Names.{first_epoch, quiet, sends_as}
+use Rattle.qc_msg.specs.Names.{Deed, Falls, Rises, Sends, Takes, Tells, Writes, first_epoch, quiet, sends_as}
 use Rattle.qc_site.specs.Names.{new_site}
 use Rattle.laws_due.specs.Names.{IsPlanned, IsRecordPlanned}
-use Rattle.laws_due.proofs.Epochs.{DeedPlanned, SitePlanned, TakesPlanned, TellPlanned, TurnPlanned}
-use Rattle.laws_due.proofs.Epochs.{says_nothing, takes_planned, takes_stay_planned}
+use Rattle.laws_due.proofs.Epochs.{DeedPlanned, SitePlanned, TakesPlanned, TellPlanned, TurnPlanned, says_nothing}
+use Rattle.laws_due.proofs.Epochs.{takes_planned, takes_stay_planned}
 use Rattle.laws_due.proofs.ClientEpochs.{client_takes_planned}
 use Rattle.laws_due.proofs.Writing.{IsClientTurn, takes_turn}
 use Rattle.laws_due.proofs.SiteRises.{rises_planned, rising_planned}
@@ -71,7 +69,7 @@ actor_planned decl (actor.Client c) g told asked w = record {
       record {
         sends = client_takes_planned decl c g;
         failed_sends = subst (TellPlanned decl) (sym (client_written decl c g).failed_sends) tt;
-        writes = client_writes decl (client_takes decl c g).turn (takes_turn decl c g)
+        writes = client_writes decl (client_takes decl c g).turn (takes_turn decl c g);
       };
 }
 actor_planned decl (actor.Admin m) g told asked w =
@@ -96,14 +94,14 @@ module _ (decl : Declaration) (first : IsPlanned decl first_epoch) where
     where
       at : (b c : Bool)
           → MovePlanned decl
-            (cond b (by_site (site_rises decl a kept))
-              (cond c (by_client (client_rises (a - decl.sites) kept)) (by_admin (admin_rises kept))))
+          (cond b (by_site (site_rises decl a kept))
+          (cond c (by_client (client_rises (a - decl.sites) kept)) (by_admin (admin_rises kept))))
       at true c = record { state = rises_planned decl first a kept all; turn = rising_planned decl a kept }
       at false true = record { state = tt; turn = record { sends = tt; failed_sends = tt; writes = (tt, tt) } }
       at false false =
           record {
             state = risen_admin_planned decl kept all;
-            turn = record { sends = tt; failed_sends = tt; writes = (tt, tt) }
+            turn = record { sends = tt; failed_sends = tt; writes = (tt, tt) };
           }
 
   does_planned : (a : ℕ) (ds : List Deed) (m : ActorMove) → Every (DeedPlanned decl) ds → Every (RisesOfPlanned decl) ds
@@ -115,7 +113,7 @@ module _ (decl : Declaration) (first : IsPlanned decl first_epoch) where
   does_planned a (Writes written ∷ ds) m told all asked w = does_planned a ds m told.1 all.1 asked.1 w
   does_planned a (Sends number to message ∷ ds) m told all asked w =
       does_planned a ds (record m { actor = actor_sends m.actor number to message }) told.1 all.1 asked.1
-          (record { state = sends_planned decl m.actor number to message w.state; turn = w.turn })
+      (record { state = sends_planned decl m.actor number to message w.state; turn = w.turn })
   does_planned a (Tells reply ∷ ds) m told all asked w = does_planned a ds m told.1 all.1 asked.1 w
   does_planned a (Falls cause pending ∷ ds) m told all asked w =
       does_planned a ds (moved actor.Down quiet) told.1 all.1 asked.1 (record { state = tt; turn = says_nothing decl })
@@ -127,8 +125,8 @@ module _ (decl : Declaration) (first : IsPlanned decl first_epoch) where
     where
       at : (b c : Bool)
           → ActorPlanned decl
-            (cond b (actor.Site (new_site a))
-              (cond c (actor.Client (new_client (a - decl.sites))) (actor.Admin new_admin)))
+          (cond b (actor.Site (new_site a))
+          (cond c (actor.Client (new_client (a - decl.sites))) (actor.Admin new_admin)))
       at true c = record { epoch = first; closed = tt }
       at false true = tt
       at false false = new_admin_planned decl
@@ -137,8 +135,8 @@ module _ (decl : Declaration) (first : IsPlanned decl first_epoch) where
       → Every (IsAskableDeed decl a) ds → IsLawfulWithFalls decl a ds turn → TurnPlanned decl (with_record turn)
   lawful_turn a ds turn told all asked law =
       subst (TurnPlanned decl) (called_turn decl a ds turn law)
-          (does_planned a ds (moved (new_actor decl a) quiet) told all asked
-            (record { state = new_planned a; turn = says_nothing decl })).turn
+      (does_planned a ds (moved (new_actor decl a) quiet) told all asked
+      (record { state = new_planned a; turn = says_nothing decl })).turn
 
   pub lawful_sends : (a : ℕ) (ds : List Deed) (turn : Turn) → Every (DeedPlanned decl) ds
       → Every (RisesOfPlanned decl) ds

@@ -2,7 +2,7 @@
 -- answers; and a message that he sends opens one where it is a request.
 use Rattle.std.proofs.Common.{◌≡◌, ℕ, ◌+◌, ◌==◌, nat_le, ◌⊎◌, Bool, true, false, cond, inl, inr, List, [], ◌∷◌, length}
 use Rattle.std.proofs.Common.{map, Option, Some, None, refl, sym, ap, subst}
-use Rattle.std.specs.Prelude.{is_none}
+use Rattle.std.specs.Prelude.{is_none, take}
 use Rattle.std.specs.List.{cons_option}
 use Rattle.std.proofs.lemmas.List.{map-append}
 use Rattle.qc_list.specs.Names.{In}
@@ -32,7 +32,6 @@ use Rattle.qc_script.specs.Names.{is_request}
 use Rattle.laws_turns.proofs.Fewer.{IsNotFor}
 use Rattle.laws_turns.specs.Names.{IsAnswerTo}
 use Rattle.qc_msg.specs.declared.reply.Reply.TheVariants as replies
-use Rattle.std.specs.Prelude.{take}
 use Rattle.laws_due.proofs.AdminNumbers.{DoingPlain, IsFresh, all_unnumbered, called_spares, fresh_among, fresh_spares}
 use Rattle.laws_due.proofs.AdminNumbers.{none_numbered, number_if, numbers_in, open_in, open_numbers, spares_then}
 use Rattle.laws_due.proofs.AdminNumbers.{still_spares, taken_spares, uncalled}

@@ -151,7 +151,8 @@ module _ (decl : Declaration) (some : (decl.sites == 0) ≡ false) (first : ℕ)
               all = (let count : length (installs sent.end) ≡ 0 + decl.sites = sent.all in omega (arith, count));
               installed_are = ap site_set (sym (sent.installed_same ∙ ap installed_of moves.installs_none));
               numbers = subst (λ (k : ℕ). Numbered (first + k) (installs sent.end))
-                  (sym (length-map (range_with_len 0 decl.sites) (install_of dd) ∙ length_range 0 decl.sites)) sent.numbers;
+                  (sym (length-map (range_with_len 0 decl.sites) (install_of dd) ∙ length_range 0 decl.sites))
+                  sent.numbers;
               open_still = sent.open_still ∙ ap (λ (b : Bool). cond b (all_taken (installs d)) false) some;
             };
           });

@@ -1,8 +1,7 @@
 -- Where nothing is ready for anybody, no input is open and each control line has acted, no command of the administrator
 -- runs. So his commands and replies are in order through his falls.
-use Rattle.std.proofs.Common.{◌≡◌, ◌⊎◌, ℕ, ◌+◌, ◌≤◌, ◌==◌, Bool, true, false, List, ◌∷◌, ◌++◌}
-use Rattle.std.proofs.Common.{length, inl, inr, Option, Some, None, is_some, sym, ap, ◌∙◌}
-use Rattle.std.proofs.Common.{subst, arith}
+use Rattle.std.proofs.Common.{◌≡◌, ◌⊎◌, ℕ, ◌+◌, ◌≤◌, ◌==◌, Bool, true, false, List, ◌∷◌, ◌++◌, length, inl, inr, Option}
+use Rattle.std.proofs.Common.{Some, None, is_some, sym, ap, ◌∙◌, subst, arith}
 use Rattle.std.specs.Prelude.{slice_get}
 use Rattle.std.specs.List.{AllByRecursion as Every}
 use Rattle.qc_list.specs.Names.{In}
@@ -12,18 +11,16 @@ use Rattle.qc_core.specs.Names.{ActorMove, IsLawfulWithFalls, actor_after, actor
 use Rattle.qc_core.proofs.AdminTurns.{FaultsAlone}
 use Rattle.qc_core.proofs.AdminWrites.{admin_written}
 use Rattle.qc_core.proofs.ByNumber.{admin_no_client, admin_no_site, admin_risen}
-use Rattle.qc_core.proofs.ByTurns.{called_turn}
+use Rattle.qc_core.proofs.PostsByTurns.{called_turn}
 use Rattle.qc_decl.specs.Names.{IsAccepted, administrator, controller}
 use Rattle.qc_decl.specs.Actors as numbers
 use Rattle.qc_decl.specs.declared.declaration.Declaration.{Declaration}
 use Rattle.qc_epoch.specs.Names.{Admin}
-use Rattle.laws_turns.specs.Names.{AsksDeclared, IsAtReceiver, IsAwaited, IsQuiet, IsTaken, LivesIn}
-use Rattle.laws_turns.specs.Names.{calls_of}
+use Rattle.laws_turns.specs.Names.{AsksDeclared, IsAtReceiver, IsAwaited, IsQuiet, IsTaken, LivesIn, calls_of}
 use Rattle.laws_turns.proofs.Lived.{run_lives}
 use Rattle.laws_turns.proofs.SoundClients.{front_part}
 use Rattle.qc_link.specs.Names.{most_actors}
-use Rattle.qc_msg.specs.Names.{Deed, Entry, MayEnd, Rises, Takes, by, deeds, deeds_as}
-use Rattle.qc_msg.specs.Names.{mail, posted_as}
+use Rattle.qc_msg.specs.Names.{Deed, Entry, MayEnd, Rises, Takes, by, deeds, deeds_as, mail, posted_as}
 use Rattle.qc_msg.specs.declared.record.Record.{Record}
 use Rattle.qc_msg.specs.declared.reply.Reply.{Reply}
 use Rattle.qc_msg.specs.declared.step.Command.{Command}
@@ -35,8 +32,7 @@ use Rattle.qc_msg.specs.declared.turn.Appended.{Appended}
 use Rattle.qc_msg.specs.declared.turn.Appended.TheVariants.{Done, Failed, Stopped}
 use Rattle.qc_msg.specs.declared.turn.Turn.{Turn}
 use Rattle.qc_msg.proofs.Growth.{deeds-posted_as}
-use Rattle.qc_promise.specs.Names.{AreAdminDeedsDue, IsAdminDue}
-use Rattle.qc_promise.specs.Names.{new_admin_account}
+use Rattle.qc_promise.specs.Names.{AreAdminDeedsDue, IsAdminDue, new_admin_account}
 use Rattle.qc_script.specs.Names.{RunsWithFalls, controls_left, inbox, phase_of}
 use Rattle.qc_script.specs.declared.script.Script.{Script}
 use Rattle.laws_due.specs.Names.{AreInOrder, AsksEpochs, AsksKnown, IsEpoch}
@@ -72,8 +68,8 @@ module _ (decl : Declaration) (script : Script) (accepted : IsAccepted decl) (as
   epochs_called h open_inputs run =
       front_part IsEpoch (calls_of (administrator decl) h) (inbox script (administrator decl) h).commands
       (subst (Every IsEpoch)
-          (sym (run_asked (IsLawfulWithFalls decl) fits decl script (administrator decl) h open_inputs run))
-          (asked_phases decl script.phases (phase_of h) epochs))
+      (sym (run_asked (IsLawfulWithFalls decl) fits decl script (administrator decl) h open_inputs run))
+      (asked_phases decl script.phases (phase_of h) epochs))
 
   -- nothing of his is open at the end
 
@@ -87,21 +83,21 @@ module _ (decl : Declaration) (script : Script) (accepted : IsAccepted decl) (as
         at (inl there) =
             subst (In r.envelope)
             (copies_none decl script accepted asks fits h open_inputs run closed quiet done r.envelope.to
-                (his_receiver decl script accepted fits known h open_inputs run r.envelope r.sent r.from r.request))
-                there
+            (his_receiver decl script accepted fits known h open_inputs run r.envelope r.sent r.from r.request))
+            there
         at (inr t) = closed r.envelope.to t.is_open
 
     not_awaited : (n : ℕ) → IsAwaited n (inbox script (administrator decl) h) → ⊥
     not_awaited n (inl lost) =
         subst (In n)
         (losts_none decl script accepted asks fits h open_inputs run closed quiet done (administrator decl)
-          (omega arith)) lost
+        (omega arith)) lost
     not_awaited n (inr (inl open_still)) =
         nowhere n (his_unanswered decl script accepted fits known h open_inputs run n open_still)
     not_awaited n (inr (inr has)) =
         subst (In has.envelope)
         (copies_none decl script accepted asks fits h open_inputs run closed quiet done (administrator decl)
-          (omega arith)) has.member
+        (omega arith)) has.member
 
     none_open : (m : Admin)
         → (actor_after decl (administrator decl) (deeds (administrator decl) [] h)).actor ≡ actors.Admin m
@@ -125,10 +121,10 @@ module _ (decl : Declaration) (script : Script) (accepted : IsAccepted decl) (as
             → is_some (account_is decl (deeds (administrator decl) [] h)).command ≡ false
         by true s =
             no_command (account_is decl (deeds (administrator decl) [] h)).command
-                (command_of decl (deeds (administrator decl) [] h) new_admin_account (epochs_called h open_inputs run)
-                  tt)
+            (command_of decl (deeds (administrator decl) [] h) new_admin_account (epochs_called h open_inputs run)
+            tt)
             (none_commanded decl lived.above (account_is decl (deeds (administrator decl) [] h)) s.state s.ties
-                (none_open s.state s.actor))
+            (none_open s.state s.actor))
         by false s = ap (λ (o : Option Command). is_some o) s.command
 
   pub his_none_runs : RestsAtEnds decl script accepted asks fits (administrator decl)
@@ -173,7 +169,7 @@ module _ (decl : Declaration) (script : Script) (accepted : IsAccepted decl) (as
       → AreInOrder (is_running (deeds (administrator decl) [] older)) (deeds_as turn.append (length (mail older)) turn)
   post_in_order older before after turn run taken law whole =
       subst (λ (b : Bool). AreInOrder b (deeds_as turn.append (length (mail older)) turn))
-          (sym (running_is decl (deeds (administrator decl) [] older))) (at turn.append law.may_end dues)
+      (sym (running_is decl (deeds (administrator decl) [] older))) (at turn.append law.may_end dues)
     where
       lived : LivesIn decl (administrator decl) older true
       lived = run_lives decl script fits few older before run (administrator decl) true taken
@@ -187,10 +183,10 @@ module _ (decl : Declaration) (script : Script) (accepted : IsAccepted decl) (as
           (deeds_as turn.append (length (mail older)) turn)
       dues =
           due_second decl (deeds (administrator decl) [] older) (deeds_as turn.append (length (mail older)) turn)
-              new_admin_account
+          new_admin_account
           (subst (IsAdminDue decl) (deeds-posted_as turn.append (administrator decl) (length (mail older)) older turn)
           (run_admin_due decl script fits accepted.has_site few
-              (older ++ by (administrator decl) (posted_as turn.append (length (mail older)) turn)) after whole))
+          (older ++ by (administrator decl) (posted_as turn.append (length (mail older)) turn)) after whole))
 
       some : (w : Option Record) → MayEnd w Failed → FaultsAlone w turn.failed_told → is_some turn.failed_told ≡ true
       some None may f = absurd may
@@ -198,9 +194,9 @@ module _ (decl : Declaration) (script : Script) (accepted : IsAccepted decl) (as
 
       at : (end : Appended) → MayEnd turn.write end
           → AreAdminDeedsDue decl (account_is decl (deeds (administrator decl) [] older))
-            (deeds_as end (length (mail older)) turn)
+          (deeds_as end (length (mail older)) turn)
           → AreInOrder (is_some (account_is decl (deeds (administrator decl) [] older)).command)
-              (deeds_as end (length (mail older)) turn)
+          (deeds_as end (length (mail older)) turn)
       at Done may due =
           done_ordered decl (account_is decl (deeds (administrator decl) [] older)) (length (mail older)) turn due
       at Failed may due =
@@ -223,7 +219,7 @@ module _ (decl : Declaration) (script : Script) (accepted : IsAccepted decl) (as
         ordered = post_in_order;
         rising_is = λ ds kept turn law.
             sym (ap (λ (m : ActorMove). m.turn)
-                (admin_risen decl (administrator decl) (admin_no_site decl) (admin_no_client decl) kept))
+            (admin_risen decl (administrator decl) (admin_no_site decl) (admin_no_client decl) kept))
             ∙ sym (ap (λ (m : ActorMove). m.turn) (actor_more decl ds (Rises kept ∷ [])))
             ∙ called_turn decl (administrator decl) (ds ++ Rises kept ∷ []) turn law;
       }) h open_inputs run

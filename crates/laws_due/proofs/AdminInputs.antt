@@ -1,10 +1,9 @@
 -- An input of the administrator while he is up, and a command while he is down: what is due of them.
-use Rattle.std.proofs.Common.{◌≡◌, ◌≤◌, ℕ, ◌+◌, ◌==◌, Bool, true, false, cond, List, ◌∷◌, ◌++◌, length, fold}
-use Rattle.std.proofs.Common.{Option, Some, None, is_some, refl, sym, ap, ◌∙◌, subst}
+use Rattle.std.proofs.Common.{◌≡◌, ◌≤◌, ℕ, ◌+◌, ◌==◌, Bool, true, false, cond, List, ◌∷◌, ◌++◌, length, fold, Option}
+use Rattle.std.proofs.Common.{Some, None, is_some, refl, sym, ap, ◌∙◌, subst}
 use Rattle.std.specs.Prelude.{option_and_then}
 use Rattle.qc_core.specs.declared.actor.Actor.{Actor}
-use Rattle.qc_core.specs.Names.{ActorMove, MayTake, actor_after, actor_does}
-use Rattle.qc_core.specs.Names.{actor_takes, by_admin, is_up}
+use Rattle.qc_core.specs.Names.{ActorMove, MayTake, actor_after, actor_does, actor_takes, by_admin, is_up}
 use Rattle.qc_core.proofs.Steady.{turn_steady}
 use Rattle.qc_decl.specs.Names.{administrator}
 use Rattle.qc_decl.specs.declared.declaration.Declaration.{Declaration}
@@ -19,16 +18,16 @@ use Rattle.qc_msg.specs.declared.turn.Appended.{Appended}
 use Rattle.qc_msg.specs.declared.turn.Appended.TheVariants.{Done, Failed, Stopped}
 use Rattle.qc_msg.specs.Names.{Deed, Falls, IsByDisk, MayEnd, Takes, Tells, deeds_as, epoch_in, sends_as, sends_of}
 use Rattle.qc_msg.specs.Names.{telling, tells_of, turn_deeds}
-use Rattle.qc_promise.specs.Names.{AdminAccount, AreAdminDeedsDue, IsAdminReplyDue, IsDecisionMet}
-use Rattle.qc_promise.specs.Names.{admin_account_at, admin_due, admin_taken, decided_for, epoch_row, pending_next}
+use Rattle.qc_promise.specs.Names.{AdminAccount, AreAdminDeedsDue, IsAdminReplyDue, IsDecisionMet, admin_account_at}
+use Rattle.qc_promise.specs.Names.{admin_due, admin_taken, decided_for, epoch_row, pending_next}
 use Rattle.qc_epoch.specs.Names.{admin_takes}
 use Rattle.qc_admin.specs.Names.{sent_each}
 use Rattle.laws_due.proofs.Standing.{no_act, none_follows, steady_up}
 use Rattle.laws_due.proofs.AdminStages.{Ties}
 use Rattle.laws_due.proofs.AdminGoes.{Fails, Goes}
 use Rattle.laws_due.proofs.AdminCommands.{takes_go}
-use Rattle.laws_due.proofs.AdminRest.{IsAtRest, IsFallen, IsTied, account_is, account_more, actor_more}
-use Rattle.laws_due.proofs.AdminRest.{event_due, input_due, turn_actor, up_more}
+use Rattle.laws_due.proofs.AdminRest.{IsAtRest, IsFallen, IsTied, account_is, account_more, actor_more, event_due}
+use Rattle.laws_due.proofs.AdminRest.{input_due, turn_actor, up_more}
 
 module _ (decl : Declaration) (some : (decl.sites == 0) ≡ false) where
   -- an input while he is up
@@ -43,7 +42,7 @@ module _ (decl : Declaration) (some : (decl.sites == 0) ≡ false) where
 
     posted_account : (more : List Deed)
         → account_is decl ((ds ++ Takes g ∷ []) ++ more)
-          ≡ fold (admin_account_at decl) (admin_taken (account_is decl ds) g) more
+        ≡ fold (admin_account_at decl) (admin_taken (account_is decl ds) g) more
     posted_account more =
         account_more decl (ds ++ Takes g ∷ []) more
         ∙ ap (λ (d : AdminAccount). fold (admin_account_at decl) d more) (account_more decl ds (Takes g ∷ []))
@@ -55,7 +54,7 @@ module _ (decl : Declaration) (some : (decl.sites == 0) ≡ false) where
       is =
           up_more decl (ds ++ Takes g ∷ []) (turn_deeds first (admin_takes decl s.state g).turn)
           ∙ steady_up (is_up (ds ++ Takes g ∷ [])) (turn_deeds first (admin_takes decl s.state g).turn)
-              (turn_steady first (admin_takes decl s.state g).turn)
+          (turn_steady first (admin_takes decl s.state g).turn)
           ∙ up_more decl ds (Takes g ∷ []) ∙ r.is ∙ same;
       due =
           λ ys behind. event_due decl n ds r (Takes g) (turn_deeds first (admin_takes decl s.state g).turn) ys
@@ -69,13 +68,13 @@ module _ (decl : Declaration) (some : (decl.sites == 0) ≡ false) where
         state = sent_each (admin_takes decl s.state g).admin first (admin_takes decl s.state g).turn.sends;
         actor = ap (λ (m : ActorMove). m.actor) (actor_more decl (ds ++ Takes g ∷ []) (turn_deeds first (admin_takes decl s.state g).turn)
             ∙ ap
-                (λ (m : ActorMove). fold (actor_does decl (administrator decl)) m
-                  (turn_deeds first (admin_takes decl s.state g).turn)) takes_to
+            (λ (m : ActorMove). fold (actor_does decl (administrator decl)) m
+            (turn_deeds first (admin_takes decl s.state g).turn)) takes_to
             ∙ turn_actor decl first (admin_takes decl s.state g).admin (admin_takes decl s.state g).turn
-                (admin_takes decl s.state g).turn);
+            (admin_takes decl s.state g).turn);
         ties =
             subst (λ (d : AdminAccount). Ties decl (first + length (admin_takes decl s.state g).turn.sends) d
-                (sent_each (admin_takes decl s.state g).admin first (admin_takes decl s.state g).turn.sends))
+            (sent_each (admin_takes decl s.state g).admin first (admin_takes decl s.state g).turn.sends))
             (sym (posted_account (turn_deeds first (admin_takes decl s.state g).turn) ∙ goes.is)) goes.ties;
       };
     }
@@ -123,10 +122,10 @@ module _ (decl : Declaration) (some : (decl.sites == 0) ≡ false) where
     failed_rest k None is ends = absurd ends
     failed_rest k (Some w) is ends =
         let fails : Fails decl (admin_taken (account_is decl ds) g) (admin_takes decl s.state g).turn w =
-                goes.fails w is in
+        goes.fails w is in
         subst (λ (v : List Deed). IsAtRest decl k ((ds ++ Takes g ∷ []) ++ v))
         (λ i. sends_of first (sym fails.sends_none i)
-            ++ (tells_of (sym fails.told i) ++ Falls causes.Disk (sym is i) ∷ []))
+        ++ (tells_of (sym fails.told i) ++ Falls causes.Disk (sym is i) ∷ []))
         (fault_rest k causes.Disk tt w fails)
 
     stopped_rest : (k : ℕ) (o : Option Record) → (admin_takes decl s.state g).turn.write ≡ o → MayEnd o Stopped
@@ -134,14 +133,14 @@ module _ (decl : Declaration) (some : (decl.sites == 0) ≡ false) where
     stopped_rest k None is ends = absurd ends
     stopped_rest k (Some w) is ends =
         let fails : Fails decl (admin_taken (account_is decl ds) g) (admin_takes decl s.state g).turn w =
-                goes.fails w is in
+        goes.fails w is in
         subst (λ (v : List Deed). IsAtRest decl k ((ds ++ Takes g ∷ []) ++ v))
         (λ i. tells_of (sym fails.told i) ++ Falls causes.Stop (sym is i) ∷ [])
         (fault_rest k causes.Stop tt w fails)
 
     posted_as : (end : Appended) → MayEnd (admin_takes decl s.state g).turn.write end
         → IsAtRest decl (first + length (sends_as end (admin_takes decl s.state g).turn))
-            ((ds ++ Takes g ∷ []) ++ deeds_as end first (admin_takes decl s.state g).turn)
+        ((ds ++ Takes g ∷ []) ++ deeds_as end first (admin_takes decl s.state g).turn)
     posted_as Done ends = written_rest
     posted_as Failed ends =
         failed_rest (first + length (sends_as Failed (admin_takes decl s.state g).turn))
@@ -159,18 +158,18 @@ module _ (decl : Declaration) (some : (decl.sites == 0) ≡ false) where
     told_account =
         account_more decl (ds ++ Takes (inputs.Called command) ∷ []) (Tells replies.Down ∷ [])
         ∙ ap (λ (d : AdminAccount). admin_account_at decl d (Tells replies.Down))
-          (account_more decl ds (Takes (inputs.Called command) ∷ []))
+        (account_more decl ds (Takes (inputs.Called command) ∷ []))
 
     down_due : (ys : List Deed) → pending_next ys ≡ None
         → IsAdminReplyDue decl (admin_taken (account_is decl ds) (inputs.Called command)) ys replies.Down
     down_due ys none = (
       ap (λ (b : Bool). cond b
           (option_and_then (epoch_row decl (admin_taken (account_is decl ds) (inputs.Called command))
-            (is_some (pending_next ys))) (epoch_in command)) (Some replies.Down)) s.up,
+          (is_some (pending_next ys))) (epoch_in command)) (Some replies.Down)) s.up,
       subst (IsDecisionMet decl (admin_taken (account_is decl ds) (inputs.Called command))) (sym none)
           (sym (ap (λ (b : Bool). cond b
-              (option_and_then (decided_for decl (admin_taken (account_is decl ds) (inputs.Called command)))
-                (epoch_in command)) None) s.up)),
+          (option_and_then (decided_for decl (admin_taken (account_is decl ds) (inputs.Called command)))
+          (epoch_in command)) None) s.up)),
     )
 
     down_rest : (k : ℕ) → IsAtRest decl k ((ds ++ Takes (inputs.Called command) ∷ []) ++ Tells replies.Down ∷ [])
@@ -187,7 +186,7 @@ module _ (decl : Declaration) (some : (decl.sites == 0) ≡ false) where
         actor =
             ap (λ (m : ActorMove). m.actor)
             (actor_more decl (ds ++ Takes (inputs.Called command) ∷ []) (Tells replies.Down ∷ [])
-              ∙ actor_more decl ds (Takes (inputs.Called command) ∷ []))
+            ∙ actor_more decl ds (Takes (inputs.Called command) ∷ []))
             ∙ ap (λ (v : Actor). (actor_takes decl v (inputs.Called command)).actor) s.actor;
         up = ap (λ (d : AdminAccount). d.up) told_account ∙ s.up;
         command = ap (λ (d : AdminAccount). d.command) told_account;

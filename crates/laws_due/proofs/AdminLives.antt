@@ -1,10 +1,9 @@
 -- All that the administrator does through his falls and rises is due, whatever the records that he rises with.
-use Rattle.std.proofs.Common.{◌≡◌, ◌≤◌, ℕ, ◌+◌, ◌==◌, Bool, true, false, List, ◌∷◌, ◌++◌, length}
-use Rattle.std.proofs.Common.{None, refl, sym, ap, ◌∙◌, subst}
+use Rattle.std.proofs.Common.{◌≡◌, ◌≤◌, ℕ, ◌+◌, ◌==◌, Bool, true, false, List, ◌∷◌, ◌++◌, length, None, refl, sym, ap}
+use Rattle.std.proofs.Common.{◌∙◌, subst}
 use Rattle.std.proofs.lemmas.List.{append-nil}
 use Rattle.qc_core.specs.declared.actor.Actor.{Actor}
-use Rattle.qc_core.specs.Names.{ActorMove, IsLawfulWithFalls, Lives, MayReach, MayTake}
-use Rattle.qc_core.specs.Names.{actor_takes, is_up, with_record}
+use Rattle.qc_core.specs.Names.{ActorMove, IsLawfulWithFalls, Lives, MayReach, MayTake, actor_takes, is_up, with_record}
 use Rattle.qc_core.specs.Lives as lives
 use Rattle.qc_decl.specs.Names.{administrator}
 use Rattle.qc_decl.specs.declared.declaration.Declaration.{Declaration}
@@ -18,10 +17,8 @@ use Rattle.qc_msg.specs.Names.{Deed, Falls, MayEnd, Takes, deeds_as, sends_as}
 use Rattle.qc_promise.specs.Names.{IsAdminDue}
 use Rattle.laws_due.proofs.Standing.{no_act}
 use Rattle.laws_due.proofs.Fallings.{as_record}
-use Rattle.laws_due.proofs.AdminRest.{IsAtRest, IsFallen, IsTied, Stands, actor_more}
-use Rattle.laws_due.proofs.AdminRest.{input_due}
+use Rattle.laws_due.proofs.AdminRest.{IsAtRest, IsFallen, IsTied, Stands, actor_more, input_due}
 use Rattle.laws_due.proofs.AdminRises.{falls_alone, first_rest, rises_rest, turn_is, unopened_rest}
-use Rattle.laws_due.proofs.AdminInputs.{_}
 
 module _ (decl : Declaration) (some : (decl.sites == 0) ≡ false) where
   -- the turn for an input
@@ -30,13 +27,13 @@ module _ (decl : Declaration) (some : (decl.sites == 0) ≡ false) where
       → IsTied decl n before → (g : Input) → MayTake before g
       → (turn : Turn) → IsLawfulWithFalls decl (administrator decl) (before ++ Takes g ∷ []) turn
       → IsAtRest decl (first + length (sends_as turn.append (with_record turn)))
-          ((before ++ Takes g ∷ []) ++ deeds_as turn.append first (with_record turn))
+      ((before ++ Takes g ∷ []) ++ deeds_as turn.append first (with_record turn))
   posted_rest n first low before r same s g may turn law =
       subst (λ (t : Turn). MayEnd t.write turn.append
-          → IsAtRest decl (first + length (sends_as turn.append t))
-            ((before ++ Takes g ∷ []) ++ deeds_as turn.append first t))
+      → IsAtRest decl (first + length (sends_as turn.append t))
+      ((before ++ Takes g ∷ []) ++ deeds_as turn.append first t))
       (sym (ap (λ (m : ActorMove). m.turn) (takes_to n first low before r same s g may))
-          ∙ turn_is decl (before ++ Takes g ∷ []) turn law)
+      ∙ turn_is decl (before ++ Takes g ∷ []) turn law)
       (posted_as n first low before r same s g may turn.append) law.may_end
 
   fallen_rest : (n first k : ℕ) (before : List Deed) (r : IsAtRest decl n before) → r.up ≡ false → IsFallen decl before
@@ -45,10 +42,10 @@ module _ (decl : Declaration) (some : (decl.sites == 0) ≡ false) where
       → IsAtRest decl k ((before ++ Takes g ∷ []) ++ deeds_as turn.append first (with_record turn))
   fallen_rest n first k before r same s (inputs.Called command) may reach turn law =
       subst (λ (t : Turn). MayEnd t.write turn.append
-          → IsAtRest decl k ((before ++ Takes (inputs.Called command) ∷ []) ++ deeds_as turn.append first t))
+      → IsAtRest decl k ((before ++ Takes (inputs.Called command) ∷ []) ++ deeds_as turn.append first t))
       (sym (ap (λ (m : ActorMove). m.turn)
-          (actor_more decl before (Takes (inputs.Called command) ∷ [])
-            ∙ ap (λ (v : Actor). actor_takes decl v (inputs.Called command)) s.actor))
+      (actor_more decl before (Takes (inputs.Called command) ∷ [])
+      ∙ ap (λ (v : Actor). actor_takes decl v (inputs.Called command)) s.actor))
       ∙ turn_is decl (before ++ Takes (inputs.Called command) ∷ []) turn law)
       (down_as n before r same s command may k turn.append first) law.may_end
   fallen_rest n first k before r same s (inputs.Got envelope) may reach turn law =
@@ -65,17 +62,17 @@ module _ (decl : Declaration) (some : (decl.sites == 0) ≡ false) where
       → MayTake before g → MayReach (is_up before) g
       → (turn : Turn) → IsLawfulWithFalls decl (administrator decl) (before ++ Takes g ∷ []) turn
       → IsAtRest decl (first + length (sends_as turn.append turn))
-          ((before ++ Takes g ∷ []) ++ deeds_as turn.append first turn)
+      ((before ++ Takes g ∷ []) ++ deeds_as turn.append first turn)
   turn_rest n first low before r g may reach turn law =
       subst (λ (v : List Deed). IsAtRest decl (first + length (sends_as turn.append turn))
-          ((before ++ Takes g ∷ []) ++ v)) (as_record turn.append first turn)
+      ((before ++ Takes g ∷ []) ++ v)) (as_record turn.append first turn)
       (subst (λ (k : ℕ). IsAtRest decl (first + k)
-          ((before ++ Takes g ∷ []) ++ deeds_as turn.append first (with_record turn))) (sends_record turn.append turn)
-          (by r.up refl r.stands))
+      ((before ++ Takes g ∷ []) ++ deeds_as turn.append first (with_record turn))) (sends_record turn.append turn)
+      (by r.up refl r.stands))
     where
       by : (up : Bool) → r.up ≡ up → Stands decl up n before
           → IsAtRest decl (first + length (sends_as turn.append (with_record turn)))
-              ((before ++ Takes g ∷ []) ++ deeds_as turn.append first (with_record turn))
+          ((before ++ Takes g ∷ []) ++ deeds_as turn.append first (with_record turn))
       by true same s = posted_rest n first low before r same s g may turn law
       by false same s =
           fallen_rest n first (first + length (sends_as turn.append (with_record turn))) before r same s g may reach
@@ -105,9 +102,9 @@ module _ (decl : Declaration) (some : (decl.sites == 0) ≡ false) where
           → IsAtRest decl (first + length (sends_as turn.append turn)) (older ++ deeds_as turn.append first turn)
       by at =
           subst (λ (v : List Deed). IsAtRest decl (first + length (sends_as turn.append turn))
-              (v ++ deeds_as turn.append first turn)) (sym at.is)
+          (v ++ deeds_as turn.append first turn)) (sym at.is)
           (turn_rest m first low at.before at.rest at.given at.may at.reach turn
-              (subst (λ (v : List Deed). IsLawfulWithFalls decl (administrator decl) v turn) at.is law))
+          (subst (λ (v : List Deed). IsLawfulWithFalls decl (administrator decl) v turn) at.is law))
   admin_lives ds b n (lives.crashes older m life up) = by (admin_lives older false m life)
     where
       by : IsAtRest decl m older → IsAtRest decl m (older ++ Falls causes.Script None ∷ [])
@@ -126,4 +123,4 @@ module _ (decl : Declaration) (some : (decl.sites == 0) ≡ false) where
       by true at =
           subst (IsAdminDue decl) (sym at.is)
           ((at.rest).due (Takes at.given ∷ []) (no_act (Takes at.given ∷ []) refl (at.rest).up)
-              (input_due decl n at.before at.rest at.given at.may, tt))
+          (input_due decl n at.before at.rest at.given at.may, tt))

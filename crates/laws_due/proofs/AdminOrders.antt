@@ -1,17 +1,15 @@
 -- The administrator's commands are epochs; his replies that are due are told while a command runs, in order.
-use Rattle.std.proofs.Common.{◌≡◌, ℕ, zero, suc, ◌+◌, ◌==◌, Bool, true, false, cond, List, ◌∷◌, ◌++◌}
-use Rattle.std.proofs.Common.{map, filter, take, Option, Some, None, is_some, refl, sym, ap, ◌∙◌}
-use Rattle.std.proofs.Common.{subst}
+use Rattle.std.proofs.Common.{◌≡◌, ℕ, zero, suc, ◌+◌, ◌==◌, Bool, true, false, cond, List, ◌∷◌, ◌++◌, map, filter, take}
+use Rattle.std.proofs.Common.{Option, Some, None, is_some, refl, sym, ap, ◌∙◌, subst}
 use Rattle.std.specs.Prelude.{fold, option_and_then}
 use Rattle.std.specs.List.{AllByRecursion as Every, filter_map}
 use Rattle.std.proofs.lemmas.Bool.{eqb-true}
 use Rattle.qc_decl.specs.Names.{administrator}
 use Rattle.qc_decl.specs.declared.declaration.Declaration.{Declaration}
-use Rattle.laws_turns.specs.Names.{asked_in_all}
-use Rattle.laws_turns.specs.Names.{call_in}
+use Rattle.laws_turns.specs.Names.{asked_in_all, call_in}
 use Rattle.laws_turns.proofs.Mailed.{both_all}
-use Rattle.qc_msg.specs.Names.{Deed, Falls, Rises, Sends, Takes, Tells, Writes, by, deeds_as}
-use Rattle.qc_msg.specs.Names.{epoch_in, sends_of, tells_of, writes_of}
+use Rattle.qc_msg.specs.Names.{Deed, Falls, Rises, Sends, Takes, Tells, Writes, by, deeds_as, epoch_in, sends_of}
+use Rattle.qc_msg.specs.Names.{tells_of, writes_of}
 use Rattle.qc_msg.specs.declared.record.Record.{Record}
 use Rattle.qc_msg.specs.declared.reply.Reply.{Reply}
 use Rattle.qc_msg.specs.declared.step.Command.{Command}
@@ -21,14 +19,12 @@ use Rattle.qc_msg.specs.declared.step.Input.TheVariants as inputs
 use Rattle.qc_msg.specs.declared.turn.Appended.TheVariants.{Done}
 use Rattle.qc_msg.specs.declared.turn.Posting.{Posting}
 use Rattle.qc_msg.specs.declared.turn.Turn.{Turn}
-use Rattle.qc_promise.specs.Names.{AdminAccount, AreAdminDeedsDue, admin_account_at, admin_row}
-use Rattle.qc_promise.specs.Names.{pending_next}
+use Rattle.qc_promise.specs.Names.{AdminAccount, AreAdminDeedsDue, admin_account_at, admin_row, pending_next}
 use Rattle.qc_script.specs.Names.{commands_for}
 use Rattle.qc_script.specs.declared.script.CommandLine.{CommandLine}
 use Rattle.qc_script.specs.declared.script.PhaseLines.{PhaseLines}
 use Rattle.laws_due.specs.Names.{AreInOrder, IsEpoch}
-use Rattle.laws_due.proofs.AdminRunning.{heard_command, sent_command}
-use Rattle.laws_due.proofs.AdminRunning.{written_command}
+use Rattle.laws_due.proofs.AdminRunning.{heard_command, sent_command, written_command}
 use Rattle.laws_due.proofs.Ordered.{sends_ordered}
 
 -- his commands are epochs
@@ -73,16 +69,16 @@ module _ (decl : Declaration) where
     where
       at : (t : Bool) → (l.actor == administrator decl) ≡ t → Every IsEpoch (commands_for (administrator decl) lines)
           → Every IsEpoch
-              (map (λ (x : CommandLine). x.command)
-                (cond t (l ∷ filter (λ (x : CommandLine). x.actor == administrator decl) lines)
-                  (filter (λ (x : CommandLine). x.actor == administrator decl) lines)))
+          (map (λ (x : CommandLine). x.command)
+          (cond t (l ∷ filter (λ (x : CommandLine). x.actor == administrator decl) lines)
+          (filter (λ (x : CommandLine). x.actor == administrator decl) lines)))
       at true same rest = (all.0 (eqb-true l.actor (administrator decl) same), rest)
       at false other rest = rest
 
   pub asked_phases : (phases : List PhaseLines) (k : ℕ)
       → Every
-        (λ (p : PhaseLines). Every (λ (l : CommandLine). l.actor ≡ administrator decl → IsEpoch l.command) p.commands)
-        phases → Every IsEpoch (asked_in_all (administrator decl) (take k phases))
+      (λ (p : PhaseLines). Every (λ (l : CommandLine). l.actor ≡ administrator decl → IsEpoch l.command) p.commands)
+      phases → Every IsEpoch (asked_in_all (administrator decl) (take k phases))
   asked_phases [] zero all = tt
   asked_phases [] (suc k) all = tt
   asked_phases (p ∷ phases) zero all = tt
@@ -105,7 +101,7 @@ told_runs : (decl : Declaration) (ps : List Posting) (n : ℕ) (d : AdminAccount
 told_runs decl [] n d reply ys dues = some_command decl d (is_some (pending_next ys)) reply (dues.0).0
 told_runs decl (p ∷ ps) n d reply ys dues =
     ap (λ (o : Option Command). is_some o) (sym (sent_command decl d n p.to p.message))
-        ∙ told_runs decl ps (n + 1) (admin_account_at decl d (Sends n p.to p.message)) reply ys dues.1
+    ∙ told_runs decl ps (n + 1) (admin_account_at decl d (Sends n p.to p.message)) reply ys dues.1
 
 pub done_ordered : (decl : Declaration) (d : AdminAccount) (n : ℕ) (t : Turn)
     → AreAdminDeedsDue decl d (deeds_as Done n t)
@@ -130,11 +126,11 @@ pub broken_ordered : (decl : Declaration) (d : AdminAccount) (n : ℕ) (ps : Lis
     (cause : Fall)
     (pending : Option Record) → is_some o ≡ true
     → AreAdminDeedsDue decl d (sends_of n ps ++ (tells_of o ++ Falls cause pending ∷ []))
-        → AreInOrder (is_some d.command) (sends_of n ps ++ (tells_of o ++ Falls cause pending ∷ []))
+    → AreInOrder (is_some d.command) (sends_of n ps ++ (tells_of o ++ Falls cause pending ∷ []))
 broken_ordered decl d n ps None cause pending some dues = absurd (let never : ⊥ = cc in never)
 broken_ordered decl d n ps (Some reply) cause pending some dues =
     sends_ordered (is_some d.command) n ps (Tells reply ∷ Falls cause pending ∷ [])
-        (told_runs decl ps n d reply (Falls cause pending ∷ []) dues, (refl, tt))
+    (told_runs decl ps n d reply (Falls cause pending ∷ []) dues, (refl, tt))
 
 pub due_second : (decl : Declaration) (xs ys : List Deed) (d : AdminAccount) → AreAdminDeedsDue decl d (xs ++ ys)
     → AreAdminDeedsDue decl (fold (admin_account_at decl) d xs) ys

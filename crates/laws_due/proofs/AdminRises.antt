@@ -1,10 +1,9 @@
 -- The administrator falls by a line of the script, or rises, whatever the records that he rises with: all that was due
 -- is due still.
 use Rattle.std.proofs.Common.{◌≡◌, ℕ, Bool, true, false, cond, List, [], ◌∷◌, ◌++◌, fold, Option, Some, None}
-use Rattle.std.proofs.Common.{option_map, refl, sym, ap, ◌∙◌, subst, append_assoc}
+use Rattle.std.proofs.Common.{option_map, refl, sym, ap, ◌∙◌, subst, append_assoc, eq-eqb}
 use Rattle.std.specs.Option.{option_or}
 use Rattle.std.proofs.lemmas.List.Sums.{fold-append}
-use Rattle.std.proofs.Common.{eq-eqb}
 use Rattle.qc_core.specs.Names.{ActorMove, IsLawfulWithFalls, actor_after, by_admin, is_up, with_record}
 use Rattle.qc_core.proofs.ByNumber.{admin_new, admin_no_client, admin_no_site, admin_risen}
 use Rattle.qc_decl.specs.Names.{administrator, is_administrator, is_client, is_site}

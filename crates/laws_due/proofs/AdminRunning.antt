@@ -1,10 +1,9 @@
 -- Nothing is due of the administrator at rest; his account has a command just while one runs.
-use Rattle.std.proofs.Common.{◌≡◌, ℕ, ◌==◌, ◌&&◌, Bool, true, false, cond, List, ◌∷◌, length, fold}
-use Rattle.std.proofs.Common.{Option, Some, None, refl, sym, ap, ◌∙◌}
+use Rattle.std.proofs.Common.{◌≡◌, ℕ, ◌==◌, ◌&&◌, Bool, true, false, cond, List, ◌∷◌, length, fold, Option, Some, None}
+use Rattle.std.proofs.Common.{refl, sym, ap, ◌∙◌}
 use Rattle.std.specs.Prelude.{is_some, option_and_then}
 use Rattle.std.specs.Option.{option_map_or}
-use Rattle.qc_core.specs.Names.{MayTake, is_running}
-use Rattle.qc_core.specs.Names.{runs_at}
+use Rattle.qc_core.specs.Names.{MayTake, is_running, runs_at}
 use Rattle.qc_decl.specs.declared.declaration.Declaration.{Declaration}
 use Rattle.qc_msg.specs.declared.message.Message.{Message}
 use Rattle.qc_msg.specs.declared.record.Record.{Record}
@@ -15,13 +14,12 @@ use Rattle.qc_msg.specs.declared.step.Input.TheVariants as inputs
 use Rattle.qc_msg.specs.Names.{Answered, Deed, Falls, Installing as Started, Rises, Sends, Takes, Tells, Writes}
 use Rattle.qc_msg.specs.Names.{answer_in, asking_in, closing_in, decide_in, epoch_in, installing_in}
 use Rattle.qc_stamp.specs.declared.stamp.TxId.{TxId}
-use Rattle.qc_promise.specs.Names.{AdminAccount, AdminWant, Ask, Close, Install}
-use Rattle.qc_promise.specs.Names.{IsAdminFree, admin_account, admin_account_at, admin_counted}
-use Rattle.qc_promise.specs.Names.{admin_due, admin_heard, admin_row, admin_sent, admin_written, all_answered, asks}
-use Rattle.qc_promise.specs.Names.{calls_ask, calls_close, calls_install, close_row, closed_sites, closes, commanded}
-use Rattle.qc_promise.specs.Names.{decide_due, decided_for, decided_met, decided_of, decided_row, decision_due}
-use Rattle.qc_promise.specs.Names.{doubt_row, epoch_row, first_doubt, if_called_for, installs, moved_row}
-use Rattle.qc_promise.specs.Names.{new_admin_account, promised_once, site_set}
+use Rattle.qc_promise.specs.Names.{AdminAccount, AdminWant, Ask, Close, Install, IsAdminFree, admin_account}
+use Rattle.qc_promise.specs.Names.{admin_account_at, admin_counted, admin_due, admin_heard, admin_row, admin_sent}
+use Rattle.qc_promise.specs.Names.{admin_written, all_answered, asks, calls_ask, calls_close, calls_install, close_row}
+use Rattle.qc_promise.specs.Names.{closed_sites, closes, commanded, decide_due, decided_for, decided_met, decided_of}
+use Rattle.qc_promise.specs.Names.{decided_row, decision_due, doubt_row, epoch_row, first_doubt, if_called_for}
+use Rattle.qc_promise.specs.Names.{installs, moved_row, new_admin_account, promised_once, site_set}
 use Rattle.qc_epoch.specs.Names.{Admin, Asking, Closing, Doing, Installing, Question, Resting, ShutSite}
 use Rattle.qc_epoch.specs.Deciding as deciding
 use Rattle.laws_due.proofs.AdminRequests.{all_taken}
@@ -56,13 +54,13 @@ module _ (decl : Declaration) (d : AdminAccount) (up : d.up ≡ true) where
       → all_answered d ≡ false
   asking_row s =
       sym (answered_is d (asks d) (asked_about d) (asked_of (promised_once d) (asks d))
-          (agree (promised_once d) (asks d) (promised_distinct (closes d)) (s.met).about_promised))
+      (agree (promised_once d) (asks d) (promised_distinct (closes d)) (s.met).about_promised))
       ∙ ap deciding.all_taken (sym s.questions_are) ∙ s.open_still
 
   moved_none : (sites : List ℕ) → all_taken (installs d) ≡ false → moved_row decl d sites ≡ None
   moved_none sites open_still =
       ap (λ (b : Bool). cond ((length (installs d) == decl.sites) && b)
-          (Some (replies.Moved (site_set sites) (site_set (installed_of (installs d))))) None) open_still
+      (Some (replies.Moved (site_set sites) (site_set (installed_of (installs d))))) None) open_still
       ∙ by (length (installs d) == decl.sites)
     where
       by : (b : Bool)
@@ -106,7 +104,7 @@ module _ (decl : Declaration) (d : AdminAccount) (up : d.up ≡ true) where
   stage_decided n Resting s = resting_decided s
   stage_decided n (Closing epoch calls round shuts) s =
       ((s.0).moves).unwritten
-          ∙ sym (next_decided decl d up epoch ((s.0).moves).command ((s.0).moves).next ∙ ap (decided_met d) (s.0).waits)
+      ∙ sym (next_decided decl d up epoch ((s.0).moves).command ((s.0).moves).next ∙ ap (decided_met d) (s.0).waits)
   stage_decided n (Asking epoch shuts questions) s =
       (s.moves).unwritten
       ∙ sym (next_decided decl d up epoch (s.moves).command (s.moves).next ∙ ap (decided_met d) (s.met).met

@@ -1,5 +1,6 @@
 -- Each input of the administrator, stage by stage: what he posts for it is due, and the tie holds after it.
-use Rattle.std.proofs.Common.{◌≡◌, ◌≤◌, ℕ, ◌+◌, ◌==◌, ◌&&◌, Bool, true, false, cond, List, [], ◌++◌, length, map, drop, take, Option, Some, None, refl, sym, ap, ◌∙◌, subst, eq-eqb}
+use Rattle.std.proofs.Common.{◌≡◌, ◌≤◌, ℕ, ◌+◌, ◌==◌, ◌&&◌, Bool, true, false, cond, List, [], ◌++◌, length, map, drop}
+use Rattle.std.proofs.Common.{take, Option, Some, None, refl, sym, ap, ◌∙◌, subst, eq-eqb}
 use Rattle.std.specs.Prelude.{is_some, ◌^◌}
 use Rattle.std.specs.List.{filter_map}
 use Rattle.std.specs.Option.{option_map_or}
@@ -18,12 +19,16 @@ use Rattle.qc_epoch.specs.Names.{outcome_in, replies_with, standing_of, taken_fo
 use Rattle.qc_epoch.specs.Conduct as conduct
 use Rattle.qc_epoch.specs.Deciding as deciding
 use Rattle.laws_due.specs.Names.{AreApart}
-use Rattle.laws_due.proofs.AdminRequests.{IsCalled, all_taken, called, calls_taken, length_taken, none_called, none_open, map_taken, open_calls, sites_of, takes, taken_already, wanting_taken}
+use Rattle.laws_due.proofs.AdminRequests.{IsCalled, all_taken, called, calls_taken, length_taken, none_called}
+use Rattle.laws_due.proofs.AdminRequests.{none_open, map_taken, open_calls, sites_of, takes, taken_already}
+use Rattle.laws_due.proofs.AdminRequests.{wanting_taken}
 use Rattle.laws_due.proofs.AdminCloses.{round_of, round_taken}
 use Rattle.laws_due.proofs.AdminShuts.{shuts_of, shuts_taken}
 use Rattle.laws_due.proofs.AdminDecisions.{answered_is}
 use Rattle.laws_due.proofs.AdminInstalls.{installed_of, installed_taken, with_installed_set}
-use Rattle.laws_due.proofs.AdminStages.{Base, HasClosed, IsAsking, IsClosing, IsInstalling, IsMet, Moves, Numbered, Rests, Stage, Ties, WhyClosing, again_decided, again_row_is, asked_about, next_decided, next_row, settled_same}
+use Rattle.laws_due.proofs.AdminStages.{Base, HasClosed, IsAsking, IsClosing, IsInstalling, IsMet, Moves, Numbered}
+use Rattle.laws_due.proofs.AdminStages.{Rests, Stage, Ties, WhyClosing, again_decided, again_row_is, asked_about}
+use Rattle.laws_due.proofs.AdminStages.{next_decided, next_row, settled_same}
 use Rattle.laws_due.proofs.AdminStages as stages
 use Rattle.laws_due.proofs.AdminGoes.{Goes, quiet_goes, tells_goes}
 use Rattle.laws_due.proofs.AdminClosing.{closed_apart, closes_goes}
@@ -33,7 +38,8 @@ use Rattle.laws_due.proofs.AdminAgreements.{agree}
 use Rattle.laws_due.proofs.AdminFrames.{later}
 use Rattle.laws_due.proofs.AdminQuestions.{AreAbout, about_taken, asked_of, asked_taken, promised_distinct, promised_of}
 
-module _ (decl : Declaration) (some : (decl.sites == 0) ≡ false) (first : ℕ) (d : AdminAccount) (m : Admin) (base : Base d m) where
+module _ (decl : Declaration) (some : (decl.sites == 0) ≡ false) (first : ℕ) (d : AdminAccount) (m : Admin)
+    (base : Base d m) where
   -- an answer, or that a request is lost
 
   module _ (number : ℕ) (answer : Option Answer) where
@@ -66,9 +72,11 @@ module _ (decl : Declaration) (some : (decl.sites == 0) ≡ false) (first : ℕ)
 
     -- he closes sites
 
-    closing_takes : (n : ℕ) → n ≤ first → (epoch : ℕ) (calls : List Call) (round : RoundState) (shuts : List ShutSite) → m.doing ≡ Closing epoch calls round shuts
+    closing_takes : (n : ℕ) → n ≤ first → (epoch : ℕ) (calls : List Call) (round : RoundState) (shuts : List ShutSite)
+        → m.doing ≡ Closing epoch calls round shuts
         → IsClosing decl n d epoch calls shuts → round ≡ close_round decl d
-        → Goes decl first (admin_counted d number answer) (conduct.closing_takes decl m epoch calls round shuts number answer (site_called calls number))
+        → Goes decl first (admin_counted d number answer)
+        (conduct.closing_takes decl m epoch calls round shuts number answer (site_called calls number))
     closing_takes n low epoch calls round shuts doing_is s round_is = by (site_called calls number) refl
       where
         none_asked_now : asks (admin_counted d number answer) ≡ []
@@ -76,7 +84,10 @@ module _ (decl : Declaration) (some : (decl.sites == 0) ≡ false) (first : ℕ)
 
         stays : site_called calls number ≡ None → Ties decl first (admin_counted d number answer) m
         stays is =
-            let same : closes (admin_counted d number answer) ≡ closes d = closes_taken ∙ none_called number answer (closes d) (ap (λ (cs : List Call). site_called cs number) (sym (s.has).calls_are) ∙ is) in
+            let same : closes (admin_counted d number answer) ≡ closes d =
+            closes_taken
+            ∙ none_called number answer (closes d)
+            (ap (λ (cs : List Call). site_called cs number) (sym (s.has).calls_are) ∙ is) in
             record {
               base = base_counted;
               stage = subst (Stage decl first (admin_counted d number answer)) (sym doing_is) (
@@ -86,7 +97,8 @@ module _ (decl : Declaration) (some : (decl.sites == 0) ≡ false) (first : ℕ)
                   has = subst (λ (cs : List AdminRequest). HasClosed decl first (decided_epoch d) cs calls shuts) (sym same)
                       (record { calls_are = (s.has).calls_are; shuts_are = (s.has).shuts_are; sites = (s.has).sites; numbers = later n first (closes d) low (s.has).numbers });
                   waits = ap (λ (cs : List AdminRequest). verdict (round_of decl (decided_epoch d) cs)) same ∙ s.waits;
-                  wants_none = ap (λ (cs : List AdminRequest). wanted (round_of decl (decided_epoch d) cs)) same ∙ s.wants_none;
+                  wants_none =
+                      ap (λ (cs : List AdminRequest). wanted (round_of decl (decided_epoch d) cs)) same ∙ s.wants_none;
                 },
                 round_is ∙ ap (round_of decl (decided_epoch d)) (sym same),
               );

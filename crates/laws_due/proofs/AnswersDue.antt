@@ -1,6 +1,6 @@
 -- An answer that a client takes: its turn is due, and the tie holds after it.
-use Rattle.std.proofs.Common.{◌≡◌, ◌≢◌, ◌≤◌, ◌<◌, ℕ, zero, suc, ◌+◌, ◌-◌, ◌⊎◌, inl, inr, List, ◌∷◌, ◌++◌, map}
-use Rattle.std.proofs.Common.{Option, refl, ap, arith}
+use Rattle.std.proofs.Common.{◌≡◌, ◌≢◌, ◌≤◌, ◌<◌, ℕ, zero, suc, ◌+◌, ◌-◌, ◌⊎◌, inl, inr, List, ◌∷◌, ◌++◌, map, Option}
+use Rattle.std.proofs.Common.{refl, ap, arith}
 use Rattle.std.specs.List.{range_with_len}
 use Rattle.qc_list.specs.Names.{In}
 use Rattle.qc_decl.specs.declared.declaration.Declaration.{Declaration}
@@ -24,9 +24,10 @@ in_split x (z ∷ zs) ys (inr among) =
 both_apart : (xs ys : List ℕ) → AreApart xs → AreApart ys → ((x y : ℕ) → In x xs → In y ys → x ≢ y)
     → AreApart (xs ++ ys)
 both_apart [] ys first second across = second
-both_apart (x ∷ xs) ys first second across =
-    (λ y among. by y (in_split y xs ys among),
-        both_apart xs ys first.1 second (λ z w in_xs in_ys. across z w (inr in_xs) in_ys))
+both_apart (x ∷ xs) ys first second across = (
+  λ y among. by y (in_split y xs ys among),
+  both_apart xs ys first.1 second (λ z w in_xs in_ys. across z w (inr in_xs) in_ys),
+)
   where
     by : (y : ℕ) → In y xs ⊎ In y ys → x ≢ y
     by y (inl among) = first.0 y among
@@ -44,14 +45,14 @@ apart_range : (first count : ℕ) → AreApart (range_with_len first count)
 apart_range first zero = tt
 apart_range first (suc count) = (
   λ y among same. (let more : (first + 1 ≤ y) × (y < (first + 1) + count) = in_range (first + 1) count y among in
-                   let low : first + 1 ≤ y = more.0 in omega arith),
+      let low : first + 1 ≤ y = more.0 in omega arith),
   apart_range (first + 1) count,
 )
 
 pub apart_cyclic : (sites first : ℕ) → AreApart (cyclic sites first)
 apart_cyclic sites first =
     both_apart (range_with_len first (sites - first)) (range_with_len 0 first) (apart_range first (sites - first))
-        (apart_range 0 first)
+    (apart_range 0 first)
     (λ x y later sooner same.
     (let a : (first ≤ x) × (x < first + (sites - first)) = in_range first (sites - first) x later in
     let b : (0 ≤ y) × (y < 0 + first) = in_range 0 first y sooner in

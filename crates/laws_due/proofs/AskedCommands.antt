@@ -18,12 +18,11 @@ use Rattle.qc_msg.specs.declared.step.Input.TheVariants as inputs
 use Rattle.qc_msg.specs.declared.step.Step.{Step}
 use Rattle.qc_msg.specs.declared.step.Step.TheVariants as steps
 use Rattle.qc_msg.specs.Names.{Entry}
-use Rattle.qc_script.specs.Names.{Inbox, acting, actor_fell, after_controls, answers_by, comes}
-use Rattle.qc_script.specs.Names.{command_called, command_in, commands_for, control_acted}
-use Rattle.qc_script.specs.Names.{copy_taken, emptied, first_command, first_copy}
-use Rattle.qc_script.specs.Names.{first_lost, goes, goes_with, inbox_at, is_by_line, is_request, is_up}
-use Rattle.qc_script.specs.Names.{loss_taken, opened, opened_by, phase_begun, ready_in, reply_told}
-use Rattle.qc_script.specs.Names.{requests_to, requests_to_others, takes_commands, with_lost}
+use Rattle.qc_script.specs.Names.{Inbox, acting, actor_fell, after_controls, answers_by, comes, command_called}
+use Rattle.qc_script.specs.Names.{command_in, commands_for, control_acted, copy_taken, emptied, first_command}
+use Rattle.qc_script.specs.Names.{first_copy, first_lost, goes, goes_with, inbox_at, is_by_line, is_request, is_up}
+use Rattle.qc_script.specs.Names.{loss_taken, opened, opened_by, phase_begun, ready_in, reply_told, requests_to}
+use Rattle.qc_script.specs.Names.{requests_to_others, takes_commands, with_lost}
 use Rattle.qc_script.specs.declared.script.PhaseLines.{PhaseLines}
 use Rattle.qc_script.specs.declared.script.Script.{Script}
 
@@ -74,12 +73,11 @@ module _ (P : Command → Type 0) where
   asks_fell : (a : ℕ) (i : Inbox) (r : ℕ) → Asks i → Asks (actor_fell a i r)
   asks_fell a i r all =
       asks_emptied (r == a)
-      (record i
-        {
-            up = set i.up r false;
-            unanswered = requests_to_others r i.unanswered;
-            lost = with_lost (requests_to r i.unanswered) i.lost
-          }) all
+      (record i {
+        up = set i.up r false;
+        unanswered = requests_to_others r i.unanswered;
+        lost = with_lost (requests_to r i.unanswered) i.lost;
+      }) all
 
   asks_drop : (cs : List Command) → Every P cs → Every P (drop 1 cs)
   asks_drop [] all = tt
@@ -91,13 +89,12 @@ module _ (P : Command → Type 0) where
   asks_phase a i None new all = all
   asks_phase a i (Some p) new all =
       asks_opened a
-      (record i
-        {
-            opening = i.opening ++ i.late;
-            late = [];
-            controls = p.controls;
-            commands = i.commands ++ commands_for a p.commands
-          }) (both_all P i.commands (commands_for a p.commands) all (new p refl))
+      (record i {
+        opening = i.opening ++ i.late;
+        late = [];
+        controls = p.controls;
+        commands = i.commands ++ commands_for a p.commands;
+      }) (both_all P i.commands (commands_for a p.commands) all (new p refl))
 
   asks_step : (script : Script) (a : ℕ)
       → ((n : ℕ) (p : PhaseLines) → slice_get script.phases n ≡ Some p → Every P (commands_for a p.commands))
@@ -125,7 +122,7 @@ module _ (P : Command → Type 0) where
   pub asks_all : (script : Script) (a : ℕ)
       → ((n : ℕ) (p : PhaseLines) → slice_get script.phases n ≡ Some p → Every P (commands_for a p.commands))
       → (h : List Entry) (i : Inbox) → Asks i
-          → Asks (fold (λ (i : Inbox) (e : Entry). inbox_at script a i e.actor e.step) i h)
+      → Asks (fold (λ (i : Inbox) (e : Entry). inbox_at script a i e.actor e.step) i h)
   asks_all script a new [] i all = all
   asks_all script a new (e ∷ h) i all =
       asks_all script a new h (inbox_at script a i e.actor e.step) (asks_step script a new i e.actor e.step all)
@@ -154,7 +151,7 @@ module _ (P : Command → Type 0) where
     where
       at : (lines : List Control)
           → after_controls lines (first_copy i.copies (first_lost i.lost (command_in decl a i)))
-            ≡ Some (inputs.Called c) → P c
+          ≡ Some (inputs.Called c) → P c
       at [] e =
           next_command (takes_commands decl a && not i.busy) i.commands c
           (next_lost i.lost (command_in decl a i) c (next_copy i.copies (first_lost i.lost (command_in decl a i)) c e))

@@ -17,11 +17,10 @@ use Rattle.qc_msg.specs.declared.step.Step.{Step}
 use Rattle.qc_msg.specs.declared.step.Step.TheVariants as steps
 use Rattle.qc_script.specs.declared.script.Script.{Script}
 use Rattle.qc_script.specs.Names.{Inbox, SentRequest, acting, actor_fell, answers_by, comes_at_once, comes_with}
-use Rattle.qc_script.specs.Names.{copies_at_once}
-use Rattle.qc_script.specs.Names.{emptied, goes_with, has_request, if_up, is_request, is_up}
-use Rattle.qc_script.specs.Names.{one_more, opened, request_answered}
-use Rattle.qc_script.specs.Names.{request_numbers, request_sent, requests_to, requests_to_others, with_copies}
-use Rattle.qc_script.specs.Names.{with_lost, with_number, without_number, without_request}
+use Rattle.qc_script.specs.Names.{copies_at_once, emptied, goes_with, has_request, if_up, is_request, is_up, one_more}
+use Rattle.qc_script.specs.Names.{opened, request_answered, request_numbers, request_sent, requests_to}
+use Rattle.qc_script.specs.Names.{requests_to_others, with_copies, with_lost, with_number, without_number}
+use Rattle.qc_script.specs.Names.{without_request}
 use Rattle.qc_script.proofs.InboxesSend.{opened_keeps}
 use Rattle.qc_script.proofs.Requests.{added-number, without-numbers}
 
@@ -48,7 +47,7 @@ IsParted b rs n =
 parted_one : (b : ℕ) (r : SentRequest) (rs : List SentRequest) (n : ℕ) → In n (request_numbers (r ∷ rs))
     → (In n (request_numbers rs) → IsParted b rs n) → (t : Bool) (ns : List ℕ)
     → In n (with_lost (cond t (r ∷ requests_to b rs) (requests_to b rs)) ns)
-        ⊎ In n (request_numbers (cond (not t) (r ∷ requests_to_others b rs) (requests_to_others b rs)))
+    ⊎ In n (request_numbers (cond (not t) (r ∷ requests_to_others b rs) (requests_to_others b rs)))
 parted_one b r rs n (inl same) rest true ns =
     inl (lost_stays (requests_to b rs) (with_number ns r.number) n
     (subst (λ (k : ℕ). In k (with_number ns r.number)) (sym same) (number_added ns r.number)))
@@ -101,9 +100,9 @@ awaited_answered n to i f copied is = at (has_request i.unanswered to) (comes_at
   where
     at : (among once same : Bool) → comes_at_once f ≡ once → (n == to) ≡ same → IsAwaited n i
         → IsAwaited n
-            (if among then record i
-              { unanswered = without_request i.unanswered to; lost = if once then i.lost else with_number i.lost to }
-              else i)
+        (if among then record i
+        { unanswered = without_request i.unanswered to; lost = if once then i.lost else with_number i.lost to }
+        else i)
     at false once same is_once is_same awaited = awaited
     at true true same is_once is_same (inl lost) = inl lost
     at true false same is_once is_same (inl lost) = inl (number_stays i.lost to n lost)
@@ -148,8 +147,8 @@ awaited_sent n number to i f is = at (comes_at_once f && is_up i.up to) is
   where
     at : (once : Bool) → IsAwaited n i
         → IsAwaited n
-          (if once then record i { unanswered = i.unanswered ++ record { number = number; to = to } ∷ [] } else record i
-            { lost = with_number i.lost number })
+        (if once then record i { unanswered = i.unanswered ++ record { number = number; to = to } ∷ [] } else record i
+        { lost = with_number i.lost number })
     at true (inl lost) = inl lost
     at true (inr (inl open_still)) =
         inr (inl (subst (In n) (sym (added-number i.unanswered (record { number = number; to = to })))
@@ -183,12 +182,11 @@ fell_up a i b = at (b == a)
   where
     at : (t : Bool)
         → (emptied t
-          (record i
-            {
-                up = set i.up b false;
-                unanswered = requests_to_others b i.unanswered;
-                lost = with_lost (requests_to b i.unanswered) i.lost
-              })).up ≡ set i.up b false
+        (record i {
+          up = set i.up b false;
+          unanswered = requests_to_others b i.unanswered;
+          lost = with_lost (requests_to b i.unanswered) i.lost;
+        })).up ≡ set i.up b false
     at true = refl
     at false = refl
 

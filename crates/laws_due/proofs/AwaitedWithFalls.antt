@@ -1,13 +1,11 @@
 -- In each run with falls each open request of a client that is up is awaited, and each of the administrator: it is lost, or
 -- unanswered, or a copy of an answer is ready.
-use Rattle.std.proofs.Common.{◌≡◌, ℕ, ◌-◌, ◌≤◌, Bool, true, List}
-use Rattle.std.proofs.Common.{refl, sym, ap, ◌∙◌, subst, arith}
+use Rattle.std.proofs.Common.{◌≡◌, ℕ, ◌-◌, ◌≤◌, Bool, true, List, refl, sym, ap, ◌∙◌, subst, arith}
 use Rattle.qc_list.specs.Names.{In}
 use Rattle.qc_core.proofs.ByNumber.{admin_new, admin_no_client, admin_no_site, admin_risen}
 use Rattle.qc_core.specs.declared.actor.Actor.{Actor}
 use Rattle.qc_core.specs.declared.actor.Actor.TheVariants as actors
-use Rattle.qc_core.specs.Names.{ActorMove, IsLawfulWithFalls, actor_after, actor_rises, by_admin}
-use Rattle.qc_core.specs.Names.{new_actor}
+use Rattle.qc_core.specs.Names.{ActorMove, IsLawfulWithFalls, actor_after, actor_rises, by_admin, new_actor}
 use Rattle.qc_decl.specs.declared.declaration.Declaration.{Declaration}
 use Rattle.qc_decl.specs.Actors as numbers
 use Rattle.qc_decl.specs.Names.{administrator}
@@ -20,10 +18,8 @@ use Rattle.qc_msg.specs.declared.record.Record.{Record}
 use Rattle.qc_msg.specs.Names.{Entry, deeds}
 use Rattle.qc_script.proofs.AllUp.{is_up-everybody}
 use Rattle.qc_script.specs.declared.script.Script.{Script}
-use Rattle.qc_script.specs.Names.{Inbox, RunsWithFalls, empty_inbox, everybody, inbox}
-use Rattle.qc_script.specs.Names.{is_up}
+use Rattle.qc_script.specs.Names.{Inbox, RunsWithFalls, empty_inbox, everybody, inbox, is_up}
 use Rattle.laws_due.proofs.Covered.{Awaits}
-use Rattle.laws_due.proofs.ClientsAwait.{_}
 
 -- and so is each of the administrator
 
@@ -42,7 +38,7 @@ module _ (decl : Declaration) (script : Script) (fits : ℕ → List Record → 
           record {
             up = is_up-everybody everybody (administrator decl) refl;
             calls = λ k member. absurd member;
-            plain = tt
+            plain = tt;
           }
 
   risen_his : (kept : List Record) (i : Inbox) → is_up i.up (administrator decl) ≡ true
@@ -54,7 +50,7 @@ module _ (decl : Declaration) (script : Script) (fits : ℕ → List Record → 
   he_lives : (kept : List Record) → (actor_rises decl (administrator decl) kept).actor ≡ actors.Down → ⊥
   he_lives kept down =
       let no : actors.Admin (admin_rises kept).admin ≡ actors.Down =
-              sym (ap (λ (m : ActorMove). m.actor) (his_rise kept)) ∙ down in
+      sym (ap (λ (m : ActorMove). m.actor) (his_rise kept)) ∙ down in
       let never : ⊥ = cc in never
 
   pub his_requests_awaited : (h : List Entry) (open_inputs : List Bool)

@@ -1,6 +1,6 @@
 -- A request that is awaited stays so through falls of others too: then it is lost, if it went to who falls.
-use Rattle.std.proofs.Common.{◌≡◌, ℕ, ◌+◌, ◌-◌, ◌==◌, ◌⊎◌, Bool, true, false, if◌then◌else◌, inl, inr}
-use Rattle.std.proofs.Common.{List, ◌∷◌, ◌++◌, drop, Option, Some, None, slice_get, refl, sym, ap, ◌∙◌, subst}
+use Rattle.std.proofs.Common.{◌≡◌, ℕ, ◌+◌, ◌-◌, ◌==◌, ◌⊎◌, Bool, true, false, if◌then◌else◌, inl, inr, List, ◌∷◌, ◌++◌}
+use Rattle.std.proofs.Common.{drop, Option, Some, None, slice_get, refl, sym, ap, ◌∙◌, subst}
 use Rattle.std.specs.Prelude.{set}
 use Rattle.std.specs.Option.{option_map_or}
 use Rattle.qc_list.specs.Names.{In}
@@ -12,12 +12,10 @@ use Rattle.qc_msg.specs.declared.step.Step.{Step}
 use Rattle.qc_msg.specs.declared.step.Step.TheVariants as steps
 use Rattle.qc_script.specs.declared.script.PhaseLines.{PhaseLines}
 use Rattle.qc_script.specs.declared.script.Script.{Script}
-use Rattle.qc_script.specs.Names.{Inbox, acting, actor_fell, comes, comes_with}
-use Rattle.qc_script.specs.Names.{command_called, commands_for, control_acted, copy_taken, count_of}
-use Rattle.qc_script.specs.Names.{emptied, goes, if_up, inbox_at, is_by_line, is_up}
-use Rattle.qc_script.specs.Names.{loss_taken, opened, opened_by, phase_begun, reply_told}
-use Rattle.qc_script.specs.Names.{request_numbers, requests_to, requests_to_others}
-use Rattle.qc_script.specs.Names.{with_lost}
+use Rattle.qc_script.specs.Names.{Inbox, acting, actor_fell, comes, comes_with, command_called, commands_for}
+use Rattle.qc_script.specs.Names.{control_acted, copy_taken, count_of, emptied, goes, if_up, inbox_at, is_by_line}
+use Rattle.qc_script.specs.Names.{is_up, loss_taken, opened, opened_by, phase_begun, reply_told, request_numbers}
+use Rattle.qc_script.specs.Names.{requests_to, requests_to_others, with_lost}
 use Rattle.qc_script.proofs.InboxesSend.{sends_does}
 use Rattle.laws_due.proofs.AwaitedMessages.{lost_stays, parted, answer_second, awaited_if, awaited_more}
 use Rattle.laws_due.proofs.AwaitedMessages.{awaited_comes_with, awaited_goes_with, up_apart, opened_up, up_if, fell_up}
@@ -49,13 +47,12 @@ module _ (script : Script) (a : ℕ) where
       at (Some p) =
           ap (λ (v : List Bool). is_up v a)
           (opened_up a
-            (record i
-              {
-                  opening = i.opening ++ i.late;
-                  late = [];
-                  controls = p.controls;
-                  commands = i.commands ++ commands_for a p.commands
-                }))
+          (record i {
+            opening = i.opening ++ i.late;
+            late = [];
+            controls = p.controls;
+            commands = i.commands ++ commands_for a p.commands;
+          }))
   keeps_up i b (steps.Cut x y) other =
       ap (λ (v : List Bool). is_up v a)
       (opened_up a (record i { cuts = with_cut i.cuts x y; controls = drop 1 i.controls }))
@@ -77,7 +74,7 @@ module _ (script : Script) (a : ℕ) where
           (opened_up a (record i { up = set i.up b true; controls = drop 1 i.controls })) ∙ up_apart i.up b a true other
   keeps_up i b (steps.Sent n to message) other =
       ap (λ (v : List Bool). is_up v a)
-          (sends_does script.links a i (record { number = n; from = b; to = to; message = message })).up
+      (sends_does script.links a i (record { number = n; from = b; to = to; message = message })).up
   keeps_up i b (steps.Told reply) other =
       ap (λ (v : List Bool). is_up v a) (up_if i.up (b == a) (reply_told i) i refl refl)
   keeps_up i b (steps.Fell cause pending) other = at (is_by_line (is_up i.up b) cause)
@@ -98,14 +95,14 @@ module _ (script : Script) (a : ℕ) where
       → IsAwaited n (goes script.links a (comes script.links a i e) e)
   awaited_message n i e up is =
       awaited_if n (e.from == a) _ (comes script.links a i e)
-          (awaited_goes_with n (comes script.links a i e) e
-            (fate script.links (comes script.links a i e).cuts e.from e.to
-              (count_of (comes script.links a i e).to_each e.to + 1)) came) came
+      (awaited_goes_with n (comes script.links a i e) e
+      (fate script.links (comes script.links a i e).cuts e.from e.to
+      (count_of (comes script.links a i e).to_each e.to + 1)) came) came
     where
       came : IsAwaited n (comes script.links a i e)
       came = awaited_if n (e.to == a) _ i
           (subst (λ (t : Bool). IsAwaited n
-              (comes_with t i e (fate script.links i.cuts e.from e.to (count_of i.from_each e.from + 1)))) (sym up)
+          (comes_with t i e (fate script.links i.cuts e.from e.to (count_of i.from_each e.from + 1)))) (sym up)
           (awaited_comes_with n i e (fate script.links i.cuts e.from e.to (count_of i.from_each e.from + 1)) is)) is
 
   -- phases, control lines and falls of others
@@ -126,21 +123,19 @@ module _ (script : Script) (a : ℕ) where
   awaited_phase n i None is = is
   awaited_phase n i (Some p) is =
       awaited_opened n
-      (record i
-        {
-            opening = i.opening ++ i.late;
-            late = [];
-            controls = p.controls;
-            commands = i.commands ++ commands_for a p.commands
-          })
+      (record i {
+        opening = i.opening ++ i.late;
+        late = [];
+        controls = p.controls;
+        commands = i.commands ++ commands_for a p.commands;
+      })
       (awaited_more n i
-        (record i
-          {
-              opening = i.opening ++ i.late;
-              late = [];
-              controls = p.controls;
-              commands = i.commands ++ commands_for a p.commands
-            }) refl refl (λ has. has) is)
+      (record i {
+        opening = i.opening ++ i.late;
+        late = [];
+        controls = p.controls;
+        commands = i.commands ++ commands_for a p.commands;
+      }) refl refl (λ has. has) is)
 
   awaited_acted : (n : ℕ) (i : Inbox) → IsAwaited n i → IsAwaited n (control_acted a i)
   awaited_acted n i is =
@@ -150,34 +145,31 @@ module _ (script : Script) (a : ℕ) where
   awaited_fell : (n : ℕ) (i : Inbox) (b : ℕ) → (b == a) ≡ false → IsAwaited n i → IsAwaited n (actor_fell a i b)
   awaited_fell n i b other is =
       subst (λ (t : Bool). IsAwaited n
-          (emptied t
-            (record i
-              {
-                  up = set i.up b false;
-                  unanswered = requests_to_others b i.unanswered;
-                  lost = with_lost (requests_to b i.unanswered) i.lost
-                }))) (sym other) (at is)
+      (emptied t
+      (record i {
+        up = set i.up b false;
+        unanswered = requests_to_others b i.unanswered;
+        lost = with_lost (requests_to b i.unanswered) i.lost;
+      }))) (sym other) (at is)
     where
       still : In n (with_lost (requests_to b i.unanswered) i.lost)
           ⊎ In n (request_numbers (requests_to_others b i.unanswered))
           → IsAwaited n
-              (record i
-                {
-                    up = set i.up b false;
-                    unanswered = requests_to_others b i.unanswered;
-                    lost = with_lost (requests_to b i.unanswered) i.lost
-                  })
+          (record i {
+            up = set i.up b false;
+            unanswered = requests_to_others b i.unanswered;
+            lost = with_lost (requests_to b i.unanswered) i.lost;
+          })
       still (inl lost) = inl lost
       still (inr open_still) = inr (inl open_still)
 
       at : IsAwaited n i
           → IsAwaited n
-            (record i
-              {
-                  up = set i.up b false;
-                  unanswered = requests_to_others b i.unanswered;
-                  lost = with_lost (requests_to b i.unanswered) i.lost
-                })
+          (record i {
+            up = set i.up b false;
+            unanswered = requests_to_others b i.unanswered;
+            lost = with_lost (requests_to b i.unanswered) i.lost;
+          })
       at (inl lost) = inl (lost_stays (requests_to b i.unanswered) i.lost n lost)
       at (inr (inl open_still)) = still (parted b i.unanswered n open_still i.lost)
       at (inr (inr has)) = inr (inr has)
@@ -217,14 +209,14 @@ module _ (script : Script) (a : ℕ) where
       subst (λ (t : Bool). IsAwaited n (if t then loss_taken i else i)) (sym spares) is
   awaited_step n i b (steps.Wrote written) spares up is =
       awaited_if n (is_up i.up b) i _ is
-          (awaited_acted n (record i { up = set i.up b true })
-            (awaited_more n i (record i { up = set i.up b true }) refl refl (λ has. has) is))
+      (awaited_acted n (record i { up = set i.up b true })
+      (awaited_more n i (record i { up = set i.up b true }) refl refl (λ has. has) is))
   awaited_step n i b (steps.Sent m to message) spares up is =
       awaited_message n i (record { number = m; from = b; to = to; message = message }) up is
   awaited_step n i b (steps.Told reply) spares up is =
       awaited_if n (b == a) (reply_told i) i (awaited_more n i (reply_told i) refl refl (λ has. has) is) is
   awaited_step n i b (steps.Fell cause pending) spares up is =
       awaited_if n (is_by_line (is_up i.up b) cause) (control_acted a (actor_fell a i b)) (actor_fell a i b)
-          (awaited_acted n (actor_fell a i b) (awaited_fell n i b spares is)) (awaited_fell n i b spares is)
+      (awaited_acted n (actor_fell a i b) (awaited_fell n i b spares is)) (awaited_fell n i b spares is)
   awaited_step n i b (steps.Rose records) spares up is = is
   awaited_step n i b (steps.Damaged offset) spares up is = awaited_acted n i is

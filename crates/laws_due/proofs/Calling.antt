@@ -30,10 +30,8 @@ use Rattle.qc_script.specs.Names.{phase, phase_begun, phase_of, posts, ready, re
 use Rattle.qc_script.specs.Names.{unopened}
 use Rattle.qc_script.specs.declared.script.PhaseLines.{PhaseLines}
 use Rattle.qc_script.specs.declared.script.Script.{Script}
-use Rattle.laws_due.proofs.PlainSteps.{ArePlain, inbox_then, line_plain}
-use Rattle.laws_due.proofs.Plain.{entries_calls, entries_left, entries_phase}
-use Rattle.laws_due.proofs.PlainSteps.{opened_left, post_plain}
-use Rattle.laws_due.proofs.Plain.{phase_then}
+use Rattle.laws_due.proofs.PlainSteps.{ArePlain, inbox_then, line_plain, opened_left, post_plain}
+use Rattle.laws_due.proofs.Plain.{entries_calls, entries_left, entries_phase, phase_then}
 
 -- the command that is ready is the next one
 

@@ -1,17 +1,17 @@
 -- In each run with falls each open request of a client that is up is awaited: it is lost, or unanswered, or a copy of
 -- an answer is ready.
-use Rattle.std.proofs.Common.{◌≡◌, ℕ, ◌+◌, ◌-◌, ◌<◌, ◌≤◌, ◌==◌, Bool, true, false, List, ◌∷◌, ◌++◌, length, Some}
-use Rattle.std.proofs.Common.{None, refl, sym, ap, ◌∙◌, subst, eqb-true, arith}
+use Rattle.std.proofs.Common.{◌≡◌, ℕ, ◌+◌, ◌-◌, ◌<◌, ◌≤◌, ◌==◌, Bool, true, false, List, ◌∷◌, ◌++◌, length, Some, None}
+use Rattle.std.proofs.Common.{refl, sym, ap, ◌∙◌, subst, eqb-true, arith}
 use Rattle.std.specs.Prelude.{fold}
 use Rattle.std.proofs.lemmas.List.Sums.{fold-append}
 use Rattle.qc_decl.proofs.Clients.{client_within}
 use Rattle.qc_list.specs.Names.{In}
 use Rattle.qc_core.proofs.ByNumber.{client_new, client_risen}
-use Rattle.qc_core.proofs.ByTurns.{called_turn}
+use Rattle.qc_core.proofs.PostsByTurns.{called_turn}
 use Rattle.qc_core.specs.declared.actor.Actor.{Actor}
 use Rattle.qc_core.specs.declared.actor.Actor.TheVariants as actors
-use Rattle.qc_core.specs.Names.{ActorMove, IsLawfulWithFalls, actor_after, actor_does, actor_rises, moved}
-use Rattle.qc_core.specs.Names.{new_actor, with_record}
+use Rattle.qc_core.specs.Names.{ActorMove, IsLawfulWithFalls, actor_after, actor_does, actor_rises, moved, new_actor}
+use Rattle.qc_core.specs.Names.{with_record}
 use Rattle.qc_core.specs.Lives as lives
 use Rattle.qc_core.proofs.LivesOfActors as laws
 use Rattle.qc_decl.specs.declared.declaration.Declaration.{Declaration}
@@ -61,12 +61,12 @@ module _ (decl : Declaration) (script : Script) (a : ℕ) where
 
   goes_on : (h k : List Entry) (more : List Deed) → deeds a [] (h ++ k) ≡ deeds a [] h ++ more
       → Awaits a (fold (actor_does decl a) (actor_after decl a (deeds a [] h)) more).actor
-          (fold (step_in decl script a) (inbox script a h) k) → AwaitsIn (h ++ k)
+      (fold (step_in decl script a) (inbox script a h) k) → AwaitsIn (h ++ k)
   goes_on h k more is are =
       subst (λ (m : ActorMove). Awaits a m.actor (inbox script a (h ++ k)))
-          (sym (ap (actor_after decl a) is ∙ actor_more (deeds a [] h) more))
+      (sym (ap (actor_after decl a) is ∙ actor_more (deeds a [] h) more))
       (subst (λ (i : Inbox). Awaits a (fold (actor_does decl a) (actor_after decl a (deeds a [] h)) more).actor i)
-          (sym (inbox_more h k)) are)
+      (sym (inbox_more h k)) are)
 
   stays_on : (h k : List Entry) → deeds a [] (h ++ k) ≡ deeds a [] h
       → Awaits a (actor_after decl a (deeds a [] h)).actor (fold (step_in decl script a) (inbox script a h) k)
@@ -90,9 +90,9 @@ module _ (decl : Declaration) (script : Script) (a : ℕ) where
   module _ (fits : ℕ → List Record → Type 0) (few : numbers.actors decl ≤ most_actors)
       (within : a < numbers.actors decl) (first : Awaits a (new_actor decl a) empty_inbox)
       (turns : (kept : List Record) → (actor_rises decl a kept).turn ≡ rising [])
-          (alive : (kept : List Record) → (actor_rises decl a kept).actor ≡ actors.Down → ⊥)
+      (alive : (kept : List Record) → (actor_rises decl a kept).actor ≡ actors.Down → ⊥)
       (rises_awaited : (kept : List Record) (i : Inbox) → is_up i.up a ≡ true
-          → Awaits a (actor_rises decl a kept).actor i) where
+      → Awaits a (actor_rises decl a kept).actor i) where
     abbrev IsRun : List Entry → List Bool → Type 0
     IsRun h open_inputs = RunsWithFalls (IsLawfulWithFalls decl) fits decl script h open_inputs
 
@@ -100,7 +100,7 @@ module _ (decl : Declaration) (script : Script) (a : ℕ) where
     not_controller =
         apart (controller decl) a
         (λ same. (let low : a < decl.sites + decl.clients + 1 = within in
-                  let is : decl.sites + decl.clients + 1 ≡ a = same in omega arith))
+        let is : decl.sites + decl.clients + 1 ≡ a = same in omega arith))
 
     low : a < most_actors
     low = omega arith
@@ -110,7 +110,7 @@ module _ (decl : Declaration) (script : Script) (a : ℕ) where
         → ((actor_after decl a (deeds a [] h)).actor ≡ actors.Down → ⊥) → is_up (inbox script a h).up a ≡ true
     up_by_inbox h open_inputs run living =
         up_by_deeds (IsLawfulWithFalls decl) fits decl script h open_inputs few (tells decl) run a a low low
-            ∙ sym (up_is (deeds a [] h)) ∙ by (lives.is_up (deeds a [] h)) refl
+        ∙ sym (up_is (deeds a [] h)) ∙ by (lives.is_up (deeds a [] h)) refl
       where
         by : (u : Bool) → lives.is_up (deeds a [] h) ≡ u → u ≡ true
         by true up = refl
@@ -127,18 +127,18 @@ module _ (decl : Declaration) (script : Script) (a : ℕ) where
         at Failed =
             down_awaits (older ++ by a (posted_as Failed n turn))
             (ap (λ (ds : List Deed). (actor_after decl a ds).actor) (deeds-posted_as Failed a n older turn)
-                ∙ broken_down decl a (deeds a [] older) Failed n turn (λ is. let never : ⊥ = cc in never))
+            ∙ broken_down decl a (deeds a [] older) Failed n turn (λ is. let never : ⊥ = cc in never))
         at Stopped =
             down_awaits (older ++ by a (posted_as Stopped n turn))
             (ap (λ (ds : List Deed). (actor_after decl a ds).actor) (deeds-posted_as Stopped a n older turn)
-                ∙ broken_down decl a (deeds a [] older) Stopped n turn (λ is. let never : ⊥ = cc in never))
+            ∙ broken_down decl a (deeds a [] older) Stopped n turn (λ is. let never : ⊥ = cc in never))
 
     -- one that rises waits for nothing
 
     own_rises : (older : List Entry) (kept : List Record) (n : ℕ) (turn : Turn) (open_inputs : List Bool)
         → IsRun (older ++ by a (steps.Rose kept ∷ posted_as turn.append n turn)) open_inputs
         → IsLawfulWithFalls decl a (deeds a [] (older ++ marked a (steps.Rose kept) ∷ [])) turn
-            → AwaitsIn (older ++ by a (steps.Rose kept ∷ posted_as turn.append n turn))
+        → AwaitsIn (older ++ by a (steps.Rose kept ∷ posted_as turn.append n turn))
     own_rises older kept n turn open_inputs run law = at turn.append refl
       where
         is_deeds : deeds a [] (older ++ by a (steps.Rose kept ∷ posted_as turn.append n turn))
@@ -152,23 +152,23 @@ module _ (decl : Declaration) (script : Script) (a : ℕ) where
         rising_is =
             sym (turns kept) ∙ sym (ap (λ (m : ActorMove). m.turn) risen_to)
             ∙ called_turn decl a (deeds a [] older ++ Rises kept ∷ []) turn
-                (subst (λ (ds : List Deed). IsLawfulWithFalls decl a ds turn) (deeds-rise a older kept) law)
+            (subst (λ (ds : List Deed). IsLawfulWithFalls decl a ds turn) (deeds-rise a older kept) law)
 
         broken : (end : Appended) → turn.append ≡ end → (end ≡ Done → ⊥)
             → AwaitsIn (older ++ by a (steps.Rose kept ∷ posted_as turn.append n turn))
         broken end is unwritten =
             down_awaits (older ++ by a (steps.Rose kept ∷ posted_as turn.append n turn))
             (ap (λ (ds : List Deed). (actor_after decl a ds).actor)
-                (is_deeds ∙ ap (λ (end : Appended). (deeds a [] older ++ Rises kept ∷ []) ++ deeds_as end n turn) is)
+            (is_deeds ∙ ap (λ (end : Appended). (deeds a [] older ++ Rises kept ∷ []) ++ deeds_as end n turn) is)
             ∙ broken_down decl a (deeds a [] older ++ Rises kept ∷ []) end n turn unwritten)
 
         at : (end : Appended) → turn.append ≡ end
             → AwaitsIn (older ++ by a (steps.Rose kept ∷ posted_as turn.append n turn))
         at Done is =
             subst (λ (v : Actor). Awaits a v
-                (inbox script a (older ++ by a (steps.Rose kept ∷ posted_as turn.append n turn)))) (sym risen)
+            (inbox script a (older ++ by a (steps.Rose kept ∷ posted_as turn.append n turn)))) (sym risen)
             (rises_awaited kept (inbox script a (older ++ by a (steps.Rose kept ∷ posted_as turn.append n turn)))
-                (up_by_inbox _ open_inputs run (λ down. alive kept (sym risen ∙ down))))
+            (up_by_inbox _ open_inputs run (λ down. alive kept (sym risen ∙ down))))
           where
             written : (actor_after decl a ((deeds a [] older ++ Rises kept ∷ []) ++ Writes records.Life ∷ [])).actor
                 ≡ (actor_rises decl a kept).actor
@@ -194,14 +194,14 @@ module _ (decl : Declaration) (script : Script) (a : ℕ) where
         at true same are =
             let is : b ≡ a = eqb-true b a same in
             let sent : deeds b [] (older ++ marked b (step_of g) ∷ []) ≡ deeds b [] older ++ Takes g ∷ [] =
-                    deeds-taken b older g
-                      (ready_sent (IsLawfulWithFalls decl) fits decl script older before run b g rdy) in
+            deeds-taken b older g
+            (ready_sent (IsLawfulWithFalls decl) fits decl script older before run b g rdy) in
             subst (λ (k : ℕ). AwaitsIn (older ++ marked k (step_of g) ∷ [])) (sym is)
             (goes_on older (marked a (step_of g) ∷ []) (Takes g ∷ [])
-                (subst (λ (k : ℕ). deeds k [] (older ++ marked k (step_of g) ∷ []) ≡ deeds k [] older ++ Takes g ∷ [])
-                  is sent)
+            (subst (λ (k : ℕ). deeds k [] (older ++ marked k (step_of g) ∷ []) ≡ deeds k [] older ++ Takes g ∷ [])
+            is sent)
             (own_take decl script a (actor_after decl a (deeds a [] older)).actor (inbox script a older) g
-                (subst (λ (k : ℕ). ready decl script k older ≡ Some g) is rdy) are))
+            (subst (λ (k : ℕ). ready decl script k older ≡ Some g) is rdy) are))
         at false other are = others_event older b (step_of g ∷ []) other are
     run_awaits h open_inputs (posts b turn before older run taken law) = at (b == a) refl (run_awaits older before run)
       where
@@ -222,8 +222,8 @@ module _ (decl : Declaration) (script : Script) (a : ℕ) where
         at true same are =
             subst (λ (k : ℕ). AwaitsIn (older ++ by k (steps.Fell causes.Script None ∷ []))) (sym (eqb-true b a same))
             (down_awaits (older ++ by a (steps.Fell causes.Script None ∷ []))
-                (ap (λ (ds : List Deed). (actor_after decl a ds).actor) (deeds-fall a older causes.Script)
-                  ∙ ap (λ (m : ActorMove). m.actor) (laws.falls decl a (deeds a [] older) causes.Script None)))
+            (ap (λ (ds : List Deed). (actor_after decl a ds).actor) (deeds-fall a older causes.Script)
+            ∙ ap (λ (m : ActorMove). m.actor) (laws.falls decl a (deeds a [] older) causes.Script None)))
         at false other are = others_event older b (steps.Fell causes.Script None ∷ []) other are
     run_awaits h open_inputs (rises b kept turn lines before older run left fit has law) =
         at (b == a) refl (run_awaits older before run)
@@ -233,20 +233,20 @@ module _ (decl : Declaration) (script : Script) (a : ℕ) where
         at true same are =
             let is : b ≡ a = eqb-true b a same in
             subst (λ (k : ℕ). AwaitsIn (older
-                ++ by k (steps.Rose kept ∷ posted_as turn.append (length (mail older)) turn))) (sym is)
+            ++ by k (steps.Rose kept ∷ posted_as turn.append (length (mail older)) turn))) (sym is)
             (own_rises older kept (length (mail older)) turn before
             (subst (λ (k : ℕ). IsRun
-                (older ++ by k (steps.Rose kept ∷ posted_as turn.append (length (mail older)) turn)) before) is
-                (rises b kept turn lines before older run left fit has law))
+            (older ++ by k (steps.Rose kept ∷ posted_as turn.append (length (mail older)) turn)) before) is
+            (rises b kept turn lines before older run left fit has law))
             (subst (λ (k : ℕ). IsLawfulWithFalls decl k (deeds k [] (older ++ marked k (steps.Rose kept) ∷ [])) turn) is
-                law))
+            law))
         at false other are =
             others_event older b (steps.Rose kept ∷ posted_as turn.append (length (mail older)) turn) other are
     run_awaits h open_inputs (damaged b offset lines before older run left) =
         stays_on older (marked b (steps.Damaged offset) ∷ [])
-            (deeds-silent a b older (steps.Damaged offset) (record { sends = λ x. refl; deeds = λ ms. refl }))
+        (deeds-silent a b older (steps.Damaged offset) (record { sends = λ x. refl; deeds = λ ms. refl }))
         (one_step decl script a (actor_after decl a (deeds a [] older)).actor (inbox script a older) b
-            (steps.Damaged offset) tt tt (run_awaits older before run))
+        (steps.Damaged offset) tt tt (run_awaits older before run))
     run_awaits h open_inputs (unopened b cause lines before older run left disk) =
         at (b == a) refl (run_awaits older before run)
       where
@@ -254,8 +254,8 @@ module _ (decl : Declaration) (script : Script) (a : ℕ) where
         at true same are =
             subst (λ (k : ℕ). AwaitsIn (older ++ by k (steps.Fell cause None ∷ []))) (sym (eqb-true b a same))
             (down_awaits (older ++ by a (steps.Fell cause None ∷ []))
-                (ap (λ (ds : List Deed). (actor_after decl a ds).actor) (deeds-fall a older cause)
-                  ∙ ap (λ (m : ActorMove). m.actor) (laws.falls decl a (deeds a [] older) cause None)))
+            (ap (λ (ds : List Deed). (actor_after decl a ds).actor) (deeds-fall a older cause)
+            ∙ ap (λ (m : ActorMove). m.actor) (laws.falls decl a (deeds a [] older) cause None)))
         at false other are = others_event older b (steps.Fell cause None ∷ []) other are
 
   -- so each open request of a client that is up is awaited
@@ -276,7 +276,7 @@ module _ (decl : Declaration) (script : Script) (a : ℕ) where
     client_alive : (kept : List Record) → (actor_rises decl a kept).actor ≡ actors.Down → ⊥
     client_alive kept down =
         let no : actors.Client (client_rises (a - decl.sites) kept).client ≡ actors.Down =
-                sym (ap (λ (m : ActorMove). m.actor) (client_risen decl a client kept)) ∙ down in
+        sym (ap (λ (m : ActorMove). m.actor) (client_risen decl a client kept)) ∙ down in
         let never : ⊥ = cc in never
 
     pub open_requests_awaited : (h : List Entry) (open_inputs : List Bool)

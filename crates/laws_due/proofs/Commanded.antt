@@ -1,6 +1,6 @@
 -- In a run with falls each command that is called is one that the script asks of that client.
-use Rattle.std.proofs.Common.{◌≡◌, ℕ, ◌+◌, ◌-◌, ◌==◌, Bool, true, false, cond, List, ◌∷◌}
-use Rattle.std.proofs.Common.{◌++◌, filter, map, length, Option, Some, None, slice_get, refl, subst, eqb-true}
+use Rattle.std.proofs.Common.{◌≡◌, ℕ, ◌+◌, ◌-◌, ◌==◌, Bool, true, false, cond, List, ◌∷◌, ◌++◌, filter, map, length}
+use Rattle.std.proofs.Common.{Option, Some, None, slice_get, refl, subst, eqb-true}
 use Rattle.std.specs.Prelude.{option_to_list}
 use Rattle.std.specs.List.{AllByRecursion as Every}
 use Rattle.qc_decl.specs.Names.{controller}
@@ -24,12 +24,8 @@ use Rattle.qc_msg.specs.declared.turn.Posting.{Posting}
 use Rattle.qc_msg.specs.declared.turn.Turn.{Turn}
 use Rattle.qc_msg.specs.Names.{Deed, Entry, by, deed_at, deeds, envelope_of, fell, heard, mail, posted_as, sents}
 use Rattle.qc_msg.specs.Names.{step_of, told, wrote}
-use Rattle.qc_script.specs.Names.{RunsWithFalls, begins}
-use Rattle.qc_script.specs.Names.{commands_for, control, controller_step}
-use Rattle.qc_script.specs.Names.{damaged, empty_inbox, falls}
-use Rattle.qc_script.specs.Names.{inbox}
-use Rattle.qc_script.specs.Names.{phase, posts, ready}
-use Rattle.qc_script.specs.Names.{rises, takes, unopened}
+use Rattle.qc_script.specs.Names.{RunsWithFalls, begins, commands_for, control, controller_step, damaged, empty_inbox}
+use Rattle.qc_script.specs.Names.{falls, inbox, phase, posts, ready, rises, takes, unopened}
 use Rattle.qc_script.specs.declared.script.CommandLine.{CommandLine}
 use Rattle.qc_script.specs.declared.script.PhaseLines.{PhaseLines}
 use Rattle.qc_script.specs.declared.script.Script.{Script}
@@ -44,9 +40,9 @@ asked_line decl a (l ∷ lines) all = at (l.actor == a) refl (asked_line decl a 
   where
     at : (t : Bool) → (l.actor == a) ≡ t → Every (IsAskable decl a) (commands_for a lines)
         → Every (IsAskable decl a)
-          (map (λ (x : CommandLine). x.command)
-            (cond t (l ∷ filter (λ (x : CommandLine). x.actor == a) lines)
-              (filter (λ (x : CommandLine). x.actor == a) lines)))
+        (map (λ (x : CommandLine). x.command)
+        (cond t (l ∷ filter (λ (x : CommandLine). x.actor == a) lines)
+        (filter (λ (x : CommandLine). x.actor == a) lines)))
     at true same rest = (subst (λ (k : ℕ). IsAskable decl k l.command) (eqb-true l.actor a same) all.0, rest)
     at false other rest = rest
 
@@ -55,8 +51,8 @@ ready_askable : (decl : Declaration) (script : Script) → AsksDeclared decl scr
 ready_askable decl script asks a h c is =
     ready_command (IsAskable decl a) decl a (inbox script a h) c is
     (asks_all (IsAskable decl a) script a
-        (λ n p place. asked_line decl a p.commands
-          (all_at (λ (p : PhaseLines). AreAskable decl p.commands) script.phases n p asks place)) h empty_inbox tt)
+    (λ n p place. asked_line decl a p.commands
+    (all_at (λ (p : PhaseLines). AreAskable decl p.commands) script.phases n p asks place)) h empty_inbox tt)
 
 -- the steps of a run
 
@@ -173,7 +169,7 @@ deeds_askable : (decl : Declaration) (a : ℕ) (ms : List Envelope) (h : List En
 deeds_askable decl a ms [] all = tt
 deeds_askable decl a ms (e ∷ h) all =
     both_all (IsAskableDeed decl a) (cond (e.actor == a) (deed_at ms e.step) [])
-        (deeds a (ms ++ option_to_list (envelope_of e)) h) (at (e.actor == a) refl)
+    (deeds a (ms ++ option_to_list (envelope_of e)) h) (at (e.actor == a) refl)
     (deeds_askable decl a (ms ++ option_to_list (envelope_of e)) h all.1)
   where
     at : (mine : Bool) → (e.actor == a) ≡ mine → Every (IsAskableDeed decl a) (cond mine (deed_at ms e.step) [])

@@ -1,6 +1,6 @@
 -- A `do` that appends: whatever its round comes to is due.
-use Rattle.std.proofs.Common.{◌≡◌, ℕ, ◌+◌, ◌==◌, ◌&&◌, ◌||◌, not, Bool, true, false, List, ◌∷◌, ◌++◌}
-use Rattle.std.proofs.Common.{length, map, filter, Option, Some, None, refl, sym, ap, ◌∙◌, subst, eq-eqb}
+use Rattle.std.proofs.Common.{◌≡◌, ℕ, ◌+◌, ◌==◌, ◌&&◌, ◌||◌, not, Bool, true, false, List, ◌∷◌, ◌++◌, length, map}
+use Rattle.std.proofs.Common.{filter, Option, Some, None, refl, sym, ap, ◌∙◌, subst, eq-eqb}
 use Rattle.std.specs.Prelude.{fold}
 use Rattle.std.specs.List.{AllByRecursion as Every}
 use Rattle.std.specs.Option.{option_map_or}
@@ -33,8 +33,7 @@ use Rattle.qc_msg.specs.declared.step.Command.TheVariants as commands
 use Rattle.qc_msg.specs.Names.{calls_from, sending, with_site}
 use Rattle.qc_promise.specs.Names.{Account, ClientRequest, Current, answer_of, answer_row, append_row, are_reads_met}
 use Rattle.qc_promise.specs.Names.{asked_by, carries, command_asks, doomed_if, is_append, is_met, is_next_voter}
-use Rattle.qc_promise.specs.Names.{is_read, own_appended, read_row, resp_of, running_row}
-use Rattle.qc_promise.specs.Names.{view_of, with_response}
+use Rattle.qc_promise.specs.Names.{is_read, own_appended, read_row, resp_of, running_row, view_of, with_response}
 use Rattle.laws_due.specs.Names.{Goes, IsOpenIn, Ties, appends, calls_in, front_of, transaction_of}
 use Rattle.laws_due.proofs.Halves.{clash_asked, closed_asked, round_asked, round_at, round_from}
 use Rattle.laws_due.proofs.Asks.{asking}
@@ -86,8 +85,8 @@ module _ (decl : Declaration) (number : ℕ) (d : Account) (desk : Desk) (t : Cu
   pub appends_tie : (asked_now : List ℕ) (qs : List ClientRequest) → verdict (read_round qs) ≡ verdicts.Met
       → Every (IsOpenIn is_append) qs
       → Ties decl (run d t object inv qs)
-          (client_at d desk (Some (transaction_of t asked_now views))
-            (Appending object inv event (calls_in qs) (round qs)))
+      (client_at d desk (Some (transaction_of t asked_now views))
+      (Appending object inv event (calls_in qs) (round qs)))
   appends_tie asked_now qs met open_in = appends (record {
     object = object;
     inv = inv;
@@ -105,7 +104,7 @@ module _ (decl : Declaration) (number : ℕ) (d : Account) (desk : Desk) (t : Cu
           client = k.desk_is.client;
           clock = k.desk_is.clock;
           epoch = k.desk_is.epoch;
-          voting = k.desk_is.voting
+          voting = k.desk_is.voting;
         };
   })
 
@@ -137,31 +136,33 @@ module _ (decl : Declaration) (number : ℕ) (d : Account) (desk : Desk) (t : Cu
 
   step : (n site : ℕ) (ss : List ℕ) (qs : List ClientRequest)
       → (verdict (read_round qs) ≡ verdicts.Met)
-        × IsNext decl d t is_append (append_need_of decl t.epoch object event) qs (site ∷ ss)
+      × IsNext decl d t is_append (append_need_of decl t.epoch object event) qs (site ∷ ss)
       → (command_asks decl (run d t object inv qs) t site want (Some (commands.Do object inv)) ≡ true)
       × ((verdict (read_round (qs ++ request_at n t want site ∷ [])) ≡ verdicts.Met)
-          × IsNext decl d t is_append (append_need_of decl t.epoch object event) (qs ++ request_at n t want site ∷ [])
-            ss)
+      × IsNext decl d t is_append (append_need_of decl t.epoch object event) (qs ++ request_at n t want site ∷ [])
+      ss)
   step n site ss qs p = (
     ap (λ (b : Bool). (b
         && carries decl t object (view_of t object) (own_appended decl t object event) (answer_of decl t object inv))
         && voter_and_met (answer_of decl t object inv) qs site) (eq-eqb object object refl)
         ∙ ap
-            (λ (o : Option ℕ). carries decl t object (view_of t object) (own_appended decl t object event) o
-              && voter_and_met o qs site) chosen
+        (λ (o : Option ℕ). carries decl t object (view_of t object) (own_appended decl t object event) o
+        && voter_and_met o qs site) chosen
         ∙ ap (λ (b : Bool). b && voter_and_met (Some event) qs site) (carried decl t object event)
         ∙ ap (λ (b : Bool). b && are_reads_met decl (run d t object inv qs) t object inv)
-            (next_voter decl d t is_append (append_need_of decl t.epoch object event) qs site ss p.1)
+        (next_voter decl d t is_append (append_need_of decl t.epoch object event) qs site ss p.1)
         ∙ ap is_met p.0,
-    (still_met qs (request_at n t want site ∷ []) refl p.0,
-        next_one decl d t is_append (append_need_of decl t.epoch object event) want refl qs n site ss p.1),
+    (
+      still_met qs (request_at n t want site ∷ []) refl p.0,
+      next_one decl d t is_append (append_need_of decl t.epoch object event) want refl qs n site ss p.1,
+    ),
   )
 
   waits : (qs : List ClientRequest) (f : Front) (tr : Option Transaction) (doing : Doing)
       → verdict (read_round qs) ≡ verdicts.Met → verdict (round qs) ≡ verdicts.Waiting → Every (IsOpenIn is_append) qs
       → Goes decl number (run d t object inv qs)
-          (by_front (record { front = f; desk = desk })
-            (fronts.goes_on (front_of d tr doing) x (Appending object inv event (calls_in qs)) want (round qs)))
+      (by_front (record { front = f; desk = desk })
+      (fronts.goes_on (front_of d tr doing) x (Appending object inv event (calls_in qs)) want (round qs)))
   waits qs f tr doing met still open_in =
       record { tells = sym (row_is qs met ∙ ap (append_row decl object event) still); due = a.due; ties = a.ties }
     where
@@ -188,30 +189,30 @@ module _ (decl : Declaration) (number : ℕ) (d : Account) (desk : Desk) (t : Cu
 
       tie : Ties decl (run d t object inv (qs ++ requests_from number t want (wanted (round qs))))
           (client_at d desk (Some (transaction_of t (fold with_site asked (wanted (round qs))) views))
-              (Appending object inv event (calls_in qs ++ calls_from number (wanted (round qs)))
-                (asking_all (round qs) (wanted (round qs)))))
+          (Appending object inv event (calls_in qs ++ calls_from number (wanted (round qs)))
+          (asking_all (round qs) (wanted (round qs)))))
       tie =
           subst (λ (c : Client). Ties decl (run d t object inv (qs ++ requests_from number t want (wanted (round qs))))
           c)
           (λ i. client_at d desk (Some (transaction_of t (fold with_site asked (wanted (round qs))) views))
-              (Appending object inv event (calls_path i) (round_path i)))
+          (Appending object inv event (calls_path i) (round_path i)))
           (appends_tie (fold with_site asked (wanted (round qs)))
-              (qs ++ requests_from number t want (wanted (round qs))) met_after
+          (qs ++ requests_from number t want (wanted (round qs))) met_after
           (every-append (IsOpenIn is_append) qs (requests_from number t want (wanted (round qs))) open_in
-              (every_new (IsOpenIn is_append) t want (λ n s. λ is. refl) number (wanted (round qs)))))
+          (every_new (IsOpenIn is_append) t want (λ n s. λ is. refl) number (wanted (round qs)))))
 
       a : Asking decl number (record d { command = Some (commands.Do object inv); written = None }) t want P step
           (λ (cs : List Call). client_at d desk
-              (Some (transaction_of t (fold with_site asked (wanted (round qs))) views))
-              (Appending object inv event cs (asking_all (round qs) (wanted (round qs)))))
+          (Some (transaction_of t (fold with_site asked (wanted (round qs))) views))
+          (Appending object inv event cs (asking_all (round qs) (wanted (round qs)))))
           (sending (map (asking t want) (wanted (round qs)))) (λ calls n site. refl) (wanted (round qs)) qs
-              (calls_in qs)
+          (calls_in qs)
       a = asks_go decl number (record d { command = Some (commands.Do object inv); written = None }) t want P step
           (λ (cs : List Call). client_at d desk
-              (Some (transaction_of t (fold with_site asked (wanted (round qs))) views))
-              (Appending object inv event cs (asking_all (round qs) (wanted (round qs)))))
+          (Some (transaction_of t (fold with_site asked (wanted (round qs))) views))
+          (Appending object inv event cs (asking_all (round qs) (wanted (round qs)))))
           (sending (map (asking t want) (wanted (round qs)))) (λ calls n site. refl) (wanted (round qs)) qs
-              (calls_in qs)
+          (calls_in qs)
           (met, refl) tie
 
   -- it ends
@@ -219,16 +220,16 @@ module _ (decl : Declaration) (number : ℕ) (d : Account) (desk : Desk) (t : Cu
   responds : (qs : List ClientRequest) (f : Front) (tr : Option Transaction) (doing : Doing)
       → verdict (read_round qs) ≡ verdicts.Met → verdict (round qs) ≡ verdicts.Met
       → Goes decl number (run d t object inv qs)
-          (by_front (record { front = f; desk = desk }) (fronts.responds decl (front_of d tr doing) x object inv event))
+      (by_front (record { front = f; desk = desk }) (fronts.responds decl (front_of d tr doing) x object inv event))
   responds qs f tr doing met is =
       tells_goes decl number (run d t object inv qs) (replies.Response (resp_of decl object event))
       (client_at d desk (Some (with_event x object inv event (resp_of decl object event))) Idle)
       (row_is qs met ∙ ap (append_row decl object event) is, refl, refl)
       (subst (λ (o : Option ℕ). Ties decl (rested d (Some (with_response decl t object inv o)))
-          (client_at d desk (Some (with_event x object inv event (resp_of decl object event))) Idle)) (sym chosen)
+      (client_at d desk (Some (with_event x object inv event (resp_of decl object event))) Idle)) (sym chosen)
       (rest_ties decl d desk (with_response decl t object inv (Some event))
-          (with_event x object inv event (resp_of decl object event)) k.desk_is
-          (event_begun decl t asked views object inv event k.logs)))
+      (with_event x object inv event (resp_of decl object event)) k.desk_is
+      (event_begun decl t asked views object inv event k.logs)))
 
   dooms_tie : (b : Bool) → b ≡ true
       → Ties decl (rested d (Some (doomed_if b t))) (client_at d desk (Some (fronts.doomed x)) Idle)
@@ -245,35 +246,35 @@ module _ (decl : Declaration) (number : ℕ) (d : Account) (desk : Desk) (t : Cu
   pub appends_go : (qs : List ClientRequest) (f : Front) (tr : Option Transaction) (doing : Doing)
       → verdict (read_round qs) ≡ verdicts.Met → Every (IsOpenIn is_append) qs
       → Goes decl number (run d t object inv qs)
-          (by_front (record { front = f; desk = desk })
-            (fronts.appends decl (front_of d tr doing) x object inv event (calls_in qs) (round qs)))
+      (by_front (record { front = f; desk = desk })
+      (fronts.appends decl (front_of d tr doing) x object inv event (calls_in qs) (round qs)))
   appends_go qs f tr doing met open_in = by (verdict (round qs)) refl
     where
       by : (v : Verdict) → verdict (round qs) ≡ v
           → Goes decl number (run d t object inv qs)
-            (by_front (record { front = f; desk = desk })
-              (fronts.append_by decl (front_of d tr doing) x object inv event (calls_in qs) (round qs) v))
+          (by_front (record { front = f; desk = desk })
+          (fronts.append_by decl (front_of d tr doing) x object inv event (calls_in qs) (round qs) v))
       by verdicts.Waiting is =
           subst (λ (w : Want). Goes decl number (run d t object inv qs)
-              (by_front (record { front = f; desk = desk })
-                (fronts.goes_on (front_of d tr doing) x (Appending object inv event (calls_in qs)) w (round qs))))
-              (sym want_is)
+          (by_front (record { front = f; desk = desk })
+          (fronts.goes_on (front_of d tr doing) x (Appending object inv event (calls_in qs)) w (round qs))))
+          (sym want_is)
           (waits qs f tr doing met is open_in)
       by verdicts.Met is = responds qs f tr doing met is
       by (verdicts.Closed epoch site) is =
           tells_goes decl number (run d t object inv qs) (replies.Closed epoch site)
-              (client_at d desk (Some (fronts.doomed x)) Idle)
+          (client_at d desk (Some (fronts.doomed x)) Idle)
           (row_is qs met ∙ ap (append_row decl object event) is, refl, refl)
           (dooms_tie (not (length (filter (λ (q : ClientRequest). is_append q.want) qs) == 0))
-              (asked_some qs (closed_asked (round qs) epoch site is)))
+          (asked_some qs (closed_asked (round qs) epoch site is)))
       by (verdicts.Clash tx site) is =
           tells_goes decl number (run d t object inv qs) (replies.Conflict tx site)
-              (client_at d desk (Some (fronts.doomed x)) Idle)
+          (client_at d desk (Some (fronts.doomed x)) Idle)
           (row_is qs met ∙ ap (append_row decl object event) is, refl, refl)
           (dooms_tie (not (length (filter (λ (q : ClientRequest). is_append q.want) qs) == 0))
-              (asked_some qs (clash_asked (round qs) tx site is)))
+          (asked_some qs (clash_asked (round qs) tx site is)))
       by (verdicts.Short got short) is =
           tells_goes decl number (run d t object inv qs) (replies.Quorum halves.Append got short)
-              (client_at d desk (Some (fronts.doomed x)) Idle)
+          (client_at d desk (Some (fronts.doomed x)) Idle)
           (row_is qs met ∙ ap (append_row decl object event) is, refl, refl)
           (dooms_tie true refl)

@@ -1,6 +1,6 @@
 -- What holds while a `do` runs: its account, the sites that it asks next, and its row where nothing refuses it at once.
-use Rattle.std.proofs.Common.{◌≡◌, ℕ, ◌+◌, ◌&&◌, nat_le, Bool, true, false, cond, List, ◌∷◌, ◌++◌}
-use Rattle.std.proofs.Common.{length, Option, Some, None, refl, ap, ◌∙◌, eq-eqb}
+use Rattle.std.proofs.Common.{◌≡◌, ℕ, ◌+◌, ◌&&◌, nat_le, Bool, true, false, cond, List, ◌∷◌, ◌++◌, length, Option, Some}
+use Rattle.std.proofs.Common.{None, refl, ap, ◌∙◌, eq-eqb}
 use Rattle.std.specs.Ordering.{is_eq}
 use Rattle.std.specs.Cmp.Lexicographic.{pointwise}
 use Rattle.std.proofs.lemmas.Cmp.{tied_itself}
@@ -17,10 +17,8 @@ use Rattle.qc_msg.specs.declared.message.Want.{Want}
 use Rattle.qc_msg.specs.declared.reply.Reply.{Reply}
 use Rattle.qc_msg.specs.declared.reply.Reply.TheVariants as replies
 use Rattle.qc_msg.specs.declared.step.Command.TheVariants as commands
-use Rattle.qc_promise.specs.Names.{Account, ClientRequest, Current}
-use Rattle.qc_promise.specs.Names.{carries}
-use Rattle.qc_promise.specs.Names.{is_read, is_this, own_appended, read_row, running_row, same_line, same_own}
-use Rattle.qc_promise.specs.Names.{view_of}
+use Rattle.qc_promise.specs.Names.{Account, ClientRequest, Current, carries, is_read, is_this, own_appended, read_row}
+use Rattle.qc_promise.specs.Names.{running_row, same_line, same_own, view_of}
 use Rattle.laws_due.specs.Names.{IsIdleDesk}
 use Rattle.laws_due.proofs.Nexts.{first_wanted}
 use Rattle.laws_due.proofs.Halves.{round_at, round_one}
@@ -50,7 +48,7 @@ pub next_one : (decl : Declaration) (d : Account) (t : Current) (half : Want →
     → IsNext decl d t half need (qs ++ request_at n t want site ∷ []) ss
 next_one decl d t half need want is qs n site ss next =
     ap (λ (r : RoundState). wanted r) (round_one decl d t half need qs n want site is)
-        ∙ (first_wanted (round_at decl d t half need qs) site ss next).1
+    ∙ (first_wanted (round_at decl d t half need qs) site ss next).1
 
 pub next_voter : (decl : Declaration) (d : Account) (t : Current) (half : Want → Bool) (need : ℕ)
     (qs : List ClientRequest) (site : ℕ) (ss : List ℕ) → IsNext decl d t half need qs (site ∷ ss)
@@ -63,11 +61,11 @@ next_voter decl d t half need qs site ss next =
 pub due_do : (decl : Declaration) (d : Account) (desk : Desk) (t : Current) (views : List View) (object inv : ℕ)
     (qs : List ClientRequest) → Runs decl d desk t views
     → running_row decl (run d t object inv qs) false
-        ≡ read_row decl (run d t object inv qs) t object inv
-          (verdict (round_at decl d t is_read (read_need_of decl t.epoch object inv) qs))
+    ≡ read_row decl (run d t object inv qs) t object inv
+    (verdict (round_at decl d t is_read (read_need_of decl t.epoch object inv) qs))
 due_do decl d desk t views object inv qs k =
     ap (λ (b : Bool). cond b (Some replies.Doomed)
-        (cond (nat_le most_transaction_operations (length t.ops)) (Some replies.TooLong) row)) k.live
+    (cond (nat_le most_transaction_operations (length t.ops)) (Some replies.TooLong) row)) k.live
     ∙ ap (λ (b : Bool). cond b (Some replies.TooLong) row) k.room
   where
     row : Option Reply
@@ -92,5 +90,5 @@ pub carried : (decl : Declaration) (t : Current) (object event : ℕ)
     → carries decl t object (view_of t object) (own_appended decl t object event) (Some event) ≡ true
 carried decl t object event =
     ap (λ (b : Bool). b && pointwise same_own (own_appended decl t object event) (own_appended decl t object event))
-        (all_same same_line line_itself (view_of t object))
+    (all_same same_line line_itself (view_of t object))
     ∙ all_same same_own own_itself (own_appended decl t object event)

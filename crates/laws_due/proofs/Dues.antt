@@ -1,6 +1,6 @@
 -- What is by the rows is due, where the client is up and what comes to it is declared.
-use Rattle.std.proofs.Common.{◌≡◌, ℕ, Bool, true, false, cond, List, ◌∷◌, ◌++◌}
-use Rattle.std.proofs.Common.{Option, Some, None, is_some, refl, sym, ap, ◌∙◌, subst}
+use Rattle.std.proofs.Common.{◌≡◌, ℕ, Bool, true, false, cond, List, ◌∷◌, ◌++◌, Option, Some, None, is_some, refl, sym}
+use Rattle.std.proofs.Common.{ap, ◌∙◌, subst}
 use Rattle.std.specs.Prelude.{fold}
 use Rattle.std.specs.List.{AllByRecursion as Every}
 use Rattle.std.proofs.lemmas.List.{append-nil}
@@ -20,8 +20,8 @@ use Rattle.qc_msg.specs.declared.step.Command.TheVariants as commands
 use Rattle.qc_msg.specs.declared.step.Input.TheVariants as inputs
 use Rattle.qc_msg.specs.Names.{Deed, Falls, Rises, Sends, Takes, Tells, Writes}
 use Rattle.qc_core.specs.Names.{AreSteady, IsSteady}
-use Rattle.qc_promise.specs.Names.{Account, Current, IsInputDue, IsRecordDue, account_at, answer_of, due}
-use Rattle.qc_promise.specs.Names.{is_asked_for, new_account, pending_next}
+use Rattle.qc_promise.specs.Names.{Account, Current, IsInputDue, IsRecordDue, account_at, answer_of, due, is_asked_for}
+use Rattle.qc_promise.specs.Names.{new_account, pending_next}
 use Rattle.qc_promise.specs.Accounting as accounting
 use Rattle.qc_promise.specs.Replies as promise
 use Rattle.laws_due.specs.Names.{AreByRows, Declares, IsByRow, IsDeclaredDeed}
@@ -43,15 +43,14 @@ module _ (decl : Declaration) where
     where
       by : (b : Bool)
           → IsWithin decl
-            (cond b
-              (record d
-                {
-                    requests = d.requests
-                        ++ record { number = number; site = to; life = life; want = want; taken = None } ∷ []
-                  }) d)
+          (cond b
+          (record d {
+            requests = d.requests
+                ++ record { number = number; site = to; life = life; want = want; taken = None } ∷ [];
+          }) d)
       by true =
           asked decl d
-              (d.requests ++ record { number = number; site = to; life = life; want = want; taken = None } ∷ []) w
+          (d.requests ++ record { number = number; site = to; life = life; want = want; taken = None } ∷ []) w
       by false = w
   sent d number to (messages.Answer request answer) w = w
   sent d number to (messages.Decision tx verdict) w = w
@@ -165,9 +164,10 @@ module _ (decl : Declaration) where
       → pending_next ys ≡ None → IsWithin decl d → AreByRows decl d ds
       → promise.AreDeedsDue decl (fold (account_at decl) d ds) ys → promise.AreDeedsDue decl d (ds ++ ys)
   due_then [] ys d up all none w is behind = behind
-  due_then (x ∷ ds) ys d up all none w is behind =
-      (deed_due d x (ds ++ ys) up.0 (none_pending ds ys up.1 none) w is.0,
-          due_then ds ys (account_at decl d x) up.1 all.1 none (within_at d x up.0 all.0 w) is.1 behind)
+  due_then (x ∷ ds) ys d up all none w is behind = (
+    deed_due d x (ds ++ ys) up.0 (none_pending ds ys up.1 none) w is.0,
+    due_then ds ys (account_at decl d x) up.1 all.1 none (within_at d x up.0 all.0 w) is.1 behind,
+  )
 
   pub all_due : (ds : List Deed) (d : Account) → AreSteady ds → Every (IsDeclaredDeed decl) ds → IsWithin decl d
       → AreByRows decl d ds → promise.AreDeedsDue decl d ds

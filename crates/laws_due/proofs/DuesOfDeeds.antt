@@ -1,7 +1,7 @@
 -- An account of a client that is up, which runs what is declared, has a row for each reply that is due; deeds leave it
 -- so.
-use Rattle.std.proofs.Common.{◌≡◌, ◌⊎◌, ◌<◌, ◌≤◌, ℕ, ◌&&◌, max, Bool, true, false, cond, List, inl, inr}
-use Rattle.std.proofs.Common.{Option, Some, None, refl, sym, ap, ◌∙◌, subst, arith}
+use Rattle.std.proofs.Common.{◌≡◌, ◌⊎◌, ◌<◌, ◌≤◌, ℕ, ◌&&◌, max, Bool, true, false, cond, List, inl, inr, Option, Some}
+use Rattle.std.proofs.Common.{None, refl, sym, ap, ◌∙◌, subst, arith}
 use Rattle.std.specs.Prelude.{option_and_then, option_map}
 use Rattle.std.specs.List.{find}
 use Rattle.std.proofs.lemmas.Bool.{cases_lt}
@@ -19,9 +19,7 @@ use Rattle.qc_msg.specs.declared.step.Command.{Command}
 use Rattle.qc_msg.specs.declared.step.Command.TheVariants as commands
 use Rattle.qc_msg.specs.declared.step.Input.TheVariants as inputs
 use Rattle.qc_msg.specs.Names.{Takes}
-use Rattle.qc_promise.specs.Names.{Account, ClientRequest, Current, due}
-use Rattle.qc_promise.specs.Names.{is_declared_for, reply_to, row_of}
-use Rattle.qc_promise.specs.Names.{running_row}
+use Rattle.qc_promise.specs.Names.{Account, ClientRequest, Current, due, is_declared_for, reply_to, row_of, running_row}
 use Rattle.qc_promise.specs.Accounting as accounting
 use Rattle.laws_due.specs.Names.{IsDeclaredCommand, IsDeclaredDeed, IsPlanned}
 
@@ -64,9 +62,9 @@ module _ (decl : Declaration) (d : Account) (w : IsWithin decl d) where
       by None table = refl
       by (Some c) table =
           ap (λ (b : Bool). cond b (cond (is_declared_for decl d.current c) (row_of decl d unwritten d.current c) None)
-              (Some replies.Down)) w.up
+          (Some replies.Down)) w.up
           ∙ ap (λ (b : Bool). cond b (row_of decl d unwritten d.current c) None)
-              (is_declared d.current w.current c table)
+          (is_declared d.current w.current c table)
 
   pub due_is : due decl d false ≡ running_row decl d false
   due_is = due_as false
@@ -86,7 +84,7 @@ none_due decl d up none = by d.command none
     by None is = refl
     by (Some c) is =
         ap (λ (b : Bool). cond b (cond (is_declared_for decl d.current c) (row_of decl d false d.current c) None)
-            (Some replies.Down)) up
+        (Some replies.Down)) up
         ∙ either (is_declared_for decl d.current c) (row_of decl d false d.current c) is
 
 -- each deed leaves it so
@@ -130,7 +128,7 @@ module _ (decl : Declaration) where
 
   told_by : (d : Account) (q : ClientRequest) (a : Answer) (to : ℕ)
       → IsDeclaredDeed decl
-        (Takes (inputs.Got (record { number = 0; from = 0; to = 0; message = messages.Answer to a }))) → IsWithin decl d
+      (Takes (inputs.Got (record { number = 0; from = 0; to = 0; message = messages.Answer to a }))) → IsWithin decl d
       → IsWithin decl (accounting.told_by d q (Some a))
   told_by d q (answers.Granted life clock log) to plan w = granted d q.site life clock log q.want w
   told_by d q (answers.Clash holder inv event) to plan w = w
@@ -139,7 +137,7 @@ module _ (decl : Declaration) where
         up = w.up;
         known = planned_max decl d.known epoch w.known plan;
         current = w.current;
-        command = w.command
+        command = w.command;
       }
   told_by d q (answers.Behind epoch) to plan w = w
   told_by d q (answers.Restarted life) to plan w = w
@@ -155,7 +153,7 @@ module _ (decl : Declaration) where
 
   answered : (d : Account) (to : ℕ) (a : Answer)
       → IsDeclaredDeed decl
-        (Takes (inputs.Got (record { number = 0; from = 0; to = 0; message = messages.Answer to a }))) → IsWithin decl d
+      (Takes (inputs.Got (record { number = 0; from = 0; to = 0; message = messages.Answer to a }))) → IsWithin decl d
       → IsWithin decl (accounting.counted d to (Some a))
   answered d to a plan w = by (find (accounting.is_open to) d.requests)
     where

@@ -129,7 +129,8 @@ module _ (decl : Declaration) (number : ℕ) (d : Account) (desk : Desk) (k : Is
         by false is true is_w = tells_goes decl number
             (called_at d (Some t) (commands.Do object inv)) replies.TooLong idle (
               ap (λ (z : Bool). cond z (Some replies.Doomed)
-                  (cond (nat_le most_transaction_operations (length t.ops)) (Some replies.TooLong) (first_row object inv)))
+                  (cond (nat_le most_transaction_operations (length t.ops)) (Some replies.TooLong)
+                  (first_row object inv)))
                   is
                   ∙ ap (λ (w : Bool). cond w (Some replies.TooLong) (first_row object inv)) is_w,
               refl,

@@ -1,9 +1,8 @@
 -- An input where none is open, and a fall, leave all that was due as it was.
-use Rattle.std.proofs.Common.{◌≡◌, ℕ, ◌-◌, Bool, true, false, List, ◌∷◌, ◌++◌, Option, None}
-use Rattle.std.proofs.Common.{refl, sym, ap, ◌∙◌, subst, append_assoc}
+use Rattle.std.proofs.Common.{◌≡◌, ℕ, ◌-◌, Bool, true, false, List, ◌∷◌, ◌++◌, Option, None, refl, sym, ap, ◌∙◌, subst}
+use Rattle.std.proofs.Common.{append_assoc}
 use Rattle.std.specs.Prelude.{option_and_then}
-use Rattle.qc_core.specs.Names.{ActorMove, MayTake}
-use Rattle.qc_core.specs.Names.{is_up, with_record}
+use Rattle.qc_core.specs.Names.{ActorMove, MayTake, is_up, with_record}
 use Rattle.qc_msg.specs.Names.{Deed, Falls, IsByDisk, deeds_as}
 use Rattle.qc_decl.specs.declared.declaration.Declaration.{Declaration}
 use Rattle.qc_decl.specs.Names.{is_client}
@@ -14,15 +13,12 @@ use Rattle.qc_msg.specs.declared.step.Input.{Input}
 use Rattle.qc_msg.specs.declared.turn.Appended.{Appended}
 use Rattle.qc_msg.specs.declared.turn.Appended.TheVariants.{Done, Failed, Stopped}
 use Rattle.qc_msg.specs.declared.turn.Turn.{Turn}
-use Rattle.qc_promise.specs.Names.{Account, AreDeedsDue, IsInputDue}
-use Rattle.qc_promise.specs.Names.{due}
-use Rattle.qc_promise.specs.Names.{pending_next, reply_to}
+use Rattle.qc_promise.specs.Names.{Account, AreDeedsDue, IsInputDue, due, pending_next, reply_to}
 use Rattle.laws_due.proofs.Commands.{free_for}
 use Rattle.laws_due.proofs.DuesOfDeeds.{none_due}
 use Rattle.laws_due.proofs.Nothing.{tied_none}
-use Rattle.laws_due.proofs.Standing.{AreDue, Follows, IsAtRest, IsFallen, Stands, account_is, account_more}
-use Rattle.laws_due.proofs.Standing.{actor_more, no_act}
-use Rattle.laws_due.proofs.Standing.{up_more}
+use Rattle.laws_due.proofs.Standing.{AreDue, Follows, IsAtRest, IsFallen, Stands, account_is, account_more, actor_more}
+use Rattle.laws_due.proofs.Standing.{no_act, up_more}
 
 -- what became of a turn's record is nothing to its deeds
 pub as_record : (end : Appended) (n : ℕ) (turn : Turn) → deeds_as end n (with_record turn) ≡ deeds_as end n turn
@@ -61,7 +57,7 @@ module _ (decl : Declaration) (a : ℕ) (client : is_client decl a ≡ true) whe
     due = λ ys behind dues.
         subst (AreDue decl a) (sym (append_assoc ds (Falls cause None ∷ []) ys))
         (r.due (Falls cause None ∷ ys) (follows ys)
-            (tt, subst (λ (d : Account). AreDeedsDue decl d ys) (account_more decl a ds (Falls cause None ∷ [])) dues));
+        (tt, subst (λ (d : Account). AreDeedsDue decl d ys) (account_more decl a ds (Falls cause None ∷ [])) dues));
     stands = fallen_still ds cause None;
   }
 
@@ -72,7 +68,7 @@ module _ (decl : Declaration) (a : ℕ) (client : is_client decl a ≡ true) whe
       → IsAtRest decl a (ds ++ Falls cause None ∷ [])
   unopened_rest ds cause by_disk down r =
       falls_alone ds r cause
-          (λ ys. subst (λ (up : Bool). Follows up (Falls cause None ∷ ys)) (sym down ∙ r.is) (by cause by_disk ys))
+      (λ ys. subst (λ (up : Bool). Follows up (Falls cause None ∷ ys)) (sym down ∙ r.is) (by cause by_disk ys))
     where
       by : (x : Fall) → IsByDisk x → (ys : List Deed) → pending_next (Falls x None ∷ ys) ≡ None
       by causes.Script is ys = absurd is

@@ -20,10 +20,8 @@ use Rattle.qc_promise.specs.Names.{Account, ClientRequest, Current, asked_by, is
 use Rattle.qc_promise.specs.Names.{weights_of}
 use Rattle.laws_due.specs.Names.{AreApart, IsOpenIn}
 use Rattle.laws_due.proofs.Nexts.{asking_one}
-use Rattle.laws_due.proofs.OpenRequests.{half_taken, length_taken, numbers_open}
-use Rattle.laws_due.proofs.Requests.{calls_half, find_half, first_set}
-use Rattle.laws_due.proofs.OpenRequests.{sites_in}
-use Rattle.laws_due.proofs.Requests.{request_at, requests_from, set_taken}
+use Rattle.laws_due.proofs.OpenRequests.{half_taken, length_taken, numbers_open, sites_in}
+use Rattle.laws_due.proofs.Requests.{calls_half, find_half, first_set, request_at, requests_from, set_taken}
 
 drop_suc : {A : Type 0} (n : ℕ) (ys : List A) → drop (suc n) ys ≡ drop 1 (drop n ys)
 drop_suc zero ys = refl

@@ -26,9 +26,9 @@ use Rattle.qc_msg.specs.declared.step.Input.TheVariants as inputs
 use Rattle.qc_msg.specs.declared.turn.Appended.{Appended}
 use Rattle.qc_msg.specs.declared.turn.Appended.TheVariants.{Done, Failed, Stopped}
 use Rattle.qc_msg.specs.declared.turn.Turn.{Turn}
-use Rattle.qc_promise.specs.Names.{Account, Act, IsPostOf, IsRecordDue, IsReplyDue, Wrote}
-use Rattle.qc_promise.specs.Names.{account_at, account_taken, account_with, due, fallen_in, is_declared_for}
-use Rattle.qc_promise.specs.Names.{pending_next, posted_due, rising_turn, row_of, running_row}
+use Rattle.qc_promise.specs.Names.{Account, Act, IsPostOf, IsRecordDue, IsReplyDue, Wrote, account_at, account_taken}
+use Rattle.qc_promise.specs.Names.{account_with, due, fallen_in, is_declared_for, pending_next, posted_due, rising_turn}
+use Rattle.qc_promise.specs.Names.{row_of, running_row}
 use Rattle.qc_recover.specs.Names.{client_rises, rising}
 use Rattle.laws_due.specs.ByRows as rows
 use Rattle.laws_due.specs.Names.{Goes, IsDeclaredDeed, IsPlanned, Ties}
@@ -38,9 +38,8 @@ use Rattle.laws_due.proofs.DuesOfDeeds.{IsWithin, due_as}
 use Rattle.laws_due.proofs.Dues.{due_then, within_all, within_at}
 use Rattle.laws_due.proofs.Fits.{takes_fit}
 use Rattle.laws_due.proofs.Rising.{risen_account, risen_holds, risen_ties}
-use Rattle.laws_due.proofs.Standing.{IsAtRest, IsFallen, IsTied, account_is, account_more}
-use Rattle.laws_due.proofs.Standing.{actor_more, event_due, no_act, none_follows, steady_client, steady_up}
-use Rattle.laws_due.proofs.Standing.{turn_declared, turn_is, up_more}
+use Rattle.laws_due.proofs.Standing.{IsAtRest, IsFallen, IsTied, account_is, account_more, actor_more, event_due}
+use Rattle.laws_due.proofs.Standing.{no_act, none_follows, steady_client, steady_up, turn_declared, turn_is, up_more}
 use Rattle.laws_due.proofs.Step.{inputs_are_answered_as_is_due}
 use Rattle.laws_due.proofs.Unwritten.{unknown_due}
 use Rattle.laws_due.proofs.Writing.{IsClientTurn, IsCommitTurn, takes_turn}
@@ -64,8 +63,11 @@ module _ (decl : Declaration) (a : ℕ) (client : is_client decl a ≡ true) whe
       due =
           λ ys behind. event_due decl a ds r (Rises kept) (Writes records.Life ∷ []) ys
           (no_act (Rises kept ∷ (Writes records.Life ∷ ys)) refl r.up)
-          (λ dues. (subst (λ (acts : List Act). Wrote records.Life ∷ acts
-              ≡ posted_due rising_turn (fallen_in (Wrote records.Life ∷ acts))) (sym behind) refl, (tt, dues)));
+          (λ dues. (
+            subst (λ (acts : List Act). Wrote records.Life ∷ acts
+                ≡ posted_due rising_turn (fallen_in (Wrote records.Life ∷ acts))) (sym behind) refl,
+            (tt, dues),
+          ));
       stands = record {
         state = (client_rises (a - decl.sites) kept).client;
         actor =
@@ -116,7 +118,7 @@ module _ (decl : Declaration) (a : ℕ) (client : is_client decl a ≡ true) whe
         subst (λ (v : List Deed). IsAtRest decl a ((ds ++ Rises kept ∷ []) ++ v)) (as_record turn.append first turn)
         (subst (λ (t : Turn). IsAtRest decl a ((ds ++ Rises kept ∷ []) ++ deeds_as turn.append first t))
         (sym (ap (λ (m : ActorMove). m.turn) (rises_to ds kept))
-            ∙ turn_is decl a client (ds ++ Rises kept ∷ []) turn law) (risen_as turn.append first))
+        ∙ turn_is decl a client (ds ++ Rises kept ∷ []) turn law) (risen_as turn.append first))
 
   -- an input of a client that is up
 
@@ -171,7 +173,7 @@ module _ (decl : Declaration) (a : ℕ) (client : is_client decl a ≡ true) whe
         holds = takes_fit decl first s.state g s.holds;
         within = subst (IsWithin decl) (sym (posted_account (turn_deeds first move.turn)))
             (within_all decl (turn_deeds first move.turn) taken (turn_up first move.turn)
-                (turn_declared decl first move.turn) taken_within);
+            (turn_declared decl first move.turn) taken_within);
       };
     }
 
@@ -209,13 +211,13 @@ module _ (decl : Declaration) (a : ℕ) (client : is_client decl a ≡ true) whe
             → IsReplyDue taken (due decl taken (is_some (pending_next after))) after replies.Unknown
         told after pending =
             subst (λ (row : Option Reply). IsReplyDue taken row after replies.Unknown)
-                (sym (ap (λ (o : Option Record). due decl taken (is_some o)) pending
-                  ∙ due_as decl taken taken_within true))
+            (sym (ap (λ (o : Option Record). due decl taken (is_some o)) pending
+            ∙ due_as decl taken taken_within true))
             (unknown_due decl taken c after is pending)
 
         by : (x : Fall) → IsByDisk x → (ys : List Deed)
             → IsReplyDue taken (due decl taken (is_some (pending_next (Falls x (Some (records.Commit c)) ∷ ys))))
-              (Falls x (Some (records.Commit c)) ∷ ys) replies.Unknown
+            (Falls x (Some (records.Commit c)) ∷ ys) replies.Unknown
         by causes.Script is_disk ys = absurd is_disk
         by causes.Stop is_disk ys = told (Falls causes.Stop (Some (records.Commit c)) ∷ ys) refl
         by causes.Disk is_disk ys = told (Falls causes.Disk (Some (records.Commit c)) ∷ ys) refl
@@ -230,7 +232,7 @@ module _ (decl : Declaration) (a : ℕ) (client : is_client decl a ≡ true) whe
         by (inr w) =
             subst (λ (v : List Deed). IsAtRest decl a ((ds ++ Takes g ∷ []) ++ v))
             (λ i. sends_of first (sym w.failed_sends i)
-                ++ (tells_of (sym w.failed_told i) ++ Falls causes.Disk (sym w.write i) ∷ []))
+            ++ (tells_of (sym w.failed_told i) ++ Falls causes.Disk (sym w.write i) ∷ []))
             (unknown_rest causes.Disk tt w.commit (record_due w))
     posted_as Stopped first ends = by (takes_turn decl s.state g)
       where
@@ -257,13 +259,15 @@ module _ (decl : Declaration) (a : ℕ) (client : is_client decl a ≡ true) whe
       due =
           λ ys behind. event_due decl a ds r (Takes (inputs.Called command)) (Tells replies.Down ∷ []) ys
           (no_act (Takes (inputs.Called command) ∷ Tells replies.Down ∷ ys) refl r.up)
-          (λ dues. (input_free decl a client ds r (inputs.Called command) may,
-              ((down_due (is_some (pending_next ys)), refl, behind), dues)));
+          (λ dues. (
+            input_free decl a client ds r (inputs.Called command) may,
+            ((down_due (is_some (pending_next ys)), refl, behind), dues),
+          ));
       stands = record {
         actor =
             ap (λ (m : ActorMove). m.actor)
             (actor_more decl a (ds ++ Takes (inputs.Called command) ∷ []) (Tells replies.Down ∷ [])
-              ∙ actor_more decl a ds (Takes (inputs.Called command) ∷ []))
+            ∙ actor_more decl a ds (Takes (inputs.Called command) ∷ []))
             ∙ ap (λ (v : Actor). (actor_takes decl v (inputs.Called command)).actor) s.actor;
         up = ap (λ (d : Account). d.up) told_account ∙ s.up;
         command = ap (λ (d : Account). d.command) told_account;
@@ -275,13 +279,13 @@ module _ (decl : Declaration) (a : ℕ) (client : is_client decl a ≡ true) whe
         told_account =
             account_more decl a (ds ++ Takes (inputs.Called command) ∷ []) (Tells replies.Down ∷ [])
             ∙ ap (λ (d : Account). account_at decl d (Tells replies.Down))
-              (account_more decl a ds (Takes (inputs.Called command) ∷ []))
+            (account_more decl a ds (Takes (inputs.Called command) ∷ []))
 
         down_due : (unwritten : Bool) → due decl called unwritten ≡ Some replies.Down
         down_due unwritten =
             ap (λ (b : Bool). cond b
-                (cond (is_declared_for decl called.current command)
-                  (row_of decl called unwritten called.current command) None) (Some replies.Down)) s.up
+            (cond (is_declared_for decl called.current command)
+            (row_of decl called unwritten called.current command) None) (Some replies.Down)) s.up
 
     pub down_as : (end : Appended) (first : ℕ) → MayEnd None end
         → IsAtRest decl a ((ds ++ Takes (inputs.Called command) ∷ []) ++ deeds_as end first (telling replies.Down))

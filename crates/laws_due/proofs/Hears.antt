@@ -1,6 +1,6 @@
 -- What is taken while a `do` runs: the first thing for an open request counts, all else changes nothing.
-use Rattle.std.proofs.Common.{◌≡◌, ℕ, ◌==◌, ◌&&◌, Bool, true, false, cond, List, ◌∷◌, filter, max, Option, Some}
-use Rattle.std.proofs.Common.{None, option_map, refl, sym, ap, ◌∙◌, subst, arith}
+use Rattle.std.proofs.Common.{◌≡◌, ℕ, ◌==◌, ◌&&◌, Bool, true, false, cond, List, ◌∷◌, filter, max, Option, Some, None}
+use Rattle.std.proofs.Common.{option_map, refl, sym, ap, ◌∙◌, subst, arith}
 use Rattle.std.specs.Prelude.{is_none}
 use Rattle.std.specs.List.{find, AllByRecursion as Every}
 use Rattle.qc_list.proofs.Members.{every-In}
@@ -14,8 +14,7 @@ use Rattle.qc_commit.specs.declared.desk.Desk.{Desk}
 use Rattle.qc_front.specs.declared.doing.Doing.TheVariants.{Appending}
 use Rattle.qc_front.specs.declared.front.Front.{Front}
 use Rattle.qc_front.specs.declared.transaction.Transaction.{Transaction}
-use Rattle.qc_front.specs.Names.{append_counts, appending_takes, learns}
-use Rattle.qc_front.specs.Names.{takes}
+use Rattle.qc_front.specs.Names.{append_counts, appending_takes, learns, takes}
 use Rattle.qc_front.specs.Rounds as fronts
 use Rattle.qc_client.specs.declared.client.Client.{Client}
 use Rattle.qc_client.specs.Names.{by_front}
@@ -26,8 +25,8 @@ use Rattle.qc_msg.specs.declared.message.Want.{Want}
 use Rattle.qc_msg.specs.declared.message.Want.TheVariants.{Read, Append, Prepare}
 use Rattle.qc_msg.specs.Names.{without_call}
 use Rattle.qc_promise.specs.Names.{Account, ClientRequest, Current, answer_of, append_row, counted, counted_for}
-use Rattle.qc_promise.specs.Names.{granted, is_append, is_open, is_read, lived, promised, standing_of}
-use Rattle.qc_promise.specs.Names.{taken_for, told_by}
+use Rattle.qc_promise.specs.Names.{granted, is_append, is_open, is_read, lived, promised, standing_of, taken_for}
+use Rattle.qc_promise.specs.Names.{told_by}
 use Rattle.laws_due.specs.Names.{AreApart, Goes, IsOpenIn, calls_in, front_of, transaction_of}
 use Rattle.laws_due.proofs.DoRows.{Runs, run}
 use Rattle.laws_due.proofs.DoAppends.{appends_go, appends_tie, row_is}
@@ -44,25 +43,25 @@ other_half Prepare is = let never : ⊥ = cc in absurd never
 
 reads_kept : (n : ℕ) (answer : Option Answer) (qs : List ClientRequest) → Every (IsOpenIn is_append) qs
     → filter (λ (q : ClientRequest). is_read q.want) (taken_for n answer qs)
-      ≡ filter (λ (q : ClientRequest). is_read q.want) qs
+    ≡ filter (λ (q : ClientRequest). is_read q.want) qs
 reads_kept n answer [] all = refl
 reads_kept n answer (q ∷ qs) all = by (q.number == n) (is_none q.taken) refl (reads_kept n answer qs all.1)
   where
     by : (u b : Bool) → is_none q.taken ≡ b
         → filter (λ (p : ClientRequest). is_read p.want) (taken_for n answer qs)
-          ≡ filter (λ (p : ClientRequest). is_read p.want) qs
+        ≡ filter (λ (p : ClientRequest). is_read p.want) qs
         → filter (λ (p : ClientRequest). is_read p.want)
-            (cond (u && b) (record q { taken = Some answer }) q ∷ taken_for n answer qs)
-            ≡ filter (λ (p : ClientRequest). is_read p.want) (q ∷ qs)
+        (cond (u && b) (record q { taken = Some answer }) q ∷ taken_for n answer qs)
+        ≡ filter (λ (p : ClientRequest). is_read p.want) (q ∷ qs)
     by true true is e =
         let no_read : is_read q.want ≡ false = other_half q.want (all.0 is) in
         ap (λ (b : Bool). cond b
-            (record q { taken = Some answer } ∷ filter (λ (p : ClientRequest). is_read p.want) (taken_for n answer qs))
-            (filter (λ (p : ClientRequest). is_read p.want) (taken_for n answer qs))) no_read
+        (record q { taken = Some answer } ∷ filter (λ (p : ClientRequest). is_read p.want) (taken_for n answer qs))
+        (filter (λ (p : ClientRequest). is_read p.want) (taken_for n answer qs))) no_read
         ∙ e
-            ∙ sym
-              (ap (λ (b : Bool). cond b (q ∷ filter (λ (p : ClientRequest). is_read p.want) qs)
-                (filter (λ (p : ClientRequest). is_read p.want) qs)) no_read)
+        ∙ sym
+        (ap (λ (b : Bool). cond b (q ∷ filter (λ (p : ClientRequest). is_read p.want) qs)
+        (filter (λ (p : ClientRequest). is_read p.want) qs)) no_read)
     by true false is e = ap (λ (v : List ClientRequest). cond (is_read q.want) (q ∷ v) v) e
     by false b is e = ap (λ (v : List ClientRequest). cond (is_read q.want) (q ∷ v) v) e
 
@@ -70,10 +69,10 @@ module _ (decl : Declaration) (number : ℕ) (d : Account) (desk : Desk) (t : Cu
     (views : List View) (object inv event : ℕ) (k : Runs decl d desk t views)
     (chosen : answer_of decl t object inv ≡ Some event)
     (qs : List ClientRequest)
-        (met : verdict (round_at decl d t is_read (read_need_of decl t.epoch object inv) qs) ≡ verdicts.Met)
-        (all : Every (IsOpenIn is_append) qs)
+    (met : verdict (round_at decl d t is_read (read_need_of decl t.epoch object inv) qs) ≡ verdicts.Met)
+    (all : Every (IsOpenIn is_append) qs)
     (sites : AreApart (sites_in (filter (λ (q : ClientRequest). is_append q.want) qs)))
-        (numbers : AreApart (numbers_open qs))
+    (numbers : AreApart (numbers_open qs))
     (awaits : all_noted (round_at decl d t is_append (append_need_of decl t.epoch object event) qs).asked ≡ false) where
   abbrev ax : Transaction
   ax = transaction_of t asked views
@@ -89,27 +88,27 @@ module _ (decl : Declaration) (number : ℕ) (d : Account) (desk : Desk) (t : Cu
 
   aon_with : (e : Account) (u : Current) → Runs decl e desk u views → answer_of decl u object inv ≡ Some event
       → ((hs : List ClientRequest)
-          → round_from decl e u is_read (read_need_of decl u.epoch object inv) hs
-            ≡ round_from decl d t is_read (read_need_of decl t.epoch object inv) hs)
+      → round_from decl e u is_read (read_need_of decl u.epoch object inv) hs
+      ≡ round_from decl d t is_read (read_need_of decl t.epoch object inv) hs)
       → ((rs : List ClientRequest)
-          → round_at decl e u is_append (append_need_of decl u.epoch object event) rs
-            ≡ round_at decl d t is_append (append_need_of decl t.epoch object event) rs)
+      → round_at decl e u is_append (append_need_of decl u.epoch object event) rs
+      ≡ round_at decl d t is_append (append_need_of decl t.epoch object event) rs)
       → (n : ℕ) (answer : Option Answer) (q : ClientRequest) → find (is_open n) qs ≡ Some q
       → Goes decl number (run e u object inv (taken_for n answer qs))
       (by_front ahere
-          (fronts.appends decl (front_of e (Some ax) (Appending object inv event (calls_in qs) around))
-            (transaction_of u asked views) object inv event (without_call (calls_in qs) n)
-            (note around q.site (standing_of answer))))
+      (fronts.appends decl (front_of e (Some ax) (Appending object inv event (calls_in qs) around))
+      (transaction_of u asked views) object inv event (without_call (calls_in qs) n)
+      (note around q.site (standing_of answer))))
   aon_with e u kept same_answer same_read same n answer q is =
       subst (λ (m : List Call × RoundState). Goes decl number (run e u object inv (taken_for n answer qs))
-          (by_front ahere
-            (fronts.appends decl (front_of e (Some ax) (Appending object inv event (calls_in qs) around))
-              (transaction_of u asked views) object inv event m.0 m.1)))
+      (by_front ahere
+      (fronts.appends decl (front_of e (Some ax) (Appending object inv event (calls_in qs) around))
+      (transaction_of u asked views) object inv event m.0 m.1)))
       (λ i. (sym (calls_taken n answer qs) i, (same (taken_for n answer qs) ∙ sym noted) i))
       (appends_go decl number e desk u asked views object inv event kept same_answer (taken_for n answer qs) anow
-          (Some ax) (Appending object inv event (calls_in qs) around)
+      (Some ax) (Appending object inv event (calls_in qs) around)
       (ap (λ (hs : List ClientRequest). verdict (round_from decl e u is_read (read_need_of decl u.epoch object inv) hs))
-          (reads_kept n answer qs all)
+      (reads_kept n answer qs all)
       ∙ ap verdict (same_read (filter (λ (p : ClientRequest). is_read p.want) qs)) ∙ met)
       (every_taken (IsOpenIn is_append) n answer (λ r w. λ open_still. absurd (let never : ⊥ = cc in never)) qs all))
     where
@@ -120,17 +119,17 @@ module _ (decl : Declaration) (number : ℕ) (d : Account) (desk : Desk) (t : Cu
 
   astays : (n : ℕ) (answer : Option Answer) (q : ClientRequest) → find (is_open n) qs ≡ Some q
       → Goes decl number (run d t object inv (taken_for n answer qs))
-          (by_front ahere
-            (fronts.appends decl anow ax object inv event (without_call (calls_in qs) n)
-              (note around q.site (standing_of answer))))
+      (by_front ahere
+      (fronts.appends decl anow ax object inv event (without_call (calls_in qs) n)
+      (note around q.site (standing_of answer))))
   astays n answer q is = aon_with d t k chosen (λ hs. refl) (λ rs. refl) n answer q is
 
   acloses : (n epoch : ℕ) (q : ClientRequest) → find (is_open n) qs ≡ Some q
       → Goes decl number
-          (run (record d { known = max d.known epoch }) t object inv (taken_for n (Some (answers.Closed epoch)) qs))
+      (run (record d { known = max d.known epoch }) t object inv (taken_for n (Some (answers.Closed epoch)) qs))
       (by_front ahere
-          (fronts.appends decl (learns anow (Some (answers.Closed epoch))) ax object inv event
-            (without_call (calls_in qs) n) (note around q.site (standing_of (Some (answers.Closed epoch))))))
+      (fronts.appends decl (learns anow (Some (answers.Closed epoch))) ax object inv event
+      (without_call (calls_in qs) n) (note around q.site (standing_of (Some (answers.Closed epoch))))))
   acloses n epoch q is =
       aon_with (record d { known = max d.known epoch }) t kept chosen (λ hs. refl) (λ rs. refl) n
       (Some (answers.Closed epoch)) q is
@@ -143,16 +142,16 @@ module _ (decl : Declaration) (number : ℕ) (d : Account) (desk : Desk) (t : Cu
             records = k.records;
             logs = k.logs;
             desk_is =
-                desk_kept d (record d { known = max d.known epoch }) desk k.desk_is refl (omega arith) (omega arith)
+                desk_kept d (record d { known = max d.known epoch }) desk k.desk_is refl (omega arith) (omega arith);
           }
 
   agrants : (n life clock : ℕ) (log : List Line) (q : ClientRequest) → find (is_open n) qs ≡ Some q
       → Goes decl number
-          (run (record d { clock = max d.clock clock }) (lived t q.site life) object inv
-            (taken_for n (Some (answers.Granted life clock log)) qs))
+      (run (record d { clock = max d.clock clock }) (lived t q.site life) object inv
+      (taken_for n (Some (answers.Granted life clock log)) qs))
       (by_front ahere
-          (append_counts decl (learns anow (Some (answers.Granted life clock log))) ax object inv event (calls_in qs)
-            around n q.site (Some (answers.Granted life clock log))))
+      (append_counts decl (learns anow (Some (answers.Granted life clock log))) ax object inv event (calls_in qs)
+      around n q.site (Some (answers.Granted life clock log))))
   agrants n life clock log q is =
       aon_with (record d { clock = max d.clock clock }) (lived t q.site life) kept chosen (λ hs. refl) (λ rs. refl) n
       (Some (answers.Granted life clock log)) q is
@@ -165,14 +164,14 @@ module _ (decl : Declaration) (number : ℕ) (d : Account) (desk : Desk) (t : Cu
             records = k.records;
             logs = k.logs;
             desk_is =
-                desk_kept d (record d { clock = max d.clock clock }) desk k.desk_is refl (omega arith) (omega arith)
+                desk_kept d (record d { clock = max d.clock clock }) desk k.desk_is refl (omega arith) (omega arith);
           }
 
   acounts_go : (n : ℕ) (q : ClientRequest) → find (is_open n) qs ≡ Some q → (w : Want) → is_append w ≡ true → q.want ≡ w
       → (answer : Option Answer)
       → Goes decl number (told_by (run d t object inv (taken_for n answer qs)) q answer)
-          (by_front ahere
-            (append_counts decl (learns anow answer) ax object inv event (calls_in qs) around n q.site answer))
+      (by_front ahere
+      (append_counts decl (learns anow answer) ax object inv event (calls_in qs) around n q.site answer))
   acounts_go n q is (Read o i) half want answer = absurd (let never : ⊥ = cc in never)
   acounts_go n q is Prepare half want answer = absurd (let never : ⊥ = cc in never)
   acounts_go n q is (Append o v own) half want None = astays n None q is
@@ -190,10 +189,10 @@ module _ (decl : Declaration) (number : ℕ) (d : Account) (desk : Desk) (t : Cu
   acounts_go n q is (Append o v own) half want (Some answers.Fault) = astays n (Some answers.Fault) q is
   acounts_go n q is (Append o v own) half want (Some (answers.Yes clock)) =
       subst (λ (w : Want). Goes decl number
-          (promised (run d t object inv (taken_for n (Some (answers.Yes clock)) qs)) clock w)
-          (by_front ahere
-            (append_counts decl (learns anow (Some (answers.Yes clock))) ax object inv event (calls_in qs) around n
-              q.site (Some (answers.Yes clock)))))
+      (promised (run d t object inv (taken_for n (Some (answers.Yes clock)) qs)) clock w)
+      (by_front ahere
+      (append_counts decl (learns anow (Some (answers.Yes clock))) ax object inv event (calls_in qs) around n
+      q.site (Some (answers.Yes clock)))))
       (sym want) (astays n (Some (answers.Yes clock)) q is)
   acounts_go n q is (Append o v own) half want (Some (answers.Shut clock log prepared)) =
       astays n (Some (answers.Shut clock log prepared)) q is
@@ -205,19 +204,19 @@ module _ (decl : Declaration) (number : ℕ) (d : Account) (desk : Desk) (t : Cu
       → Goes decl number (counted (run d t object inv qs) n answer) (by_front ahere (takes decl anow n answer))
   appending_goes n answer =
       subst (λ (o : Option ℕ). Goes decl number (counted (run d t object inv qs) n answer)
-          (by_front ahere (appending_takes decl anow ax object inv event (calls_in qs) around n answer o)))
-          (sym (find_call n qs))
+      (by_front ahere (appending_takes decl anow ax object inv event (calls_in qs) around n answer o)))
+      (sym (find_call n qs))
       (by (find (is_open n) qs) refl)
     where
       by : (o : Option ClientRequest) → find (is_open n) qs ≡ o
           → Goes decl number (counted_for (run d t object inv qs) n answer o)
-              (by_front ahere
-                (appending_takes decl anow ax object inv event (calls_in qs) around n answer
-                  (option_map (λ (q : ClientRequest). q.site) o)))
+          (by_front ahere
+          (appending_takes decl anow ax object inv event (calls_in qs) around n answer
+          (option_map (λ (q : ClientRequest). q.site) o)))
       by None is =
           still_goes decl number (run d t object inv qs) ahere
           (row_is decl number d desk t asked views object inv event k chosen qs met
-            ∙ ap (append_row decl object event) (waiting_verdict around awaits))
+          ∙ ap (append_row decl object event) (waiting_verdict around awaits))
           (appends_tie decl number d desk t asked views object inv event k chosen asked qs met all)
       by (Some q) is =
           let f : IsFound n qs q = found n qs q is in

@@ -1,6 +1,6 @@
 -- What is taken while a `do` reads: the first thing for an open request counts, all else changes nothing.
-use Rattle.std.proofs.Common.{◌≡◌, ℕ, false, List, filter, max, Option, Some}
-use Rattle.std.proofs.Common.{None, option_map, refl, sym, ap, ◌∙◌, subst, arith}
+use Rattle.std.proofs.Common.{◌≡◌, ℕ, false, List, filter, max, Option, Some, None, option_map, refl, sym, ap, ◌∙◌}
+use Rattle.std.proofs.Common.{subst, arith}
 use Rattle.std.specs.List.{find, AllByRecursion as Every}
 use Rattle.qc_list.proofs.Members.{every-In, every-weaker}
 use Rattle.qc_decl.specs.declared.declaration.Declaration.{Declaration}
@@ -12,8 +12,7 @@ use Rattle.qc_commit.specs.declared.desk.Desk.{Desk}
 use Rattle.qc_front.specs.declared.doing.Doing.TheVariants.{Reading}
 use Rattle.qc_front.specs.declared.front.Front.{Front}
 use Rattle.qc_front.specs.declared.transaction.Transaction.{Transaction}
-use Rattle.qc_front.specs.Names.{RecordsHold, learns, read_counts, read_with}
-use Rattle.qc_front.specs.Names.{reading_takes, takes, with_granted}
+use Rattle.qc_front.specs.Names.{RecordsHold, learns, read_counts, read_with, reading_takes, takes, with_granted}
 use Rattle.qc_front.specs.Rounds as fronts
 use Rattle.qc_front.proofs.Recording.{read_recorded}
 use Rattle.qc_client.specs.declared.client.Client.{Client}
@@ -24,12 +23,12 @@ use Rattle.qc_msg.specs.declared.message.Answer.TheVariants as answers
 use Rattle.qc_msg.specs.declared.message.Want.{Want}
 use Rattle.qc_msg.specs.declared.message.Want.TheVariants.{Read}
 use Rattle.qc_msg.specs.Names.{without_call}
-use Rattle.qc_promise.specs.Names.{Account, ClientRequest, Current, counted, counted_for}
-use Rattle.qc_promise.specs.Names.{granted, is_open, is_read, lived, promised, read_row, standing_of}
-use Rattle.qc_promise.specs.Names.{taken_for, told_by, with_read}
+use Rattle.qc_promise.specs.Names.{Account, ClientRequest, Current, counted, counted_for, granted, is_open, is_read}
+use Rattle.qc_promise.specs.Names.{lived, promised, read_row, standing_of, taken_for, told_by, with_read}
 use Rattle.laws_due.specs.Names.{AreApart, Goes, IsBegun, IsOpenIn, calls_in, front_of, transaction_of}
 use Rattle.laws_due.proofs.DoRows.{Runs, due_do, run}
-use Rattle.laws_due.proofs.DoReads.{IsRead, open_read, reads_go, reads_tie}
+use Rattle.laws_due.proofs.ReadRequests.{IsRead, open_read}
+use Rattle.laws_due.proofs.DoReads.{reads_go, reads_tie}
 use Rattle.laws_due.proofs.Halves.{round_at, round_taken, waiting_verdict}
 use Rattle.laws_due.proofs.OpenRequests.{calls_taken, every_taken, find_call, found, numbers_open, sites_in}
 use Rattle.laws_due.proofs.Turns.{desk_kept, still_goes}
@@ -38,8 +37,8 @@ use Rattle.laws_due.proofs.Views.{granted_begun}
 module _ (decl : Declaration) (number : ℕ) (d : Account) (desk : Desk) (t : Current) (asked : List ℕ)
     (views : List View) (object inv : ℕ) (k : Runs decl d desk t views)
     (qs : List ClientRequest) (all : Every (IsRead object inv) qs)
-        (sites : AreApart (sites_in (filter (λ (q : ClientRequest). is_read q.want) qs)))
-        (numbers : AreApart (numbers_open qs))
+    (sites : AreApart (sites_in (filter (λ (q : ClientRequest). is_read q.want) qs)))
+    (numbers : AreApart (numbers_open qs))
     (awaits : all_noted (round_at decl d t is_read (read_need_of decl t.epoch object inv) qs).asked ≡ false) where
   abbrev x : Transaction
   x = transaction_of t asked views
@@ -56,22 +55,22 @@ module _ (decl : Declaration) (number : ℕ) (d : Account) (desk : Desk) (t : Cu
   -- with what was learned, the round goes on
   on_with : (e : Account) (u : Current) (asked_now : List ℕ) (views_now : List View) → Runs decl e desk u views_now
       → ((rs : List ClientRequest)
-          → round_at decl e u is_read (read_need_of decl u.epoch object inv) rs
-            ≡ round_at decl d t is_read (read_need_of decl t.epoch object inv) rs)
+      → round_at decl e u is_read (read_need_of decl u.epoch object inv) rs
+      ≡ round_at decl d t is_read (read_need_of decl t.epoch object inv) rs)
       → (n : ℕ) (answer : Option Answer) (q : ClientRequest) → find (is_open n) qs ≡ Some q
       → Goes decl number (run e u object inv (taken_for n answer qs))
       (by_front here
-          (fronts.reads decl (front_of e (Some x) (Reading object inv (calls_in qs) round))
-            (transaction_of u asked_now views_now) object inv (without_call (calls_in qs) n)
-            (note round q.site (standing_of answer))))
+      (fronts.reads decl (front_of e (Some x) (Reading object inv (calls_in qs) round))
+      (transaction_of u asked_now views_now) object inv (without_call (calls_in qs) n)
+      (note round q.site (standing_of answer))))
   on_with e u asked_now views_now kept same n answer q is =
       subst (λ (m : List Call × RoundState). Goes decl number (run e u object inv (taken_for n answer qs))
-          (by_front here
-            (fronts.reads decl (front_of e (Some x) (Reading object inv (calls_in qs) round))
-              (transaction_of u asked_now views_now) object inv m.0 m.1)))
+      (by_front here
+      (fronts.reads decl (front_of e (Some x) (Reading object inv (calls_in qs) round))
+      (transaction_of u asked_now views_now) object inv m.0 m.1)))
       (λ i. (sym (calls_taken n answer qs) i, (same (taken_for n answer qs) ∙ sym noted) i))
       (reads_go decl number e desk u asked_now views_now object inv kept (taken_for n answer qs) now (Some x)
-          (Reading object inv (calls_in qs) round) (every_taken (IsRead object inv) n answer (λ r w. w) qs all))
+      (Reading object inv (calls_in qs) round) (every_taken (IsRead object inv) n answer (λ r w. w) qs all))
     where
       noted : note round q.site (standing_of answer)
           ≡ round_at decl d t is_read (read_need_of decl t.epoch object inv) (taken_for n answer qs)
@@ -85,10 +84,10 @@ module _ (decl : Declaration) (number : ℕ) (d : Account) (desk : Desk) (t : Cu
 
   closes : (n epoch : ℕ) (q : ClientRequest) → find (is_open n) qs ≡ Some q
       → Goes decl number
-          (run (record d { known = max d.known epoch }) t object inv (taken_for n (Some (answers.Closed epoch)) qs))
+      (run (record d { known = max d.known epoch }) t object inv (taken_for n (Some (answers.Closed epoch)) qs))
       (by_front here
-          (fronts.reads decl (learns now (Some (answers.Closed epoch))) x object inv (without_call (calls_in qs) n)
-            (note round q.site (standing_of (Some (answers.Closed epoch))))))
+      (fronts.reads decl (learns now (Some (answers.Closed epoch))) x object inv (without_call (calls_in qs) n)
+      (note round q.site (standing_of (Some (answers.Closed epoch))))))
   closes n epoch q is =
       on_with (record d { known = max d.known epoch }) t asked views kept (λ rs. refl) n (Some (answers.Closed epoch)) q
       is
@@ -101,22 +100,22 @@ module _ (decl : Declaration) (number : ℕ) (d : Account) (desk : Desk) (t : Cu
             records = k.records;
             logs = k.logs;
             desk_is =
-                desk_kept d (record d { known = max d.known epoch }) desk k.desk_is refl (omega arith) (omega arith)
+                desk_kept d (record d { known = max d.known epoch }) desk k.desk_is refl (omega arith) (omega arith);
           }
 
   grants : (n life clock : ℕ) (log : List Line) (q : ClientRequest) → find (is_open n) qs ≡ Some q
       → Goes decl number
-          (run (record d { clock = max d.clock clock }) (with_read (lived t q.site life) object log) object inv
-            (taken_for n (Some (answers.Granted life clock log)) qs))
+      (run (record d { clock = max d.clock clock }) (with_read (lived t q.site life) object log) object inv
+      (taken_for n (Some (answers.Granted life clock log)) qs))
       (by_front here
-          (fronts.reads decl (learns now (Some (answers.Granted life clock log)))
-            (read_with x q.site object (Some (answers.Granted life clock log))) object inv
-            (without_call (calls_in qs) n) (note round q.site (standing_of (Some (answers.Granted life clock log))))))
+      (fronts.reads decl (learns now (Some (answers.Granted life clock log)))
+      (read_with x q.site object (Some (answers.Granted life clock log))) object inv
+      (without_call (calls_in qs) n) (note round q.site (standing_of (Some (answers.Granted life clock log))))))
   grants n life clock log q is =
       subst (λ (y : Transaction). Goes decl number (run e u object inv (taken_for n (Some (answers.Granted life clock log)) qs))
       (by_front here
-          (fronts.reads decl (learns now (Some (answers.Granted life clock log))) y object inv
-            (without_call (calls_in qs) n) (note round q.site (standing_of (Some (answers.Granted life clock log)))))))
+      (fronts.reads decl (learns now (Some (answers.Granted life clock log))) y object inv
+      (without_call (calls_in qs) n) (note round q.site (standing_of (Some (answers.Granted life clock log)))))))
       (sym b.is) (on_with e u y.begun.asked y.views kept (λ rs. refl) n (Some (answers.Granted life clock log)) q is)
     where
       e : Account
@@ -147,7 +146,7 @@ module _ (decl : Declaration) (number : ℕ) (d : Account) (desk : Desk) (t : Cu
   counts_go : (n : ℕ) (q : ClientRequest) → find (is_open n) qs ≡ Some q → q.want ≡ Read object inv
       → (answer : Option Answer)
       → Goes decl number (told_by (run d t object inv (taken_for n answer qs)) q answer)
-          (by_front here (read_counts decl (learns now answer) x object inv (calls_in qs) round n q.site answer))
+      (by_front here (read_counts decl (learns now answer) x object inv (calls_in qs) round n q.site answer))
   counts_go n q is want None = stays n None q is
   counts_go n q is want (Some (answers.Granted life clock log)) =
       subst (λ (w : Want). Goes decl number (granted (run d t object inv (taken_for n (Some (answers.Granted life clock log)) qs)) q.site life clock log w)
@@ -160,10 +159,10 @@ module _ (decl : Declaration) (number : ℕ) (d : Account) (desk : Desk) (t : Cu
   counts_go n q is want (Some answers.Fault) = stays n (Some answers.Fault) q is
   counts_go n q is want (Some (answers.Yes clock)) =
       subst (λ (w : Want). Goes decl number
-          (promised (run d t object inv (taken_for n (Some (answers.Yes clock)) qs)) clock w)
-          (by_front here
-            (read_counts decl (learns now (Some (answers.Yes clock))) x object inv (calls_in qs) round n q.site
-              (Some (answers.Yes clock)))))
+      (promised (run d t object inv (taken_for n (Some (answers.Yes clock)) qs)) clock w)
+      (by_front here
+      (read_counts decl (learns now (Some (answers.Yes clock))) x object inv (calls_in qs) round n q.site
+      (Some (answers.Yes clock)))))
       (sym want) (stays n (Some (answers.Yes clock)) q is)
   counts_go n q is want (Some (answers.Shut clock log prepared)) = stays n (Some (answers.Shut clock log prepared)) q is
   counts_go n q is want (Some answers.Installed) = stays n (Some answers.Installed) q is
@@ -173,17 +172,17 @@ module _ (decl : Declaration) (number : ℕ) (d : Account) (desk : Desk) (t : Cu
       → Goes decl number (counted (run d t object inv qs) n answer) (by_front here (takes decl now n answer))
   reading_goes n answer =
       subst (λ (o : Option ℕ). Goes decl number (counted (run d t object inv qs) n answer)
-          (by_front here (reading_takes decl now x object inv (calls_in qs) round n answer o))) (sym (find_call n qs))
+      (by_front here (reading_takes decl now x object inv (calls_in qs) round n answer o))) (sym (find_call n qs))
       (by (find (is_open n) qs) refl)
     where
       by : (o : Option ClientRequest) → find (is_open n) qs ≡ o
           → Goes decl number (counted_for (run d t object inv qs) n answer o)
-              (by_front here
-                (reading_takes decl now x object inv (calls_in qs) round n answer
-                  (option_map (λ (q : ClientRequest). q.site) o)))
+          (by_front here
+          (reading_takes decl now x object inv (calls_in qs) round n answer
+          (option_map (λ (q : ClientRequest). q.site) o)))
       by None is =
           still_goes decl number (run d t object inv qs) here
           (due_do decl d desk t views object inv qs k
-            ∙ ap (read_row decl (run d t object inv qs) t object inv) (waiting_verdict round awaits))
+          ∙ ap (read_row decl (run d t object inv qs) t object inv) (waiting_verdict round awaits))
           (reads_tie decl number d desk t asked views object inv k asked qs all)
       by (Some q) is = counts_go n q is (every-In (IsRead object inv) q qs all (found n qs q is).among) answer

@@ -7,6 +7,7 @@ pub mod Views
 pub mod Turns
 pub mod DoRows
 pub mod DoAppends
+pub mod ReadRequests
 pub mod DoReads
 pub mod HearsReads
 pub mod Hears

@@ -18,9 +18,8 @@ use Rattle.qc_promise.specs.Names.{AreRepliesDue}
 use Rattle.laws_due.specs.Names.{Declares, IsDeclaredDeed, IsPlanned}
 use Rattle.laws_due.proofs.Commands.{no_site}
 use Rattle.laws_due.proofs.Courses.{clients_hold, clients_tied}
-use Rattle.laws_due.proofs.Fallings.{as_record, crashes_rest, input_free}
+use Rattle.laws_due.proofs.Fallings.{as_record, crashes_rest, input_free, unopened_rest}
 use Rattle.laws_due.proofs.Happenings.{down_as, posted_as, rises_rest, takes_to}
-use Rattle.laws_due.proofs.Fallings.{unopened_rest}
 use Rattle.laws_due.proofs.Standing.{AreDue, IsAt, IsAtInput, IsAtRest, IsFallen, IsTied, Stands, actor_more, no_act}
 use Rattle.laws_due.proofs.Standing.{turn_is}
 

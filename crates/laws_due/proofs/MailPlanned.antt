@@ -1,6 +1,6 @@
 -- In a run with falls nobody tells of an epoch without a plan, nor writes a record of one, where nobody rises with one.
-use Rattle.std.proofs.Common.{◌≡◌, ℕ, ◌+◌, ◌-◌, ◌==◌, Bool, true, false, cond, List, ◌∷◌, ◌++◌, length, Option}
-use Rattle.std.proofs.Common.{Some, None, slice_get, refl, sym, subst, append_assoc}
+use Rattle.std.proofs.Common.{◌≡◌, ℕ, ◌+◌, ◌-◌, ◌==◌, Bool, true, false, cond, List, ◌∷◌, ◌++◌, length, Option, Some}
+use Rattle.std.proofs.Common.{None, slice_get, refl, sym, subst, append_assoc}
 use Rattle.std.specs.Prelude.{option_to_list}
 use Rattle.std.specs.List.{AllByRecursion as Every}
 use Rattle.qc_core.specs.Names.{IsLawfulWithFalls}
@@ -21,8 +21,8 @@ use Rattle.qc_msg.specs.declared.step.Fall.TheVariants as causes
 use Rattle.qc_msg.specs.declared.step.Step.{Step}
 use Rattle.qc_msg.specs.declared.step.Step.TheVariants as steps
 use Rattle.qc_msg.specs.declared.turn.Turn.{Turn}
-use Rattle.qc_msg.specs.Names.{Entry, Rises, by, deed_at, deeds, envelope_of}
-use Rattle.qc_msg.specs.Names.{first_epoch, heard, mail, marked, posted_as, sends_as}
+use Rattle.qc_msg.specs.Names.{Entry, Rises, by, deed_at, deeds, envelope_of, first_epoch, heard, mail, marked}
+use Rattle.qc_msg.specs.Names.{posted_as, sends_as}
 use Rattle.qc_msg.proofs.GrownMail.{mail-append, mail-taken}
 use Rattle.qc_msg.proofs.Growth.{mail-posted_as}
 use Rattle.qc_script.specs.Names.{RunsWithFalls, begins, control, controller_step, damaged, falls, phase, phase_of}
@@ -65,7 +65,7 @@ pub deeds_risen : (decl : Declaration) (a : ℕ) (ms : List Envelope) (h : List 
 deeds_risen decl a ms [] all = tt
 deeds_risen decl a ms (e ∷ h) all =
     both_all (RisesOfPlanned decl) (cond (e.actor == a) (deed_at ms e.step) [])
-        (deeds a (ms ++ option_to_list (envelope_of e)) h) (mine_risen decl (e.actor == a) ms e.step all.0)
+    (deeds a (ms ++ option_to_list (envelope_of e)) h) (mine_risen decl (e.actor == a) ms e.step all.0)
     (deeds_risen decl a (ms ++ option_to_list (envelope_of e)) h all.1)
 
 pub part_risen : (decl : Declaration) (h k : List Entry) → AllRisePlanned decl (h ++ k) → AllRisePlanned decl h
@@ -97,15 +97,15 @@ module _ (decl : Declaration) (first : IsPlanned decl first_epoch) (script : Scr
   line_still a (controls.Cut x y) step is h planned =
       let e : steps.Cut x y ≡ step = cc in
       subst (λ (s : Step). IsMailPlanned decl (mail (h ++ marked a s ∷ []))) e
-          (still h (marked a (steps.Cut x y)) refl planned)
+      (still h (marked a (steps.Cut x y)) refl planned)
   line_still a (controls.Heal x y) step is h planned =
       let e : steps.Heal x y ≡ step = cc in
       subst (λ (s : Step). IsMailPlanned decl (mail (h ++ marked a s ∷ []))) e
-          (still h (marked a (steps.Heal x y)) refl planned)
+      (still h (marked a (steps.Heal x y)) refl planned)
   line_still a (controls.Armed r kind at) step is h planned =
       let e : steps.Armed r kind at ≡ step = cc in
       subst (λ (s : Step). IsMailPlanned decl (mail (h ++ marked a s ∷ []))) e
-          (still h (marked a (steps.Armed r kind at)) refl planned)
+      (still h (marked a (steps.Armed r kind at)) refl planned)
   line_still a (controls.Crash x) step is h planned = absurd (let never : ⊥ = cc in never)
   line_still a (controls.Restart x) step is h planned = absurd (let never : ⊥ = cc in never)
 
@@ -113,9 +113,9 @@ module _ (decl : Declaration) (first : IsPlanned decl first_epoch) (script : Scr
       → IsMailPlanned decl (mail h) → IsMailPlanned decl (mail h ++ mail (by a (posted_as turn.append n turn)))
   posted_mail a n turn h sends planned =
       both_all (λ (e : Envelope). TellsPlanned decl e.message) (mail h) (mail (by a (posted_as turn.append n turn)))
-          planned
+      planned
       (subst (IsMailPlanned decl) (sym (mail-posted_as turn.append a n turn))
-          (envelopes_planned decl a n (sends_as turn.append turn) sends))
+      (envelopes_planned decl a n (sends_as turn.append turn) sends))
 
   pub run_planned : (h : List Entry) (open_inputs : List Bool) → IsRun h open_inputs → AllRisePlanned decl h
       → IsMailPlanned decl (mail h)
@@ -127,15 +127,15 @@ module _ (decl : Declaration) (first : IsPlanned decl first_epoch) (script : Scr
       subst (IsMailPlanned decl) (sym (mail-append older (by a (posted_as turn.append (length (mail older)) turn))))
       (posted_mail a (length (mail older)) turn older
       (lawful_sends decl first a (deeds a [] older) turn
-          (deeds_planned decl a [] older tt (run_planned older before run (part_risen decl older _ all)))
-          (deeds_risen decl a [] older
-            (part_risen decl older (by a (posted_as turn.append (length (mail older)) turn)) all))
+      (deeds_planned decl a [] older tt (run_planned older before run (part_risen decl older _ all)))
+      (deeds_risen decl a [] older
+      (part_risen decl older (by a (posted_as turn.append (length (mail older)) turn)) all))
       (run_askable (IsLawfulWithFalls decl) fits decl script asks older before run a) law)
       (run_planned older before run
-          (part_risen decl older (by a (posted_as turn.append (length (mail older)) turn)) all)))
+      (part_risen decl older (by a (posted_as turn.append (length (mail older)) turn)) all)))
   run_planned h open_inputs (phase before older run none done all_quiet more) all =
       still older (marked (controller decl) (steps.Phase (phase_of older + 1))) refl
-          (run_planned older before run (part_risen decl older _ all))
+      (run_planned older before run (part_risen decl older _ all))
   run_planned h open_inputs (control line lines step before older run left is) all =
       line_still (controller decl) line step is older (run_planned older before run (part_risen decl older _ all))
   run_planned h open_inputs (falls a lines before older run left) all =
@@ -143,19 +143,19 @@ module _ (decl : Declaration) (first : IsPlanned decl first_epoch) (script : Scr
       (run_planned older before run (part_risen decl older _ all))
   run_planned h open_inputs (rises a kept turn lines before older run left fit has law) all =
       subst (IsMailPlanned decl)
-          (sym (mail-append older (by a (steps.Rose kept ∷ posted_as turn.append (length (mail older)) turn))))
+      (sym (mail-append older (by a (steps.Rose kept ∷ posted_as turn.append (length (mail older)) turn))))
       (posted_mail a (length (mail older)) turn older
       (lawful_sends decl first a (deeds a [] (older ++ marked a (steps.Rose kept) ∷ [])) turn
       (deeds_planned decl a [] (older ++ marked a (steps.Rose kept) ∷ []) tt
-          (still older (marked a (steps.Rose kept)) refl (run_planned older before run (part_risen decl older _ all))))
+      (still older (marked a (steps.Rose kept)) refl (run_planned older before run (part_risen decl older _ all))))
       (deeds_risen decl a [] (older ++ marked a (steps.Rose kept) ∷ [])
       (part_risen decl (older ++ marked a (steps.Rose kept) ∷ [])
-          (by a (posted_as turn.append (length (mail older)) turn))
+      (by a (posted_as turn.append (length (mail older)) turn))
       (subst (AllRisePlanned decl)
-          (sym (append_assoc older (marked a (steps.Rose kept) ∷ [])
-            (by a (posted_as turn.append (length (mail older)) turn)))) all)))
+      (sym (append_assoc older (marked a (steps.Rose kept) ∷ [])
+      (by a (posted_as turn.append (length (mail older)) turn)))) all)))
       (rise_askable decl a older kept (run_askable (IsLawfulWithFalls decl) fits decl script asks older before run a))
-          law)
+      law)
       (run_planned older before run (part_risen decl older _ all)))
   run_planned h open_inputs (damaged a offset lines before older run left) all =
       still older (marked a (steps.Damaged offset)) refl (run_planned older before run (part_risen decl older _ all))

@@ -10,7 +10,7 @@ use Rattle.qc_core.specs.declared.actor.Actor.TheVariants as actor
 use Rattle.qc_core.specs.Names.{ActorMove, AreUncommanded, IsLawfulWithFalls, Lives, actor_does, actor_rises}
 use Rattle.qc_core.specs.Names.{actor_sends, actor_takes, is_running, moved, new_actor, with_record}
 use Rattle.qc_core.specs.Lives as lives
-use Rattle.qc_core.proofs.ByTurns.{called_turn}
+use Rattle.qc_core.proofs.PostsByTurns.{called_turn}
 use Rattle.qc_core.proofs.Written.{IsSiteTurn, site_written}
 use Rattle.qc_decl.specs.Names.{IsAccepted, actors, administrator, is_site}
 use Rattle.qc_decl.specs.declared.declaration.Declaration.{Declaration}

@@ -1,7 +1,6 @@
 -- The open request of a number, in the account and in the client's calls, and what is taken for it.
-use Rattle.std.proofs.Common.{◌≡◌, ℕ, suc, ◌==◌, ◌&&◌, Bool, true, false, cond, List, ◌∷◌, length}
-use Rattle.std.proofs.Common.{map, filter, Option, Some, None, option_map, refl, ap, ◌∙◌, subst, eqb-true}
-use Rattle.std.proofs.Common.{inl, inr}
+use Rattle.std.proofs.Common.{◌≡◌, ℕ, suc, ◌==◌, ◌&&◌, Bool, true, false, cond, List, ◌∷◌, length, map, filter, Option}
+use Rattle.std.proofs.Common.{Some, None, option_map, refl, ap, ◌∙◌, subst, eqb-true, inl, inr}
 use Rattle.std.specs.Prelude.{is_none}
 use Rattle.std.specs.List.{find, AllByRecursion as Every}
 use Rattle.qc_list.specs.Names.{In}
@@ -34,26 +33,26 @@ find_call number (q ∷ qs) = by (is_none q.taken) (find_call number qs)
     closed : (u : Bool)
         → site_called (calls_in qs) number ≡ option_map (λ (x : ClientRequest). x.site) (find (is_open number) qs)
         → site_called (calls_in qs) number
-            ≡ option_map (λ (x : ClientRequest). x.site) (cond (u && false) (Some q) (find (is_open number) qs))
+        ≡ option_map (λ (x : ClientRequest). x.site) (cond (u && false) (Some q) (find (is_open number) qs))
     closed true e = e
     closed false e = e
 
     opened : (u : Bool)
         → site_called (calls_in qs) number ≡ option_map (λ (x : ClientRequest). x.site) (find (is_open number) qs)
         → option_map (λ (c : Call). c.site)
-            (cond u (Some (call_of q)) (find (λ (c : Call). c.number == number) (calls_in qs)))
-            ≡ option_map (λ (x : ClientRequest). x.site) (cond (u && true) (Some q) (find (is_open number) qs))
+        (cond u (Some (call_of q)) (find (λ (c : Call). c.number == number) (calls_in qs)))
+        ≡ option_map (λ (x : ClientRequest). x.site) (cond (u && true) (Some q) (find (is_open number) qs))
     opened true e = refl
     opened false e = e
 
     by : (t : Bool)
         → site_called (calls_in qs) number ≡ option_map (λ (x : ClientRequest). x.site) (find (is_open number) qs)
         → site_called
-            (map call_of
-              (cond t (q ∷ filter (λ (x : ClientRequest). is_none x.taken) qs)
-                (filter (λ (x : ClientRequest). is_none x.taken) qs))) number
+        (map call_of
+        (cond t (q ∷ filter (λ (x : ClientRequest). is_none x.taken) qs)
+        (filter (λ (x : ClientRequest). is_none x.taken) qs))) number
         ≡ option_map (λ (x : ClientRequest). x.site)
-            (cond ((q.number == number) && t) (Some q) (find (is_open number) qs))
+        (cond ((q.number == number) && t) (Some q) (find (is_open number) qs))
     by true e = opened (q.number == number) e
     by false e = closed (q.number == number) e
 
@@ -79,11 +78,11 @@ of_half half qs = filter (λ (q : ClientRequest). half q.want) qs
 
 pub half_taken : (half : Want → Bool) (number : ℕ) (answer : Option Answer) (qs : List ClientRequest)
     → filter (λ (q : ClientRequest). half q.want) (taken_for number answer qs)
-        ≡ taken_for number answer (filter (λ (q : ClientRequest). half q.want) qs)
+    ≡ taken_for number answer (filter (λ (q : ClientRequest). half q.want) qs)
 half_taken half number answer [] = refl
 half_taken half number answer (q ∷ qs) =
     ap (λ (b : Bool). cond b (cond (is_open number q) (took q answer) q ∷ of_half half (taken_for number answer qs))
-        (of_half half (taken_for number answer qs))) (same (is_open number q))
+    (of_half half (taken_for number answer qs))) (same (is_open number q))
     ∙ by (half q.want) (half_taken half number answer qs)
   where
     same : (o : Bool) → half (cond o (took q answer) q).want ≡ half q.want
@@ -92,8 +91,8 @@ half_taken half number answer (q ∷ qs) =
 
     by : (h : Bool) → of_half half (taken_for number answer qs) ≡ taken_for number answer (of_half half qs)
         → cond h (cond (is_open number q) (took q answer) q ∷ of_half half (taken_for number answer qs))
-            (of_half half (taken_for number answer qs))
-            ≡ taken_for number answer (cond h (q ∷ of_half half qs) (of_half half qs))
+        (of_half half (taken_for number answer qs))
+        ≡ taken_for number answer (cond h (q ∷ of_half half qs) (of_half half qs))
     by true e = ap (λ (v : List ClientRequest). cond (is_open number q) (took q answer) q ∷ v) e
     by false e = e
 
@@ -143,9 +142,9 @@ found number (p ∷ qs) q e = by (is_open number p) refl e (found number qs q)
     by true is e more =
         let same : p ≡ q = cc in
         let parts : ((p.number == number) ≡ true) × (is_none p.taken ≡ true) =
-                open_parts (p.number == number) (is_none p.taken) is in
+        open_parts (p.number == number) (is_none p.taken) is in
         subst (λ (x : ClientRequest). IsFound number (p ∷ qs) x) same
-            (record { among = inl refl; number_is = eqb-true p.number number parts.0; open_still = parts.1 })
+        (record { among = inl refl; number_is = eqb-true p.number number parts.0; open_still = parts.1 })
     by false is e more =
         let f : IsFound number qs q = more e in
         record { among = inr f.among; number_is = f.number_is; open_still = f.open_still }

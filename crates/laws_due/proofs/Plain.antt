@@ -1,6 +1,6 @@
 -- Steps that call nothing and begin no phase, as those of posts, lines, falls and rises are: what they leave as it is.
-use Rattle.std.proofs.Common.{◌≡◌, ℕ, ◌+◌, ◌==◌, Bool, true, false, cond, List, ◌∷◌, ◌++◌}
-use Rattle.std.proofs.Common.{Option, Some, None, slice_get, refl, sym, ap, ◌∙◌, subst, append_assoc}
+use Rattle.std.proofs.Common.{◌≡◌, ℕ, ◌+◌, ◌==◌, Bool, true, false, cond, List, ◌∷◌, ◌++◌, Option, Some, None}
+use Rattle.std.proofs.Common.{slice_get, refl, sym, ap, ◌∙◌, subst, append_assoc}
 use Rattle.std.specs.Prelude.{fold}
 use Rattle.std.specs.List.{AllByRecursion as Every, filter_map}
 use Rattle.std.proofs.lemmas.List.{append-nil}
@@ -13,8 +13,7 @@ use Rattle.qc_msg.specs.declared.step.Step.{Step}
 use Rattle.qc_msg.specs.declared.step.Step.TheVariants as steps
 use Rattle.qc_msg.specs.Names.{Entry, deed_at, deeds, heard, mail}
 use Rattle.qc_msg.proofs.DeedsGrow.{deeds-append}
-use Rattle.qc_script.specs.Names.{inbox}
-use Rattle.qc_script.specs.Names.{phase_at, phase_of}
+use Rattle.qc_script.specs.Names.{inbox, phase_at, phase_of}
 use Rattle.qc_script.specs.declared.script.Script.{Script}
 use Rattle.laws_due.proofs.PlainSteps.{IsPlain, ArePlain, Leaves, same_left, left_then, step_left, inbox_then}
 
@@ -30,8 +29,8 @@ pub entries_left : (script : Script) (a : ℕ) (h k : List Entry) → ArePlain k
 entries_left script a h k plain =
     entries (λ (v : List Entry). Leaves (inbox script a h) (inbox script a v)) (λ (e : Entry). IsPlain e.step)
     (λ v e is left. subst (Leaves (inbox script a h)) (sym (inbox_then script a v e))
-        (left_then (inbox script a h) (inbox script a v) _ left
-          (step_left script a (inbox script a v) e.actor e.step is)))
+    (left_then (inbox script a h) (inbox script a v) _ left
+    (step_left script a (inbox script a v) e.actor e.step is)))
     h k plain (same_left (inbox script a h) (inbox script a h) refl refl)
 
 -- the phase
@@ -57,7 +56,7 @@ phase_then h e = fold-append (λ (n : ℕ) (e : Entry). phase_at n e.step) 0 h (
 pub entries_phase : (h k : List Entry) → ArePlain k → phase_of (h ++ k) ≡ phase_of h
 entries_phase h k plain =
     entries (λ (v : List Entry). phase_of v ≡ phase_of h) (λ (e : Entry). IsPlain e.step)
-        (λ v e is same. phase_then v e ∙ step_phase (phase_of v) e.step is ∙ same) h k plain refl
+    (λ v e is same. phase_then v e ∙ step_phase (phase_of v) e.step is ∙ same) h k plain refl
 
 -- what an actor called, and whether a command of it runs
 

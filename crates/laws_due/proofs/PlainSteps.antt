@@ -1,6 +1,6 @@
 -- Steps that call nothing and begin no phase leave an inbox its commands, and bring it no control line.
-use Rattle.std.proofs.Common.{◌≡◌, ℕ, ◌+◌, ◌==◌, ◌&&◌, Bool, true, false, if◌then◌else◌, List, ◌∷◌, ◌++◌}
-use Rattle.std.proofs.Common.{drop, Option, Some, None, refl, ap, ◌∙◌, subst}
+use Rattle.std.proofs.Common.{◌≡◌, ℕ, ◌+◌, ◌==◌, ◌&&◌, Bool, true, false, if◌then◌else◌, List, ◌∷◌, ◌++◌, drop, Option}
+use Rattle.std.proofs.Common.{Some, None, refl, ap, ◌∙◌, subst}
 use Rattle.std.specs.Prelude.{set}
 use Rattle.std.specs.List.{AllByRecursion as Every}
 use Rattle.std.proofs.lemmas.List.Sums.{fold-append}
@@ -23,8 +23,7 @@ use Rattle.qc_msg.specs.Names.{Entry, by, fell, posted_as, sents, told, wrote}
 use Rattle.qc_script.specs.Names.{Inbox, acting, actor_fell, answers_by, comes, comes_at_once, control_acted}
 use Rattle.qc_script.specs.Names.{controller_step, copy_taken, emptied, empty_inbox, goes, goes_with, has_request}
 use Rattle.qc_script.specs.Names.{inbox, inbox_at, is_by_line, is_request, is_up, loss_taken, opened, opened_by}
-use Rattle.qc_script.specs.Names.{reply_told, requests_to, requests_to_others, with_copies}
-use Rattle.qc_script.specs.Names.{with_lost}
+use Rattle.qc_script.specs.Names.{reply_told, requests_to, requests_to_others, with_copies, with_lost}
 use Rattle.qc_script.specs.declared.script.Script.{Script}
 
 abbrev pub IsPlain : Step → Type 0
@@ -105,13 +104,13 @@ pub opened_left : (a : ℕ) (i : Inbox) → Leaves i (opened a i)
 opened_left a i =
     let lined : Inbox = record i { controls = acting i.up i.controls } in
     left_then i lined (opened a i) (record { commands = refl; controls = λ none. ap (acting i.up) none })
-        (opened_by_left a (acting i.up i.controls) lined)
+    (opened_by_left a (acting i.up i.controls) lined)
 
 acted_left : (a : ℕ) (i : Inbox) → Leaves i (control_acted a i)
 acted_left a i =
     let less : Inbox = record i { controls = drop 1 i.controls } in
     left_then i less (control_acted a i) (record { commands = refl; controls = λ none. ap (drop 1) none })
-        (opened_left a less)
+    (opened_left a less)
 
 answers_left : (i : Inbox) (m : Message) (f : Fate) → Leaves i (answers_by i m f)
 answers_left i (messages.Request tx epoch life want) f = same_left i i refl refl
@@ -134,14 +133,14 @@ sent_left : (script : Script) (a : ℕ) (i : Inbox) (e : Envelope)
 sent_left script a i e =
     left_then i (comes script.links a i e) (goes script.links a (comes script.links a i e) e) came
     (left_if (e.from == a) (comes script.links a i e) _ (comes script.links a i e)
-        (goes_left (comes script.links a i e) e _)
-        (same_left (comes script.links a i e) (comes script.links a i e) refl refl))
+    (goes_left (comes script.links a i e) e _)
+    (same_left (comes script.links a i e) (comes script.links a i e) refl refl))
   where
     came : Leaves i (comes script.links a i e)
     came =
         left_if (e.to == a) i _ i
         (left_then i (with_copies (is_up i.up a) i e _) _ (same_left i _ refl refl)
-          (answers_left (with_copies (is_up i.up a) i e _) e.message _)) (same_left i i refl refl)
+        (answers_left (with_copies (is_up i.up a) i e _) e.message _)) (same_left i i refl refl)
 
 emptied_left : (t : Bool) (i : Inbox) → Leaves i (emptied t i)
 emptied_left true i = same_left i (emptied true i) refl refl
@@ -150,12 +149,11 @@ emptied_left false i = same_left i i refl refl
 fell_left : (a : ℕ) (i : Inbox) (r : ℕ) → Leaves i (actor_fell a i r)
 fell_left a i r =
     let less : Inbox =
-            record i
-              {
-                  up = set i.up r false;
-                  unanswered = requests_to_others r i.unanswered;
-                  lost = with_lost (requests_to r i.unanswered) i.lost
-                } in
+    record i {
+      up = set i.up r false;
+      unanswered = requests_to_others r i.unanswered;
+      lost = with_lost (requests_to r i.unanswered) i.lost;
+    } in
     left_then i less (actor_fell a i r) (same_left i less refl refl) (emptied_left (r == a) less)
 
 pub step_left : (script : Script) (a : ℕ) (i : Inbox) (b : ℕ) (step : Step) → IsPlain step
@@ -175,8 +173,8 @@ step_left script a i b (steps.Lost n) is =
     left_if (b == a) i (loss_taken i) i (same_left i (loss_taken i) refl refl) (same_left i i refl refl)
 step_left script a i b (steps.Wrote written) is =
     left_if (is_up i.up b) i i _ (same_left i i refl refl)
-        (left_then i (record i { up = set i.up b true }) _ (same_left i _ refl refl)
-          (acted_left a (record i { up = set i.up b true })))
+    (left_then i (record i { up = set i.up b true }) _ (same_left i _ refl refl)
+    (acted_left a (record i { up = set i.up b true })))
 step_left script a i b (steps.Sent n to message) is =
     sent_left script a i (record { number = n; from = b; to = to; message = message })
 step_left script a i b (steps.Told reply) is =
@@ -184,7 +182,7 @@ step_left script a i b (steps.Told reply) is =
 step_left script a i b (steps.Fell cause pending) is =
     left_if (is_by_line (is_up i.up b) cause) i (control_acted a (actor_fell a i b)) (actor_fell a i b)
     (left_then i (actor_fell a i b) (control_acted a (actor_fell a i b)) (fell_left a i b)
-        (acted_left a (actor_fell a i b))) (fell_left a i b)
+    (acted_left a (actor_fell a i b))) (fell_left a i b)
 step_left script a i b (steps.Rose records) is = same_left i i refl refl
 step_left script a i b (steps.Damaged offset) is = acted_left a i
 

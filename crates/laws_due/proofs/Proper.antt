@@ -9,7 +9,7 @@ use Rattle.qc_core.specs.declared.actor.Actor.{Actor}
 use Rattle.qc_core.specs.declared.actor.Actor.TheVariants as actor
 use Rattle.qc_core.specs.Names.{ActorMove, IsLawfulWithFalls, actor_does, actor_rises, actor_sends, actor_takes, moved}
 use Rattle.qc_core.specs.Names.{new_actor, with_record}
-use Rattle.qc_core.proofs.ByTurns.{called_turn}
+use Rattle.qc_core.proofs.PostsByTurns.{called_turn}
 use Rattle.qc_core.proofs.Written.{client_written}
 use Rattle.qc_decl.specs.Names.{IsAccepted, controller, is_client}
 use Rattle.qc_decl.specs.declared.declaration.Declaration.{Declaration}

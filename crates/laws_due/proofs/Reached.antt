@@ -1,13 +1,13 @@
 -- Where whoever gets an actor's requests answers them at once, an unanswered request is at its receiver.
-use Rattle.std.proofs.Common.{◌≡◌, ℕ, ◌+◌, ◌<◌, ◌≤◌, ◌==◌, Bool, true, false, List}
-use Rattle.std.proofs.Common.{◌∷◌, ◌++◌, length, Some, None, slice_get, refl, sym, ap, ◌∙◌, subst, append_assoc}
+use Rattle.std.proofs.Common.{◌≡◌, ℕ, ◌+◌, ◌<◌, ◌≤◌, ◌==◌, Bool, true, false, List, ◌∷◌, ◌++◌, length, Some, None}
+use Rattle.std.proofs.Common.{slice_get, refl, sym, ap, ◌∙◌, subst, append_assoc}
 use Rattle.std.specs.Prelude.{fold, slice_set}
 use Rattle.std.proofs.lemmas.Bool.{eq-eqb, eqb-true}
 use Rattle.std.proofs.lemmas.List.Sums.{fold-append}
 use Rattle.qc_list.specs.Names.{In}
 use Rattle.qc_core.specs.Names.{ActorMove, IsLawfulWithFalls, actor_after, actor_takes, with_record}
 use Rattle.qc_core.specs.Lives as lives
-use Rattle.qc_core.proofs.ByTurns.{after_takes, called_turn}
+use Rattle.qc_core.proofs.PostsByTurns.{after_takes, called_turn}
 use Rattle.qc_decl.specs.Names.{actors, controller}
 use Rattle.qc_decl.specs.declared.declaration.Declaration.{Declaration}
 use Rattle.qc_inbox.proofs.FallLaws.{lines_close}
@@ -29,17 +29,14 @@ use Rattle.qc_msg.specs.declared.step.Step.TheVariants as steps
 use Rattle.qc_msg.specs.declared.turn.Appended.{Appended}
 use Rattle.qc_msg.specs.declared.turn.Appended.TheVariants.{Done, Failed, Stopped}
 use Rattle.qc_msg.specs.declared.turn.Turn.{Turn}
-use Rattle.qc_msg.specs.Names.{Deed, Entry, Takes, by, deeds, fell, mail, marked, posted, posted_as, sents}
-use Rattle.qc_msg.specs.Names.{told}
+use Rattle.qc_msg.specs.Names.{Deed, Entry, Takes, by, deeds, fell, mail, marked, posted, posted_as, sents, told}
 use Rattle.qc_msg.proofs.DeedsGrow.{deeds-other}
 use Rattle.qc_msg.proofs.Growth.{deeds-taken}
 use Rattle.qc_script.specs.declared.script.Script.{Script}
-use Rattle.qc_script.specs.Names.{Inbox, RunsWithFalls, SentRequest, begins, control, controller_step}
-use Rattle.qc_script.specs.Names.{controls_left, damaged, empty_inbox, falls, inbox}
-use Rattle.qc_script.specs.Names.{phase, phase_of, posts, request_numbers, rises, takes}
-use Rattle.qc_script.specs.Names.{unopened}
-use Rattle.laws_due.proofs.Somewhere.{AreSomewhere, IsSomewhere, MayAllFollow, MayFollow}
-use Rattle.laws_due.proofs.Somewhere.{all_follow, post_follows}
+use Rattle.qc_script.specs.Names.{Inbox, RunsWithFalls, SentRequest, begins, control, controller_step, controls_left}
+use Rattle.qc_script.specs.Names.{damaged, empty_inbox, falls, inbox, phase, phase_of, posts, request_numbers, rises}
+use Rattle.qc_script.specs.Names.{takes, unopened}
+use Rattle.laws_due.proofs.Somewhere.{AreSomewhere, IsSomewhere, MayAllFollow, MayFollow, all_follow, post_follows}
 use Rattle.laws_due.proofs.SiteTurns.{fell_last, step_on, took_up, turn_ends}
 use Rattle.laws_due.proofs.Taken.{in_numbers, of_number, RepliesTo, IsReplied, AreReplied, moved_to, taken_stays}
 use Rattle.laws_due.proofs.Taken.{take_kept}
@@ -57,9 +54,9 @@ module _ (decl : Declaration) (script : Script) (fits : ℕ → List Record → 
   post_over : (older : List Entry) (before : List Bool) (b n : ℕ) (turn : Turn) → IsRun older before
       → slice_get before b ≡ Some true → IsLawfulWithFalls decl b (deeds b [] older) turn
       → (first : List Deed) (e : Envelope) → IsReplied decl a e → e.to ≡ b → e.from ≡ a
-          → deeds b [] older ≡ first ++ Takes (inputs.Got e) ∷ []
+      → deeds b [] older ≡ first ++ Takes (inputs.Got e) ∷ []
       → (r : SentRequest) → r.number ≡ e.number → r.to ≡ b
-          → In r (inbox script a (older ++ by b (posted_as turn.append n turn))).unanswered → ⊥
+      → In r (inbox script a (older ++ by b (posted_as turn.append n turn))).unanswered → ⊥
   post_over older before b n turn run open_b law first e d to from last r number to_b = ends turn.append
     where
       not_a : (b == a) ≡ false
@@ -94,68 +91,68 @@ module _ (decl : Declaration) (script : Script) (fits : ℕ → List Record → 
       ends Done member =
           turn_ends script a b not_a (inbox script a older) n turn e.number reply.answer reply.rest sends
           (subst (λ (k : ℕ). In k
-              (request_numbers
-                (fold (step_on script a b not_a) (inbox script a older) (by b (posted n turn))).unanswered)) number
+          (request_numbers
+          (fold (step_on script a b not_a) (inbox script a older) (by b (posted n turn))).unanswered)) number
           (in_numbers r _
-              (subst (λ (i : Inbox). In r i.unanswered)
-                (fold-append (step_on script a b not_a) empty_inbox older (by b (posted n turn))) member)))
+          (subst (λ (i : Inbox). In r i.unanswered)
+          (fold-append (step_on script a b not_a) empty_inbox older (by b (posted n turn))) member)))
       ends Failed member = gone (fell_last script a b older (sents n turn.failed_sends ++ told turn.failed_told) causes.Disk turn.write r
           (subst (λ (xs : List Step). In r (inbox script a (older ++ by b xs)).unanswered)
-              (sym (append_assoc (sents n turn.failed_sends) (told turn.failed_told) (fell causes.Disk turn.write)))
-              member))
+          (sym (append_assoc (sents n turn.failed_sends) (told turn.failed_told) (fell causes.Disk turn.write)))
+          member))
       ends Stopped member = gone (fell_last script a b older (told turn.failed_told) causes.Stop turn.write r member)
 
   post_kept : (b : ℕ) (turn : Turn) (before : List Bool) (older : List Entry) → IsRun older before
       → slice_get before b ≡ Some true → IsLawfulWithFalls decl b (deeds b [] older) turn
       → IsRun (older ++ by b (posted_as turn.append (length (mail older)) turn)) (slice_set before b false)
-          → IsKept older before
-          → IsKept (older ++ by b (posted_as turn.append (length (mail older)) turn)) (slice_set before b false)
+      → IsKept older before
+      → IsKept (older ++ by b (posted_as turn.append (length (mail older)) turn)) (slice_set before b false)
   post_kept b turn before older run open_b law whole are =
       moved_to decl script fits few a a_low are_replied (IsTaken older before)
-          (IsTaken (older ++ by b (posted_as turn.append (length (mail older)) turn)) (slice_set before b false))
-          (older ++ by b (posted_as turn.append (length (mail older)) turn)) change
+      (IsTaken (older ++ by b (posted_as turn.append (length (mail older)) turn)) (slice_set before b false))
+      (older ++ by b (posted_as turn.append (length (mail older)) turn)) change
       (all_follow script (IsTaken older before) a a_low older (by b (posted_as turn.append (length (mail older)) turn))
       (post_follows a b (length (mail older)) turn.append turn
-          (are_replied.posts older before (slice_set before b false) run b turn whole law)) are)
+      (are_replied.posts older before (slice_set before b false) run b turn whole law)) are)
     where
       change : (r : SentRequest)
           (s : IsSomewhere script (IsTaken older before)
-            (older ++ by b (posted_as turn.append (length (mail older)) turn)) a r)
+          (older ++ by b (posted_as turn.append (length (mail older)) turn)) a r)
           → In r (inbox script a (older ++ by b (posted_as turn.append (length (mail older)) turn))).unanswered
           → IsTaken older before s.envelope
-              → IsTaken (older ++ by b (posted_as turn.append (length (mail older)) turn)) (slice_set before b false)
-                s.envelope
+          → IsTaken (older ++ by b (posted_as turn.append (length (mail older)) turn)) (slice_set before b false)
+          s.envelope
       change r s member t = on (b == s.envelope.to) refl
         where
           on : (same : Bool) → (b == s.envelope.to) ≡ same
               → IsTaken (older ++ by b (posted_as turn.append (length (mail older)) turn)) (slice_set before b false)
-                s.envelope
+              s.envelope
           on false other =
               taken_stays decl script fits few a a_low are_replied older
-                  (by b (posted_as turn.append (length (mail older)) turn)) before
-                  (slice_set before b false) s.envelope
-                  (deeds-other b s.envelope.to [] older (posted_as turn.append (length (mail older)) turn) other)
+              (by b (posted_as turn.append (length (mail older)) turn)) before
+              (slice_set before b false) s.envelope
+              (deeds-other b s.envelope.to [] older (posted_as turn.append (length (mail older)) turn) other)
               (slice_get-set_other before b s.envelope.to false
-                  (λ is.
-                    (let yes : (b == s.envelope.to) ≡ true = eq-eqb b s.envelope.to is in let never : ⊥ = cc in never)))
-                  t
+              (λ is.
+              (let yes : (b == s.envelope.to) ≡ true = eq-eqb b s.envelope.to is in let never : ⊥ = cc in never)))
+              t
           on true mine =
               let is : b ≡ s.envelope.to = eqb-true b s.envelope.to mine in
               absurd (post_over older before b (length (mail older)) turn run open_b law t.before s.envelope
               (are_replied.replied (older ++ by b (posted_as turn.append (length (mail older)) turn))
-                  (slice_set before b false) whole s.envelope s.sent s.from s.request)
+              (slice_set before b false) whole s.envelope s.sent s.from s.request)
               (sym is) s.from
-                  (subst (λ (k : ℕ). deeds k [] older ≡ t.before ++ Takes (inputs.Got s.envelope) ∷ []) (sym is) t.last)
-                  r (sym s.number) (sym s.to ∙ sym is) member)
+              (subst (λ (k : ℕ). deeds k [] older ≡ t.before ++ Takes (inputs.Got s.envelope) ∷ []) (sym is) t.last)
+              r (sym s.number) (sym s.to ∙ sym is) member)
 
   -- events where no input is open
   closed_kept : (older k : List Entry) (before : List Bool) → ((b : ℕ) → slice_get before b ≡ Some true → ⊥)
       → MayAllFollow a k → IsKept older before → IsKept (older ++ k) before
   closed_kept older k before none may are =
       moved_to decl script fits few a a_low are_replied (IsTaken older before) (IsTaken (older ++ k) before)
-          (older ++ k)
-          (λ r s member t. absurd (none s.envelope.to t.is_open))
-          (all_follow script (IsTaken older before) a a_low older k may are)
+      (older ++ k)
+      (λ r s member t. absurd (none s.envelope.to t.is_open))
+      (all_follow script (IsTaken older before) a a_low older k may are)
 
   line_kept : (older k : List Entry) (before : List Bool) → IsRun older before → (line : Control) (lines : List Control)
       → controls_left script older ≡ line ∷ lines → MayAllFollow a k → IsKept older before → IsKept (older ++ k) before
@@ -193,11 +190,12 @@ module _ (decl : Declaration) (script : Script) (fits : ℕ → List Record → 
       (run_kept older before run)
   run_kept h open_inputs (rises b kept turn lines before older run left fit has law) =
       line_kept older (by b (steps.Rose kept ∷ posted_as turn.append (length (mail older)) turn)) before run
-          (controls.Restart b) lines left
-      (tt,
-          post_follows a b (length (mail older)) turn.append turn
+      (controls.Restart b) lines left (
+        tt,
+        post_follows a b (length (mail older)) turn.append turn
             (are_replied.rises older before before run b kept turn
-              (rises b kept turn lines before older run left fit has law) law)) (run_kept older before run)
+            (rises b kept turn lines before older run left fit has law) law),
+      ) (run_kept older before run)
   run_kept h open_inputs (damaged b offset lines before older run left) =
       line_kept older (marked b (steps.Damaged offset) ∷ []) before run (controls.Restart b) lines left (tt, tt)
       (run_kept older before run)
@@ -214,12 +212,12 @@ module _ (decl : Declaration) (script : Script) (fits : ℕ → List Record → 
           → IsAtReceiver script h open_inputs a n
       at found =
           let s : IsSomewhere script (IsTaken h open_inputs) h a found.0 =
-                  run_kept h open_inputs run found.0 found.1.0 in
+          run_kept h open_inputs run found.0 found.1.0 in
           record {
-                envelope = s.envelope;
-                number = s.number ∙ found.1.1;
-                from = s.from;
-                request = s.request;
-                sent = s.sent;
-                place = s.place
-              }
+            envelope = s.envelope;
+            number = s.number ∙ found.1.1;
+            from = s.from;
+            request = s.request;
+            sent = s.sent;
+            place = s.place;
+          }

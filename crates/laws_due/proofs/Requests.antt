@@ -1,7 +1,6 @@
 -- The requests of an account: the first thing that is taken for one, in the client's calls and round as in the account.
-use Rattle.std.proofs.Common.{◌≡◌, ◌≢◌, ℕ, ◌+◌, ◌==◌, ◌&&◌, Bool, true, false, cond, List, ◌∷◌, ◌++◌}
-use Rattle.std.proofs.Common.{map, filter, Option, Some, None, refl, sym, ap, ◌∙◌, subst, eq-eqb, eqb-true}
-use Rattle.std.proofs.Common.{inl, inr}
+use Rattle.std.proofs.Common.{◌≡◌, ◌≢◌, ℕ, ◌+◌, ◌==◌, ◌&&◌, Bool, true, false, cond, List, ◌∷◌, ◌++◌, map, filter}
+use Rattle.std.proofs.Common.{Option, Some, None, refl, sym, ap, ◌∙◌, subst, eq-eqb, eqb-true, inl, inr}
 use Rattle.std.specs.Prelude.{is_none}
 use Rattle.std.specs.List.{find, AllByRecursion as Every}
 use Rattle.std.proofs.lemmas.List.{map-append}
@@ -25,16 +24,16 @@ find_half half number (q ∷ qs) all = by (half q.want) refl (is_none q.taken) r
     by : (h : Bool) → half q.want ≡ h → (n : Bool) → is_none q.taken ≡ n
         → find (is_open number) (of_half half qs) ≡ find (is_open number) qs
         → find (is_open number) (cond (half q.want) (q ∷ of_half half qs) (of_half half qs))
-            ≡ cond ((q.number == number) && is_none q.taken) (Some q) (find (is_open number) qs)
+        ≡ cond ((q.number == number) && is_none q.taken) (Some q) (find (is_open number) qs)
     by true is n is_n e =
         rw is (ap (λ (o : Option ClientRequest). cond ((q.number == number) && is_none q.taken) (Some q) o) e)
     by false is true is_n e = absurd (let no : half q.want ≡ true = all.0 is_n in let never : ⊥ = cc in never)
     by false is false is_n e =
         rw is
         (e
-          ∙ sym
-            (ap (λ (b : Bool). cond ((q.number == number) && b) (Some q) (find (is_open number) qs)) is_n
-              ∙ ap (λ (b : Bool). cond b (Some q) (find (is_open number) qs)) (and_false (q.number == number))))
+        ∙ sym
+        (ap (λ (b : Bool). cond ((q.number == number) && b) (Some q) (find (is_open number) qs)) is_n
+        ∙ ap (λ (b : Bool). cond b (Some q) (find (is_open number) qs)) (and_false (q.number == number))))
 
 pub calls_half : (half : Want → Bool) (qs : List ClientRequest) → Every (IsOpenIn half) qs
     → calls_in (filter (λ (q : ClientRequest). half q.want) qs) ≡ calls_in qs
@@ -77,10 +76,10 @@ open_rest q qs apart = by (is_none q.taken) apart
   where
     by : (n : Bool)
         → AreApart
-          (map (λ (c : Call). c.number)
-            (map call_of
-              (cond n (q ∷ filter (λ (x : ClientRequest). is_none x.taken) qs)
-                (filter (λ (x : ClientRequest). is_none x.taken) qs)))) → AreApart (numbers_open qs)
+        (map (λ (c : Call). c.number)
+        (map call_of
+        (cond n (q ∷ filter (λ (x : ClientRequest). is_none x.taken) qs)
+        (filter (λ (x : ClientRequest). is_none x.taken) qs)))) → AreApart (numbers_open qs)
     by true a = a.1
     by false a = a
 
@@ -93,7 +92,7 @@ pub set_taken : {A : Type 0} (key : A → ℕ) (make : ClientRequest → A) → 
     → (number : ℕ) (answer : Option Answer) (q : ClientRequest) (qs : List ClientRequest)
     → AreApart (sites_in qs) → AreApart (numbers_open qs) → find (is_open number) qs ≡ Some q
     → first_set key q.site (make (record q { taken = Some answer })) (map make qs)
-        ≡ map make (taken_for number answer qs)
+    ≡ map make (taken_for number answer qs)
 set_taken key make keys number answer q [] sites numbers e = absurd (let never : ⊥ = cc in never)
 set_taken {A} key make keys number answer q (p ∷ qs) sites numbers e =
     by (is_open number p) refl e (set_taken key make keys number answer q qs)
@@ -102,12 +101,12 @@ set_taken {A} key make keys number answer q (p ∷ qs) sites numbers e =
         → first_set key q.site (make (took q answer)) (map make (p ∷ qs)) ≡ map make (taken_for number answer (p ∷ qs))
     here same is =
         let parts : ((p.number == number) ≡ true) × (is_none p.taken ≡ true) =
-                open_parts (p.number == number) (is_none p.taken) is in
+        open_parts (p.number == number) (is_none p.taken) is in
         let number_is : p.number ≡ number = eqb-true p.number number parts.0 in
         let first : key (make p) ≡ q.site = keys p ∙ ap (λ (x : ClientRequest). x.site) same in
         let others : taken_for number answer qs ≡ qs = none_taken number answer qs (λ y y_in. subst (λ (k : ℕ). k ≢ y) number_is (apart_first parts.1 y y_in)) in
         ap (λ (b : Bool). cond b (make (took q answer) ∷ map make qs)
-            (make p ∷ first_set key q.site (make (took q answer)) (map make qs))) (eq-eqb (key (make p)) q.site first)
+        (make p ∷ first_set key q.site (make (took q answer)) (map make qs))) (eq-eqb (key (make p)) q.site first)
         ∙ (λ i. make (took (sym same i) answer) ∷ map make (sym others i))
         ∙ sym (ap (λ (b : Bool). map make (cond b (took p answer) p ∷ taken_for number answer qs)) is)
       where
@@ -116,25 +115,25 @@ set_taken {A} key make keys number answer q (p ∷ qs) sites numbers e =
           where
             at : (n : Bool) → n ≡ true
                 → AreApart
-                  (map (λ (c : Call). c.number)
-                    (map call_of
-                      (cond n (p ∷ filter (λ (x : ClientRequest). is_none x.taken) qs)
-                        (filter (λ (x : ClientRequest). is_none x.taken) qs)))) → (y : ℕ) → In y (numbers_open qs)
+                (map (λ (c : Call). c.number)
+                (map call_of
+                (cond n (p ∷ filter (λ (x : ClientRequest). is_none x.taken) qs)
+                (filter (λ (x : ClientRequest). is_none x.taken) qs)))) → (y : ℕ) → In y (numbers_open qs)
                 → p.number ≢ y
             at true seen a = a.0
             at false seen a = absurd (let never : ⊥ = cc in never)
 
     by : (o : Bool) → is_open number p ≡ o → cond o (Some p) (find (is_open number) qs) ≡ Some q
         → (AreApart (sites_in qs) → AreApart (numbers_open qs) → find (is_open number) qs ≡ Some q
-            → first_set key q.site (make (took q answer)) (map make qs) ≡ map make (taken_for number answer qs))
+        → first_set key q.site (make (took q answer)) (map make qs) ≡ map make (taken_for number answer qs))
         → first_set key q.site (make (took q answer)) (map make (p ∷ qs)) ≡ map make (taken_for number answer (p ∷ qs))
     by true is e more = here (let same : p ≡ q = cc in same) is
     by false is e more =
         let f : IsFound number qs q = found number qs q e in
         let other : (key (make p) == q.site) ≡ false =
-                differ (key (make p)) q.site (λ same. sites.0 q.site (site_in q qs f.among) (sym (keys p) ∙ same)) in
+        differ (key (make p)) q.site (λ same. sites.0 q.site (site_in q qs f.among) (sym (keys p) ∙ same)) in
         ap (λ (b : Bool). cond b (make (took q answer) ∷ map make qs)
-            (make p ∷ first_set key q.site (make (took q answer)) (map make qs))) other
+        (make p ∷ first_set key q.site (make (took q answer)) (map make qs))) other
         ∙ ap (λ (v : List A). make p ∷ v) (more sites.1 (open_rest p qs numbers) e)
         ∙ sym (ap (λ (b : Bool). map make (cond b (took p answer) p ∷ taken_for number answer qs)) is)
       where
@@ -159,7 +158,7 @@ pub calls_more : (qs rs : List ClientRequest) → calls_in (qs ++ rs) ≡ calls_
 calls_more qs rs =
     ap (λ (v : List ClientRequest). map call_of v) (filter-append (λ (q : ClientRequest). is_none q.taken) qs rs)
     ∙ map-append call_of (filter (λ (q : ClientRequest). is_none q.taken) qs)
-        (filter (λ (q : ClientRequest). is_none q.taken) rs)
+    (filter (λ (q : ClientRequest). is_none q.taken) rs)
 
 pub calls_new : (number : ℕ) (t : Current) (want : Want) (ss : List ℕ)
     → calls_in (requests_from number t want ss) ≡ calls_from number ss

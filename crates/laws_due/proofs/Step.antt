@@ -1,6 +1,5 @@
 -- One input of a client: its turn is due, and the tie holds after it.
-use Rattle.std.proofs.Common.{◌≡◌, ℕ, List, map}
-use Rattle.std.proofs.Common.{filter, Option, Some, None, refl, sym, ap, ◌∙◌, subst}
+use Rattle.std.proofs.Common.{◌≡◌, ℕ, List, map, filter, Option, Some, None, refl, sym, ap, ◌∙◌, subst}
 use Rattle.std.specs.List.{find}
 use Rattle.qc_decl.specs.declared.declaration.Declaration.{Declaration}
 use Rattle.qc_decl.specs.Names.{append_need_of, first_site, read_need_of}
@@ -26,8 +25,8 @@ use Rattle.qc_msg.specs.declared.step.Command.TheVariants as commands
 use Rattle.qc_msg.specs.declared.step.Input.{Input}
 use Rattle.qc_msg.specs.declared.step.Input.TheVariants as inputs
 use Rattle.qc_msg.specs.Names.{has_granted, quiet}
-use Rattle.qc_promise.specs.Names.{Account, ClientRequest, Current, IsFreeFor, account_taken, counted}
-use Rattle.qc_promise.specs.Names.{counted_for, is_append, is_open, is_read, round_of}
+use Rattle.qc_promise.specs.Names.{Account, ClientRequest, Current, IsFreeFor, account_taken, counted, counted_for}
+use Rattle.qc_promise.specs.Names.{is_append, is_open, is_read, round_of}
 use Rattle.laws_due.specs.Names.{Appends, AreApart, AreBegun, Goes, Holds, Reads, Rests, Ties, Votes, appends}
 use Rattle.laws_due.specs.Names.{ballot_of, calls_in, front_of, reads, rests, transaction_of, votes}
 use Rattle.laws_due.proofs.VotesCome.{commit_at, voting_desk, voting_front}
@@ -55,28 +54,28 @@ module _ (decl : Declaration) (number : ℕ) (d : Account) (c : Client) (h : Hol
       → Goes decl number (counted d n answer) (answered decl c n answer)
   rests_answer n answer r =
       subst (λ (qs : List ClientRequest). Goes decl number (counted_for d n answer (find (is_open n) qs))
-          (answered decl c n answer)) (sym r.requests)
+      (answered decl c n answer)) (sym r.requests)
       (subst (λ (o : Option Voting). Goes decl number d (answered_by decl c o n answer)) (sym r.desk.voting)
       (subst (λ (m : FrontMove). Goes decl number d (by_front c m))
-          (sym (idle_takes c.front c.front.doing c.front.transaction n answer (ap (λ (f : Front). f.doing) r.front)))
+      (sym (idle_takes c.front c.front.doing c.front.transaction n answer (ap (λ (f : Front). f.doing) r.front)))
       (still_goes decl number d c (tied_none decl d c h (rests r)) (rests r))))
 
   reads_answer : (n : ℕ) (answer : Option Answer) → Reads decl d c
       → Goes decl number (counted d n answer) (answered decl c n answer)
   reads_answer n answer r =
       subst (λ (o : Option Voting). Goes decl number (counted d n answer) (answered_by decl c o n answer))
-          (sym r.desk.voting)
+      (sym r.desk.voting)
       (subst (λ (f : Front). Goes decl number (counted d n answer)
-          (by_front (record { front = f; desk = c.desk }) (fronts.takes decl f n answer))) (sym front_is)
+      (by_front (record { front = f; desk = c.desk }) (fronts.takes decl f n answer))) (sym front_is)
       (subst (λ (e : Account). Goes decl number (counted e n answer)
-          (by_front (record { front = shown; desk = c.desk }) (fronts.takes decl shown n answer))) account_is
+      (by_front (record { front = shown; desk = c.desk }) (fronts.takes decl shown n answer))) account_is
       (reading_goes decl number d c.desk r.t r.x.begun.asked r.x.views r.object r.inv
       (record { live = r.runs.live; room = r.runs.room; records = held.0; logs = r.begun.logs; desk_is = r.desk })
       d.requests r.reads
       (subst AreApart (asked_sites (filter (λ (q : ClientRequest). is_read q.want) d.requests))
-          (round_apart decl d.client r.t.epoch (read_need_of decl r.t.epoch r.object r.inv) round held.1.round_is))
+      (round_apart decl d.client r.t.epoch (read_need_of decl r.t.epoch r.object r.inv) round held.1.round_is))
       (ascends_apart (map (λ (k : Call). k.number) (calls_in d.requests)) held.1.calls_are.numbers)
-          held.1.awaits.open_still n answer)))
+      held.1.awaits.open_still n answer)))
     where
       round : RoundState
       round = round_of decl d r.t is_read (read_need_of decl r.t.epoch r.object r.inv)
@@ -85,22 +84,22 @@ module _ (decl : Declaration) (number : ℕ) (d : Account) (c : Client) (h : Hol
       shown =
           front_of d (Some (transaction_of r.t r.x.begun.asked r.x.views))
           (Reading r.object r.inv (calls_in d.requests)
-            (round_of decl d r.t is_read (read_need_of decl r.t.epoch r.object r.inv)))
+          (round_of decl d r.t is_read (read_need_of decl r.t.epoch r.object r.inv)))
 
       front_is : c.front
           ≡ front_of d (Some (transaction_of r.t r.x.begun.asked r.x.views))
-            (Reading r.object r.inv (calls_in d.requests)
-              (round_of decl d r.t is_read (read_need_of decl r.t.epoch r.object r.inv)))
+          (Reading r.object r.inv (calls_in d.requests)
+          (round_of decl d r.t is_read (read_need_of decl r.t.epoch r.object r.inv)))
       front_is =
           r.front
           ∙ ap
-            (λ (x : Transaction). front_of d (Some x)
-              (Reading r.object r.inv (calls_in d.requests)
-                (round_of decl d r.t is_read (read_need_of decl r.t.epoch r.object r.inv)))) r.begun.is
+          (λ (x : Transaction). front_of d (Some x)
+          (Reading r.object r.inv (calls_in d.requests)
+          (round_of decl d r.t is_read (read_need_of decl r.t.epoch r.object r.inv)))) r.begun.is
 
       held : RecordsHold decl r.x.views r.t.own r.t.ops
           × ReadingHolds decl d.client (transaction_of r.t r.x.begun.asked r.x.views) r.object r.inv
-              (calls_in d.requests) (round_of decl d r.t is_read (read_need_of decl r.t.epoch r.object r.inv))
+          (calls_in d.requests) (round_of decl d r.t is_read (read_need_of decl r.t.epoch r.object r.inv))
       held = subst (FrontHolds decl) front_is h.front
 
       account_is : run d r.t r.object r.inv d.requests ≡ d
@@ -112,19 +111,19 @@ module _ (decl : Declaration) (number : ℕ) (d : Account) (c : Client) (h : Hol
       → Goes decl number (counted d n answer) (answered decl c n answer)
   appends_answer n answer r =
       subst (λ (o : Option Voting). Goes decl number (counted d n answer) (answered_by decl c o n answer))
-          (sym r.desk.voting)
+      (sym r.desk.voting)
       (subst (λ (f : Front). Goes decl number (counted d n answer)
-          (by_front (record { front = f; desk = c.desk }) (fronts.takes decl f n answer))) (sym front_is)
+      (by_front (record { front = f; desk = c.desk }) (fronts.takes decl f n answer))) (sym front_is)
       (subst (λ (e : Account). Goes decl number (counted e n answer)
-          (by_front (record { front = shown; desk = c.desk }) (fronts.takes decl shown n answer))) account_is
+      (by_front (record { front = shown; desk = c.desk }) (fronts.takes decl shown n answer))) account_is
       (appending_goes decl number d c.desk r.t r.x.begun.asked r.x.views r.object r.inv r.event
       (record { live = r.runs.live; room = r.runs.room; records = held.0; logs = r.begun.logs; desk_is = r.desk })
-          r.chosen
+      r.chosen
       d.requests r.met r.appends
       (subst AreApart (asked_sites (filter (λ (q : ClientRequest). is_append q.want) d.requests))
-          (round_apart decl d.client r.t.epoch (append_need_of decl r.t.epoch r.object r.event) round held.1.round_is))
+      (round_apart decl d.client r.t.epoch (append_need_of decl r.t.epoch r.object r.event) round held.1.round_is))
       (ascends_apart (map (λ (k : Call). k.number) (calls_in d.requests)) held.1.calls_are.numbers)
-          held.1.awaits.open_still n answer)))
+      held.1.awaits.open_still n answer)))
     where
       round : RoundState
       round = round_of decl d r.t is_append (append_need_of decl r.t.epoch r.object r.event)
@@ -133,22 +132,22 @@ module _ (decl : Declaration) (number : ℕ) (d : Account) (c : Client) (h : Hol
       shown =
           front_of d (Some (transaction_of r.t r.x.begun.asked r.x.views))
           (Appending r.object r.inv r.event (calls_in d.requests)
-            (round_of decl d r.t is_append (append_need_of decl r.t.epoch r.object r.event)))
+          (round_of decl d r.t is_append (append_need_of decl r.t.epoch r.object r.event)))
 
       front_is : c.front
           ≡ front_of d (Some (transaction_of r.t r.x.begun.asked r.x.views))
-            (Appending r.object r.inv r.event (calls_in d.requests)
-              (round_of decl d r.t is_append (append_need_of decl r.t.epoch r.object r.event)))
+          (Appending r.object r.inv r.event (calls_in d.requests)
+          (round_of decl d r.t is_append (append_need_of decl r.t.epoch r.object r.event)))
       front_is =
           r.front
           ∙ ap
-            (λ (x : Transaction). front_of d (Some x)
-              (Appending r.object r.inv r.event (calls_in d.requests)
-                (round_of decl d r.t is_append (append_need_of decl r.t.epoch r.object r.event)))) r.begun.is
+          (λ (x : Transaction). front_of d (Some x)
+          (Appending r.object r.inv r.event (calls_in d.requests)
+          (round_of decl d r.t is_append (append_need_of decl r.t.epoch r.object r.event)))) r.begun.is
 
       held : RecordsHold decl r.x.views r.t.own r.t.ops
           × AppendingHolds decl d.client (transaction_of r.t r.x.begun.asked r.x.views) r.object r.inv r.event
-              (calls_in d.requests) (round_of decl d r.t is_append (append_need_of decl r.t.epoch r.object r.event))
+          (calls_in d.requests) (round_of decl d r.t is_append (append_need_of decl r.t.epoch r.object r.event))
       held = subst (FrontHolds decl) front_is h.front
 
       account_is : run d r.t r.object r.inv d.requests ≡ d
@@ -162,11 +161,11 @@ module _ (decl : Declaration) (number : ℕ) (d : Account) (c : Client) (h : Hol
       subst (λ (e : Client). Goes decl number (counted d n answer) (answered decl e n answer)) (sym client_is)
       (subst (λ (e : Account). Goes decl number (counted e n answer) (answered decl shown n answer)) account_is
       (voting_goes decl number d r.t r.x.begun.asked r.x.views c.front.clock.value c.front.epoch c.desk.epoch
-          c.desk.commits r.live r.begun.logs r.low r.known
+      c.desk.commits r.live r.begun.logs r.low r.known
       d.requests r.prepares r.sites
       (subst AreApart (sym r.sites)
-          (apart_filter (has_granted r.t.lives) (cyclic decl.sites (first_site decl d.client))
-            (apart_cyclic decl.sites (first_site decl d.client))))
+      (apart_filter (has_granted r.t.lives) (cyclic decl.sites (first_site decl d.client))
+      (apart_cyclic decl.sites (first_site decl d.client))))
       r.numbers r.waits n answer))
     where
       shown_at : Transaction → Client
@@ -175,7 +174,7 @@ module _ (decl : Declaration) (number : ℕ) (d : Account) (c : Client) (h : Hol
         desk =
             voting_desk d c.desk.epoch c.desk.commits
             (Some
-              (record { begun = x.begun; calls = calls_in d.requests; ballots = map (ballot_of x.begun) d.requests }));
+            (record { begun = x.begun; calls = calls_in d.requests; ballots = map (ballot_of x.begun) d.requests }));
       }
 
       shown : Client
@@ -184,10 +183,10 @@ module _ (decl : Declaration) (number : ℕ) (d : Account) (c : Client) (h : Hol
         desk =
             voting_desk d c.desk.epoch c.desk.commits
             (Some (record {
-                begun = (transaction_of r.t r.x.begun.asked r.x.views).begun;
-                calls = calls_in d.requests;
-                ballots = map (ballot_of (transaction_of r.t r.x.begun.asked r.x.views).begun) d.requests
-              }));
+              begun = (transaction_of r.t r.x.begun.asked r.x.views).begun;
+              calls = calls_in d.requests;
+              ballots = map (ballot_of (transaction_of r.t r.x.begun.asked r.x.views).begun) d.requests;
+            }));
       }
 
       client_is : c ≡ record {
@@ -195,10 +194,10 @@ module _ (decl : Declaration) (number : ℕ) (d : Account) (c : Client) (h : Hol
         desk =
             voting_desk d c.desk.epoch c.desk.commits
             (Some (record {
-                begun = (transaction_of r.t r.x.begun.asked r.x.views).begun;
-                calls = calls_in d.requests;
-                ballots = map (ballot_of (transaction_of r.t r.x.begun.asked r.x.views).begun) d.requests
-              }));
+              begun = (transaction_of r.t r.x.begun.asked r.x.views).begun;
+              calls = calls_in d.requests;
+              ballots = map (ballot_of (transaction_of r.t r.x.begun.asked r.x.views).begun) d.requests;
+            }));
       }
       client_is =
           (λ i. record { front = r.front i; desk = r.desk i })
@@ -207,10 +206,10 @@ module _ (decl : Declaration) (number : ℕ) (d : Account) (c : Client) (h : Hol
             desk =
                 voting_desk d c.desk.epoch c.desk.commits
                 (Some (record {
-                    begun = x.begun;
-                    calls = calls_in d.requests;
-                    ballots = map (ballot_of x.begun) d.requests
-                  }));
+                  begun = x.begun;
+                  calls = calls_in d.requests;
+                  ballots = map (ballot_of x.begun) d.requests;
+                }));
           }) r.begun.is
 
       account_is : commit_at d r.t d.requests ≡ d
@@ -229,7 +228,7 @@ module _ (decl : Declaration) (number : ℕ) (d : Account) (c : Client) (h : Hol
       → Goes decl number (record d { command = Some command; requests = []; written = None }) (called decl c command)
   rests_command command r =
       subst (λ (e : Client). Goes decl number (called_at d d.current command) (called decl e command))
-          (λ i. record { front = sym r.front i; desk = c.desk })
+      (λ i. record { front = sym r.front i; desk = c.desk })
       (by d.current refl c.front.transaction r.begun held)
     where
       held : FrontHolds decl (front_of d c.front.transaction Idle)
@@ -243,9 +242,9 @@ module _ (decl : Declaration) (number : ℕ) (d : Account) (c : Client) (h : Hol
       by (Some t) is None b f = absurd b
       by (Some t) is (Some x) b f =
           subst (λ (y : Transaction). Goes decl number (called_at d (Some t) command)
-              (called decl (client_at d c.desk (Some y) Idle) command)) (sym b.is)
+          (called decl (client_at d c.desk (Some y) Idle) command)) (sym b.is)
           (within_go decl number d c.desk r.desk t x.begun.asked x.views
-              (subst (λ (y : Transaction). RecordsHold decl y.views y.own y.begun.ops) b.is f.0) b.logs command)
+          (subst (λ (y : Transaction). RecordsHold decl y.views y.own y.begun.ops) b.is f.0) b.logs command)
 
   commands_go : (command : Command) → d.command ≡ None → Ties decl d c
       → Goes decl number (record d { command = Some command; requests = []; written = None }) (called decl c command)
@@ -259,7 +258,7 @@ module _ (decl : Declaration) (number : ℕ) (d : Account) (c : Client) (h : Hol
 
   heard_go : (from n : ℕ) (m : Message) → Ties decl d c
       → Goes decl number (account_taken d (inputs.Got (record { number = n; from = from; to = 0; message = m })))
-        (heard decl c from n m)
+      (heard decl c from n m)
   heard_go from n (messages.Request tx epoch life want) ties =
       still_goes decl number d c (tied_none decl d c h ties) ties
   heard_go from n (messages.Answer to answer) ties = answers_go to (Some answer) ties

@@ -1,6 +1,6 @@
 -- What the taker has ready is what it takes, or is ready still; whoever gets an actor's request is another.
-use Rattle.std.proofs.Common.{◌≡◌, ℕ, ◌+◌, ◌<◌, ◌≤◌, ◌==◌, ◌⊎◌, Bool, true, false, if◌then◌else◌, inl, inr, List}
-use Rattle.std.proofs.Common.{◌∷◌, ◌++◌, drop, length, Some, slice_get, refl, sym, ap, ◌∙◌, subst}
+use Rattle.std.proofs.Common.{◌≡◌, ℕ, ◌+◌, ◌<◌, ◌≤◌, ◌==◌, ◌⊎◌, Bool, true, false, if◌then◌else◌, inl, inr, List, ◌∷◌}
+use Rattle.std.proofs.Common.{◌++◌, drop, length, Some, slice_get, refl, sym, ap, ◌∙◌, subst}
 use Rattle.std.specs.Prelude.{slice_set}
 use Rattle.std.proofs.lemmas.Bool.{eq-eqb, eqb-true}
 use Rattle.qc_list.specs.Names.{In}
@@ -21,14 +21,12 @@ use Rattle.qc_msg.specs.declared.step.Input.TheVariants as inputs
 use Rattle.qc_msg.specs.declared.step.Step.TheVariants as steps
 use Rattle.qc_msg.specs.declared.turn.Posting.{Posting}
 use Rattle.qc_msg.specs.declared.turn.Turn.{Turn}
-use Rattle.qc_msg.specs.Names.{Deed, Entry, Takes, by, deeds, mail, marked, posted_as, sends_as}
-use Rattle.qc_msg.specs.Names.{step_of}
+use Rattle.qc_msg.specs.Names.{Deed, Entry, Takes, by, deeds, mail, marked, posted_as, sends_as, step_of}
 use Rattle.qc_msg.proofs.GrownMail.{mail-taken}
 use Rattle.qc_msg.proofs.DeedsGrow.{deeds-other}
 use Rattle.qc_script.specs.declared.script.Script.{Script}
-use Rattle.qc_script.specs.Names.{Inbox, RunsWithFalls, SentRequest, command_called}
-use Rattle.qc_script.specs.Names.{copy_taken, inbox, inbox_at, is_request}
-use Rattle.qc_script.specs.Names.{loss_taken, posts, ready, ready_in, request_numbers, rises}
+use Rattle.qc_script.specs.Names.{Inbox, RunsWithFalls, SentRequest, command_called, copy_taken, inbox, inbox_at}
+use Rattle.qc_script.specs.Names.{is_request, loss_taken, posts, ready, ready_in, request_numbers, rises}
 use Rattle.laws_due.proofs.Answering.{IsSpared, copies_left}
 use Rattle.laws_due.proofs.Places.{apart}
 use Rattle.laws_due.proofs.PlainSteps.{inbox_then}
@@ -102,15 +100,15 @@ pub record AreReplied (decl : Declaration) (script : Script) (fits : ℕ → Lis
   pub posts : (older : List Entry) (before after : List Bool)
       → RunsWithFalls (IsLawfulWithFalls decl) fits decl script older before → (b : ℕ) (turn : Turn)
       → RunsWithFalls (IsLawfulWithFalls decl) fits decl script
-          (older ++ by b (posted_as turn.append (length (mail older)) turn)) after
+      (older ++ by b (posted_as turn.append (length (mail older)) turn)) after
       → IsLawfulWithFalls decl b (deeds b [] older) turn → b ≡ a → AreToOthers a (sends_as turn.append turn)
   pub rises : (older : List Entry) (before after : List Bool)
       → RunsWithFalls (IsLawfulWithFalls decl) fits decl script older before
       → (b : ℕ) (kept : List Record) (turn : Turn)
       → RunsWithFalls (IsLawfulWithFalls decl) fits decl script
-          (older ++ by b (steps.Rose kept ∷ posted_as turn.append (length (mail older)) turn)) after
+      (older ++ by b (steps.Rose kept ∷ posted_as turn.append (length (mail older)) turn)) after
       → IsLawfulWithFalls decl b (deeds b [] (older ++ marked b (steps.Rose kept) ∷ [])) turn → b ≡ a
-          → AreToOthers a (sends_as turn.append turn)
+      → AreToOthers a (sends_as turn.append turn)
 
 module _ (decl : Declaration) (script : Script) (fits : ℕ → List Record → Type 0) (few : actors decl ≤ most_actors)
     (a : ℕ) (a_low : a < most_actors) (are_replied : AreReplied decl script fits a) where
@@ -123,7 +121,7 @@ module _ (decl : Declaration) (script : Script) (fits : ℕ → List Record → 
   -- where else it may be, as that becomes another
   pub moved_to : (X Y : Envelope → Type 0) (h : List Entry)
       → ((r : SentRequest) (s : IsSomewhere script X h a r) → In r (inbox script a h).unanswered → X s.envelope
-        → Y s.envelope) → AreSomewhere script X h a → AreSomewhere script Y h a
+      → Y s.envelope) → AreSomewhere script X h a → AreSomewhere script Y h a
   moved_to X Y h change are r member = at (are r member)
     where
       at : IsSomewhere script X h a r → IsSomewhere script Y h a r
@@ -135,7 +133,7 @@ module _ (decl : Declaration) (script : Script) (fits : ℕ → List Record → 
             from = s.from;
             request = s.request;
             sent = s.sent;
-            place = on s.place
+            place = on s.place;
           }
         where
           on : In s.envelope (inbox script s.envelope.to h).copies ⊎ X s.envelope
@@ -153,16 +151,16 @@ module _ (decl : Declaration) (script : Script) (fits : ℕ → List Record → 
   pub take_kept : (b : ℕ) (g : Input) (before : List Bool) (older : List Entry) → slice_get before b ≡ Some false
       → ready decl script b older ≡ Some g
       → deeds b [] (older ++ marked b (step_of g) ∷ []) ≡ deeds b [] older ++ Takes g ∷ [] → IsKept older before
-          → IsKept (older ++ marked b (step_of g) ∷ []) (slice_set before b true)
+      → IsKept (older ++ marked b (step_of g) ∷ []) (slice_set before b true)
   take_kept b g before older free rdy grown are r member =
       on (are r
-          (subst (In r)
-            (ap (λ (i : Inbox). i.unanswered) (inbox_then script a older (marked b (step_of g)))
-              ∙ same_unanswered script a (inbox script a older) b g) member))
+      (subst (In r)
+      (ap (λ (i : Inbox). i.unanswered) (inbox_then script a older (marked b (step_of g)))
+      ∙ same_unanswered script a (inbox script a older) b g) member))
     where
       on : IsSomewhere script (IsTaken older before) older a r
           → IsSomewhere script (IsTaken (older ++ marked b (step_of g) ∷ []) (slice_set before b true))
-            (older ++ marked b (step_of g) ∷ []) a r
+          (older ++ marked b (step_of g) ∷ []) a r
       on s = record {
         envelope = s.envelope;
         number = s.number;
@@ -181,7 +179,7 @@ module _ (decl : Declaration) (script : Script) (fits : ℕ → List Record → 
 
           here : b ≡ s.envelope.to → In s.envelope (inbox script s.envelope.to older).copies
               → In s.envelope (inbox script s.envelope.to (older ++ marked b (step_of g) ∷ [])).copies
-                  ⊎ IsTaken (older ++ marked b (step_of g) ∷ []) (slice_set before b true) s.envelope
+              ⊎ IsTaken (older ++ marked b (step_of g) ∷ []) (slice_set before b true) s.envelope
           here is there =
               by (own_copies script decl b (inbox script b older) g s.envelope rdy
               (subst (λ (k : ℕ). In s.envelope (inbox script k older).copies) (sym is) there))
@@ -189,7 +187,7 @@ module _ (decl : Declaration) (script : Script) (fits : ℕ → List Record → 
               by : (g ≡ inputs.Got s.envelope)
                   ⊎ In s.envelope (inbox_at script b (inbox script b older) b (step_of g)).copies
                   → In s.envelope (inbox script s.envelope.to (older ++ marked b (step_of g) ∷ [])).copies
-                      ⊎ IsTaken (older ++ marked b (step_of g) ∷ []) (slice_set before b true) s.envelope
+                  ⊎ IsTaken (older ++ marked b (step_of g) ∷ []) (slice_set before b true) s.envelope
               by (inl it) = inr (record {
                 is_open =
                     subst (λ (k : ℕ). slice_get (slice_set before b true) k ≡ Some true) is
@@ -206,22 +204,22 @@ module _ (decl : Declaration) (script : Script) (fits : ℕ → List Record → 
 
           spot : In s.envelope (inbox script s.envelope.to older).copies ⊎ IsTaken older before s.envelope
               → In s.envelope (inbox script s.envelope.to (older ++ marked b (step_of g) ∷ [])).copies
-                  ⊎ IsTaken (older ++ marked b (step_of g) ∷ []) (slice_set before b true) s.envelope
+              ⊎ IsTaken (older ++ marked b (step_of g) ∷ []) (slice_set before b true) s.envelope
           spot (inl there) = at (s.envelope.to == b) refl
             where
               at : (t : Bool) → (s.envelope.to == b) ≡ t
                   → In s.envelope (inbox script s.envelope.to (older ++ marked b (step_of g) ∷ [])).copies
-                      ⊎ IsTaken (older ++ marked b (step_of g) ∷ []) (slice_set before b true) s.envelope
+                  ⊎ IsTaken (older ++ marked b (step_of g) ∷ []) (slice_set before b true) s.envelope
               at true mine = here (sym (eqb-true s.envelope.to b mine)) there
               at false other =
                   inl (copied (copies_left script s.envelope.to (inbox script s.envelope.to older) b (step_of g)
                   (input_spares s.envelope.to b g other) s.envelope there))
           spot (inr t) =
               let differs : b ≡ s.envelope.to → ⊥ =
-                      λ is. (let one : slice_get before s.envelope.to ≡ Some false =
-                                     subst (λ (k : ℕ). slice_get before k ≡ Some false) is free in
-                             let two : slice_get before s.envelope.to ≡ Some true = t.is_open in
-                             let never : ⊥ = cc in never) in
+              λ is. (let one : slice_get before s.envelope.to ≡ Some false =
+              subst (λ (k : ℕ). slice_get before k ≡ Some false) is free in
+              let two : slice_get before s.envelope.to ≡ Some true = t.is_open in
+              let never : ⊥ = cc in never) in
               inr (taken_stays older (marked b (step_of g) ∷ []) before (slice_set before b true) s.envelope
-                  (deeds-other b s.envelope.to [] older (step_of g ∷ []) (apart b s.envelope.to differs))
-                  (slice_get-set_other before b s.envelope.to true differs) t)
+              (deeds-other b s.envelope.to [] older (step_of g ∷ []) (apart b s.envelope.to differs))
+              (slice_get-set_other before b s.envelope.to true differs) t)

@@ -29,9 +29,9 @@ use Rattle.qc_promise.specs.Names.{Account, ClientRequest, Current, counted, cou
 use Rattle.qc_promise.specs.Names.{participants, promised, taken_for, told_by, view_of}
 use Rattle.laws_due.specs.Names.{AreApart, Goes, IsPrepare, ballot_of, begun_of, calls_in, transaction_of}
 use Rattle.laws_due.proofs.VotesCome.{commit_at, votes_go, votes_out, votes_tie, voting_desk, voting_front}
-use Rattle.laws_due.proofs.OpenRequests.{calls_taken, every_taken, find_call, found, numbers_open}
+use Rattle.laws_due.proofs.OpenRequests.{calls_taken, every_taken, find_call, found, numbers_open, sites_in}
+use Rattle.laws_due.proofs.OpenRequests.{sites_taken}
 use Rattle.laws_due.proofs.Requests.{first_set, set_taken}
-use Rattle.laws_due.proofs.OpenRequests.{sites_in, sites_taken}
 use Rattle.laws_due.proofs.Turns.{still_goes}
 use Rattle.laws_due.proofs.Views.{LogsAre}
 

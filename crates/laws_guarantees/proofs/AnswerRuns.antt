@@ -1,6 +1,6 @@
 -- In each undisturbed run each answer fits its request, by what its site was sent before.
-use Rattle.std.proofs.Common.{◌≡◌, ℕ, ◌+◌, ◌-◌, ◌==◌, Bool, true, List}
-use Rattle.std.proofs.Common.{◌∷◌, ◌++◌, length, Some, slice_get, refl, sym, ap, ◌∙◌, subst, arith, eqb-true}
+use Rattle.std.proofs.Common.{◌≡◌, ℕ, ◌+◌, ◌-◌, ◌==◌, Bool, true, List, ◌∷◌, ◌++◌, length, Some, slice_get, refl, sym}
+use Rattle.std.proofs.Common.{ap, ◌∙◌, subst, arith, eqb-true}
 use Rattle.std.specs.List.{AllByRecursion as Every}
 use Rattle.std.proofs.lemmas.List.{append_assoc}
 use Rattle.std.proofs.lemmas.List.Elements.{filter_map-append}
@@ -60,7 +60,7 @@ module _ (decl : Declaration) (script : Script) (calm : IsUndisturbed script) wh
     before_calm =
         deeds_calm at.before
         (first_part TakesFirst at.before (Takes at.given ∷ [])
-          (subst (Every TakesFirst) at.is (takes_first older b (run_first decl script older before run))))
+        (subst (Every TakesFirst) at.is (takes_first older b (run_first decl script older before run))))
 
     arrives : Arrives script b older
     arrives = no_request_is_lost decl script older before calm run b
@@ -71,7 +71,7 @@ module _ (decl : Declaration) (script : Script) (calm : IsUndisturbed script) wh
       sent =
           taken_mail b [] older e
           (subst (In (Takes (inputs.Got e))) (sym (at.is ∙ ap (λ (g : Input). at.before ++ Takes g ∷ []) got))
-            (In-last (Takes (inputs.Got e)) at.before))
+          (In-last (Takes (inputs.Got e)) at.before))
 
       split : sent_to b (mail older) ≡ taken_in at.before ++ e ∷ arrives.ready
       split =
@@ -91,7 +91,7 @@ module _ (decl : Declaration) (script : Script) (calm : IsUndisturbed script) wh
       own =
           eqb-true e.to b
           (In-passes (λ (x : Envelope). x.to == b) e (mail older)
-            (in_middle (taken_in at.before) arrives.ready e (sent_to b (mail older)) split))
+          (in_middle (taken_in at.before) arrives.ready e (sent_to b (mail older)) split))
 
       first : IsFirst e.message
       first = subst FirstGiven got hears_first
@@ -149,18 +149,18 @@ module _ (decl : Declaration) (script : Script) (calm : IsUndisturbed script) wh
     by_site : SayFitting (mail older) b (site_after decl b (deeds b [] older)).turn.sends
     by_site =
         subst (λ (m : SiteMove). SayFitting (mail older) b m.turn.sends)
-            (sym (ap (site_after decl b) at.is
-              ∙ fold-append (site_does decl) (sites.moved (new_site b) quiet) at.before (Takes at.given ∷ [])))
+        (sym (ap (site_after decl b) at.is
+        ∙ fold-append (site_does decl) (sites.moved (new_site b) quiet) at.before (Takes at.given ∷ [])))
         (by_input at.given refl)
 
     by_client : SayFitting (mail older) b (client_after decl (b - decl.sites) (deeds b [] older)).turn.sends
     by_client =
         every-weaker (λ (p : Posting). IsClientWord p.message) (λ (p : Posting). IfAnswered (mail older) b p.message)
-            (λ p. word_fits (mail older) b p.message) (client_after decl (b - decl.sites) (deeds b [] older)).turn.sends
+        (λ p. word_fits (mail older) b p.message) (client_after decl (b - decl.sites) (deeds b [] older)).turn.sends
         (subst (λ (m : ClientMove). AreClientWords m.turn.sends)
-            (sym (ap (client_after decl (b - decl.sites)) at.is
-              ∙ fold-append (client_does decl) (moved (new_client (b - decl.sites)) quiet) at.before
-                (Takes at.given ∷ [])))
+        (sym (ap (client_after decl (b - decl.sites)) at.is
+        ∙ fold-append (client_does decl) (moved (new_client (b - decl.sites)) quiet) at.before
+        (Takes at.given ∷ [])))
         (client_words decl (client_after decl (b - decl.sites) at.before).client at.given hears_first))
 
     says : SayFitting (mail older) b turn.sends
@@ -177,22 +177,22 @@ module _ (decl : Declaration) (script : Script) (calm : IsUndisturbed script) wh
       let numbered : AreNumbered 0 (mail older) = run_numbered (IsLawful decl) decl script older before run in
       let new : List Envelope = envelopes a (length (mail older)) turn.sends in
       subst AnswersFit
-          (sym (mail-append older (by a (posted (length (mail older)) turn))
-            ∙ ap (λ (v : List Envelope). mail older ++ v) (mail-posted a (length (mail older)) turn)))
+      (sym (mail-append older (by a (posted (length (mail older)) turn))
+      ∙ ap (λ (v : List Envelope). mail older ++ v) (mail-posted a (length (mail older)) turn)))
       (every-append (λ (e : Envelope). IfAnswered (mail older ++ envelopes a (length (mail older)) turn.sends) e.from
-          e.message) (mail older) (envelopes a (length (mail older)) turn.sends)
+      e.message) (mail older) (envelopes a (length (mail older)) turn.sends)
       (all_later (mail older) (envelopes a (length (mail older)) turn.sends) numbered (mail older)
-          (run_answered older before run))
+      (run_answered older before run))
       (all_later (mail older) (envelopes a (length (mail older)) turn.sends) numbered
-          (envelopes a (length (mail older)) turn.sends)
+      (envelopes a (length (mail older)) turn.sends)
       (fitting_envelopes (mail older) a (length (mail older)) turn.sends (says older before run a turn taken lawful))))
   run_answered h open_inputs (phase before older run none done rests more) =
       subst AnswersFit
-          (sym (mail-silent older (controller decl) (steps.Phase (phase_of older + 1))
-            (phase_silent (phase_of older + 1)))) (run_answered older before run)
+      (sym (mail-silent older (controller decl) (steps.Phase (phase_of older + 1))
+      (phase_silent (phase_of older + 1)))) (run_answered older before run)
   run_answered h open_inputs (control line lines step before older run left is) =
       subst AnswersFit (sym (mail-silent older (controller decl) step (control_silent line step is)))
-          (run_answered older before run)
+      (run_answered older before run)
 
 pub answers_fit : (decl : Declaration) (script : Script) → IsUndisturbed script
     → (h : List Entry) (open_inputs : List Bool) → Runs (IsLawful decl) decl script h open_inputs → AnswersFit (mail h)

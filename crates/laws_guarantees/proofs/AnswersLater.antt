@@ -1,7 +1,7 @@
 -- What stands before a message in a part of a list is the same part of what stands before it in the list; what fits
 -- still does after more mail.
-use Rattle.std.proofs.Common.{◌≡◌, ℕ, zero, suc, ◌+◌, ◌-◌, ◌<◌, ◌≤◌, inl, inr, Bool, true, false, cond, List}
-use Rattle.std.proofs.Common.{◌∷◌, ◌++◌, length, refl, sym, ap, ◌∙◌, subst, arith}
+use Rattle.std.proofs.Common.{◌≡◌, ℕ, zero, suc, ◌+◌, ◌-◌, ◌<◌, ◌≤◌, inl, inr, Bool, true, false, cond, List, ◌∷◌, ◌++◌}
+use Rattle.std.proofs.Common.{length, refl, sym, ap, ◌∙◌, subst, arith}
 use Rattle.std.specs.Prelude.{filter, take}
 use Rattle.std.specs.List.{AllByRecursion as Every}
 use Rattle.std.proofs.lemmas.List.{take-append-le}
@@ -14,8 +14,7 @@ use Rattle.qc_msg.specs.declared.message.Message.TheVariants as messages
 use Rattle.qc_msg.specs.declared.turn.Posting.{Posting}
 use Rattle.qc_msg.specs.Names.{by, envelopes}
 use Rattle.laws_turns.proofs.Numbered.{AreNumbered}
-use Rattle.laws_guarantees.specs.Names.{Fits, IfAnswered, IsAnswered}
-use Rattle.laws_guarantees.specs.Names.{sent_to}
+use Rattle.laws_guarantees.specs.Names.{Fits, IfAnswered, IsAnswered, sent_to}
 use Rattle.laws_guarantees.proofs.ClientWords.{IsClientWord}
 
 -- numbers are places: what stands before a message in a part of a list is the same part of what stands before it
@@ -67,7 +66,7 @@ split_at p (x ∷ xs) k n A B e are is number =
         let more : filter p xs ≡ C ++ e ∷ B = cc in
         let same : x ≡ y = cc in
         ap (λ (t : Bool). cond t (x ∷ filter p (take m xs)) (filter p (take m xs))) here
-            ∙ (λ i. same i ∷ rest m C more (omega arith) i)
+        ∙ (λ i. same i ∷ rest m C more (omega arith) i)
 
     passed_one : (C : List Envelope) → p x ≡ false → filter p xs ≡ C ++ e ∷ B → Splits p xs (k + 1) B e → (n : ℕ)
         → e.number ≡ k + n → filter p (take n (x ∷ xs)) ≡ C

@@ -1,6 +1,5 @@
 -- Each answer of a site's step is to the request that it took, under its number.
-use Rattle.std.proofs.Common.{◌≡◌, ℕ, List, ◌∷◌}
-use Rattle.std.proofs.Common.{inl, inr, Option, Some, None, refl, sym, ap, ◌∙◌, subst}
+use Rattle.std.proofs.Common.{◌≡◌, ℕ, List, ◌∷◌, inl, inr, Option, Some, None, refl, sym, ap, ◌∙◌, subst}
 use Rattle.qc_stamp.specs.declared.stamp.TxId.{TxId}
 use Rattle.qc_list.specs.Names.{In}
 use Rattle.qc_entry.specs.declared.line.Line.{Line}
@@ -21,15 +20,13 @@ use Rattle.qc_msg.specs.declared.step.Input.TheVariants as inputs
 use Rattle.qc_msg.specs.declared.turn.Posting.{Posting}
 use Rattle.qc_msg.specs.declared.record.Record.TheVariants as records
 use Rattle.qc_site.specs.Names.{SiteMove, SiteState, answering, answers as answering_turn, appends, clashing, closed}
-use Rattle.qc_site.specs.Names.{closes, finishes, grants, installed, installs}
-use Rattle.qc_site.specs.Names.{joins, known, moved, passed, prepared_of}
+use Rattle.qc_site.specs.Names.{closes, finishes, grants, installed, installs, joins, known, moved, passed, prepared_of}
 use Rattle.qc_site.specs.Names.{promise_of, promised, reads, recording, shut_answer, site_at, site_takes, votes}
 use Rattle.qc_lock.specs.declared.clash.Clash.{Clash as Conflict}
 use Rattle.qc_msg.specs.Names.{quiet}
 use Rattle.qc_stamp.specs.declared.stamp.Stamp.{Stamp}
-use Rattle.qc_site.proofs.RequestCases.{append_cases, close_cases, prepare_cases, read_cases}
+use Rattle.qc_site.proofs.RequestCases.{append_cases, close_cases, prepare_cases, read_cases, request_cases}
 use Rattle.qc_site.proofs.Cases.{install_cases}
-use Rattle.qc_site.proofs.RequestCases.{request_cases}
 use Rattle.laws_guarantees.proofs.ForgettingAnswers.{same_answer}
 
 -- each answer of a move is to this number, and has this
@@ -44,7 +41,7 @@ says_one P m from number answer turn has p k x among is = by (subst (λ (ps : Li
     by : In p (answering from number answer ∷ []) → (number ≡ k) × P x
     by (inl same) =
         let s : (number ≡ k) × (answer ≡ x) =
-                same_answer number k answer x (sym (ap (λ (q : Posting). q.message) same) ∙ is) in
+        same_answer number k answer x (sym (ap (λ (q : Posting). q.message) same) ∙ is) in
         (s.0, subst P s.1 has)
     by (inr never) = absurd never
 
@@ -55,13 +52,13 @@ says_clash P decl m from number c turn has p k x among is = by (subst (λ (ps : 
     by : In p (clashing decl from number c).sends → (number ≡ k) × P x
     by (inl same) =
         let s : (number ≡ k) × (answers.Clash c.holder c.inv c.event ≡ x) =
-                same_answer number k (answers.Clash c.holder c.inv c.event) x
-                  (sym (ap (λ (q : Posting). q.message) same) ∙ is) in
+        same_answer number k (answers.Clash c.holder c.inv c.event) x
+        (sym (ap (λ (q : Posting). q.message) same) ∙ is) in
         (s.0, subst P s.1 has)
     by (inr (inl same)) =
         absurd (let s : messages.Inquiry c.holder ≡ messages.Answer k x =
-                        sym (ap (λ (q : Posting). q.message) same) ∙ is in
-                let never : ⊥ = cc in never)
+        sym (ap (λ (q : Posting). q.message) same) ∙ is in
+        let never : ⊥ = cc in never)
     by (inr (inr never)) = absurd never
 
 pub says_nothing : (P : Answer → Type 0) (number : ℕ) (m : SiteMove) → m.turn.sends ≡ [] → Says number P m
@@ -76,33 +73,33 @@ request_says : (decl : Declaration) (s : SiteState) (from number : ℕ) (tx : Tx
     → Says number Anything (site_at decl s from number (messages.Request tx epoch life want))
 request_says decl s from number tx epoch life want =
     request_cases (Says number Anything) decl s from number tx epoch life want
-        (says_nothing Anything number (moved s quiet) refl)
+    (says_nothing Anything number (moved s quiet) refl)
     (λ fault is. says_one Anything (moved s (answering_turn from number fault)) from number fault refl tt)
-        (λ is. by want)
+    (λ is. by want)
   where
     by : (w : Want) → Says number Anything (grants decl s from number tx w)
     by (Read object inv) = read_cases (Says number Anything) decl s from number tx object inv
         (λ free. says_one Anything (reads s from number tx object inv) from number
-            (answers.Granted s.life s.clock (of_object (known s) object)) refl tt)
-            (λ c clash. says_clash Anything decl (moved s (clashing decl from number c)) from number c refl tt)
+        (answers.Granted s.life s.clock (of_object (known s) object)) refl tt)
+        (λ c clash. says_clash Anything decl (moved s (clashing decl from number c)) from number c refl tt)
     by (Append object view own) = append_cases (Says number Anything) decl s from number tx object view own
         (λ free. says_one Anything (appends s from number tx view own) from number (answers.Granted s.life s.clock [])
-            refl tt) (λ c clash. says_clash Anything decl (moved s (clashing decl from number c)) from number c refl tt)
+        refl tt) (λ c clash. says_clash Anything decl (moved s (clashing decl from number c)) from number c refl tt)
     by Prepare =
         prepare_cases (Says number Anything) s from number tx
         (says_one Anything (moved s (answering_turn from number answers.Stale)) from number answers.Stale refl tt)
         (λ held stands. says_one Anything (moved s (answering_turn from number (answers.Yes s.clock))) from number
-            (answers.Yes s.clock) refl tt)
+        (answers.Yes s.clock) refl tt)
         (λ held made. says_one Anything (moved (promised s (promise_of s tx)) (votes s from number (promise_of s tx)))
-            from number (answers.Yes s.clock) refl tt)
+        from number (answers.Yes s.clock) refl tt)
 
 close_says : (s : SiteState) (from number k : ℕ) → Says number Anything (closes s from number k)
 close_says s from number k =
     close_cases (Says number Anything) s from number k
     (λ answer. says_one Anything (moved s (answering_turn from number answer)) from number answer refl tt)
     (λ near later. says_one Anything
-        (moved (closed s k) (recording from number (records.Close k) (shut_answer (closed s k)))) from number
-        (shut_answer (closed s k)) refl tt)
+    (moved (closed s k) (recording from number (records.Close k) (shut_answer (closed s k)))) from number
+    (shut_answer (closed s k)) refl tt)
 
 install_says : (s : SiteState) (from number k clock : ℕ) (lines : List Line)
     → Says number Anything (installs s from number k clock lines)
@@ -110,8 +107,8 @@ install_says s from number k clock lines =
     install_cases (Says number Anything) s from number k clock lines
     (λ answer. says_one Anything (moved s (answering_turn from number answer)) from number answer refl tt)
     (λ later fits. says_one Anything
-        (moved (installed s k clock lines) (recording from number (records.Install k clock lines) answers.Installed))
-        from number answers.Installed refl tt)
+    (moved (installed s k clock lines) (recording from number (records.Install k clock lines) answers.Installed))
+    from number answers.Installed refl tt)
 
 -- what is answered under a number was taken under it
 pub record IsAnswering (input : Input) (number : ℕ) : Type 0 where
@@ -166,12 +163,12 @@ pub answers_request : (g : Input) (k : ℕ) (r : IsAnswering g k) (tx : TxId) (e
     → r.envelope.message ≡ messages.Request tx epoch life want → IsAnsweringTo g k
 answers_request g k r tx epoch life want same =
     record {
-          envelope = r.envelope;
-          is = r.is;
-          numbered = r.numbered;
-          tx = tx;
-          epoch = epoch;
-          life = life;
-          want = want;
-          content = same
-        }
+      envelope = r.envelope;
+      is = r.is;
+      numbered = r.numbered;
+      tx = tx;
+      epoch = epoch;
+      life = life;
+      want = want;
+      content = same;
+    }

@@ -31,8 +31,7 @@ use Rattle.laws_turns.specs.Names.{begun_in}
 use Rattle.laws_turns.proofs.DealtCommands.{IsInHand}
 use Rattle.laws_guarantees.specs.Names.{open_said}
 use Rattle.laws_guarantees.proofs.SitesTold.{Keeps, decision_less, ends, open_posted, silent, spoken}
-use Rattle.laws_guarantees.proofs.AskedSites.{called_keeps}
-use Rattle.laws_guarantees.proofs.AskedSites.{takes_keeps}
+use Rattle.laws_guarantees.proofs.AskedSites.{called_keeps, takes_keeps}
 
 module _ (s : ℕ) (x : TxId) where
   module _ (decl : Declaration) (c : Client) where

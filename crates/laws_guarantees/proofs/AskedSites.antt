@@ -1,6 +1,6 @@
 -- A transaction knows each site that it asked to hold something, and its end is told to them all: of a front end's moves.
-use Rattle.std.proofs.Common.{◌≡◌, ℕ, nat_le, Bool, true, false, cond, List, ◌∷◌, ◌++◌}
-use Rattle.std.proofs.Common.{length, Option, Some, None, option_map, refl, ap, ◌∙◌, subst}
+use Rattle.std.proofs.Common.{◌≡◌, ℕ, nat_le, Bool, true, false, cond, List, ◌∷◌, ◌++◌, length, Option, Some, None}
+use Rattle.std.proofs.Common.{option_map, refl, ap, ◌∙◌, subst}
 use Rattle.std.specs.Prelude.{slice_get}
 use Rattle.qc_stamp.specs.declared.stamp.TxId.{TxId}
 use Rattle.qc_decl.specs.declared.declaration.Declaration.{Declaration}
@@ -29,8 +29,8 @@ use Rattle.qc_front.specs.declared.front.Front.{Front}
 use Rattle.qc_front.specs.declared.transaction.Transaction.{Transaction}
 use Rattle.qc_front.specs.Names.{FrontMove, aborts, answer_of, answered, append_by, append_want, appended_with}
 use Rattle.qc_front.specs.Names.{appending_takes, begins, doomed, fresh, gives_up, learns, lived, next_own, next_tx}
-use Rattle.qc_front.specs.Names.{op_of, performs, read_by, read_want, read_with, reading_takes, reads}
-use Rattle.qc_front.specs.Names.{resp_of, round_for, standing_of, with_event, with_op}
+use Rattle.qc_front.specs.Names.{op_of, performs, read_by, read_want, read_with, reading_takes, reads, resp_of}
+use Rattle.qc_front.specs.Names.{round_for, standing_of, with_event, with_op}
 use Rattle.qc_front.specs.Conduct as fronts
 use Rattle.qc_front.specs.Front as front_moves
 use Rattle.qc_front.proofs.CommandsKeep.{view_keeps}
@@ -58,14 +58,14 @@ module _ (s : ℕ) (x : TxId) where
     event_tx u object inv event =
         ap (λ (b : Begun). b.tx)
         (view_keeps (record u { own = u.own ++ next_own u object event ∷ [] }) object
-          (option_map (λ (v : View). with_own v event) (slice_get u.views object)))
+        (option_map (λ (v : View). with_own v event) (slice_get u.views object)))
 
     event_asked : (u : Transaction) (object inv event : ℕ)
         → (with_event u object inv event (resp_of decl object event)).begun.asked ≡ u.begun.asked
     event_asked u object inv event =
         ap (λ (b : Begun). b.asked)
         (view_keeps (record u { own = u.own ++ next_own u object event ∷ [] }) object
-          (option_map (λ (v : View). with_own v event) (slice_get u.views object)))
+        (option_map (λ (v : View). with_own v event) (slice_get u.views object)))
 
     append_keeps : (t u : Transaction) (object inv event : ℕ) (calls : List Call) (r : RoundState) (v : Verdict)
         → u.begun.tx ≡ t.begun.tx → u.begun.asked ≡ t.begun.asked
@@ -74,7 +74,7 @@ module _ (s : ℕ) (x : TxId) where
         asks s x t u (append_want decl u object event) (wanted r) tx asked
     append_keeps t u object inv event calls r verdicts.Met tx asked =
         goes t (with_event u object inv event (resp_of decl object event)) [] refl (event_tx u object inv event ∙ tx)
-            (event_asked u object inv event ∙ asked)
+        (event_asked u object inv event ∙ asked)
     append_keeps t u object inv event calls r (verdicts.Closed epoch site) tx asked = goes t (doomed u) [] refl tx asked
     append_keeps t u object inv event calls r (verdicts.Clash other site) tx asked = goes t (doomed u) [] refl tx asked
     append_keeps t u object inv event calls r (verdicts.Short got need) tx asked = goes t (doomed u) [] refl tx asked
@@ -84,7 +84,7 @@ module _ (s : ℕ) (x : TxId) where
     answered_keeps t u object inv None tx asked = goes t (with_op u (op_of object inv None)) [] refl tx asked
     answered_keeps t u object inv (Some event) tx asked =
         append_keeps t u object inv event [] (round_for decl front u (append_need_of decl u.begun.epoch object event))
-            (verdict (round_for decl front u (append_need_of decl u.begun.epoch object event))) tx asked
+        (verdict (round_for decl front u (append_need_of decl u.begun.epoch object event))) tx asked
 
     read_keeps : (t u : Transaction) (object inv : ℕ) (calls : List Call) (r : RoundState) (v : Verdict)
         → u.begun.tx ≡ t.begun.tx → u.begun.asked ≡ t.begun.asked
@@ -116,16 +116,16 @@ module _ (s : ℕ) (x : TxId) where
       where
         by : (dead long : Bool)
             → Front_keeps (Some t)
-              (cond dead (front_moves.moved front (telling replies.Doomed))
-                (cond long (front_moves.moved front (telling replies.TooLong))
-                  (reads decl front t object inv []
-                    (round_for decl front t (read_need_of decl t.begun.epoch object inv)))))
+            (cond dead (front_moves.moved front (telling replies.Doomed))
+            (cond long (front_moves.moved front (telling replies.TooLong))
+            (reads decl front t object inv []
+            (round_for decl front t (read_need_of decl t.begun.epoch object inv)))))
         by true long = still_at (Some t) (telling replies.Doomed) is refl
         by false true = still_at (Some t) (telling replies.TooLong) is refl
         by false false =
             read_keeps decl front t t object inv []
-                (round_for decl front t (read_need_of decl t.begun.epoch object inv))
-                (verdict (round_for decl front t (read_need_of decl t.begun.epoch object inv))) refl refl
+            (round_for decl front t (read_need_of decl t.begun.epoch object inv))
+            (verdict (round_for decl front t (read_need_of decl t.begun.epoch object inv))) refl refl
 
     begins_keeps : (o : Option Transaction) → front.transaction ≡ o → Front_keeps o (begins decl front o)
     begins_keeps None is =
@@ -139,7 +139,7 @@ module _ (s : ℕ) (x : TxId) where
       where
         by : (dead : Bool)
             → Front_keeps (Some t)
-              (cond dead (gives_up front t (replies.Aborted causes.Doomed)) (front_moves.moved front quiet))
+            (cond dead (gives_up front t (replies.Aborted causes.Doomed)) (front_moves.moved front quiet))
         by true = gives_keeps t (replies.Aborted causes.Doomed)
         by false = still_at (Some t) quiet is refl
 
@@ -156,7 +156,7 @@ module _ (s : ℕ) (x : TxId) where
 
     read_begun : (t : Transaction) (site object : ℕ) (answer : Option Answer)
         → ((read_with t site object answer).begun.tx ≡ t.begun.tx)
-          × ((read_with t site object answer).begun.asked ≡ t.begun.asked)
+        × ((read_with t site object answer).begun.asked ≡ t.begun.asked)
     read_begun t site object None = (refl, refl)
     read_begun t site object (Some (answers.Granted life clock log)) = (
       ap (λ (b : Begun). b.tx) (view_keeps (lived t site life) object (option_map (λ (v : View). with_log v log) (slice_get t.views object))),
@@ -183,8 +183,8 @@ module _ (s : ℕ) (x : TxId) where
         by None = still_at (Some t) quiet is refl
         by (Some site) =
             read_keeps decl (learns front answer) t (read_with t site object answer) object inv
-                (without_call calls number) (note round site (standing_of answer))
-                (verdict (note round site (standing_of answer)))
+            (without_call calls number) (note round site (standing_of answer))
+            (verdict (note round site (standing_of answer)))
             (read_begun t site object answer).0 (read_begun t site object answer).1
     takes_keeps (Appending object inv event calls round) (Some t) number answer is = by (site_called calls number)
       where
@@ -193,7 +193,7 @@ module _ (s : ℕ) (x : TxId) where
         by None = still_at (Some t) quiet is refl
         by (Some site) =
             append_keeps decl (learns front answer) t (appended_with t site answer) object inv event
-                (without_call calls number) (note round site (standing_of answer))
-                (verdict (note round site (standing_of answer)))
+            (without_call calls number) (note round site (standing_of answer))
+            (verdict (note round site (standing_of answer)))
             (ap (λ (u : Transaction). u.begun.tx) (appended_is t site answer))
-                (ap (λ (u : Transaction). u.begun.asked) (appended_is t site answer))
+            (ap (λ (u : Transaction). u.begun.asked) (appended_is t site answer))

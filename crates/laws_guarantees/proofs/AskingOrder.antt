@@ -1,7 +1,6 @@
 -- The sites of positive weight in a client's order, and the halves of a `do` as requests go to the next of them.
-use Rattle.std.proofs.Common.{◌≡◌, ℕ, zero, suc, ◌+◌, ◌&&◌, max, Bool, true, false, cond, List, ◌∷◌, ◌++◌}
-use Rattle.std.proofs.Common.{map, length, Option, Some, None, option_map, refl, sym, ap, ◌∙◌}
-use Rattle.std.proofs.Common.{eqb-true}
+use Rattle.std.proofs.Common.{◌≡◌, ℕ, zero, suc, ◌+◌, ◌&&◌, max, Bool, true, false, cond, List, ◌∷◌, ◌++◌, map, length}
+use Rattle.std.proofs.Common.{Option, Some, None, option_map, refl, sym, ap, ◌∙◌, eqb-true}
 use Rattle.std.specs.Prelude.{drop, filter, take}
 use Rattle.std.specs.List.{find}
 use Rattle.qc_entry.specs.declared.line.Line.{Line}
@@ -18,12 +17,9 @@ use Rattle.qc_msg.specs.declared.record.Record.{Record}
 use Rattle.qc_msg.specs.declared.record.Record.TheVariants as records
 use Rattle.qc_msg.specs.declared.step.Input.{Input}
 use Rattle.qc_msg.specs.declared.step.Input.TheVariants as inputs
-use Rattle.qc_promise.specs.Names.{Account, ClientRequest, Current, account_heard}
-use Rattle.qc_promise.specs.Names.{account_taken, account_written}
-use Rattle.qc_promise.specs.Names.{counted, counted_for, granted}
-use Rattle.qc_promise.specs.Names.{is_append, is_open, is_read, is_this, lived}
-use Rattle.qc_promise.specs.Names.{promised, taken_for, told_by, weights_of}
-use Rattle.qc_promise.specs.Names.{with_current, with_read}
+use Rattle.qc_promise.specs.Names.{Account, ClientRequest, Current, account_heard, account_taken, account_written}
+use Rattle.qc_promise.specs.Names.{counted, counted_for, granted, is_append, is_open, is_read, is_this, lived, promised}
+use Rattle.qc_promise.specs.Names.{taken_for, told_by, weights_of, with_current, with_read}
 use Rattle.laws_guarantees.proofs.Accounts.{told_requests}
 
 -- the sites of positive weight in a client's order
@@ -49,32 +45,32 @@ IsInOrder decl half d =
 
 sites_taken : (half : Want → Bool) (n : ℕ) (answer : Option Answer) (qs : List ClientRequest)
     → (sites_in half (taken_for n answer qs) ≡ sites_in half qs)
-      × (count_in half (taken_for n answer qs) ≡ count_in half qs)
+    × (count_in half (taken_for n answer qs) ≡ count_in half qs)
 sites_taken half n answer [] = (refl, refl)
 sites_taken half n answer (q ∷ qs) = by (is_open n q) (half q.want) refl (sites_taken half n answer qs)
   where
     by : (o t : Bool) → half q.want ≡ t
         → (sites_in half (taken_for n answer qs) ≡ sites_in half qs)
-          × (count_in half (taken_for n answer qs) ≡ count_in half qs)
+        × (count_in half (taken_for n answer qs) ≡ count_in half qs)
         → (sites_in half (cond o (record q { taken = Some answer }) q ∷ taken_for n answer qs) ≡ sites_in half (q ∷ qs))
-            × (count_in half (cond o (record q { taken = Some answer }) q ∷ taken_for n answer qs)
-              ≡ count_in half (q ∷ qs))
+        × (count_in half (cond o (record q { taken = Some answer }) q ∷ taken_for n answer qs)
+        ≡ count_in half (q ∷ qs))
     by o true is rest = one o
       where
         one : (o : Bool)
             → (sites_in half (cond o (record q { taken = Some answer }) q ∷ taken_for n answer qs)
-              ≡ sites_in half (q ∷ qs))
-              × (count_in half (cond o (record q { taken = Some answer }) q ∷ taken_for n answer qs)
-                ≡ count_in half (q ∷ qs))
+            ≡ sites_in half (q ∷ qs))
+            × (count_in half (cond o (record q { taken = Some answer }) q ∷ taken_for n answer qs)
+            ≡ count_in half (q ∷ qs))
         one true = rw is (ap (λ (v : List ℕ). q.site ∷ v) rest.0, ap suc rest.1)
         one false = rw is (ap (λ (v : List ℕ). q.site ∷ v) rest.0, ap suc rest.1)
     by o false is rest = one o
       where
         one : (o : Bool)
             → (sites_in half (cond o (record q { taken = Some answer }) q ∷ taken_for n answer qs)
-              ≡ sites_in half (q ∷ qs))
-              × (count_in half (cond o (record q { taken = Some answer }) q ∷ taken_for n answer qs)
-                ≡ count_in half (q ∷ qs))
+            ≡ sites_in half (q ∷ qs))
+            × (count_in half (cond o (record q { taken = Some answer }) q ∷ taken_for n answer qs)
+            ≡ count_in half (q ∷ qs))
         one true = rw is rest
         one false = rw is rest
 
@@ -98,12 +94,12 @@ granted_epoch d site life clock log (Read object inv) =
     record {
       client = refl;
       epoch = same_epoch (record d { clock = max d.clock clock })
-          (λ (t : Current). with_read (lived t site life) object log) (λ t. refl)
+          (λ (t : Current). with_read (lived t site life) object log) (λ t. refl);
     }
 granted_epoch d site life clock log (Append object view own) =
     record {
       client = refl;
-      epoch = same_epoch (record d { clock = max d.clock clock }) (λ (t : Current). lived t site life) (λ t. refl)
+      epoch = same_epoch (record d { clock = max d.clock clock }) (λ (t : Current). lived t site life) (λ t. refl);
     }
 granted_epoch d site life clock log Prepare = record { client = refl; epoch = refl }
 

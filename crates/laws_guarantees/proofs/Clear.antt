@@ -1,6 +1,7 @@
 -- While a command runs, what was open at a site before one of its requests is its own transaction, or one that another
 -- client has begun and that hasn't ended.
-use Rattle.std.proofs.Common.{◌≡◌, ℕ, ◌+◌, ◌-◌, ◌<◌, ◌≤◌, ◌==◌, ◌⊎◌, inl, inr, Bool, true, false, List, [], ◌∷◌, ◌++◌, fold, length, Some, None, slice_get, refl, sym, ap, ◌∙◌, subst, arith, eq-eqb, eqb-true}
+use Rattle.std.proofs.Common.{◌≡◌, ℕ, ◌+◌, ◌-◌, ◌<◌, ◌≤◌, ◌==◌, ◌⊎◌, inl, inr, Bool, true, false, List, [], ◌∷◌, ◌++◌}
+use Rattle.std.proofs.Common.{fold, length, Some, None, slice_get, refl, sym, ap, ◌∙◌, subst, arith, eq-eqb, eqb-true}
 use Rattle.std.specs.Prelude.{slice_set, take}
 use Rattle.std.specs.List.{AllByRecursion as Every}
 use Rattle.std.proofs.lemmas.List.{take-append-le}
@@ -40,7 +41,8 @@ use Rattle.laws_guarantees.specs.Names.{IsStill, IsUndisturbed, begun_by, is_ope
 use Rattle.laws_guarantees.specs.Names.{sent_before, sent_to}
 use Rattle.laws_guarantees.proofs.Accounts.{HasGrounds, WasSent}
 use Rattle.laws_guarantees.proofs.AnswersLater.{number_from}
-use Rattle.laws_guarantees.proofs.Asking.{IsFrom, IsNamed, due_second, is_busy, less_open, taken_from, told_clears, turn_named}
+use Rattle.laws_guarantees.proofs.Asking.{IsFrom, IsNamed, due_second, is_busy, less_open, taken_from, told_clears}
+use Rattle.laws_guarantees.proofs.Asking.{turn_named}
 use Rattle.laws_guarantees.proofs.RequestGrounds.{has_grounds}
 use Rattle.laws_guarantees.proofs.Grounds.{turn_old}
 use Rattle.laws_guarantees.proofs.Mailed.{sent_as, sent_mail}
@@ -55,30 +57,40 @@ pub record IsElsewhere (decl : Declaration) (a : ℕ) (h : List Entry) (x : TxId
   pub still : begun_by decl (client_actor decl x.client) h ≡ Some x
 
 abbrev pub IsClear : Declaration → ℕ → List Entry → ClientRequest → Type 0
-IsClear decl a h q = (x : TxId) → is_open x (sent_before q.site q.number (mail h)) ≡ true → (begun_by decl a h ≡ Some x → ⊥) → IsElsewhere decl a h x
+IsClear decl a h q =
+    (x : TxId) → is_open x (sent_before q.site q.number (mail h)) ≡ true → (begun_by decl a h ≡ Some x → ⊥)
+    → IsElsewhere decl a h x
 
 abbrev pub AllClear : Declaration → List Entry → Type 0
-AllClear decl h = (a : ℕ) → is_client decl a ≡ true → (q : ClientRequest) → In q (account decl a h).requests → IsClear decl a h q
+AllClear decl h =
+    (a : ℕ) → is_client decl a ≡ true → (q : ClientRequest) → In q (account decl a h).requests → IsClear decl a h q
 
 -- who has begun what, as somebody acts
 
 module _ (decl : Declaration) where
   begun_same : (c : ℕ) (h k : List Entry) → deeds c [] k ≡ deeds c [] h → begun_by decl c k ≡ begun_by decl c h
-  begun_same c h k same = ap (λ (ds : List Deed). name_of (fold (account_at decl) (new_account (c - decl.sites)) ds)) same
+  begun_same c h k same =
+      ap (λ (ds : List Deed). name_of (fold (account_at decl) (new_account (c - decl.sites)) ds)) same
 
-  begun_taken : (b : ℕ) (g : Input) (h : List Entry) → WasSentTo b (mail h) g → (c : ℕ) → begun_by decl c (h ++ marked b (step_of g) ∷ []) ≡ begun_by decl c h
+  begun_taken : (b : ℕ) (g : Input) (h : List Entry) → WasSentTo b (mail h) g → (c : ℕ)
+      → begun_by decl c (h ++ marked b (step_of g) ∷ []) ≡ begun_by decl c h
   begun_taken b g h sent c = by (b == c) refl
     where
       here : begun_by decl b (h ++ marked b (step_of g) ∷ []) ≡ begun_by decl b h
       here =
-          ap (λ (ds : List Deed). name_of (fold (account_at decl) (new_account (b - decl.sites)) ds)) (deeds-taken b h g sent)
-          ∙ ap name_of (fold-append (account_at decl) (new_account (b - decl.sites)) (deeds b [] h) (Takes g ∷ [])) ∙ taken_named (account decl b h) g
+          ap (λ (ds : List Deed). name_of (fold (account_at decl) (new_account (b - decl.sites)) ds))
+          (deeds-taken b h g sent)
+          ∙ ap name_of (fold-append (account_at decl) (new_account (b - decl.sites)) (deeds b [] h) (Takes g ∷ []))
+          ∙ taken_named (account decl b h) g
 
       by : (t : Bool) → (b == c) ≡ t → begun_by decl c (h ++ marked b (step_of g) ∷ []) ≡ begun_by decl c h
-      by true same = subst (λ (k : ℕ). begun_by decl k (h ++ marked b (step_of g) ∷ []) ≡ begun_by decl k h) (eqb-true b c same) here
+      by true same =
+          subst (λ (k : ℕ). begun_by decl k (h ++ marked b (step_of g) ∷ []) ≡ begun_by decl k h) (eqb-true b c same)
+          here
       by false other = begun_same c h (h ++ marked b (step_of g) ∷ []) (deeds-other b c [] h (step_of g ∷ []) other)
 
-  begun_elsewhere : (b n : ℕ) (turn : Turn) (h : List Entry) (c : ℕ) → (c ≡ b → ⊥) → begun_by decl c (h ++ by b (posted n turn)) ≡ begun_by decl c h
+  begun_elsewhere : (b n : ℕ) (turn : Turn) (h : List Entry) (c : ℕ) → (c ≡ b → ⊥)
+      → begun_by decl c (h ++ by b (posted n turn)) ≡ begun_by decl c h
   begun_elsewhere b n turn h c differs = at (b == c) refl
     where
       at : (t : Bool) → (b == c) ≡ t → begun_by decl c (h ++ by b (posted n turn)) ≡ begun_by decl c h
@@ -86,38 +98,55 @@ module _ (decl : Declaration) where
       at false other = begun_same c h (h ++ by b (posted n turn)) (deeds-other b c [] h (posted n turn) other)
 
   -- where mail and begun transactions are the same
-  clear_same : (a : ℕ) (h k : List Entry) (q p : ClientRequest) → mail k ≡ mail h → ((c : ℕ) → begun_by decl c k ≡ begun_by decl c h) → p.number ≡ q.number → p.site ≡ q.site → IsClear decl a h q → IsClear decl a k p
+  clear_same : (a : ℕ) (h k : List Entry) (q p : ClientRequest) → mail k ≡ mail h
+      → ((c : ℕ) → begun_by decl c k ≡ begun_by decl c h) → p.number ≡ q.number → p.site ≡ q.site → IsClear decl a h q
+      → IsClear decl a k p
   clear_same a h k q p mailed begun number site clear x is other =
-      let was : is_open x (sent_before q.site q.number (mail h)) ≡ true = (λ i. is_open x (sent_before (sym site i) (sym number i) (sym mailed i))) ∙ is in
+      let was : is_open x (sent_before q.site q.number (mail h)) ≡ true =
+      (λ i. is_open x (sent_before (sym site i) (sym number i) (sym mailed i))) ∙ is in
       let e : IsElsewhere decl a h x = clear x was (λ named. other (begun a ∙ named)) in
       record { elsewhere = e.elsewhere; still = begun (client_actor decl x.client) ∙ e.still }
 
-module _ (decl : Declaration) (script : Script) (accepted : IsAccepted decl) (asks : AsksDeclared decl script) (calm : IsUndisturbed script) where
+module _ (decl : Declaration) (script : Script) (accepted : IsAccepted decl) (asks : AsksDeclared decl script)
+    (calm : IsUndisturbed script) where
   -- a request of an account was sent
 
-  sent_low : (h : List Entry) (open_inputs : List Bool) → Runs (IsLawful decl) decl script h open_inputs → (a : ℕ) (q : ClientRequest) → In q (account decl a h).requests → q.number < length (mail h)
+  sent_low : (h : List Entry) (open_inputs : List Bool) → Runs (IsLawful decl) decl script h open_inputs
+      → (a : ℕ) (q : ClientRequest) → In q (account decl a h).requests → q.number < length (mail h)
   sent_low h open_inputs run a q among =
       let k : HasGrounds (deeds a [] h) (account decl a h) = has_grounds decl (a - decl.sites) (deeds a [] h) in
       let s : (t : Current) × ((account decl a h).current ≡ Some t) × WasSent (deeds a [] h) q t.tx = k.sent q among in
-      let e : In (sent_as a q.number q.site (messages.Request s.0.tx s.2.epoch q.life q.want)) (mail h) = sent_mail a [] h q.number q.site (messages.Request s.0.tx s.2.epoch q.life q.want) s.2.is in
-      let low : q.number < 0 + length (mail h) = (number_from 0 (mail h) (sent_as a q.number q.site (messages.Request s.0.tx s.2.epoch q.life q.want)) (run_numbered (IsLawful decl) decl script h open_inputs run) e).1 in
+      let e : In (sent_as a q.number q.site (messages.Request s.0.tx s.2.epoch q.life q.want)) (mail h) =
+      sent_mail a [] h q.number q.site (messages.Request s.0.tx s.2.epoch q.life q.want) s.2.is in
+      let low : q.number < 0 + length (mail h) =
+      (number_from 0 (mail h) (sent_as a q.number q.site (messages.Request s.0.tx s.2.epoch q.life q.want))
+      (run_numbered (IsLawful decl) decl script h open_inputs run) e).1 in
       omega arith
 
   -- somebody posts
 
-  module _ (older : List Entry) (before : List Bool) (run : Runs (IsLawful decl) decl script older before) (b : ℕ) (turn : Turn) (is_opened : slice_get before b ≡ Some true) (lawful : IsLawful decl b (deeds b [] older) turn) (clear : AllClear decl older) where
+  module _ (older : List Entry) (before : List Bool) (run : Runs (IsLawful decl) decl script older before) (b : ℕ)
+      (turn : Turn) (is_opened : slice_get before b ≡ Some true) (lawful : IsLawful decl b (deeds b [] older) turn)
+      (clear : AllClear decl older) where
     n : ℕ
     n = length (mail older)
 
-    next : Runs (IsLawful decl) decl script (older ++ by b (posted (length (mail older)) turn)) (slice_set before b false)
+    next : Runs (IsLawful decl) decl script (older ++ by b (posted (length (mail older)) turn))
+        (slice_set before b false)
     next = posts b turn before older run is_opened lawful
 
-    mailed : mail (older ++ by b (posted (length (mail older)) turn)) ≡ mail older ++ envelopes b (length (mail older)) turn.sends
-    mailed = mail-append older (by b (posted (length (mail older)) turn)) ∙ ap (λ (v : List Envelope). mail older ++ v) (mail-posted b (length (mail older)) turn)
+    mailed : mail (older ++ by b (posted (length (mail older)) turn))
+        ≡ mail older ++ envelopes b (length (mail older)) turn.sends
+    mailed =
+        mail-append older (by b (posted (length (mail older)) turn))
+        ∙ ap (λ (v : List Envelope). mail older ++ v) (mail-posted b (length (mail older)) turn)
 
     -- what was sent before an earlier request stays
-    before_same : (s k : ℕ) → k ≤ length (mail older) → sent_before s k (mail (older ++ by b (posted (length (mail older)) turn))) ≡ sent_before s k (mail older)
-    before_same s k low = ap (sent_before s k) mailed ∙ ap (sent_to s) (take-append-le k (mail older) (envelopes b (length (mail older)) turn.sends) low)
+    before_same : (s k : ℕ) → k ≤ length (mail older)
+        → sent_before s k (mail (older ++ by b (posted (length (mail older)) turn))) ≡ sent_before s k (mail older)
+    before_same s k low =
+        ap (sent_before s k) mailed
+        ∙ ap (sent_to s) (take-append-le k (mail older) (envelopes b (length (mail older)) turn.sends) low)
 
     -- a request of another client, whose command runs: so the poster doesn't act
     module _ (a : ℕ) (named : is_client decl a ≡ true) (other_actor : (b == a) ≡ false) where
@@ -127,16 +156,20 @@ module _ (decl : Declaration) (script : Script) (accepted : IsAccepted decl) (as
       differs : a ≡ b → ⊥
       differs e = let here : (b == a) ≡ true = eq-eqb b a (sym e) in let never : ⊥ = cc in never
 
-      begun_on : (q : ClientRequest) → In q (account decl a older).requests → (x : TxId) → begun_by decl (client_actor decl x.client) older ≡ Some x → begun_by decl (client_actor decl x.client) (older ++ by b (posted (length (mail older)) turn)) ≡ Some x
+      begun_on : (q : ClientRequest) → In q (account decl a older).requests → (x : TxId)
+          → begun_by decl (client_actor decl x.client) older ≡ Some x
+          → begun_by decl (client_actor decl x.client) (older ++ by b (posted (length (mail older)) turn)) ≡ Some x
       begun_on q among x was = split (client_actor decl x.client == b) refl
         where
           runs : is_running (deeds a [] older) ≡ true
-          runs = (is_busy decl (a - decl.sites) (deeds a [] older) (run_up (IsLawful decl) decl script older before run a)).requests q among
+          runs = (is_busy decl (a - decl.sites) (deeds a [] older)
+              (run_up (IsLawful decl) decl script older before run a)).requests q among
 
           low : b < administrator decl
           low = posts_before decl b (deeds b [] older) turn lawful
 
-          still_at : (h : List Entry) (open_inputs : List Bool) → Runs (IsLawful decl) decl script h open_inputs → is_client decl b ≡ true → is_running (deeds a [] h) ≡ true → IsStill decl script b h
+          still_at : (h : List Entry) (open_inputs : List Bool) → Runs (IsLawful decl) decl script h open_inputs
+              → is_client decl b ≡ true → is_running (deeds a [] h) ≡ true → IsStill decl script b h
           still_at h open_inputs run_h poster running = at (one_still decl script accepted asks calm h open_inputs run_h a b named poster differs)
             where
               at : IsStill decl script a h ⊎ IsStill decl script b h → IsStill decl script b h

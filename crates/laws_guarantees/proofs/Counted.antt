@@ -1,26 +1,23 @@
 -- So of each run: no vote that counts says that its site has forgotten, and nobody is told so; and a site that is asked
 -- remembers.
-use Rattle.std.proofs.Common.{◌*◌, ◌≡◌, ◌≤◌, ◌-◌, ℕ, nat_le, Bool, true, false, List}
-use Rattle.std.proofs.Common.{length, Some, slice_get, sym, ap, ◌∙◌, subst, ltb-true}
+use Rattle.std.proofs.Common.{◌*◌, ◌≡◌, ◌≤◌, ◌-◌, ℕ, nat_le, Bool, true, false, List, length, Some, slice_get, sym, ap}
+use Rattle.std.proofs.Common.{◌∙◌, subst, ltb-true}
 use Rattle.std.specs.Prelude.{slice_set}
 use Rattle.qc_stamp.specs.declared.stamp.TxId.{TxId}
 use Rattle.qc_list.specs.Names.{In}
 use Rattle.qc_list.proofs.Members.{In-first}
 use Rattle.qc_core.specs.Names.{IsLawful, IsShown}
 use Rattle.qc_decl.specs.declared.declaration.Declaration.{Declaration}
-use Rattle.qc_decl.specs.Names.{IsAccepted, is_client, is_site, most_committed_operations}
-use Rattle.qc_decl.specs.Names.{most_record_bytes}
+use Rattle.qc_decl.specs.Names.{IsAccepted, is_client, is_site, most_committed_operations, most_record_bytes}
 use Rattle.qc_entry.specs.declared.record.Prepared.{Prepared}
 use Rattle.qc_entry.specs.Names.{without}
 use Rattle.qc_lock.specs.declared.held.Held.{Held}
 use Rattle.qc_lock.specs.Names.{held_of, is_held}
 use Rattle.qc_msg.specs.declared.message.Message.TheVariants as messages
 use Rattle.qc_msg.specs.declared.message.Want.TheVariants.{Prepare}
-use Rattle.qc_msg.specs.Names.{Deed, Entry, Sends, deeds, mail}
-use Rattle.qc_msg.specs.Names.{operations_of, turn_deeds}
+use Rattle.qc_msg.specs.Names.{Deed, Entry, Sends, deeds, mail, operations_of, turn_deeds}
 use Rattle.qc_msg.proofs.Growth.{deeds-posted}
-use Rattle.qc_promise.specs.Names.{ClientRequest, Current, account, fits_record}
-use Rattle.qc_promise.specs.Names.{held_shown, promise_due}
+use Rattle.qc_promise.specs.Names.{ClientRequest, Current, account, fits_record, held_shown, promise_due}
 use Rattle.qc_script.specs.Names.{IsScriptFor, Runs}
 use Rattle.qc_script.specs.declared.script.Script.{Script}
 use Rattle.qc_site.specs.Names.{SiteState, prepare_length, promise_of, site_after}
@@ -30,8 +27,8 @@ use Rattle.laws_due.specs.Names.{Votes}
 use Rattle.qc_client.specs.Names.{client_after}
 use Rattle.laws_guarantees.proofs.Accounts.{WasSent}
 use Rattle.laws_guarantees.proofs.RequestGrounds.{has_grounds}
-use Rattle.laws_guarantees.proofs.Stale.{client_slot, later, later_closed, later_few, later_run, same_deeds}
-use Rattle.laws_guarantees.proofs.Stale.{same_slot, still, turn}
+use Rattle.laws_guarantees.proofs.Stale.{client_slot, later, later_closed, later_few, later_run, same_deeds, same_slot}
+use Rattle.laws_guarantees.proofs.Stale.{still, turn}
 use Rattle.laws_guarantees.proofs.Voted.{asked, one_request, place, request_sent, site_has_room, site_holds, stood, tie}
 
 module _ (decl : Declaration) (script : Script) (accepted : IsAccepted decl) (sound : IsScriptFor decl script) where
@@ -50,17 +47,17 @@ module _ (decl : Declaration) (script : Script) (accepted : IsAccepted decl) (so
     closed_remembers a q t client current k free at_rest = record {
       held = subst (λ (tx : TxId). is_held (held_shown (deeds q.site [] h)) tx ≡ true) name
           (ap (λ (hs : List Held). is_held hs (tie decl script accepted sound h open_inputs run a client free q k).t.tx)
-              (sym s.held)
-              ∙ ap
-                (λ (x : SiteState). is_held x.held
-                  (tie decl script accepted sound h open_inputs run a client free q k).t.tx) (sym here)
-              ∙ site_holds decl script accepted sound h open_inputs run a client free q k);
+          (sym s.held)
+          ∙ ap
+          (λ (x : SiteState). is_held x.held
+          (tie decl script accepted sound h open_inputs run a client free q k).t.tx) (sym here)
+          ∙ site_holds decl script accepted sound h open_inputs run a client free q k);
       fits = subst (λ (tx : TxId). fits_record (promise_due (deeds q.site [] h) tx) ≡ true) name
           (ap (λ (p : Prepared). nat_le (prepare_length p) most_record_bytes) (sym same_promise)
-              ∙ ap
-                (λ (x : SiteState). nat_le (prepare_length (promise_of x
-                  (tie decl script accepted sound h open_inputs run a client free q k).t.tx)) most_record_bytes)
-                (sym here)
+          ∙ ap
+          (λ (x : SiteState). nat_le (prepare_length (promise_of x
+          (tie decl script accepted sound h open_inputs run a client free q k).t.tx)) most_record_bytes)
+          (sym here)
           ∙ site_has_room decl script accepted sound h open_inputs run a client free q k few);
     }
       where
@@ -87,7 +84,7 @@ module _ (decl : Declaration) (script : Script) (accepted : IsAccepted decl) (so
         name : (tie decl script accepted sound h open_inputs run a client free q k).t.tx ≡ t.tx
         name =
             let both_are : Some (tie decl script accepted sound h open_inputs run a client free q k).t ≡ Some t =
-                    sym (tie decl script accepted sound h open_inputs run a client free q k).current ∙ current in
+            sym (tie decl script accepted sound h open_inputs run a client free q k).current ∙ current in
             let same : (tie decl script accepted sound h open_inputs run a client free q k).t ≡ t = cc in
             ap (λ (x : Current). x.tx) same
 
@@ -118,7 +115,7 @@ module _ (decl : Declaration) (script : Script) (accepted : IsAccepted decl) (so
 
           it : Votes decl (account decl a (later decl script accepted sound h open_inputs run a client q k opened))
               (client_after decl (a - decl.sites)
-                (deeds a [] (later decl script accepted sound h open_inputs run a client q k opened))).client
+              (deeds a [] (later decl script accepted sound h open_inputs run a client q k opened))).client
           it =
               tie decl script accepted sound (later decl script accepted sound h open_inputs run a client q k opened)
               (slice_set open_inputs a false) run_after a client free q vote
@@ -131,21 +128,21 @@ module _ (decl : Declaration) (script : Script) (accepted : IsAccepted decl) (so
           sent : WasSent (deeds a [] h) q t.tx
           sent =
               let s : (u : Current) × ((account decl a h).current ≡ Some u) × WasSent (deeds a [] h) q u.tx =
-                      (has_grounds decl (a - decl.sites) (deeds a [] h)).sent q k.among in
+              (has_grounds decl (a - decl.sites) (deeds a [] h)).sent q k.among in
               let same : s.0 ≡ t = (let both_are : Some s.0 ≡ Some t = sym s.1 ∙ current in cc) in
               subst (λ (u : Current). WasSent (deeds a [] h) q u.tx) same s.2
 
           name : it.t.tx ≡ t.tx
           name = (one_request decl script accepted sound (later decl script accepted sound h open_inputs run a client q k opened) (slice_set open_inputs a false) run_after q.number q.site q.site it.t.tx t.tx Prepare q.want
               (asked decl script accepted sound (later decl script accepted sound h open_inputs run a client q k opened)
-                  (slice_set open_inputs a false) run_after a client free q vote)
+              (slice_set open_inputs a false) run_after a client free q vote)
               (request_sent decl script accepted sound
-                  (later decl script accepted sound h open_inputs run a client q k opened)
-                  (slice_set open_inputs a false) run_after a q.number q.site t.tx sent.epoch q.life q.want
+              (later decl script accepted sound h open_inputs run a client q k opened)
+              (slice_set open_inputs a false) run_after a q.number q.site t.tx sent.epoch q.life q.want
               (subst
-                  (λ (ds : List Deed). In (Sends q.number q.site (messages.Request t.tx sent.epoch q.life q.want)) ds)
-                  (sym (deeds-posted a (length (mail h)) h
-                    (turn decl script accepted sound h open_inputs run a client q k opened)))
+              (λ (ds : List Deed). In (Sends q.number q.site (messages.Request t.tx sent.epoch q.life q.want)) ds)
+              (sym (deeds-posted a (length (mail h)) h
+              (turn decl script accepted sound h open_inputs run a client q k opened)))
               (In-first (Sends q.number q.site (messages.Request t.tx sent.epoch q.life q.want)) (deeds a [] h) (turn_deeds (length (mail h)) (turn decl script accepted sound h open_inputs run a client q k opened)) sent.is)))).1
 
       by : (b : Bool) × (slice_get open_inputs a ≡ Some b) → IsRemembered (deeds q.site [] h) t.tx

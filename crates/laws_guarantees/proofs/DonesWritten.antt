@@ -1,6 +1,6 @@
 -- A Done is written only for a Decision, with its clock.
-use Rattle.std.proofs.Common.{◌≡◌, ℕ, ◌+◌, nat_le, nat_lt, Bool, true, false, cond, List, ◌∷◌, ◌++◌}
-use Rattle.std.proofs.Common.{inl, inr, Option, Some, None, refl, sym, ap}
+use Rattle.std.proofs.Common.{◌≡◌, ℕ, ◌+◌, nat_le, nat_lt, Bool, true, false, cond, List, ◌∷◌, ◌++◌, inl, inr, Option}
+use Rattle.std.proofs.Common.{Some, None, refl, sym, ap}
 use Rattle.std.specs.Prelude.{map}
 use Rattle.std.specs.Option.{option_map_or}
 use Rattle.qc_stamp.specs.declared.stamp.Stamp.{Stamp}
@@ -17,19 +17,17 @@ use Rattle.qc_msg.specs.declared.record.Record.{Record}
 use Rattle.qc_msg.specs.declared.record.Record.TheVariants as records
 use Rattle.qc_msg.specs.declared.step.Input.{Input}
 use Rattle.qc_msg.specs.declared.step.Input.TheVariants as inputs
-use Rattle.qc_msg.specs.Names.{Deed, Installing, Requested, Takes}
-use Rattle.qc_msg.specs.Names.{epoch_length}
+use Rattle.qc_msg.specs.Names.{Deed, Installing, Requested, Takes, epoch_length}
 use Rattle.qc_msg.specs.declared.message.Answer.{Answer}
 use Rattle.qc_msg.specs.declared.message.Answer.TheVariants as answers
 use Rattle.qc_msg.specs.declared.step.Fall.{Fall}
 use Rattle.qc_msg.specs.declared.step.Fall.TheVariants as causes
 use Rattle.qc_msg.specs.declared.turn.Posting.{Posting}
-use Rattle.qc_promise.specs.Names.{Fell, Sent, TurnDue, Wrote, answers_due}
-use Rattle.qc_promise.specs.Names.{close_turn, closed_shown}
-use Rattle.qc_promise.specs.Names.{done_turn, ends_with, epoch_shown, grant_due, granting_turn, heard_turn}
-use Rattle.qc_promise.specs.Names.{install_turn, is_declared, is_epoch, is_new_promise, is_promised}
-use Rattle.qc_promise.specs.Names.{posted_due, promise_turn, quiet_turn, recording_turn, refusal_due}
-use Rattle.qc_promise.specs.Names.{request_turn, sending, shut_due, telling_turn, turn_due}
+use Rattle.qc_promise.specs.Names.{Fell, Sent, TurnDue, Wrote, answers_due, close_turn, closed_shown, done_turn}
+use Rattle.qc_promise.specs.Names.{ends_with, epoch_shown, grant_due, granting_turn, heard_turn, install_turn}
+use Rattle.qc_promise.specs.Names.{is_declared, is_epoch, is_new_promise, is_promised, posted_due, promise_turn}
+use Rattle.qc_promise.specs.Names.{quiet_turn, recording_turn, refusal_due, request_turn, sending, shut_due}
+use Rattle.qc_promise.specs.Names.{telling_turn, turn_due}
 use Rattle.qc_script.specs.declared.script.Script.{Script}
 
 -- a Done is written only for a Decision with its clock
@@ -91,8 +89,8 @@ module _ (decl : Declaration) where
     where
       by : (b : Bool)
           → WritesNoDone
-            (cond b (promise_turn ds e.from e.number q.tx)
-              (sending (answers_due decl e.from e.number (grant_due ds q.want)))).write
+          (cond b (promise_turn ds e.from e.number q.tx)
+          (sending (answers_due decl e.from e.number (grant_due ds q.want)))).write
       by true t c is = let never : ⊥ = cc in never
       by false t c is = let never : ⊥ = cc in never
 
@@ -101,9 +99,9 @@ module _ (decl : Declaration) where
     where
       by : (b : Bool) (o : Option Answer)
           → WritesNoDone
-            (cond b
-              (option_map_or (λ (a : Answer). sending (answers_due decl e.from e.number a)) o
-                (granting_turn decl ds e q)) quiet_turn).write
+          (cond b
+          (option_map_or (λ (a : Answer). sending (answers_due decl e.from e.number a)) o
+          (granting_turn decl ds e q)) quiet_turn).write
       by true None t c is = granting_writes ds e q t c is
       by true (Some a) t c is = let never : ⊥ = cc in never
       by false o t c is = let never : ⊥ = cc in never
@@ -113,9 +111,9 @@ module _ (decl : Declaration) where
     where
       by : (far near again : Bool)
           → WritesNoDone
-            (cond far (telling_turn e (answers.Behind (epoch_shown ds)))
-              (cond near (telling_turn e (answers.Closed (epoch_shown ds)))
-                (cond again (telling_turn e (shut_due ds)) (recording_turn e (records.Close k) (shut_due ds))))).write
+          (cond far (telling_turn e (answers.Behind (epoch_shown ds)))
+          (cond near (telling_turn e (answers.Closed (epoch_shown ds)))
+          (cond again (telling_turn e (shut_due ds)) (recording_turn e (records.Close k) (shut_due ds))))).write
       by true near again t c is = let never : ⊥ = cc in never
       by false true again t c is = let never : ⊥ = cc in never
       by false false true t c is = let never : ⊥ = cc in never
@@ -126,9 +124,9 @@ module _ (decl : Declaration) where
     where
       by : (is_known fits : Bool)
           → WritesNoDone
-            (cond is_known (telling_turn e answers.Installed)
-              (cond fits (recording_turn e (records.Install i.epoch i.clock i.lines) answers.Installed)
-                (telling_turn e (answers.Behind (epoch_shown ds))))).write
+          (cond is_known (telling_turn e answers.Installed)
+          (cond fits (recording_turn e (records.Install i.epoch i.clock i.lines) answers.Installed)
+          (telling_turn e (answers.Behind (epoch_shown ds))))).write
       by true fits t c is = let never : ⊥ = cc in never
       by false true t c is = let never : ⊥ = cc in never
       by false false t c is = let never : ⊥ = cc in never
@@ -165,7 +163,7 @@ module _ (decl : Declaration) where
       absurd (close_writes ds (letter e (messages.Close epoch)) epoch tx clock is)
   message_brings ds tx clock e (messages.Install epoch at log) is =
       absurd (install_writes ds (letter e (messages.Install epoch at log))
-          (record { epoch = epoch; clock = at; lines = log }) tx clock is)
+      (record { epoch = epoch; clock = at; lines = log }) tx clock is)
 
   pub given_brings : (ds : List Deed) (tx : TxId) (clock : ℕ) (g : Input) (more : List Deed)
       → (turn_due decl ds g).write ≡ Some (records.Done tx clock) → IsBrought tx clock (Takes g ∷ more)

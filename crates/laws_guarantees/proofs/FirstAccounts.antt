@@ -1,6 +1,6 @@
 -- A client that hears of no other life or epoch than the first names no other in its requests.
-use Rattle.std.proofs.Common.{◌≡◌, ℕ, ◌==◌, ◌&&◌, ◌⊎◌, inl, inr, not, Bool, true, false, cond, List, ◌∷◌}
-use Rattle.std.proofs.Common.{fold, length, Option, Some, None, refl, ◌∙◌, eqb-true}
+use Rattle.std.proofs.Common.{◌≡◌, ℕ, ◌==◌, ◌&&◌, ◌⊎◌, inl, inr, not, Bool, true, false, cond, List, ◌∷◌, fold, length}
+use Rattle.std.proofs.Common.{Option, Some, None, refl, ◌∙◌, eqb-true}
 use Rattle.std.specs.List.{AllByRecursion as Every, find}
 use Rattle.std.specs.Option.{option_map_or}
 use Rattle.qc_stamp.specs.declared.stamp.TxId.{TxId}
@@ -19,12 +19,10 @@ use Rattle.qc_msg.specs.declared.reply.Reply.TheVariants as replies
 use Rattle.qc_msg.specs.declared.step.Command.{Command}
 use Rattle.qc_msg.specs.declared.step.Command.TheVariants as commands
 use Rattle.qc_msg.specs.Names.{Deed, Falls, Rises, Sends, Takes, Tells, Writes, life_of}
-use Rattle.qc_promise.specs.Names.{Account, Current, account_at, account_fallen}
-use Rattle.qc_promise.specs.Names.{account_sent, account_taken, account_told, account_told_in, account_with}
-use Rattle.qc_promise.specs.Names.{account_written, command_asks, doomed_if}
-use Rattle.qc_promise.specs.Names.{found_absent, is_append, is_asked_for, is_of, lived, new_account}
-use Rattle.qc_promise.specs.Names.{refused, requests_for, short_of}
-use Rattle.qc_promise.specs.Names.{with_absent}
+use Rattle.qc_promise.specs.Names.{Account, Current, account_at, account_fallen, account_sent, account_taken}
+use Rattle.qc_promise.specs.Names.{account_told, account_told_in, account_with, account_written, command_asks}
+use Rattle.qc_promise.specs.Names.{doomed_if, found_absent, is_append, is_asked_for, is_of, lived, new_account, refused}
+use Rattle.qc_promise.specs.Names.{requests_for, short_of, with_absent}
 use Rattle.laws_due.specs.Names.{AreByRows, IsSendDue}
 use Rattle.laws_guarantees.specs.Names.{IsFirst}
 use Rattle.laws_guarantees.proofs.FirstDeeds.{FirstLives, FirstCurrent, IsFirstAccount, changed, FirstGiven}
@@ -83,8 +81,8 @@ life_first (l ∷ lives) site first = by (l.site == site) (life_first lives site
   where
     by : (t : Bool) → (life_of lives site ≡ 0) ⊎ (life_of lives site ≡ first_life)
         → (option_map_or (λ (l : LifeAt). l.life) (cond t (Some l) (find (λ (l : LifeAt). l.site == site) lives)) 0 ≡ 0)
-            ⊎ (option_map_or (λ (l : LifeAt). l.life) (cond t (Some l) (find (λ (l : LifeAt). l.site == site) lives)) 0
-              ≡ first_life)
+        ⊎ (option_map_or (λ (l : LifeAt). l.life) (cond t (Some l) (find (λ (l : LifeAt). l.site == site) lives)) 0
+        ≡ first_life)
     by true rest = inr first.0
     by false rest = rest
 
@@ -98,15 +96,15 @@ asked_first decl d to tx epoch life want f is = by d.current f.current is
   where
     by : (o : Option Current) → FirstCurrent o
         → option_map_or (λ (t : Current). is_of t to tx epoch life && command_asks decl d t to want d.command) o false
-          ≡ true → IsFirst (messages.Request tx epoch life want)
+        ≡ true → IsFirst (messages.Request tx epoch life want)
     by None first never = absurd (let no : ⊥ = cc in no)
     by (Some t) first now =
         let mine : (is_of t to tx epoch life ≡ true) × (command_asks decl d t to want d.command ≡ true) =
-                both (is_of t to tx epoch life) (command_asks decl d t to want d.command) now in
+        both (is_of t to tx epoch life) (command_asks decl d t to want d.command) now in
         let rest : (same_tx t.tx tx ≡ true) × (((epoch == t.epoch) && (life == life_of t.lives to)) ≡ true) =
-                both (same_tx t.tx tx) ((epoch == t.epoch) && (life == life_of t.lives to)) mine.0 in
+        both (same_tx t.tx tx) ((epoch == t.epoch) && (life == life_of t.lives to)) mine.0 in
         let named : ((epoch == t.epoch) ≡ true) × ((life == life_of t.lives to) ≡ true) =
-                both (epoch == t.epoch) (life == life_of t.lives to) rest.1 in
+        both (epoch == t.epoch) (life == life_of t.lives to) rest.1 in
         let lived : life ≡ life_of t.lives to = eqb-true life (life_of t.lives to) named.1 in
         (eqb-true epoch t.epoch named.0 ∙ first.0, known lived (life_first t.lives to first.1))
       where
@@ -159,9 +157,10 @@ deeds_first decl d (Takes g ∷ ds) f due all =
     (tt, deeds_first decl (account_taken d g) ds (taken_first d g all.0 f) due.1 all.1)
 deeds_first decl d (Writes w ∷ ds) f due all =
     (tt, deeds_first decl (account_written d w) ds (written_first d w f) due.1 all.1)
-deeds_first decl d (Sends n to m ∷ ds) f due all =
-    (sent_is decl d to m f due.0,
-    deeds_first decl (account_sent decl d n to m) ds (sent_first decl d n to m f) due.1 all.1)
+deeds_first decl d (Sends n to m ∷ ds) f due all = (
+  sent_is decl d to m f due.0,
+  deeds_first decl (account_sent decl d n to m) ds (sent_first decl d n to m f) due.1 all.1,
+)
 deeds_first decl d (Tells r ∷ ds) f due all =
     (tt, deeds_first decl (account_told decl d r) ds (reply_first decl d r f) due.1 all.1)
 deeds_first decl d (Falls cause pending ∷ ds) f due all = absurd due.0

@@ -1,6 +1,5 @@
 -- What a client that hears of no other life or epoch than the first writes, sends and tells.
-use Rattle.std.proofs.Common.{◌≡◌, ℕ, max, Bool, true, false, cond, List, ◌∷◌, ◌++◌}
-use Rattle.std.proofs.Common.{Option, Some, None, option_map}
+use Rattle.std.proofs.Common.{◌≡◌, ℕ, max, Bool, true, false, cond, List, ◌∷◌, ◌++◌, Option, Some, None, option_map}
 use Rattle.std.specs.List.{AllByRecursion as Every, find}
 use Rattle.qc_list.proofs.Members.{every-append}
 use Rattle.qc_stamp.specs.Names.{first_life}
@@ -19,14 +18,11 @@ use Rattle.qc_msg.specs.declared.step.Command.{Command}
 use Rattle.qc_msg.specs.declared.step.Command.TheVariants as commands
 use Rattle.qc_msg.specs.declared.step.Input.{Input}
 use Rattle.qc_msg.specs.declared.step.Input.TheVariants as inputs
-use Rattle.qc_msg.specs.Names.{first_epoch, has_granted}
-use Rattle.qc_msg.specs.Names.{with_life}
-use Rattle.qc_promise.specs.Names.{Account, ClientRequest, Current, account_heard}
-use Rattle.qc_promise.specs.Names.{account_sent, account_taken}
-use Rattle.qc_promise.specs.Names.{account_written, answer_of, counted, counted_for}
-use Rattle.qc_promise.specs.Names.{granted, is_asked_for, is_open, lived}
-use Rattle.qc_promise.specs.Names.{promised, responded, taken_for, told_by}
-use Rattle.qc_promise.specs.Names.{with_current, with_read, with_response}
+use Rattle.qc_msg.specs.Names.{first_epoch, has_granted, with_life}
+use Rattle.qc_promise.specs.Names.{Account, ClientRequest, Current, account_heard, account_sent, account_taken}
+use Rattle.qc_promise.specs.Names.{account_written, answer_of, counted, counted_for, granted, is_asked_for, is_open}
+use Rattle.qc_promise.specs.Names.{lived, promised, responded, taken_for, told_by, with_current, with_read}
+use Rattle.qc_promise.specs.Names.{with_response}
 use Rattle.laws_guarantees.specs.Names.{IsFirst, IsFirstAnswer}
 
 abbrev pub FirstLives : List LifeAt → Type 0
@@ -68,10 +64,10 @@ granted_first : (d : Account) (site life clock : ℕ) (log : List Line) (want : 
     → IsFirstAccount d → IsFirstAccount (granted d site life clock log want)
 granted_first d site life clock log (wants.Read object inv) is f =
     changed (record d { clock = max d.clock clock }) (λ (t : Current). with_read (lived t site life) object log)
-        (λ t first. (first.0, one_life t.lives site life is first.1)) (record { known = f.known; current = f.current })
+    (λ t first. (first.0, one_life t.lives site life is first.1)) (record { known = f.known; current = f.current })
 granted_first d site life clock log (wants.Append object view own) is f =
     changed (record d { clock = max d.clock clock }) (λ (t : Current). lived t site life)
-        (λ t first. (first.0, one_life t.lives site life is first.1)) (record { known = f.known; current = f.current })
+    (λ t first. (first.0, one_life t.lives site life is first.1)) (record { known = f.known; current = f.current })
 granted_first d site life clock log wants.Prepare is f = f
 
 promised_first : (d : Account) (clock : ℕ) (want : Want) → IsFirstAccount d → IsFirstAccount (promised d clock want)
@@ -144,12 +140,11 @@ sent_first decl d number to (messages.Request tx epoch life want) f = by (is_ask
   where
     by : (t : Bool)
         → IsFirstAccount
-          (cond t
-            (record d
-              {
-                  requests =
-                      d.requests ++ record { number = number; site = to; life = life; want = want; taken = None } ∷ []
-                }) d)
+        (cond t
+        (record d {
+          requests =
+              d.requests ++ record { number = number; site = to; life = life; want = want; taken = None } ∷ [];
+        }) d)
     by true = record { known = f.known; current = f.current }
     by false = f
 sent_first decl d number to (messages.Answer request answer) f = f

@@ -41,8 +41,7 @@ use Rattle.laws_turns.proofs.ClientsWithin.{IsPost}
 use Rattle.laws_guarantees.specs.Names.{AreFirst, IsFirst}
 use Rattle.laws_guarantees.proofs.ClientWords.{AreClientWords, IsClientWord, client_words}
 use Rattle.laws_guarantees.proofs.FirstDeeds.{FirstGiven}
-use Rattle.laws_guarantees.proofs.FirstAccounts.{RequestIsFirst, SendsFirst, TakesFirst, deeds_first}
-use Rattle.laws_guarantees.proofs.FirstAccounts.{new_first}
+use Rattle.laws_guarantees.proofs.FirstAccounts.{RequestIsFirst, SendsFirst, TakesFirst, deeds_first, new_first}
 use Rattle.laws_guarantees.proofs.FirstSites.{deeds_calm, site_first}
 use Rattle.laws_guarantees.proofs.Mailed.{taken_mail}
 use Rattle.laws_guarantees.proofs.Opened.{IsAtTake, opened}

@@ -37,9 +37,8 @@ use Rattle.qc_lock.specs.declared.clash.Clash.{Clash as Conflict}
 use Rattle.qc_msg.specs.Names.{quiet}
 use Rattle.qc_stamp.specs.declared.stamp.Stamp.{Stamp}
 use Rattle.qc_site.proofs.RequestCases.{append_cases, choose, close_cases, fault_is, prepare_cases, read_cases}
-use Rattle.qc_site.proofs.Cases.{install_cases}
 use Rattle.qc_site.proofs.RequestCases.{request_cases}
-use Rattle.qc_site.proofs.Cases.{state_cases}
+use Rattle.qc_site.proofs.Cases.{install_cases, state_cases}
 use Rattle.laws_atomic.proofs.FirstSites.{IsCalmMessage}
 
 -- the answers that count as against a promise because the site has forgotten the transaction

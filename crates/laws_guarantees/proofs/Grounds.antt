@@ -17,14 +17,10 @@ use Rattle.qc_msg.specs.declared.step.Input.{Input}
 use Rattle.qc_msg.specs.declared.step.Input.TheVariants as inputs
 use Rattle.qc_msg.specs.declared.turn.Posting.{Posting}
 use Rattle.qc_msg.specs.declared.turn.Turn.{Turn}
-use Rattle.qc_msg.specs.Names.{sends_of, tells_of}
-use Rattle.qc_msg.specs.Names.{turn_deeds, writes_of}
-use Rattle.qc_promise.specs.Names.{Account, ClientRequest, account_at, account_heard, account_sent}
-use Rattle.qc_promise.specs.Names.{account_taken, account_written, counted}
-use Rattle.qc_promise.specs.Names.{counted_for, is_asked_for}
-use Rattle.qc_promise.specs.Names.{taken_for}
-use Rattle.laws_guarantees.proofs.Accounts.{after_taken}
-use Rattle.laws_guarantees.proofs.Accounts.{told_requests}
+use Rattle.qc_msg.specs.Names.{sends_of, tells_of, turn_deeds, writes_of}
+use Rattle.qc_promise.specs.Names.{Account, ClientRequest, account_at, account_heard, account_sent, account_taken}
+use Rattle.qc_promise.specs.Names.{account_written, counted, counted_for, is_asked_for, taken_for}
+use Rattle.laws_guarantees.proofs.Accounts.{after_taken, told_requests}
 
 module _ (decl : Declaration) where
   abbrev more_requests : Account → ℕ → ℕ → ℕ → Want → Account
@@ -44,11 +40,11 @@ module _ (decl : Declaration) where
       by (Some p) there =
           elim (after_taken n answer q d.requests
           (subst (In q) (told_requests (record d { requests = taken_for n answer d.requests }) p answer).0 there)) [
-        | inl old ↦ old
-        | inr now ↦
-            absurd (let some : None ≡ Some answer = sym untaken ∙ ap (λ (y : ClientRequest). y.taken) now.is in
-                    let never : ⊥ = cc in never)
-      ]
+            | inl old ↦ old
+            | inr now ↦
+                absurd (let some : None ≡ Some answer = sym untaken ∙ ap (λ (y : ClientRequest). y.taken) now.is in
+                let never : ⊥ = cc in never)
+          ]
 
   heard_open : (d : Account) (m : Message) (q : ClientRequest) → q.taken ≡ None → In q (account_heard d m).requests
       → In q d.requests
@@ -84,9 +80,9 @@ module _ (decl : Declaration) where
           → In q d.requests ⊎ ((q.number ≡ n) × (q.taken ≡ None))
       by true there =
           elim (In-more q (record { number = n; site = to; life = life; want = want; taken = None }) d.requests there) [
-        | inl old ↦ inl old
-        | inr new ↦ inr (ap (λ (y : ClientRequest). y.number) new, ap (λ (y : ClientRequest). y.taken) new)
-      ]
+            | inl old ↦ inl old
+            | inr new ↦ inr (ap (λ (y : ClientRequest). y.number) new, ap (λ (y : ClientRequest). y.taken) new)
+          ]
       by false there = inl there
   sent_same d n to (messages.Answer request answer) q among = inl among
   sent_same d n to (messages.Decision tx verdict) q among = inl among
@@ -108,11 +104,11 @@ module _ (decl : Declaration) where
   sends_old d n [] reply q among = inl (told_none d reply q among)
   sends_old d n (p ∷ ps) reply q among =
       elim (sends_old (account_sent decl d n p.to p.message) (n + 1) ps reply q among) [
-    | inl old ↦
-        elim (sent_same d n p.to p.message q old)
-        [ inl there ↦ inl there | inr new ↦ (let e : q.number ≡ n = new.0 in inr (omega arith, new.1)) ]
-    | inr new ↦ (let l : n + 1 ≤ q.number = new.0 in inr (omega arith, new.1))
-  ]
+        | inl old ↦
+            elim (sent_same d n p.to p.message q old)
+            [ inl there ↦ inl there | inr new ↦ (let e : q.number ≡ n = new.0 in inr (omega arith, new.1)) ]
+        | inr new ↦ (let l : n + 1 ≤ q.number = new.0 in inr (omega arith, new.1))
+      ]
 
   -- one after a turn was before it, or the turn sent it
   pub turn_old : (d : Account) (n : ℕ) (turn : Turn) (q : ClientRequest)

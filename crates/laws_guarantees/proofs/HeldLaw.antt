@@ -1,6 +1,6 @@
 -- What a site granted to a transaction that committed it holds until the Decision comes.
-use Rattle.std.proofs.Common.{◌≡◌, ◌≤◌, ◌&&◌, not, ℕ, suc, ◌+◌, Bool, true, false, cond, List, ◌∷◌, inl}
-use Rattle.std.proofs.Common.{inr, length, Some, refl, sym, ap, ◌∙◌, subst, arith}
+use Rattle.std.proofs.Common.{◌≡◌, ◌≤◌, ◌&&◌, not, ℕ, suc, ◌+◌, Bool, true, false, cond, List, ◌∷◌, inl, inr, length}
+use Rattle.std.proofs.Common.{Some, refl, sym, ap, ◌∙◌, subst, arith}
 use Rattle.std.specs.Prelude.{fold}
 use Rattle.std.specs.Option.{option_map_or}
 use Rattle.qc_stamp.specs.declared.stamp.TxId.{TxId}
@@ -23,11 +23,10 @@ use Rattle.qc_msg.specs.declared.message.Outcome.TheVariants as outcomes
 use Rattle.qc_msg.specs.declared.message.Want.{Want}
 use Rattle.qc_msg.specs.declared.message.Want.TheVariants.{Read, Append, Prepare}
 use Rattle.qc_msg.specs.declared.step.Input.TheVariants as inputs
-use Rattle.qc_msg.specs.Names.{Deed, Entry, Takes, deeds}
-use Rattle.qc_msg.specs.Names.{mail, request_in, written}
+use Rattle.qc_msg.specs.Names.{Deed, Entry, Takes, deeds, mail, request_in, written}
 use Rattle.theory_onecopy.specs.Names.{Executed, own_line}
-use Rattle.qc_promise.specs.Names.{Grant, held_shown, holding, is_ended, is_final, is_granted, standing}
-use Rattle.qc_promise.specs.Names.{standing_as, standing_by, stands}
+use Rattle.qc_promise.specs.Names.{Grant, held_shown, holding, is_ended, is_final, is_granted, standing, standing_as}
+use Rattle.qc_promise.specs.Names.{standing_by, stands}
 use Rattle.theory_machine.specs.Names.{IsExecutedOrChosen, IsOwnClosedAt, Item, Lock, LogLaws, Own, state}
 use Rattle.theory_machine.proofs.LogKeeps.{log_laws}
 use Rattle.theory_machine.proofs.Places.{at}
@@ -54,26 +53,26 @@ module _ (decl : Declaration) (script : Script) (accepted : IsAccepted decl) (so
   own_known : (e : Envelope) (tx : TxId) (epoch life object : ℕ) (view : List Line) (own : List OwnLine) (o : OwnLine)
       → In e (mail h) → e.message ≡ messages.Request tx epoch life (Append object view own) → In o own
       → (d : Executed)
-          × IsExecutedOrChosen ((state (mirror decl script accepted sound h open_inputs run).acts).executed tx)
-            ((state (mirror decl script accepted sound h open_inputs run).acts).chosen tx) d × (o ≡ own_line d)
+      × IsExecutedOrChosen ((state (mirror decl script accepted sound h open_inputs run).acts).executed tx)
+      ((state (mirror decl script accepted sound h open_inputs run).acts).chosen tx) d × (o ≡ own_line d)
   own_known e tx epoch life object view own o sent is among =
       let here : In e (stood decl script accepted sound h open_inputs run).net.mail =
-              subst (λ (ms : List Envelope). In e ms) (sym (stood decl script accepted sound h open_inputs run).mail_is)
-                sent in
+      subst (λ (ms : List Envelope). In e ms) (sym (stood decl script accepted sound h open_inputs run).mail_is)
+      sent in
       let b : Backed decl (state (mirror decl script accepted sound h open_inputs run).acts) (stood decl script accepted sound h open_inputs run).net.mail e.from e.to (messages.Request tx epoch life (Append object view own)) =
       subst (λ (m : Message). Backed decl (state (mirror decl script accepted sound h open_inputs run).acts)
-          (stood decl script accepted sound h open_inputs run).net.mail e.from e.to m) is
-          ((mirror decl script accepted sound h open_inputs run).agrees.mail e here) in
+      (stood decl script accepted sound h open_inputs run).net.mail e.from e.to m) is
+      ((mirror decl script accepted sound h open_inputs run).agrees.mail e here) in
       let c : IsOwnClosedAt decl (state (mirror decl script accepted sound h open_inputs run).acts).executed (state (mirror decl script accepted sound h open_inputs run).acts).chosen tx view (own_items own) o =
       (laws_now.appends (record { tx = tx; items = own_items own; view = view }) b.3.0).own_closed o
-          (in_map own_item o own among) in
+      (in_map own_item o own among) in
       (c.operation, c.known, c.is)
 
   one_operation : (tx : TxId) (c d : Executed)
       → IsExecutedOrChosen ((state (mirror decl script accepted sound h open_inputs run).acts).executed tx)
-        ((state (mirror decl script accepted sound h open_inputs run).acts).chosen tx) c
+      ((state (mirror decl script accepted sound h open_inputs run).acts).chosen tx) c
       → IsExecutedOrChosen ((state (mirror decl script accepted sound h open_inputs run).acts).executed tx)
-          ((state (mirror decl script accepted sound h open_inputs run).acts).chosen tx) d → c.number ≡ d.number → c ≡ d
+      ((state (mirror decl script accepted sound h open_inputs run).acts).chosen tx) d → c.number ≡ d.number → c ≡ d
   one_operation tx c d (inl x) (inl y) same =
       (at ((state (mirror decl script accepted sound h open_inputs run).acts).executed tx) (laws_now.order tx) d y).one
       c x same
@@ -101,19 +100,19 @@ module _ (decl : Declaration) (script : Script) (accepted : IsAccepted decl) (so
     never_ended e (outcomes.Committed stamp) taken is final = g.undecided e stamp taken is
     never_ended e outcomes.Aborted taken is final =
         let here : In (Takes (inputs.Got e)) (deeds site [] h) =
-                subst (λ (ds : List Deed). In (Takes (inputs.Got e)) ds) (sym g.stands)
-                  (In-second (Takes (inputs.Got e)) g.before (Takes (inputs.Got g.request) ∷ g.since) (inr taken)) in
+        subst (λ (ds : List Deed). In (Takes (inputs.Got e)) ds) (sym g.stands)
+        (In-second (Takes (inputs.Got e)) g.before (Takes (inputs.Got g.request) ∷ g.since) (inr taken)) in
         decisions_tell_the_records decl script h open_inputs accepted sound run e c.tx outcomes.Aborted
-            (taken_mail site [] h e here) is c committed refl
+        (taken_mail site [] h e here) is c committed refl
     never_ended e outcomes.Active taken is final = let never : ⊥ = cc in never
 
     it_stands : In asked (standing (deeds site [] h))
     it_stands = subst (λ (ds : List Deed). In asked (standing ds)) (sym g.stands) (standing_more g.before (Takes (inputs.Got g.request) ∷ g.since) asked
         (In-first asked (standing_by g.since g.request) (standing g.since)
         (subst (λ (m : Message). In asked (option_map_or (standing_as g.request.number g.since) (request_in m) []))
-            (sym g.content)
-            (by (is_granted g.request.number g.since) (is_ended c.tx g.since) g.granted
-              (not_ended c.tx g.since never_ended)))))
+        (sym g.content)
+        (by (is_granted g.request.number g.since) (is_ended c.tx g.since) g.granted
+        (not_ended c.tx g.since never_ended)))))
       where
         by : (x y : Bool) → x ≡ true → y ≡ false → In asked (cond (x && not y) (asked ∷ []) [])
         by true true is none = absurd (let never : ⊥ = cc in never)
@@ -124,13 +123,13 @@ module _ (decl : Declaration) (script : Script) (accepted : IsAccepted decl) (so
     IsKnown o =
         (d : Executed)
         × IsExecutedOrChosen ((state (mirror decl script accepted sound h open_inputs run).acts).executed c.tx)
-          ((state (mirror decl script accepted sound h open_inputs run).acts).chosen c.tx) d × (o ≡ own_line d)
+        ((state (mirror decl script accepted sound h open_inputs run).acts).chosen c.tx) d × (o ≡ own_line d)
 
     request_sent : In g.request (mail h)
     request_sent =
         taken_mail site [] h g.request
         (subst (λ (ds : List Deed). In (Takes (inputs.Got g.request)) ds) (sym g.stands)
-          (In-second (Takes (inputs.Got g.request)) g.before (Takes (inputs.Got g.request) ∷ g.since) (inl refl)))
+        (In-second (Takes (inputs.Got g.request)) g.before (Takes (inputs.Got g.request) ∷ g.since) (inl refl)))
 
     wanted_known : (x : Item) (o : OwnLine) → x ≡ Own o → IsWanted want x → IsKnown o
     wanted_known x o e is = by want refl is
@@ -138,12 +137,12 @@ module _ (decl : Declaration) (script : Script) (accepted : IsAccepted decl) (so
         by : (w : Want) → want ≡ w → IsWanted w x → IsKnown o
         by (Read object inv) same locked =
             absurd (let clash : Own o ≡ Lock (record { object = object; inv = inv }) = sym e ∙ locked in
-                    let never : ⊥ = cc in never)
+            let never : ⊥ = cc in never)
         by (Append object view own) same has =
             let one : o ≡ has.0 = (let both_are : Own o ≡ Own has.0 = sym e ∙ has.1 in cc) in
             own_known g.request c.tx g.epoch g.life object view own o request_sent
-                (g.content ∙ ap (λ (w : Want). messages.Request c.tx g.epoch g.life w) same)
-                (subst (λ (y : OwnLine). In y own) (sym one) has.2)
+            (g.content ∙ ap (λ (w : Want). messages.Request c.tx g.epoch g.life w) same)
+            (subst (λ (y : OwnLine). In y own) (sym one) has.2)
         by Prepare same never = absurd never
 
     standing_known : (k : Grant) (l : OwnLine) → In k (standing (deeds site [] h)) → k.tx ≡ c.tx
@@ -167,13 +166,13 @@ module _ (decl : Declaration) (script : Script) (accepted : IsAccepted decl) (so
         let a : IsKnown o = wanted_known x o e is in
         let b : IsKnown l = standing_known k l among same there in
         let numbers : a.0.number ≡ b.0.number =
-                sym (ap (λ (y : OwnLine). y.op) a.2) ∙ ops ∙ ap (λ (y : OwnLine). y.op) b.2 in
+        sym (ap (λ (y : OwnLine). y.op) a.2) ∙ ops ∙ ap (λ (y : OwnLine). y.op) b.2 in
         a.2 ∙ ap own_line (one_operation c.tx a.0 b.0 a.1 b.1 numbers) ∙ sym b.2
 
     wanted_held : (x : Item) → IsWanted want x → IsHeld (held_of (held_shown (deeds site [] h)) c.tx) x
     wanted_held x is =
         subst (λ (held : List Held). IsHeld (held_of held c.tx) x) (sym held_is)
-            (standing_held (standing (deeds site [] h)) [] asked x it_stands (agrees x is) is)
+        (standing_held (standing (deeds site [] h)) [] asked x it_stands (agrees x is) is)
       where
         held_is : held_shown (deeds site [] h)
             ≡ fold (λ (held : List Held) (k : Grant). holding held k.tx k.want) [] (standing (deeds site [] h))

@@ -1,7 +1,9 @@
 -- The ordering lemma of every run. If the writer's record was there at the moment, the reader was live in the machine of that moment
 -- and the writer had committed: so the line was in the view. It wasn't written between the moment and the reader's record: both would
 -- have been live. If it was written later, its client's clock had passed the reader's stamp.
-use Rattle.std.proofs.Common.{◌≡◌, ◌≢◌, ◌≤◌, ◌<◌, ◌+◌, ◌-◌, ℕ, Bool, true, cond, List, [], ◌∷◌, ◌++◌, inl, inr, Option, Some, None, slice_get, option_map, option_to_list, refl, sym, ap, ◌∙◌, subst, arith, eq-eqb, append_assoc}
+use Rattle.std.proofs.Common.{◌≡◌, ◌≢◌, ◌≤◌, ◌<◌, ◌+◌, ◌-◌, ℕ, Bool, true, cond, List, [], ◌∷◌, ◌++◌, inl, inr, Option}
+use Rattle.std.proofs.Common.{Some, None, slice_get, option_map, option_to_list, refl, sym, ap, ◌∙◌, subst, arith}
+use Rattle.std.proofs.Common.{eq-eqb, append_assoc}
 use Rattle.std.specs.Prelude.{fold}
 use Rattle.std.proofs.lemmas.List.{append-nil}
 use Rattle.std.proofs.lemmas.List.Sums.{fold-append}
@@ -40,16 +42,20 @@ use Rattle.laws_guarantees.proofs.Safe.{safe_in_first_lives}
 use Rattle.laws_guarantees.proofs.Moments.{IsWrittenIn, Moment, moment, wrote, writer, written_in}
 
 -- the record that goes with what was begun
-begun_of : (d : Account) (stamp : Stamp) (c : CommitRecord) → commit_of d stamp ≡ Some c → (t : Current) × (d.current ≡ Some t) × (c.tx ≡ t.tx) × (c.ops ≡ t.ops)
+begun_of : (d : Account) (stamp : Stamp) (c : CommitRecord) → commit_of d stamp ≡ Some c
+    → (t : Current) × (d.current ≡ Some t) × (c.tx ≡ t.tx) × (c.ops ≡ t.ops)
 begun_of d stamp c is = by d.current refl is
   where
-    by : (o : Option Current) → d.current ≡ o → option_map (λ (t : Current). record { stamp = stamp; tx = t.tx; ops = t.ops }) o ≡ Some c → (t : Current) × (d.current ≡ Some t) × (c.tx ≡ t.tx) × (c.ops ≡ t.ops)
+    by : (o : Option Current) → d.current ≡ o
+        → option_map (λ (t : Current). record { stamp = stamp; tx = t.tx; ops = t.ops }) o ≡ Some c
+        → (t : Current) × (d.current ≡ Some t) × (c.tx ≡ t.tx) × (c.ops ≡ t.ops)
     by None at e = absurd (let never : ⊥ = cc in never)
     by (Some t) at e =
         let same : c ≡ record { stamp = stamp; tx = t.tx; ops = t.ops } = cc in
         (t, at, ap (λ (x : CommitRecord). x.tx) same, ap (λ (x : CommitRecord). x.ops) same)
 
-module _ (decl : Declaration) (script : Script) (accepted : IsAccepted decl) (sound : IsScriptFor decl script) (h : List Entry) (open_inputs : List Bool) (run : Runs (IsLawful decl) decl script h open_inputs) where
+module _ (decl : Declaration) (script : Script) (accepted : IsAccepted decl) (sound : IsScriptFor decl script)
+    (h : List Entry) (open_inputs : List Bool) (run : Runs (IsLawful decl) decl script h open_inputs) where
   within : (a : ℕ) → is_client decl a ≡ true → a < actors decl
   within a client = client_within decl a client
 
@@ -57,8 +63,11 @@ module _ (decl : Declaration) (script : Script) (accepted : IsAccepted decl) (so
   deeds_due : (a : ℕ) → is_client decl a ≡ true → AreByRows decl (new_account (a - decl.sites)) (deeds a [] h)
   deeds_due a client = by (has_entry (IsLawful decl) decl script h open_inputs run a (within a client))
     where
-      by : (t : Bool) × (slice_get open_inputs a ≡ Some t) → AreByRows decl (new_account (a - decl.sites)) (deeds a [] h)
-      by slot = let acts : ActsIn decl a h slot.0 = run_acts decl script h open_inputs run a slot.0 slot.1 in clients_due decl a client (deeds a [] h) slot.0 acts.above acts.acts
+      by : (t : Bool) × (slice_get open_inputs a ≡ Some t)
+          → AreByRows decl (new_account (a - decl.sites)) (deeds a [] h)
+      by slot =
+          let acts : ActsIn decl a h slot.0 = run_acts decl script h open_inputs run a slot.0 slot.1 in
+          clients_due decl a client (deeds a [] h) slot.0 acts.above acts.acts
 
   -- a record is due where it stands: it is of what was begun, and its stamp comes next
   pub record IsDueThere (before : List Entry) (a : ℕ) (c : CommitRecord) : Type 0 where
@@ -69,11 +78,15 @@ module _ (decl : Declaration) (script : Script) (accepted : IsAccepted decl) (so
     pub stamp : c.stamp.clock ≡ (account decl a before).clock + 1
     pub due : AreByRows decl (new_account (a - decl.sites)) (deeds a [] before)
 
-  due_there : (before : List Entry) (a : ℕ) (c : CommitRecord) (after : List Entry) → h ≡ before ++ wrote a c ∷ after → is_client decl a ≡ true → IsDueThere before a c
+  due_there : (before : List Entry) (a : ℕ) (c : CommitRecord) (after : List Entry) → h ≡ before ++ wrote a c ∷ after
+      → is_client decl a ≡ true → IsDueThere before a c
   due_there before a c after is client =
       let due : AreByRows decl (new_account (a - decl.sites)) (deeds a [] before ++ Writes (records.Commit c) ∷ deeds a (mail before ++ option_to_list (envelope_of (wrote a c))) after) =
       subst (AreByRows decl (new_account (a - decl.sites))) parts (deeds_due a client) in
-      let it : IsByRow decl (account decl a before) (Writes (records.Commit c)) = due_at decl (deeds a [] before) (Writes (records.Commit c)) (deeds a (mail before ++ option_to_list (envelope_of (wrote a c))) after) (new_account (a - decl.sites)) due in
+      let it : IsByRow decl (account decl a before) (Writes (records.Commit c)) =
+      due_at decl (deeds a [] before) (Writes (records.Commit c))
+      (deeds a (mail before ++ option_to_list (envelope_of (wrote a c))) after) (new_account (a - decl.sites))
+      due in
       let b = begun_of (account decl a before) c.stamp c it.1 in
       record {
         t = b.0;
@@ -81,22 +94,38 @@ module _ (decl : Declaration) (script : Script) (accepted : IsAccepted decl) (so
         tx = b.2;
         ops = b.3;
         stamp = ap (λ (s : Stamp). s.clock) (due_stamp decl (account decl a before) c.stamp it.0);
-        due = due_front decl (deeds a [] before) (Writes (records.Commit c) ∷ deeds a (mail before ++ option_to_list (envelope_of (wrote a c))) after) (new_account (a - decl.sites)) due;
+        due =
+            due_front decl (deeds a [] before)
+            (Writes (records.Commit c) ∷ deeds a (mail before ++ option_to_list (envelope_of (wrote a c))) after)
+            (new_account (a - decl.sites)) due;
       }
     where
-      parts : deeds a [] h ≡ deeds a [] before ++ Writes (records.Commit c) ∷ deeds a (mail before ++ option_to_list (envelope_of (wrote a c))) after
-      parts = ap (deeds a []) is ∙ deeds-append a [] before (wrote a c ∷ after) ∙ ap (λ (b : Bool). deeds a [] before ++ (cond b (Writes (records.Commit c) ∷ []) [] ++ deeds a (mail before ++ option_to_list (envelope_of (wrote a c))) after)) (eq-eqb a a refl)
+      parts : deeds a [] h
+          ≡ deeds a [] before
+          ++ Writes (records.Commit c) ∷ deeds a (mail before ++ option_to_list (envelope_of (wrote a c))) after
+      parts =
+          ap (deeds a []) is ∙ deeds-append a [] before (wrote a c ∷ after)
+          ∙ ap
+          (λ (b : Bool). deeds a [] before
+          ++ (cond b (Writes (records.Commit c) ∷ []) []
+          ++ deeds a (mail before ++ option_to_list (envelope_of (wrote a c))) after)) (eq-eqb a a refl)
 
   -- a record that stands in the history
-  pub at_record : (before : List Entry) (a : ℕ) (c : CommitRecord) (after : List Entry) → h ≡ before ++ wrote a c ∷ after → IsDueThere before a c
-  at_record before a c after is = due_there before a c after is (writer decl script accepted sound before a c (moment decl script h open_inputs run before a c after is))
+  pub at_record : (before : List Entry) (a : ℕ) (c : CommitRecord) (after : List Entry)
+      → h ≡ before ++ wrote a c ∷ after → IsDueThere before a c
+  at_record before a c after is =
+      due_there before a c after is
+      (writer decl script accepted sound before a c (moment decl script h open_inputs run before a c after is))
 
-  module _ (c : CommitRecord) (op : Op) (t : Current) (k : IsToldBy decl script h c op t) (line : Line) (d : DependsOn decl h c op line) where
+  module _ (c : CommitRecord) (op : Op) (t : Current) (k : IsToldBy decl script h c op t) (line : Line)
+      (d : DependsOn decl h c op line) where
     abbrev before : List Entry
     before = k.early ++ k.middle
 
     client : is_client decl k.actor ≡ true
-    client = writer decl script accepted sound before k.actor c (moment decl script h open_inputs run before k.actor c k.after k.stands)
+    client =
+        writer decl script accepted sound before k.actor c
+        (moment decl script h open_inputs run before k.actor c k.after k.stands)
 
     at : IsDueThere before k.actor c
     at = due_there before k.actor c k.after k.stands client
@@ -105,30 +134,43 @@ module _ (decl : Declaration) (script : Script) (accepted : IsAccepted decl) (so
     other x = d.apart (d.logged.named ∙ x)
 
     -- a moment's slot
-    slot_at : (e : List Entry) (slots : List Bool) → Runs (IsLawful decl) decl script e slots → (t : Bool) × (slice_get slots k.actor ≡ Some t)
+    slot_at : (e : List Entry) (slots : List Bool) → Runs (IsLawful decl) decl script e slots
+        → (t : Bool) × (slice_get slots k.actor ≡ Some t)
     slot_at e slots r = has_entry (IsLawful decl) decl script e slots r k.actor (within k.actor client)
 
     -- the deeds until the record: those until the moment, and later ones
-    grows : (x y : List Entry) → k.middle ≡ x ++ y → deeds k.actor [] before ≡ deeds k.actor [] k.early ++ (deeds k.actor (mail k.early) x ++ deeds k.actor (mail k.early ++ mail x) y)
-    grows x y is = deeds-append k.actor [] k.early k.middle ∙ ap (λ (ds : List Deed). deeds k.actor [] k.early ++ ds) (ap (deeds k.actor (mail k.early)) is ∙ deeds-append k.actor (mail k.early) x y)
+    grows : (x y : List Entry) → k.middle ≡ x ++ y
+        → deeds k.actor [] before
+        ≡ deeds k.actor [] k.early ++ (deeds k.actor (mail k.early) x ++ deeds k.actor (mail k.early ++ mail x) y)
+    grows x y is =
+        deeds-append k.actor [] k.early k.middle
+        ∙ ap (λ (ds : List Deed). deeds k.actor [] k.early ++ ds)
+        (ap (deeds k.actor (mail k.early)) is ∙ deeds-append k.actor (mail k.early) x y)
 
     -- the writer's record was there at the moment
 
     abbrev then : Refines decl (stood decl script accepted sound k.early k.open_inputs k.run).net
     then = mirror decl script accepted sound k.early k.open_inputs k.run
 
-    seen : In d.logged.commit (written k.early) → In line (view_of t op.object) × (line.stamp.clock ≤ (account decl k.actor k.early).clock)
+    seen : In d.logged.commit (written k.early)
+        → In line (view_of t op.object) × (line.stamp.clock ≤ (account decl k.actor k.early).clock)
     seen among = reader_sees decl accepted then.acts then.run t (account decl k.actor k.early).clock
-        (live decl script accepted sound k.early k.open_inputs k.run k.actor client (slot_at k.early k.open_inputs k.run) t k.begun)
+        (live decl script accepted sound k.early k.open_inputs k.run k.actor client
+        (slot_at k.early k.open_inputs k.run) t k.begun)
         (safe_in_first_lives decl script accepted sound k.early k.open_inputs k.run t.tx)
-        d.logged.commit (then.agrees.records d.logged.commit (subst (In d.logged.commit) (sym (stood decl script accepted sound k.early k.open_inputs k.run).written_is) among))
+        d.logged.commit (then.agrees.records d.logged.commit
+        (subst (In d.logged.commit) (sym (stood decl script accepted sound k.early k.open_inputs k.run).written_is)
+        among))
         (λ x. other (x ∙ k.its)) op line k.told d.logged.stamped d.logged.named d.logged.operation d.on d.depends
 
     rises : (account decl k.actor k.early).clock ≤ (account decl k.actor before).clock
     rises =
-        let whole : deeds k.actor [] before ≡ deeds k.actor [] k.early ++ deeds k.actor (mail k.early) k.middle = deeds-append k.actor [] k.early k.middle in
+        let whole : deeds k.actor [] before ≡ deeds k.actor [] k.early ++ deeds k.actor (mail k.early) k.middle =
+        deeds-append k.actor [] k.early k.middle in
         let due : AreByRows decl (account decl k.actor k.early) (deeds k.actor (mail k.early) k.middle) =
-        due_back decl (deeds k.actor [] k.early) (deeds k.actor (mail k.early) k.middle) (new_account (k.actor - decl.sites)) (subst (AreByRows decl (new_account (k.actor - decl.sites))) whole at.due) in
+        due_back decl (deeds k.actor [] k.early) (deeds k.actor (mail k.early) k.middle)
+        (new_account (k.actor - decl.sites))
+        (subst (AreByRows decl (new_account (k.actor - decl.sites))) whole at.due) in
         let rest : (account decl k.actor k.early).clock ≤ (fold (account_at decl) (account decl k.actor k.early) (deeds k.actor (mail k.early) k.middle)).clock = clock_rises decl (deeds k.actor (mail k.early) k.middle) (account decl k.actor k.early) due in
         let same : (account decl k.actor before).clock ≡ (fold (account_at decl) (account decl k.actor k.early) (deeds k.actor (mail k.early) k.middle)).clock =
         ap (λ (a : Account). a.clock) (ap (fold (account_at decl) (new_account (k.actor - decl.sites))) whole ∙ fold-append (account_at decl) (new_account (k.actor - decl.sites)) (deeds k.actor [] k.early) (deeds k.actor (mail k.early) k.middle)) in
@@ -136,7 +178,8 @@ module _ (decl : Declaration) (script : Script) (accepted : IsAccepted decl) (so
 
     was_there : In d.logged.commit (written k.early) → IsOrdered (view_of t op.object) line c.stamp
     was_there among =
-        let r : In line (view_of t op.object) × (line.stamp.clock ≤ (account decl k.actor k.early).clock) = seen among in
+        let r : In line (view_of t op.object) × (line.stamp.clock ≤ (account decl k.actor k.early).clock) =
+        seen among in
         let low : line.stamp.clock ≤ (account decl k.actor k.early).clock = r.1 in
         let mid : (account decl k.actor k.early).clock ≤ (account decl k.actor before).clock = rises in
         let next : c.stamp.clock ≡ (account decl k.actor before).clock + 1 = at.stamp in

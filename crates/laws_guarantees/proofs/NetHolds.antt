@@ -1,7 +1,6 @@
 -- Of every net in which nobody falls: what a site granted it holds until a Decision ends its transaction, each lock was asked for, and all
 -- that a site has is sorted.
-use Rattle.std.proofs.Common.{◌≡◌, ◌⊎◌, ℕ, true, List, ◌++◌, inl, inr, length}
-use Rattle.std.proofs.Common.{refl, sym, ◌∙◌, subst}
+use Rattle.std.proofs.Common.{◌≡◌, ◌⊎◌, ℕ, true, List, ◌++◌, inl, inr, length, refl, sym, ◌∙◌, subst}
 use Rattle.qc_stamp.specs.declared.stamp.TxId.{TxId}
 use Rattle.qc_list.specs.Names.{In}
 use Rattle.qc_list.proofs.Members.{In-first}
@@ -32,7 +31,7 @@ use Rattle.laws_refinement.proofs.Refining.{nets_refine}
 use Rattle.laws_guarantees.proofs.SiteLocks.{Asks, locks_were_asked}
 use Rattle.laws_atomic.proofs.FirstSites.{IsCalmGiven, IsCalmMessage}
 use Rattle.laws_guarantees.proofs.NetMessages.{both, WasEnded, ended_more, AreFullMessages, IsGrantedBy}
-use Rattle.laws_guarantees.proofs.SiteHolds.{granted_before, _}
+use Rattle.laws_guarantees.proofs.SiteHolds.{granted_before}
 
 module _ (decl : Declaration) (accepted : IsAccepted decl) where
   abbrev HoldsOrEnded : Net → ℕ → TxId → Type 0
@@ -42,15 +41,15 @@ module _ (decl : Declaration) (accepted : IsAccepted decl) where
   client_step : (before : Net) (a : ℕ) (ps : List Posting) (r : IsCalm decl before) → is_client decl a ≡ true
       → (site : ℕ) (tx : TxId) → is_site decl site ≡ true
       → (IsGrantedBy before.mail site tx → HoldsOrEnded before site tx)
-          → IsGrantedBy (before.mail ++ envelopes a (length before.mail) ps) site tx
-          → (is_held (before.sites site).held tx ≡ true)
-            ⊎ WasEnded (before.mail ++ envelopes a (length before.mail) ps) tx
+      → IsGrantedBy (before.mail ++ envelopes a (length before.mail) ps) site tx
+      → (is_held (before.sites site).held tx ≡ true)
+      ⊎ WasEnded (before.mail ++ envelopes a (length before.mail) ps) tx
   client_step before a ps r client site tx is older k =
       elim (in_split k.answer before.mail (envelopes a (length before.mail) ps) k.sent) [
-    | inl old ↦ elim (older (granted_before decl accepted before (envelopes a (length before.mail) ps) site tx r k old)) [ inl held ↦ inl held | inr ended ↦ inr (ended_more before.mail (envelopes a (length before.mail) ps) tx ended) ]
-    | inr new ↦ (let p : Place a ps (before.mail ++ envelopes a (length before.mail) ps) k.answer = placed before.mail a (length before.mail) ps k.answer refl new in
-        absurd (both decl site is (subst (λ (n : ℕ). is_client decl n ≡ true) (sym (sym k.from ∙ p.from)) client)))
-  ]
+        | inl old ↦ elim (older (granted_before decl accepted before (envelopes a (length before.mail) ps) site tx r k old)) [ inl held ↦ inl held | inr ended ↦ inr (ended_more before.mail (envelopes a (length before.mail) ps) tx ended) ]
+        | inr new ↦ (let p : Place a ps (before.mail ++ envelopes a (length before.mail) ps) k.answer = placed before.mail a (length before.mail) ps k.answer refl new in
+            absurd (both decl site is (subst (λ (n : ℕ). is_client decl n ≡ true) (sym (sym k.from ∙ p.from)) client)))
+      ]
 
   -- what a site granted it holds, or a final Decision on the transaction was sent
   pub granted_or_ended : (net : Net) → IsCalm decl net → AreFullMessages net.mail → (site : ℕ) (tx : TxId)
@@ -58,17 +57,17 @@ module _ (decl : Declaration) (accepted : IsAccepted decl) where
   granted_or_ended net calm.begins full site tx is g = absurd g.sent
   granted_or_ended net (calm.serves a input before r served came same) full site tx is g =
       let less : AreFullMessages before.mail =
-              (λ e among. full e
-                (In-first e before.mail
-                  (envelopes a (length before.mail) (site_takes decl (before.sites a) input).turn.sends) among)) in
+      (λ e among. full e
+      (In-first e before.mail
+      (envelopes a (length before.mail) (site_takes decl (before.sites a) input).turn.sends) among)) in
       site_step before a input r served came same site tx less (granted_or_ended before r less site tx is) g
   granted_or_ended net (calm.takes a input before r client came ready) full site tx is g =
       client_step before a (client_takes decl (before.clients a) input).turn.sends r client site tx is
       (granted_or_ended before r
-          (λ e among. full e
-            (In-first e before.mail
-              (envelopes a (length before.mail) (client_takes decl (before.clients a) input).turn.sends) among)) site tx
-          is) g
+      (λ e among. full e
+      (In-first e before.mail
+      (envelopes a (length before.mail) (client_takes decl (before.clients a) input).turn.sends) among)) site tx
+      is) g
 
   -- a lock that is held was asked for
 
@@ -89,16 +88,16 @@ module _ (decl : Declaration) (accepted : IsAccepted decl) where
   asked_step net a s (inputs.Lost number) tx lock came calm among = inl among
   asked_step net a s (inputs.Got e) tx lock came calm among =
       elim (locks_were_asked decl (passed s e.message) e.from e.number e.message tx lock calm among) [
-    | inl old ↦ inl old
-    | inr asks ↦ inr (record { envelope = e; sent = came.0; asks = asks })
-  ]
+        | inl old ↦ inl old
+        | inr asks ↦ inr (record { envelope = e; sent = came.0; asks = asks })
+      ]
 
   pub locks_asked : (net : Net) → IsCalm decl net → (site : ℕ) (tx : TxId) (lock : ReadLock)
       → In lock (held_of (net.sites site).held tx).locks → WasAsked net.mail tx lock
   locks_asked net calm.begins site tx lock among = absurd among
   locks_asked net (calm.serves a input before r served came same) site tx lock among =
       asked_more before.mail (envelopes a (length before.mail) (site_takes decl (before.sites a) input).turn.sends) tx
-          lock
+      lock
       (by (put_one (λ (n : ℕ) (s : SiteState). In lock (held_of s.held tx).locks → In lock (held_of (before.sites n).held tx).locks ⊎ WasAsked before.mail tx lock) before.sites a (site_takes decl (before.sites a) input).site site
       (asked_step before a (before.sites a) input tx lock came same) (λ other there. inl there) among) (locks_asked before r site tx lock))
     where
@@ -109,7 +108,7 @@ module _ (decl : Declaration) (accepted : IsAccepted decl) where
       by (inr new) older = new
   locks_asked net (calm.takes a input before r client came ready) site tx lock among =
       asked_more before.mail (envelopes a (length before.mail) (client_takes decl (before.clients a) input).turn.sends)
-          tx lock (locks_asked before r site tx lock among)
+      tx lock (locks_asked before r site tx lock among)
 
   -- all that a site has is sorted
 
@@ -138,7 +137,7 @@ module _ (decl : Declaration) (accepted : IsAccepted decl) where
   sorted_step net a s (inputs.Got e) r came calm sorted =
       let m : Refines decl net = nets_refine decl accepted net (is_reached decl net r) in
       stays_sorted decl s e.from e.number e.message sorted
-          (sorted_message net e.from e.to e.message m calm (m.agrees.mail e came.0))
+      (sorted_message net e.from e.to e.message m calm (m.agrees.mail e came.0))
 
   pub sites_sorted : (net : Net) → IsCalm decl net → (site : ℕ) → IsSiteSorted (net.sites site)
   sites_sorted net calm.begins site =
@@ -147,11 +146,11 @@ module _ (decl : Declaration) (accepted : IsAccepted decl) where
         log = tt;
         recorded = tt;
         held = record { single = tt; full = tt; sorted = tt };
-        prepared = tt
+        prepared = tt;
       }
   sites_sorted net (calm.serves a input before r served came same) site =
       put_one (λ (n : ℕ) (s : SiteState). IsSiteSorted s) before.sites a (site_takes decl (before.sites a) input).site
-          site
+      site
       (sorted_step before a (before.sites a) input r came same (sites_sorted before r a))
-          (λ other. sites_sorted before r site)
+      (λ other. sites_sorted before r site)
   sites_sorted net (calm.takes a input before r client came ready) site = sites_sorted before r site

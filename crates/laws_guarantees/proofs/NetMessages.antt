@@ -32,10 +32,8 @@ use Rattle.laws_refinement.proofs.Machine.{put_one, slice_get-append}
 use Rattle.laws_refinement.proofs.Posts.{Place, placed}
 use Rattle.laws_refinement.proofs.Refining.{nets_refine}
 use Rattle.laws_guarantees.proofs.SiteLocks.{Asks, locks_were_asked}
-use Rattle.laws_guarantees.proofs.AnswersToInputs.{IsAnswering, IsAnsweringTo, answers_inputs}
-use Rattle.laws_guarantees.proofs.SiteMoves.{EndsBy, IsFull}
-use Rattle.laws_guarantees.proofs.AnswersToInputs.{answers_request}
-use Rattle.laws_guarantees.proofs.SiteMoves.{granted_is_held, held_stays}
+use Rattle.laws_guarantees.proofs.AnswersToInputs.{IsAnswering, IsAnsweringTo, answers_inputs, answers_request}
+use Rattle.laws_guarantees.proofs.SiteMoves.{EndsBy, IsFull, granted_is_held, held_stays}
 use Rattle.laws_atomic.proofs.FirstSites.{IsCalmGiven, IsCalmMessage}
 
 -- no actor is a site and a client

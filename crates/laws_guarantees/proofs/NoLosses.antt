@@ -1,6 +1,6 @@
 -- In an undisturbed run nobody takes that a request is lost, and no account counts a loss.
-use Rattle.std.proofs.Common.{◌≡◌, ℕ, ◌+◌, ◌-◌, ◌==◌, ◌⊎◌, inl, inr, Bool, true, false, cond, List, ◌∷◌, ◌++◌}
-use Rattle.std.proofs.Common.{fold, length, Option, Some, None, refl, sym, ap, ◌∙◌, subst, eqb-true}
+use Rattle.std.proofs.Common.{◌≡◌, ℕ, ◌+◌, ◌-◌, ◌==◌, ◌⊎◌, inl, inr, Bool, true, false, cond, List, ◌∷◌, ◌++◌, fold}
+use Rattle.std.proofs.Common.{length, Option, Some, None, refl, sym, ap, ◌∙◌, subst, eqb-true}
 use Rattle.std.specs.Prelude.{drop}
 use Rattle.std.specs.List.{AllByRecursion as Every, find}
 use Rattle.qc_list.specs.Names.{In}
@@ -28,9 +28,9 @@ use Rattle.laws_turns.proofs.Acted.{deeds-silent}
 use Rattle.laws_turns.proofs.Arrivals.{what_is_ready_was_sent}
 use Rattle.laws_turns.proofs.ReadyFirst.{ready_loss}
 use Rattle.laws_turns.proofs.Numbered.{control_silent, phase_silent}
-use Rattle.qc_promise.specs.Names.{Account, ClientRequest, account_at, account_fallen, account_heard}
-use Rattle.qc_promise.specs.Names.{account_sent, account_taken, account_with, account_written, counted, counted_for}
-use Rattle.qc_promise.specs.Names.{is_asked_for, is_open, taken_for}
+use Rattle.qc_promise.specs.Names.{Account, ClientRequest, account_at, account_fallen, account_heard, account_sent}
+use Rattle.qc_promise.specs.Names.{account_taken, account_with, account_written, counted, counted_for, is_asked_for}
+use Rattle.qc_promise.specs.Names.{is_open, taken_for}
 use Rattle.laws_turns.proofs.Bounding.{turn-posts}
 use Rattle.laws_turns.proofs.ClientsWithin.{IsPost}
 use Rattle.laws_guarantees.specs.Names.{Arrives, IsUndisturbed}
@@ -66,7 +66,7 @@ counted_lost d n answer none q among is = by (find (is_open n) d.requests) among
     by (Some p) there =
         taken (after_taken n (Some answer) q d.requests
         (subst (In q) (told_requests (record d { requests = taken_for n (Some answer) d.requests }) p (Some answer)).0
-          there))
+        there))
 
 heard_lost : (d : Account) (m : Message) → NoneLost d → NoneLost (account_heard d m)
 heard_lost d (messages.Request tx epoch life want) none = none
@@ -92,9 +92,9 @@ sent_lost decl d n to (messages.Request tx epoch life want) none = by (is_asked_
   where
     by : (t : Bool) → NoneLost
         (cond t
-          (record d
-            { requests = d.requests ++ record { number = n; site = to; life = life; want = want; taken = None } ∷ [] })
-          d)
+        (record d
+        { requests = d.requests ++ record { number = n; site = to; life = life; want = want; taken = None } ∷ [] })
+        d)
     by true q among is =
         more (In-more q (record { number = n; site = to; life = life; want = want; taken = None }) d.requests among)
       where
@@ -150,7 +150,7 @@ module _ (decl : Declaration) (script : Script) (calm : IsUndisturbed script) wh
           let r : Arrives script b older = no_request_is_lost decl script older before calm run b in
           let none : (inbox script b older).lost ≡ [] = r.calm.lost in
           let lost : (inbox script b older).lost ≡ n ∷ drop 1 (inbox script b older).lost =
-                  ready_loss decl b (inbox script b older) n (rdy ∙ ap (λ (x : Input). Some x) is) in
+          ready_loss decl b (inbox script b older) n (rdy ∙ ap (λ (x : Input). Some x) is) in
           let never : ⊥ = cc in never
 
       at : (t : Bool) → (b == a) ≡ t → Every IsNoLoss (deeds a [] older)
@@ -167,17 +167,17 @@ module _ (decl : Declaration) (script : Script) (calm : IsUndisturbed script) wh
           → Every IsNoLoss (deeds a [] (older ++ by b (posted (length (mail older)) turn)))
       at true same old =
           subst (λ (k : ℕ). Every IsNoLoss (deeds k [] (older ++ by b (posted (length (mail older)) turn))))
-              (eqb-true b a same)
+          (eqb-true b a same)
           (subst (Every IsNoLoss) (sym (deeds-posted b (length (mail older)) older turn))
           (every-append IsNoLoss (deeds b [] older) (turn_deeds (length (mail older)) turn)
-              (subst (λ (k : ℕ). Every IsNoLoss (deeds k [] older)) (sym (eqb-true b a same)) old)
+          (subst (λ (k : ℕ). Every IsNoLoss (deeds k [] older)) (sym (eqb-true b a same)) old)
           (post_lost (turn_deeds (length (mail older)) turn) (turn-posts (length (mail older)) turn))))
       at false other old =
           subst (Every IsNoLoss) (sym (deeds-other b a [] older (posted (length (mail older)) turn) other)) old
   run_no_loss h open_inputs (phase before older run none done rests more) a =
       subst (Every IsNoLoss)
-          (sym (deeds-silent a (controller decl) older (steps.Phase (phase_of older + 1))
-            (phase_silent (phase_of older + 1)))) (run_no_loss older before run a)
+      (sym (deeds-silent a (controller decl) older (steps.Phase (phase_of older + 1))
+      (phase_silent (phase_of older + 1)))) (run_no_loss older before run a)
   run_no_loss h open_inputs (control line lines step before older run left is) a =
       subst (Every IsNoLoss) (sym (deeds-silent a (controller decl) older step (control_silent line step is)))
-          (run_no_loss older before run a)
+      (run_no_loss older before run a)

@@ -1,5 +1,6 @@
 -- Only a transaction's own client asks for it and tells its end. So what is open at a site by the mail is begun.
-use Rattle.std.proofs.Common.{◌≡◌, ℕ, ◌+◌, ◌-◌, ◌<◌, ◌≤◌, ◌==◌, ◌&&◌, nat_le, nat_lt, Bool, true, false, cond, List, [], ◌∷◌, ◌++◌, fold, Option, Some, None, slice_get, refl, sym, ap, ◌∙◌, subst, arith, eq-eqb}
+use Rattle.std.proofs.Common.{◌≡◌, ℕ, ◌+◌, ◌-◌, ◌<◌, ◌≤◌, ◌==◌, ◌&&◌, nat_le, nat_lt, Bool, true, false, cond, List, []}
+use Rattle.std.proofs.Common.{◌∷◌, ◌++◌, fold, Option, Some, None, slice_get, refl, sym, ap, ◌∙◌, subst, arith, eq-eqb}
 use Rattle.std.specs.Prelude.{option_to_list}
 use Rattle.std.specs.List.{AllByRecursion as Every, cons_option}
 use Rattle.std.proofs.lemmas.Bool.{le-leb, ltb-true, ltb-false, lt-ltb}
@@ -77,16 +78,25 @@ module _ (s : ℕ) (x : TxId) (c : ℕ) where
   abbrev open_env : Bool → Envelope → Bool
   open_env before e = open_sent s x before e.to e.message
 
-  filtered : (before : Bool) (ms : List Envelope) → fold (λ (was : Bool) (e : Envelope). open_said x was e.message) before (sent_to s ms) ≡ fold (λ (was : Bool) (e : Envelope). open_sent s x was e.to e.message) before ms
+  filtered : (before : Bool) (ms : List Envelope)
+      → fold (λ (was : Bool) (e : Envelope). open_said x was e.message) before (sent_to s ms)
+      ≡ fold (λ (was : Bool) (e : Envelope). open_sent s x was e.to e.message) before ms
   filtered before [] = refl
   filtered before (e ∷ ms) = by (e.to == s) (λ was. filtered was ms)
     where
-      by : (t : Bool) → ((was : Bool) → fold (λ (was : Bool) (e : Envelope). open_said x was e.message) was (sent_to s ms) ≡ fold (λ (was : Bool) (e : Envelope). open_sent s x was e.to e.message) was ms)
-          → fold (λ (was : Bool) (e : Envelope). open_said x was e.message) before (cond t (e ∷ sent_to s ms) (sent_to s ms)) ≡ fold (λ (was : Bool) (e : Envelope). open_sent s x was e.to e.message) (cond t (open_said x before e.message) before) ms
+      by : (t : Bool)
+          → ((was : Bool)
+          → fold (λ (was : Bool) (e : Envelope). open_said x was e.message) was (sent_to s ms)
+          ≡ fold (λ (was : Bool) (e : Envelope). open_sent s x was e.to e.message) was ms)
+          → fold (λ (was : Bool) (e : Envelope). open_said x was e.message) before
+          (cond t (e ∷ sent_to s ms) (sent_to s ms))
+          ≡ fold (λ (was : Bool) (e : Envelope). open_sent s x was e.to e.message)
+          (cond t (open_said x before e.message) before) ms
       by true rest = rest (open_said x before e.message)
       by false rest = rest before
 
-  nothing_done : (before mine : Bool) (d : Deed) → open_did s x before d ≡ before → fold (open_did s x) before (cond mine (d ∷ []) []) ≡ before
+  nothing_done : (before mine : Bool) (d : Deed) → open_did s x before d ≡ before
+      → fold (open_did s x) before (cond mine (d ∷ []) []) ≡ before
   nothing_done before true d same = same
   nothing_done before false d same = refl
 
@@ -99,20 +109,28 @@ module _ (s : ℕ) (x : TxId) (c : ℕ) where
   hears before true (Some e) = refl
   hears before false o = refl
 
-  sent_same : (b n to : ℕ) (m : Message) (before : Bool) → IsOwn c x (record { number = n; from = b; to = to; message = m })
+  sent_same : (b n to : ℕ) (m : Message) (before : Bool)
+      → IsOwn c x (record { number = n; from = b; to = to; message = m })
       → fold (open_did s x) before (cond (b == c) (Sends n to m ∷ []) []) ≡ open_sent s x before to m
   sent_same b n to m before own = by (b == c) refl
     where
       quiet : (b == c) ≡ false → (t : Bool) → before ≡ cond t (open_said x before m) before
-      quiet other true = sym (unconcerned x before m (λ concerns. let same : b ≡ c = own concerns in let here : (b == c) ≡ true = eq-eqb b c same in let never : ⊥ = cc in never))
+      quiet other true =
+          sym (unconcerned x before m
+          (λ concerns. let same : b ≡ c = own concerns in let here : (b == c)
+          ≡ true = eq-eqb b c same in let never : ⊥ = cc in never))
       quiet other false = refl
 
-      by : (t : Bool) → (b == c) ≡ t → fold (open_did s x) before (cond t (Sends n to m ∷ []) []) ≡ open_sent s x before to m
+      by : (t : Bool) → (b == c) ≡ t
+          → fold (open_did s x) before (cond t (Sends n to m ∷ []) []) ≡ open_sent s x before to m
       by true is = refl
       by false other = quiet other (to == s)
 
-  step_same : (b : ℕ) (ms : List Envelope) (step : Step) (before : Bool) → Every (IsOwn c x) (option_to_list (envelope_at b step))
-      → fold (open_did s x) before (cond (b == c) (deed_at ms step) []) ≡ fold (λ (was : Bool) (e : Envelope). open_sent s x was e.to e.message) before (option_to_list (envelope_at b step))
+  step_same : (b : ℕ) (ms : List Envelope) (step : Step) (before : Bool)
+      → Every (IsOwn c x) (option_to_list (envelope_at b step))
+      → fold (open_did s x) before (cond (b == c) (deed_at ms step) [])
+      ≡ fold (λ (was : Bool) (e : Envelope). open_sent s x was e.to e.message) before
+      (option_to_list (envelope_at b step))
   step_same b ms (steps.Phase k) before own = no_deed before (b == c)
   step_same b ms (steps.Cut y z) before own = no_deed before (b == c)
   step_same b ms (steps.Heal y z) before own = no_deed before (b == c)
@@ -127,7 +145,8 @@ module _ (s : ℕ) (x : TxId) (c : ℕ) where
   step_same b ms (steps.Rose records) before own = nothing_done before (b == c) _ refl
   step_same b ms (steps.Damaged offset) before own = no_deed before (b == c)
 
-  first_own : (o : Option Envelope) (es : List Envelope) → Every (IsOwn c x) (cons_option o es) → Every (IsOwn c x) (option_to_list o)
+  first_own : (o : Option Envelope) (es : List Envelope) → Every (IsOwn c x) (cons_option o es)
+      → Every (IsOwn c x) (option_to_list o)
   first_own None es all = tt
   first_own (Some e) es all = (all.0, tt)
 
@@ -135,22 +154,31 @@ module _ (s : ℕ) (x : TxId) (c : ℕ) where
   rest_own None es all = all
   rest_own (Some e) es all = all.1
 
-  split_mail : (o : Option Envelope) (es : List Envelope) (before : Bool) → fold (λ (was : Bool) (e : Envelope). open_sent s x was e.to e.message) before (cons_option o es)
-      ≡ fold (λ (was : Bool) (e : Envelope). open_sent s x was e.to e.message) (fold (λ (was : Bool) (e : Envelope). open_sent s x was e.to e.message) before (option_to_list o)) es
+  split_mail : (o : Option Envelope) (es : List Envelope) (before : Bool)
+      → fold (λ (was : Bool) (e : Envelope). open_sent s x was e.to e.message) before (cons_option o es)
+      ≡ fold (λ (was : Bool) (e : Envelope). open_sent s x was e.to e.message)
+      (fold (λ (was : Bool) (e : Envelope). open_sent s x was e.to e.message) before (option_to_list o)) es
   split_mail None es before = refl
   split_mail (Some e) es before = refl
 
-  mail_tells : (ms : List Envelope) (h : List Entry) (before : Bool) → Every (IsOwn c x) (mail h) → fold (open_did s x) before (deeds c ms h) ≡ fold (λ (was : Bool) (e : Envelope). open_sent s x was e.to e.message) before (mail h)
+  mail_tells : (ms : List Envelope) (h : List Entry) (before : Bool) → Every (IsOwn c x) (mail h)
+      → fold (open_did s x) before (deeds c ms h)
+      ≡ fold (λ (was : Bool) (e : Envelope). open_sent s x was e.to e.message) before (mail h)
   mail_tells ms [] before own = refl
   mail_tells ms (e ∷ h) before own =
-      fold-append (open_did s x) before (cond (e.actor == c) (deed_at ms e.step) []) (deeds c (ms ++ option_to_list (envelope_of e)) h)
-      ∙ ap (λ (was : Bool). fold (open_did s x) was (deeds c (ms ++ option_to_list (envelope_of e)) h)) (step_same e.actor ms e.step before (first_own (envelope_of e) (mail h) own))
-      ∙ mail_tells (ms ++ option_to_list (envelope_of e)) h (fold (λ (was : Bool) (e : Envelope). open_sent s x was e.to e.message) before (option_to_list (envelope_of e))) (rest_own (envelope_of e) (mail h) own)
+      fold-append (open_did s x) before (cond (e.actor == c) (deed_at ms e.step) [])
+      (deeds c (ms ++ option_to_list (envelope_of e)) h)
+      ∙ ap (λ (was : Bool). fold (open_did s x) was (deeds c (ms ++ option_to_list (envelope_of e)) h))
+      (step_same e.actor ms e.step before (first_own (envelope_of e) (mail h) own))
+      ∙ mail_tells (ms ++ option_to_list (envelope_of e)) h
+      (fold (λ (was : Bool) (e : Envelope). open_sent s x was e.to e.message) before
+      (option_to_list (envelope_of e))) (rest_own (envelope_of e) (mail h) own)
       ∙ sym (split_mail (envelope_of e) (mail h) before)
 
 -- in each run
 
-module _ (decl : Declaration) (script : Script) (accepted : IsAccepted decl) (asks : AsksDeclared decl script) (h : List Entry) (open_inputs : List Bool) (run : Runs (IsLawful decl) decl script h open_inputs) where
+module _ (decl : Declaration) (script : Script) (accepted : IsAccepted decl) (asks : AsksDeclared decl script)
+    (h : List Entry) (open_inputs : List Bool) (run : Runs (IsLawful decl) decl script h open_inputs) where
   good : Good decl h
   good = all_good decl script accepted h open_inputs run
 
@@ -163,7 +191,9 @@ module _ (decl : Declaration) (script : Script) (accepted : IsAccepted decl) (as
   -- who sends something is a site or a client
 
   pub client_is : (a : ℕ) → decl.sites ≤ a → a < administrator decl → is_client decl a ≡ true
-  client_is a above low = by (nat_le decl.sites a) (nat_lt a (administrator decl)) (le-leb decl.sites a above) (lt-ltb a (administrator decl) low)
+  client_is a above low =
+      by (nat_le decl.sites a) (nat_lt a (administrator decl)) (le-leb decl.sites a above)
+      (lt-ltb a (administrator decl) low)
     where
       by : (t u : Bool) → t ≡ true → u ≡ true → (t && u) ≡ true
       by true u is now = now
@@ -175,16 +205,22 @@ module _ (decl : Declaration) (script : Script) (accepted : IsAccepted decl) (as
       by : (t : Bool) → nat_lt e.from (administrator decl) ≡ t → is_client decl e.from ≡ true
       by true low = client_is e.from above (ltb-true e.from (administrator decl) low)
       by false past =
-          absurd (every-In IsInput (Sends e.number e.to e.message) (deeds e.from [] h) (idle decl e.from (ltb-false e.from (administrator decl) past) script h open_inputs run) (mail_sent [] h e among))
+          absurd (every-In IsInput (Sends e.number e.to e.message) (deeds e.from [] h)
+          (idle decl e.from (ltb-false e.from (administrator decl) past) script h open_inputs run)
+          (mail_sent [] h e among))
 
-  born_own : (a : ℕ) (named : is_client decl a ≡ true) (x : TxId) → (status (deeds a [] h) x ≡ Unborn → ⊥) → a ≡ client_actor decl x.client
+  born_own : (a : ℕ) (named : is_client decl a ≡ true) (x : TxId) → (status (deeds a [] h) x ≡ Unborn → ⊥)
+      → a ≡ client_actor decl x.client
   born_own a named x born =
-      let p : HasPage decl accepted a (client_no_site decl a named) named x (deeds a [] h) = pages decl accepted a (client_no_site decl a named) named x (deeds a [] h) (place a named).is_open (turns a named).above (turns a named).acts (good.known a named x) in
+      let p : HasPage decl accepted a (client_no_site decl a named) named x (deeds a [] h) =
+      pages decl accepted a (client_no_site decl a named) named x (deeds a [] h) (place a named).is_open
+      (turns a named).above (turns a named).acts (good.known a named x) in
       let mine : x.client ≡ a - decl.sites = p.is.mine born ∙ p.client in
       sym (ap (λ (n : ℕ). decl.sites + n) mine ∙ client_number decl a named)
 
   ended_born : (x : TxId) (v : Outcome) (st : Status) → Came x v st → st ≡ Unborn → ⊥
-  ended_born x (outcomes.Committed stamp) st came is = let e : Committed stamp ≡ Unborn = sym came ∙ is in let never : ⊥ = cc in never
+  ended_born x (outcomes.Committed stamp) st came is =
+      let e : Committed stamp ≡ Unborn = sym came ∙ is in let never : ⊥ = cc in never
   ended_born x outcomes.Aborted st came is = let e : Dead ≡ Unborn = sym came ∙ is in let never : ⊥ = cc in never
   ended_born x outcomes.Active st came is = came is
 
@@ -195,49 +231,68 @@ module _ (decl : Declaration) (script : Script) (accepted : IsAccepted decl) (as
       sent m is = subst (λ (m : Message). In (Sends e.number e.to m) (deeds e.from [] h)) is (mail_sent [] h e among)
 
       proper : IsProperFrom decl e.from e.to e.message
-      proper = every-In (λ (e : Envelope). IsProperFrom decl e.from e.to e.message) e (mail h) (run_proper decl script accepted asks h open_inputs run) among
+      proper =
+          every-In (λ (e : Envelope). IsProperFrom decl e.from e.to e.message) e (mail h)
+          (run_proper decl script accepted asks h open_inputs run) among
 
       by : (m : Message) → e.message ≡ m → Concerns x m → e.from ≡ client_actor decl x.client
       by (messages.Request tx epoch life want) is same =
-          let p : IsProperFrom decl e.from e.to (messages.Request tx epoch life want) = subst (IsProperFrom decl e.from e.to) is proper in
+          let p : IsProperFrom decl e.from e.to (messages.Request tx epoch life want) =
+          subst (IsProperFrom decl e.from e.to) is proper in
           let named : is_client decl e.from ≡ true = sender_is e among p.0 in
           let its : tx ≡ x = tx_apart tx x same in
           born_own e.from named x (request_born x Unborn (deeds e.from [] h) e.number e.to epoch life want (moves_on decl script h open_inputs accepted run e.from named x)
-          (subst (λ (t : TxId). In (Sends e.number e.to (messages.Request t epoch life want)) (deeds e.from [] h)) its (sent (messages.Request tx epoch life want) is)))
+          (subst (λ (t : TxId). In (Sends e.number e.to (messages.Request t epoch life want)) (deeds e.from [] h)) its
+          (sent (messages.Request tx epoch life want) is)))
       by (messages.Answer to answer) is never = absurd never
       by (messages.Decision tx verdict) is same =
           let w : IsMail decl h e = every-In (IsMail decl h) e (mail h) good.mail_is among in
           let named : is_client decl e.from ≡ true = subst (IsFromClient decl e.from) is w.from in
           let its : tx ≡ x = tx_apart tx x same in
           born_own e.from named x (ended_born x verdict (status (deeds e.from [] h) x) (verdict_came x Unborn (deeds e.from [] h) e.number e.to verdict (moves_on decl script h open_inputs accepted run e.from named x)
-          (subst (λ (t : TxId). In (Sends e.number e.to (messages.Decision t verdict)) (deeds e.from [] h)) its (sent (messages.Decision tx verdict) is))))
+          (subst (λ (t : TxId). In (Sends e.number e.to (messages.Decision t verdict)) (deeds e.from [] h)) its
+          (sent (messages.Decision tx verdict) is))))
       by (messages.Inquiry tx) is never = absurd never
       by (messages.Ask tx) is never = absurd never
       by (messages.Close epoch) is never = absurd never
       by (messages.Install epoch clock log) is never = absurd never
 
   -- what is open at a site by the mail is open by its client's deeds, and so the begun one
-  pub open_begun : (s : ℕ) (x : TxId) → is_open_at s x (mail h) ≡ true → begun_by decl (client_actor decl x.client) h ≡ Some x
+  pub open_begun : (s : ℕ) (x : TxId) → is_open_at s x (mail h) ≡ true
+      → begun_by decl (client_actor decl x.client) h ≡ Some x
   open_begun s x is = by (is_client decl (client_actor decl x.client)) refl
     where
       c : ℕ
       c = client_actor decl x.client
 
       done : open_done s x (deeds (client_actor decl x.client) [] h) ≡ true
-      done = mail_tells s x (client_actor decl x.client) [] h false (every-from_In (IsOwn (client_actor decl x.client) x) (mail h) (own_word x)) ∙ sym (filtered s x (client_actor decl x.client) false (mail h)) ∙ is
+      done =
+          mail_tells s x (client_actor decl x.client) [] h false
+          (every-from_In (IsOwn (client_actor decl x.client) x) (mail h) (own_word x))
+          ∙ sym (filtered s x (client_actor decl x.client) false (mail h)) ∙ is
 
       above : decl.sites ≤ client_actor decl x.client
       above = omega arith
 
-      by : (t : Bool) → is_client decl (client_actor decl x.client) ≡ t → begun_by decl (client_actor decl x.client) h ≡ Some x
-      by true named = open_named decl accepted (client_actor decl x.client) (client_no_site decl (client_actor decl x.client) named) named s x (deeds (client_actor decl x.client) [] h) (place (client_actor decl x.client) named).is_open
+      by : (t : Bool) → is_client decl (client_actor decl x.client) ≡ t
+          → begun_by decl (client_actor decl x.client) h ≡ Some x
+      by true named =
+          open_named decl accepted (client_actor decl x.client) (client_no_site decl (client_actor decl x.client) named)
+          named s x (deeds (client_actor decl x.client) [] h) (place (client_actor decl x.client) named).is_open
           (turns (client_actor decl x.client) named).above (turns (client_actor decl x.client) named).acts done
       by false other = at (nat_lt (client_actor decl x.client) (administrator decl)) refl
         where
-          at : (u : Bool) → nat_lt (client_actor decl x.client) (administrator decl) ≡ u → begun_by decl (client_actor decl x.client) h ≡ Some x
-          at true low = absurd (let yes : is_client decl (client_actor decl x.client) ≡ true = client_is (client_actor decl x.client) above (ltb-true (client_actor decl x.client) (administrator decl) low) in let never : ⊥ = cc in never)
+          at : (u : Bool) → nat_lt (client_actor decl x.client) (administrator decl) ≡ u
+              → begun_by decl (client_actor decl x.client) h ≡ Some x
+          at true low =
+              absurd (let yes : is_client decl (client_actor decl x.client) ≡ true =
+              client_is (client_actor decl x.client) above
+              (ltb-true (client_actor decl x.client) (administrator decl) low) in
+              let never : ⊥ = cc in never)
           at false past =
               let shut : open_done s x (deeds (client_actor decl x.client) [] h) ≡ false =
-              idle_open s x (deeds (client_actor decl x.client) [] h) false (idle decl (client_actor decl x.client) (ltb-false (client_actor decl x.client) (administrator decl) past) script h open_inputs run) in
+              idle_open s x (deeds (client_actor decl x.client) [] h) false
+              (idle decl (client_actor decl x.client)
+              (ltb-false (client_actor decl x.client) (administrator decl) past) script h open_inputs run) in
               let opened : open_done s x (deeds (client_actor decl x.client) [] h) ≡ true = done in
               absurd (let never : ⊥ = cc in never)

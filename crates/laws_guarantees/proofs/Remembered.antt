@@ -1,6 +1,6 @@
 -- What counts and what is told never says that a site has forgotten, where the sites remember.
-use Rattle.std.proofs.Common.{◌*◌, ◌≡◌, ◌≤◌, ◌+◌, ◌-◌, ◌==◌, ℕ, Bool, true, false, List, ◌∷◌, ◌++◌, inl}
-use Rattle.std.proofs.Common.{inr, length, Option, Some, None, slice_get, refl, sym, ap, ◌∙◌, subst, eqb-true}
+use Rattle.std.proofs.Common.{◌*◌, ◌≡◌, ◌≤◌, ◌+◌, ◌-◌, ◌==◌, ℕ, Bool, true, false, List, ◌∷◌, ◌++◌, inl, inr, length}
+use Rattle.std.proofs.Common.{Option, Some, None, slice_get, refl, sym, ap, ◌∙◌, subst, eqb-true}
 use Rattle.std.specs.Prelude.{fold}
 use Rattle.qc_list.specs.Names.{In}
 use Rattle.qc_list.proofs.Members.{In-more, In-second, every-In}
@@ -18,8 +18,8 @@ use Rattle.qc_msg.specs.declared.step.Input.TheVariants as inputs
 use Rattle.qc_msg.specs.declared.step.Step.TheVariants as steps
 use Rattle.qc_msg.specs.declared.turn.Posting.{Posting}
 use Rattle.qc_msg.specs.declared.turn.Turn.{Turn}
-use Rattle.qc_msg.specs.Names.{Deed, Entry, Takes, Tells, WasSentTo, by as by_actor, deeds, mail, marked}
-use Rattle.qc_msg.specs.Names.{operations_of, posted, sends_of, step_of, tells_of, turn_deeds, writes_of}
+use Rattle.qc_msg.specs.Names.{Deed, Entry, Takes, Tells, WasSentTo, by as by_actor, deeds, mail, marked, operations_of}
+use Rattle.qc_msg.specs.Names.{posted, sends_of, step_of, tells_of, turn_deeds, writes_of}
 use Rattle.qc_msg.proofs.DeedsGrow.{deeds-other}
 use Rattle.qc_msg.proofs.Growth.{deeds-posted, deeds-taken}
 use Rattle.qc_promise.specs.Names.{Account, ClientRequest, account, account_at, account_taken}
@@ -34,12 +34,9 @@ use Rattle.laws_due.proofs.Courses.{turns_tell}
 use Rattle.laws_due.proofs.Mute.{IsMuteDeed, sites_mute}
 use Rattle.laws_guarantees.proofs.Grounds.{turn_old}
 use Rattle.laws_guarantees.proofs.ForgettingAnswers.{Forgets}
-use Rattle.laws_guarantees.proofs.Stale.{at_in}
-use Rattle.laws_guarantees.proofs.Stale.{turn}
-use Rattle.laws_guarantees.proofs.AccountsStay.{account_other, account_posted_is, account_silent}
-use Rattle.laws_guarantees.proofs.Unforgotten.{Unforgotten}
-use Rattle.laws_guarantees.proofs.AccountsStay.{account_taken_is}
-use Rattle.laws_guarantees.proofs.Unforgotten.{few_before, unforgotten, who}
+use Rattle.laws_guarantees.proofs.Stale.{at_in, turn}
+use Rattle.laws_guarantees.proofs.AccountsStay.{account_other, account_posted_is, account_silent, account_taken_is}
+use Rattle.laws_guarantees.proofs.Unforgotten.{Unforgotten, few_before, unforgotten, who}
 use Rattle.laws_guarantees.proofs.Against.{IsForgottenVote, IsVote, due_why, taken_vote, lost_vote}
 
 module _ (decl : Declaration) (script : Script) (accepted : IsAccepted decl) (sound : IsScriptFor decl script) where
@@ -75,8 +72,8 @@ module _ (decl : Declaration) (script : Script) (accepted : IsAccepted decl) (so
           let here : b ≡ a = eqb-true b a same in
           let s : WasSentTo a (mail h) g = subst (λ (n : ℕ). WasSentTo n (mail h) g) here sent in
           by_given g s
-              (subst (λ (d : Account). IsVote d q x) (account_taken_is decl a h g s)
-                (subst (λ (n : ℕ). IsVote (account decl a (h ++ marked n (step_of g) ∷ [])) q x) here v))
+          (subst (λ (d : Account). IsVote d q x) (account_taken_is decl a h g s)
+          (subst (λ (n : ℕ). IsVote (account decl a (h ++ marked n (step_of g) ∷ [])) q x) here v))
 
   posted_remembered : (h : List Entry) (b : ℕ) (turn : Turn) → AreRemembered h
       → AreRemembered (h ++ by_actor b (posted (length (mail h)) turn))
@@ -91,13 +88,13 @@ module _ (decl : Declaration) (script : Script) (accepted : IsAccepted decl) (so
           let here : b ≡ a = eqb-true b a same in
           let k : IsVote (fold (account_at decl) (account decl a h) (turn_deeds (length (mail h)) turn)) q x =
           subst (λ (d : Account). IsVote d q x) (account_posted_is decl a (length (mail h)) h turn)
-              (subst (λ (n : ℕ). IsVote (account decl a (h ++ by_actor n (posted (length (mail h)) turn))) q x) here v)
-              in
+          (subst (λ (n : ℕ). IsVote (account decl a (h ++ by_actor n (posted (length (mail h)) turn))) q x) here v)
+          in
           elim (turn_old decl (account decl a h) (length (mail h)) turn q k.0) [
             | inl old ↦ r a q x client (old, k.1, k.2) forgets
             | inr new ↦
                 (let none : q.taken ≡ None = new.1 in
-                 let some : q.taken ≡ Some (Some x) = k.2 in let never : ⊥ = cc in never)
+                let some : q.taken ≡ Some (Some x) = k.2 in let never : ⊥ = cc in never)
           ]
 
   pub counted_remembered : (h : List Entry) (open_inputs : List Bool) → Runs (IsLawful decl) decl script h open_inputs
@@ -105,25 +102,25 @@ module _ (decl : Declaration) (script : Script) (accepted : IsAccepted decl) (so
   counted_remembered h open_inputs begins few = λ a q x client v forgets. v.0
   counted_remembered h open_inputs (takes b g before older run free rdy) few =
       let less : operations_of older ≤ 2 * most_committed_operations =
-              few_before decl script accepted sound older (marked b (step_of g) ∷ []) few in
+      few_before decl script accepted sound older (marked b (step_of g) ∷ []) few in
       taken_remembered older b g (what_is_ready_was_sent (IsLawful decl) decl script older before run b g rdy)
-          (unforgotten decl script accepted sound older before run less) (counted_remembered older before run less)
+      (unforgotten decl script accepted sound older before run less) (counted_remembered older before run less)
   counted_remembered h open_inputs (posts b turn before older run taken law) few =
       posted_remembered older b turn
-          (counted_remembered older before run
-            (few_before decl script accepted sound older (by_actor b (posted (length (mail older)) turn)) few))
+      (counted_remembered older before run
+      (few_before decl script accepted sound older (by_actor b (posted (length (mail older)) turn)) few))
   counted_remembered h open_inputs (phase before older run none done quiet_all left) few =
       same_votes older (older ++ marked (controller decl) (steps.Phase (phase_of older + 1)) ∷ [])
-          (λ a. account_silent decl a (controller decl) older (steps.Phase (phase_of older + 1))
-            (phase_silent (phase_of older + 1)))
+      (λ a. account_silent decl a (controller decl) older (steps.Phase (phase_of older + 1))
+      (phase_silent (phase_of older + 1)))
       (counted_remembered older before run
-          (few_before decl script accepted sound older
-            (marked (controller decl) (steps.Phase (phase_of older + 1)) ∷ []) few))
+      (few_before decl script accepted sound older
+      (marked (controller decl) (steps.Phase (phase_of older + 1)) ∷ []) few))
   counted_remembered h open_inputs (control line lines step before older run left is) few =
       same_votes older (older ++ marked (controller decl) step ∷ [])
-          (λ a. account_silent decl a (controller decl) older step (control_silent line step is))
+      (λ a. account_silent decl a (controller decl) older step (control_silent line step is))
       (counted_remembered older before run
-          (few_before decl script accepted sound older (marked (controller decl) step ∷ []) few))
+      (few_before decl script accepted sound older (marked (controller decl) step ∷ []) few))
 
   -- what is told
 
@@ -158,22 +155,22 @@ module _ (decl : Declaration) (script : Script) (accepted : IsAccepted decl) (so
       → (site : ℕ) → In (Tells (replies.Aborted (causes.Forgot site))) (turn_deeds (length (mail h)) turn) → ⊥
   posted_tells h open_inputs run few b turn taken law site among =
       elim (who decl script accepted sound h open_inputs run few b turn taken law) [
-    | inl here ↦
-        every-In IsMuteDeed (Tells (replies.Aborted (causes.Forgot site)))
-        (deeds b [] h ++ turn_deeds (length (mail h)) turn)
-        (sites_mute decl b here (deeds b [] h ++ turn_deeds (length (mail h)) turn) false
+        | inl here ↦
+            every-In IsMuteDeed (Tells (replies.Aborted (causes.Forgot site)))
+            (deeds b [] h ++ turn_deeds (length (mail h)) turn)
+            (sites_mute decl b here (deeds b [] h ++ turn_deeds (length (mail h)) turn) false
             (length (mail h) + length turn.sends)
             (acts_post (deeds b [] h) turn acts.above (length (mail h)) acts.acts acts.within law))
-        (In-second (Tells (replies.Aborted (causes.Forgot site))) (deeds b [] h) (turn_deeds (length (mail h)) turn)
+            (In-second (Tells (replies.Aborted (causes.Forgot site))) (deeds b [] h) (turn_deeds (length (mail h)) turn)
             among)
-    | inr client ↦ (
-        let told : turn.told ≡ Some (replies.Aborted (causes.Forgot site)) =
-                turn_tells (length (mail h)) turn (replies.Aborted (causes.Forgot site)) among in
-        let v : IsForgottenVote decl (account decl b h) site =
-                due_why decl (account decl b h) site
-                  (sym (turns_tell decl b client (deeds b [] h) acts.above turn acts.acts law) ∙ told) in
-        counted_remembered h open_inputs run few b v.0 v.1 client v.2 v.3)
-  ]
+        | inr client ↦ (
+            let told : turn.told ≡ Some (replies.Aborted (causes.Forgot site)) =
+            turn_tells (length (mail h)) turn (replies.Aborted (causes.Forgot site)) among in
+            let v : IsForgottenVote decl (account decl b h) site =
+            due_why decl (account decl b h) site
+            (sym (turns_tell decl b client (deeds b [] h) acts.above turn acts.acts law) ∙ told) in
+            counted_remembered h open_inputs run few b v.0 v.1 client v.2 v.3)
+      ]
     where
       acts : ActsIn decl b h true
       acts = run_acts decl script h open_inputs run b true taken
@@ -191,7 +188,7 @@ module _ (decl : Declaration) (script : Script) (accepted : IsAccepted decl) (so
           at false other =
               old a site
               (subst (λ (v : List Deed). In (Tells (replies.Aborted (causes.Forgot site))) v)
-                (deeds-other b a [] older (step_of g ∷ []) other) among)
+              (deeds-other b a [] older (step_of g ∷ []) other) among)
           at true same = elim (In-more (Tells (replies.Aborted (causes.Forgot site))) (Takes g) (deeds a [] older) (subst (λ (v : List Deed). In (Tells (replies.Aborted (causes.Forgot site))) v)
               (subst (λ (k : ℕ). deeds k [] (older ++ marked b (step_of g) ∷ []) ≡ deeds k [] older ++ Takes g ∷ []) (eqb-true b a same) (deeds-taken b older g (what_is_ready_was_sent (IsLawful decl) decl script older before run b g rdy))) among)) [
                 | inl there ↦ old a site there
@@ -199,8 +196,8 @@ module _ (decl : Declaration) (script : Script) (accepted : IsAccepted decl) (so
               ]
   never_told h open_inputs (posts b turn before older run taken law) few =
       by (never_told older before run
-          (few_before decl script accepted sound older (by_actor b (posted (length (mail older)) turn)) few))
-          (few_before decl script accepted sound older (by_actor b (posted (length (mail older)) turn)) few)
+      (few_before decl script accepted sound older (by_actor b (posted (length (mail older)) turn)) few))
+      (few_before decl script accepted sound older (by_actor b (posted (length (mail older)) turn)) few)
     where
       by : IsNeverTold older → operations_of older ≤ 2 * most_committed_operations
           → IsNeverTold (older ++ by_actor b (posted (length (mail older)) turn))
@@ -210,7 +207,7 @@ module _ (decl : Declaration) (script : Script) (accepted : IsAccepted decl) (so
           at false other =
               old a site
               (subst (λ (v : List Deed). In (Tells (replies.Aborted (causes.Forgot site))) v)
-                (deeds-other b a [] older (posted (length (mail older)) turn) other) among)
+              (deeds-other b a [] older (posted (length (mail older)) turn) other) among)
           at true same = elim (in_split (Tells (replies.Aborted (causes.Forgot site))) (deeds b [] older) (turn_deeds (length (mail older)) turn) (subst (λ (v : List Deed). In (Tells (replies.Aborted (causes.Forgot site))) v)
               (deeds-posted b (length (mail older)) older turn) (subst (λ (k : ℕ). In (Tells (replies.Aborted (causes.Forgot site))) (deeds k [] (older ++ by_actor b (posted (length (mail older)) turn)))) (sym (eqb-true b a same)) among))) [
                 | inl there ↦ old b site there
@@ -218,11 +215,11 @@ module _ (decl : Declaration) (script : Script) (accepted : IsAccepted decl) (so
               ]
   never_told h open_inputs (phase before older run none done quiet_all left) few =
       λ a site among. never_told older before run
-          (few_before decl script accepted sound older
-            (marked (controller decl) (steps.Phase (phase_of older + 1)) ∷ []) few) a site
+      (few_before decl script accepted sound older
+      (marked (controller decl) (steps.Phase (phase_of older + 1)) ∷ []) few) a site
       (subst (λ (v : List Deed). In (Tells (replies.Aborted (causes.Forgot site))) v) (deeds-silent a (controller decl) older (steps.Phase (phase_of older + 1)) (phase_silent (phase_of older + 1))) among)
   never_told h open_inputs (control line lines step before older run left is) few =
       λ a site among. never_told older before run
-          (few_before decl script accepted sound older (marked (controller decl) step ∷ []) few) a site
+      (few_before decl script accepted sound older (marked (controller decl) step ∷ []) few) a site
       (subst (λ (v : List Deed). In (Tells (replies.Aborted (causes.Forgot site))) v)
-          (deeds-silent a (controller decl) older step (control_silent line step is)) among)
+      (deeds-silent a (controller decl) older step (control_silent line step is)) among)

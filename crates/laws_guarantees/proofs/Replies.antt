@@ -107,7 +107,8 @@ module _ (decl : Declaration) (script : Script) where
   replies_end_their_turns h open_inputs (posts b turn slots older run taken law) before a reply after is =
       elim (split older (by b (posted (length (mail older)) turn)) before (marked a (steps.Told reply)) after is) [
         | First m s ↦ replies_end_their_turns older slots run before a reply m s
-        | Second m e s ↦ last m e s (posted_last b (length (mail older)) turn.write turn.sends turn.told m a reply after s)
+        | Second m e s ↦
+            last m e s (posted_last b (length (mail older)) turn.write turn.sends turn.told m a reply after s)
       ]
     where
       last : (m : List Entry) → before ≡ older ++ m

@@ -1,6 +1,6 @@
 -- What the running command asks for is of the begun transaction, and has grounds in the deeds; so has a reply.
-use Rattle.std.proofs.Common.{◌≡◌, ◌+◌, ℕ, ◌==◌, ◌&&◌, Bool, true, false, cond, List, ◌∷◌, ◌++◌, inl, inr}
-use Rattle.std.proofs.Common.{Option, Some, None, option_map, refl, sym, ap, ◌∙◌, subst, append_assoc}
+use Rattle.std.proofs.Common.{◌≡◌, ◌+◌, ℕ, ◌==◌, ◌&&◌, Bool, true, false, cond, List, ◌∷◌, ◌++◌, inl, inr, Option, Some}
+use Rattle.std.proofs.Common.{None, option_map, refl, sym, ap, ◌∙◌, subst, append_assoc}
 use Rattle.std.specs.Prelude.{fold}
 use Rattle.std.specs.Option.{option_map_or}
 use Rattle.std.proofs.lemmas.List.{append-nil}
@@ -23,12 +23,11 @@ use Rattle.qc_msg.specs.declared.step.Command.{Command}
 use Rattle.qc_msg.specs.declared.step.Command.TheVariants as commands
 use Rattle.qc_msg.specs.declared.step.Input.TheVariants as inputs
 use Rattle.qc_msg.specs.Names.{Deed, Falls, Rises, Sends, Takes, Tells, Writes, has_granted}
-use Rattle.qc_promise.specs.Names.{Account, ClientRequest, Current, account_at, account_sent}
-use Rattle.qc_promise.specs.Names.{account_told_in, answer_of, command_asks}
-use Rattle.qc_promise.specs.Names.{found_absent, is_asked_for, is_of, new_account, new_current, refused}
-use Rattle.qc_promise.specs.Names.{requested, responded, short_of, with_response}
-use Rattle.laws_guarantees.proofs.Accounts.{HasGrounds, WasGranted, WasSent, and_first, granted_more}
-use Rattle.laws_guarantees.proofs.Accounts.{same_grounds, sent_more, taken_more}
+use Rattle.qc_promise.specs.Names.{Account, ClientRequest, Current, account_at, account_sent, account_told_in}
+use Rattle.qc_promise.specs.Names.{answer_of, command_asks, found_absent, is_asked_for, is_of, new_account, new_current}
+use Rattle.qc_promise.specs.Names.{refused, requested, responded, short_of, with_response}
+use Rattle.laws_guarantees.proofs.Accounts.{HasGrounds, WasGranted, WasSent, and_first, granted_more, same_grounds}
+use Rattle.laws_guarantees.proofs.Accounts.{sent_more, taken_more}
 use Rattle.laws_guarantees.proofs.TakenGrounds.{take_grounds, written_grounds}
 
 module _ (decl : Declaration) where
@@ -41,13 +40,15 @@ module _ (decl : Declaration) where
     where
       by : (o : Option Current) → d.current ≡ o
           → option_map_or (λ (t : Current). is_of t to tx epoch life && command_asks decl d t to want d.command) o false
-            ≡ true → (t : Current) × (d.current ≡ Some t) × (t.tx ≡ tx)
+          ≡ true → (t : Current) × (d.current ≡ Some t) × (t.tx ≡ tx)
       by None at asked = absurd (let never : ⊥ = cc in never)
-      by (Some t) at asked =
-          (t, at,
-          same_tx_is t.tx tx
+      by (Some t) at asked = (
+        t,
+        at,
+        same_tx_is t.tx tx
             (and_first (same_tx t.tx tx) ((epoch == t.epoch) && (life == _))
-              (and_first (is_of t to tx epoch life) (command_asks decl d t to want d.command) asked)))
+            (and_first (is_of t to tx epoch life) (command_asks decl d t to want d.command) asked)),
+      )
 
   abbrev more_requests : Account → ℕ → ℕ → ℕ → Want → Account
   more_requests d n to life want =
@@ -57,43 +58,43 @@ module _ (decl : Declaration) where
   requested_grounds : (ds : List Deed) (d : Account) (n to : ℕ) (tx : TxId) (epoch life : ℕ) (want : Want)
       → HasGrounds ds d
       → HasGrounds (ds ++ Sends n to (messages.Request tx epoch life want) ∷ [])
-        (requested decl d n to tx epoch life want)
+      (requested decl d n to tx epoch life want)
   requested_grounds ds d n to tx epoch life want k = by (is_asked_for decl d to tx epoch life want) refl
     where
       by : (b : Bool) → is_asked_for decl d to tx epoch life want ≡ b
           → HasGrounds (ds ++ Sends n to (messages.Request tx epoch life want) ∷ [])
-            (cond b (more_requests d n to life want) d)
+          (cond b (more_requests d n to life want) d)
       by false is = same_grounds ds (Sends n to (messages.Request tx epoch life want)) d d refl refl refl k
       by true is = record {
         sent =
             λ q among. elim (In-more q (record { number = n; site = to; life = life; want = want; taken = None })
             d.requests among) [
-          | inl old ↦
-              (let s : (t : Current) × (d.current ≡ Some t) × WasSent ds q t.tx = k.sent q old in
-               (s.0, s.1, sent_more ds (Sends n to (messages.Request tx epoch life want)) q s.0.tx s.2))
-          | inr new ↦ (let c : (t : Current) × (d.current ≡ Some t) × (t.tx ≡ tx) = asked_current d to tx epoch life want is in (
-            c.0,
-            c.1,
-            subst
-                (λ (y : ClientRequest). WasSent (ds ++ Sends n to (messages.Request tx epoch life want) ∷ []) y c.0.tx)
-                (sym new)
-                (record {
+              | inl old ↦
+                  (let s : (t : Current) × (d.current ≡ Some t) × WasSent ds q t.tx = k.sent q old in
+                  (s.0, s.1, sent_more ds (Sends n to (messages.Request tx epoch life want)) q s.0.tx s.2))
+              | inr new ↦ (let c : (t : Current) × (d.current ≡ Some t) × (t.tx ≡ tx) = asked_current d to tx epoch life want is in (
+                c.0,
+                c.1,
+                subst
+                    (λ (y : ClientRequest). WasSent (ds ++ Sends n to (messages.Request tx epoch life want) ∷ []) y c.0.tx)
+                    (sym new)
+                    (record {
                       epoch = epoch;
                       is = subst (λ (y : TxId). In (Sends n to (messages.Request y epoch life want))
                           (ds ++ Sends n to (messages.Request tx epoch life want) ∷ [])) (sym c.2)
-                          (In-last (Sends n to (messages.Request tx epoch life want)) ds)
+                          (In-last (Sends n to (messages.Request tx epoch life want)) ds);
                     }),
-          ))
-        ];
+              ))
+            ];
         taken =
             λ q answer among it. elim (In-more q
             (record { number = n; site = to; life = life; want = want; taken = None }) d.requests among) [
-          | inl old ↦
-              taken_more ds (Sends n to (messages.Request tx epoch life want)) q.number answer (k.taken q answer old it)
-          | inr new ↦
-              absurd (let none : None ≡ Some (Some answer) = sym (ap (λ (y : ClientRequest). y.taken) new) ∙ it in
-                      let never : ⊥ = cc in never)
-        ];
+              | inl old ↦
+                  taken_more ds (Sends n to (messages.Request tx epoch life want)) q.number answer (k.taken q answer old it)
+              | inr new ↦
+                  absurd (let none : None ≡ Some (Some answer) = sym (ap (λ (y : ClientRequest). y.taken) new) ∙ it in
+                  let never : ⊥ = cc in never)
+            ];
         granted =
             λ t site it has. granted_more ds (Sends n to (messages.Request tx epoch life want)) t.tx site
             (k.granted t site it has);
@@ -141,10 +142,13 @@ module _ (decl : Declaration) where
           → (old : Current) × (d.current ≡ Some old) × (t.tx ≡ old.tx) × (has_granted old.lives site ≡ true)
       by None at t site is has = absurd (let never : ⊥ = cc in never)
       by (Some x) at t site is has =
-          let same : t ≡ change x = cc in
-          (x, at, ap (λ (y : Current). y.tx) same ∙ (keeps x).0,
-              subst (λ (ls : List LifeAt). has_granted ls site ≡ true)
-                (ap (λ (y : Current). y.lives) same ∙ (keeps x).1) has)
+          let same : t ≡ change x = cc in (
+            x,
+            at,
+            ap (λ (y : Current). y.tx) same ∙ (keeps x).0,
+            subst (λ (ls : List LifeAt). has_granted ls site ≡ true)
+                (ap (λ (y : Current). y.lives) same ∙ (keeps x).1) has,
+          )
 
   response_keeps : (object inv : ℕ) (o : Option ℕ) (x : Current)
       → ((with_response decl x object inv o).tx ≡ x.tx) × ((with_response decl x object inv o).lives ≡ x.lives)
@@ -183,9 +187,9 @@ module _ (decl : Declaration) where
   told_kept d (replies.Began tx) =
       record {
         lives = λ t site is has. absurd (let same : t ≡ new_current tx d.known = cc in
-                                         let none : has_granted t.lives site ≡ false =
-                                                 ap (λ (y : Current). has_granted y.lives site) same in
-                                         let never : ⊥ = cc in never)
+            let none : has_granted t.lives site ≡ false =
+            ap (λ (y : Current). has_granted y.lives site) same in
+            let never : ⊥ = cc in never);
       }
   told_kept d replies.NoTransaction = kept d d refl
   told_kept d replies.Doomed = kept d d refl
@@ -211,7 +215,7 @@ module _ (decl : Declaration) where
     taken = λ q answer never is. absurd never;
     granted = λ t site is has. (let o : (old : Current) × (d.current ≡ Some old) × (t.tx ≡ old.tx) × (has_granted old.lives site ≡ true) = (told_kept d reply).lives t site is has in
         subst (λ (y : TxId). WasGranted (ds ++ Tells reply ∷ []) y site) (sym o.2)
-            (granted_more ds (Tells reply) o.0.tx site (k.granted o.0 site o.1 o.3)));
+        (granted_more ds (Tells reply) o.0.tx site (k.granted o.0 site o.1 o.3)));
     called = λ c is. absurd (let never : ⊥ = cc in never);
   }
 

@@ -1,6 +1,6 @@
 -- A site's clock has passed all lines that it knows, and each Done that it wrote.
-use Rattle.std.proofs.Common.{◌≡◌, ◌⊎◌, ◌≤◌, ℕ, ◌+◌, max, Bool, true, false, List, ◌∷◌, ◌++◌}
-use Rattle.std.proofs.Common.{inl, inr, Some, slice_get, refl, sym, ap, ◌∙◌, subst, arith, ltb-true}
+use Rattle.std.proofs.Common.{◌≡◌, ◌⊎◌, ◌≤◌, ℕ, ◌+◌, max, Bool, true, false, List, ◌∷◌, ◌++◌, inl, inr, Some, slice_get}
+use Rattle.std.proofs.Common.{refl, sym, ap, ◌∙◌, subst, arith, ltb-true}
 use Rattle.std.specs.Prelude.{fold}
 use Rattle.std.specs.List.{flat_map}
 use Rattle.qc_stamp.specs.declared.stamp.TxId.{TxId}
@@ -17,14 +17,9 @@ use Rattle.qc_msg.specs.declared.record.Record.{Record}
 use Rattle.qc_msg.specs.declared.record.Record.TheVariants as records
 use Rattle.qc_msg.specs.declared.step.Input.{Input}
 use Rattle.qc_msg.specs.declared.step.Input.TheVariants as inputs
-use Rattle.qc_msg.specs.Names.{Deed, Entry, Falls, Rises, Sends, Takes, Tells, Writes, deeds}
-use Rattle.qc_msg.specs.Names.{turn_deeds}
-use Rattle.qc_promise.specs.Names.{Act, AreDue, IsDueAt, IsDueOrOpen, Lifetime, Wrote}
-use Rattle.qc_promise.specs.Names.{clock_shown, clocks_at, clocks_in, clocks_in_record}
-use Rattle.qc_promise.specs.Names.{fallen_in}
-use Rattle.qc_promise.specs.Names.{log_shown}
-use Rattle.qc_promise.specs.Names.{posted_next}
-use Rattle.qc_promise.specs.Names.{turn_due}
+use Rattle.qc_msg.specs.Names.{Deed, Entry, Falls, Rises, Sends, Takes, Tells, Writes, deeds, turn_deeds}
+use Rattle.qc_promise.specs.Names.{Act, AreDue, IsDueAt, IsDueOrOpen, Lifetime, Wrote, clock_shown, clocks_at}
+use Rattle.qc_promise.specs.Names.{clocks_in, clocks_in_record, fallen_in, log_shown, posted_next, turn_due}
 use Rattle.theory_machine.specs.Names.{state}
 use Rattle.qc_script.specs.Names.{IsScriptFor, Runs}
 use Rattle.qc_script.specs.declared.script.Script.{Script}
@@ -52,7 +47,7 @@ module _ (decl : Declaration) where
   take_brings before tx clock g (x ∷ after) due among =
       given_brings decl (before ++ Takes g ∷ []) tx clock g (x ∷ after)
       (write_of (records.Done tx clock) (turn_due decl (before ++ Takes g ∷ []) g) (fallen_in (posted_next (x ∷ after)))
-          (subst (λ (acts : List Act). In (Wrote (records.Done tx clock)) acts) due among))
+      (subst (λ (acts : List Act). In (Wrote (records.Done tx clock)) acts) due among))
 
   done_brought : (before ds : List Deed) (tx : TxId) (clock : ℕ) → AreSteady ds → AreDue decl before ds
       → In (Writes (records.Done tx clock)) ds
@@ -64,13 +59,15 @@ module _ (decl : Declaration) where
       by : (d : Deed) → IsSteady d → IsDueAt decl before d ds
           → (Writes (records.Done tx clock) ≡ d) ⊎ In (Writes (records.Done tx clock)) ds
           → (In (Writes (records.Done tx clock)) ds
-            → In (Wrote (records.Done tx clock)) (posted_next ds) ⊎ IsBrought tx clock ds)
+          → In (Wrote (records.Done tx clock)) (posted_next ds) ⊎ IsBrought tx clock ds)
           → In (Wrote (records.Done tx clock)) (posted_next (d ∷ ds)) ⊎ IsBrought tx clock (d ∷ ds)
       by (Takes g) up due (inl same) rest = absurd (let never : ⊥ = cc in never)
       by (Takes g) up due (inr there) rest =
-          elim (rest there)
-          [ inl next ↦ inr (take_brings before tx clock g ds due next) | inr old ↦ inr
-            (later_brought tx clock (Takes g) ds old) ]
+          elim (rest there) [
+            | inl next ↦ inr (take_brings before tx clock g ds due next)
+            | inr old ↦ inr
+                (later_brought tx clock (Takes g) ds old)
+          ]
       by (Writes w) up due (inl same) rest =
           inl (inl (let is : records.Done tx clock ≡ w = cc in ap (λ (r : Record). Wrote r) is))
       by (Writes w) up due (inr there) rest =
@@ -139,13 +136,13 @@ brought_passed : (tx : TxId) (clock : ℕ) (ds : List Deed) → AreSteady ds →
     → clock ≤ clock_shown ds
 brought_passed tx clock ds up b =
     let here : In b.stamp.clock (clocks_at (Takes (inputs.Got b.envelope))) =
-            subst (λ (m : Message). In b.stamp.clock (clocks_in m)) (sym b.is) (inl refl) in
+    subst (λ (m : Message). In b.stamp.clock (clocks_in m)) (sym b.is) (inl refl) in
     let all : clock_shown ds ≡ fold max 0 (flat_map clocks_at ds) =
-            ap (λ (l : Lifetime). fold max 0 (flat_map clocks_in_record l.kept ++ flat_map clocks_at l.since))
-              (only_life ds up) in
+    ap (λ (l : Lifetime). fold max 0 (flat_map clocks_in_record l.kept ++ flat_map clocks_at l.since))
+    (only_life ds up) in
     let low : b.stamp.clock ≤ fold max 0 (flat_map clocks_at ds) =
-            max_passes 0 (flat_map clocks_at ds) b.stamp.clock
-              (in_clocks ds (Takes (inputs.Got b.envelope)) b.stamp.clock b.taken here) in
+    max_passes 0 (flat_map clocks_at ds) b.stamp.clock
+    (in_clocks ds (Takes (inputs.Got b.envelope)) b.stamp.clock b.taken here) in
     let same : clock ≡ b.stamp.clock = b.clock_is in
     omega arith
 
@@ -165,22 +162,22 @@ module _ (decl : Declaration) (script : Script) (h : List Entry) (open_inputs : 
   dones_passed tx clock among =
       elim (done_brought decl [] (deeds site [] h) tx clock up
       (run_due decl script h open_inputs run site (ltb-true site decl.sites is)) among) [
-    | inl next ↦
-        absurd (subst (λ (acts : List Act). In (Wrote (records.Done tx clock)) acts)
-        (none_first decl site (deeds site [] h) false acts.above acts.acts) next)
-    | inr brought ↦ brought_passed tx clock (deeds site [] h) up brought
-  ]
+        | inl next ↦
+            absurd (subst (λ (acts : List Act). In (Wrote (records.Done tx clock)) acts)
+            (none_first decl site (deeds site [] h) false acts.above acts.acts) next)
+        | inr brought ↦ brought_passed tx clock (deeds site [] h) up brought
+      ]
 
   pub lines_passed : IsAccepted decl → IsScriptFor decl script → (l : Line) → In l (log_shown (deeds site [] h))
       → l.stamp.clock ≤ clock_shown (deeds site [] h)
   lines_passed accepted sound l among =
       let s : IsShown (deeds site [] h) (site_after decl site (deeds site [] h)).site =
-              run_shown decl script h open_inputs run site (ltb-true site decl.sites is) free in
+      run_shown decl script h open_inputs run site (ltb-true site decl.sites is) free in
       let here : (stood decl script accepted sound h open_inputs run).net.sites site ≡ (site_after decl site (deeds site [] h)).site = ((stood decl script accepted sound h open_inputs run).sites_are site is).closed free in
       let m : SiteMirrors decl ((stood decl script accepted sound h open_inputs run).net.sites site) ((state (mirror decl script accepted sound h open_inputs run).acts).deeds site) ((state (mirror decl script accepted sound h open_inputs run).acts).life site) = (mirror decl script accepted sound h open_inputs run).agrees.sites site is (all_up decl (stood decl script accepted sound h open_inputs run).net (stood decl script accepted sound h open_inputs run).calm site) in
       let there : In l (known ((stood decl script accepted sound h open_inputs run).net.sites site)) =
-              subst (λ (x : SiteState). In l (known x)) (sym here)
-                (subst (λ (ls : List Line). In l ls)
-                  (λ i. union ((began_shows (deeds site [] h) ∙ sym s.began) i) (sym s.log i)) among) in
+      subst (λ (x : SiteState). In l (known x)) (sym here)
+      (subst (λ (ls : List Line). In l ls)
+      (λ i. union ((began_shows (deeds site [] h) ∙ sym s.began) i) (sym s.log i)) among) in
       subst (λ (n : ℕ). l.stamp.clock ≤ n) (ap (λ (x : SiteState). x.clock) here ∙ s.clock)
-          (m.passed l (m.logged l there))
+      (m.passed l (m.logged l there))

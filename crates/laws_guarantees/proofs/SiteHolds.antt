@@ -1,6 +1,6 @@
 -- A step of a site: what it granted was asked for before, and is held after it.
-use Rattle.std.proofs.Common.{◌≡◌, ◌⊎◌, ℕ, true, List, ◌++◌, inl, inr, length}
-use Rattle.std.proofs.Common.{Some, slice_get, refl, sym, ap, ◌∙◌, subst}
+use Rattle.std.proofs.Common.{◌≡◌, ◌⊎◌, ℕ, true, List, ◌++◌, inl, inr, length, Some, slice_get, refl, sym, ap, ◌∙◌}
+use Rattle.std.proofs.Common.{subst}
 use Rattle.qc_stamp.specs.declared.stamp.TxId.{TxId}
 use Rattle.qc_list.specs.Names.{In}
 use Rattle.theory_onecopy.proofs.Lists.{in_split}
@@ -25,10 +25,8 @@ use Rattle.laws_atomic.proofs.Calm as calm
 use Rattle.laws_refinement.proofs.Machine.{put_one, slice_get-append}
 use Rattle.laws_refinement.proofs.Posts.{Place, placed}
 use Rattle.laws_refinement.proofs.Refining.{nets_refine}
-use Rattle.laws_guarantees.proofs.AnswersToInputs.{IsAnswering, IsAnsweringTo, answers_inputs}
-use Rattle.laws_guarantees.proofs.SiteMoves.{IsFull}
-use Rattle.laws_guarantees.proofs.AnswersToInputs.{answers_request}
-use Rattle.laws_guarantees.proofs.SiteMoves.{granted_is_held, held_stays}
+use Rattle.laws_guarantees.proofs.AnswersToInputs.{IsAnswering, IsAnsweringTo, answers_inputs, answers_request}
+use Rattle.laws_guarantees.proofs.SiteMoves.{IsFull, granted_is_held, held_stays}
 use Rattle.laws_atomic.proofs.FirstSites.{IsCalmGiven}
 use Rattle.laws_guarantees.proofs.NetMessages.{WasEnded, ended_more, IsFullMessage, AreFullMessages, IsGrantedBy}
 use Rattle.laws_guarantees.proofs.NetMessages.{same_request}
@@ -43,19 +41,19 @@ module _ (decl : Declaration) (accepted : IsAccepted decl) where
   stays s (inputs.Lost number) tx mail a net same came calm held = inl held
   stays s (inputs.Got e) tx mail a net same came calm held =
       elim (held_stays decl (passed s e.message) e.from e.number e.message tx calm held) [
-    | inl still ↦ inl still
-    | inr ends ↦ inr (record { envelope = e; sent = subst (λ (ms : List Envelope). In e ms) same came.0; ends = ends })
-  ]
+        | inl still ↦ inl still
+        | inr ends ↦ inr (record { envelope = e; sent = subst (λ (ms : List Envelope). In e ms) same came.0; ends = ends })
+      ]
 
   -- an answer of a site's turn grants what is held after it
   granted_now : (net : Net) (a : ℕ) (g : Input) (p : Posting) (number life clock : ℕ) (log : List Line) (tx : TxId)
       (want : Want) → AreFullMessages net.mail → ((e : Envelope) → In e net.mail → slice_get net.mail e.number ≡ Some e)
       → MayCome net a g
       → In p (site_takes decl (net.sites a) g).turn.sends
-          → p.message ≡ messages.Answer number (answers.Granted life clock log) → (more : List Envelope)
-          → IsRequest (net.mail ++ more) number a tx want
+      → p.message ≡ messages.Answer number (answers.Granted life clock log) → (more : List Envelope)
+      → IsRequest (net.mail ++ more) number a tx want
       → ((n : ℕ) (e : Envelope) → slice_get net.mail n ≡ Some e → slice_get (net.mail ++ more) n ≡ Some e)
-          → is_held (site_takes decl (net.sites a) g).site.held tx ≡ true
+      → is_held (site_takes decl (net.sites a) g).site.held tx ≡ true
   granted_now net a g p number life clock log tx want full numbered came posted is more asked longer =
       by (answers_request g number first tx asked.epoch asked.life want asked_there)
     where
@@ -68,21 +66,21 @@ module _ (decl : Declaration) (accepted : IsAccepted decl) where
       asked_there : first.envelope.message ≡ messages.Request tx asked.epoch asked.life want
       asked_there =
           let at : slice_get (net.mail ++ more) number ≡ Some first.envelope =
-                  subst (λ (n : ℕ). slice_get (net.mail ++ more) n ≡ Some first.envelope) first.numbered
-                    (longer first.envelope.number first.envelope (numbered first.envelope first_here)) in
+          subst (λ (n : ℕ). slice_get (net.mail ++ more) n ≡ Some first.envelope) first.numbered
+          (longer first.envelope.number first.envelope (numbered first.envelope first_here)) in
           let e : asked.is.0 ≡ first.envelope =
-                  (let both_are : Some asked.is.0 ≡ Some first.envelope = sym asked.is.1 ∙ at in cc) in
+          (let both_are : Some asked.is.0 ≡ Some first.envelope = sym asked.is.1 ∙ at in cc) in
           sym (ap (λ (x : Envelope). x.message) e) ∙ asked.is.3
 
       by : IsAnsweringTo g number → is_held (site_takes decl (net.sites a) g).site.held tx ≡ true
       by r = subst (λ (x : Input). is_held (site_takes decl (net.sites a) x).site.held tx ≡ true) (sym r.is)
           (subst (λ (m : Message). is_held (site_at decl (passed (net.sites a) r.envelope.message) r.envelope.from
-              r.envelope.number m).site.held tx ≡ true) (sym content)
+          r.envelope.number m).site.held tx ≡ true) (sym content)
           (granted_is_held decl (passed (net.sites a) r.envelope.message) r.envelope.from r.envelope.number tx r.epoch
-              r.life r.want weighty p number life clock log
+          r.life r.want weighty p number life clock log
           (subst (λ (m : Message). In p
-              (site_at decl (passed (net.sites a) r.envelope.message) r.envelope.from r.envelope.number m).turn.sends)
-              content (subst (λ (x : Input). In p (site_takes decl (net.sites a) x).turn.sends) r.is posted)) is))
+          (site_at decl (passed (net.sites a) r.envelope.message) r.envelope.from r.envelope.number m).turn.sends)
+          content (subst (λ (x : Input). In p (site_takes decl (net.sites a) x).turn.sends) r.is posted)) is))
         where
           here : In r.envelope net.mail
           here = (subst (MayCome net a) r.is came).0
@@ -98,9 +96,9 @@ module _ (decl : Declaration) (accepted : IsAccepted decl) where
           same_tx_there : r.tx ≡ tx
           same_tx_there =
               let e : asked.is.0 ≡ r.envelope =
-                      (let both_are : Some asked.is.0 ≡ Some r.envelope = sym asked.is.1 ∙ found in cc) in
+              (let both_are : Some asked.is.0 ≡ Some r.envelope = sym asked.is.1 ∙ found in cc) in
               sym (same_request tx r.tx asked.epoch asked.life r.epoch r.life want r.want
-                  (sym asked.is.3 ∙ ap (λ (x : Envelope). x.message) e ∙ r.content)).0
+              (sym asked.is.3 ∙ ap (λ (x : Envelope). x.message) e ∙ r.content)).0
 
           content : r.envelope.message ≡ messages.Request tx r.epoch r.life r.want
           content = r.content ∙ (λ i. messages.Request (same_tx_there i) r.epoch r.life r.want)
@@ -120,12 +118,12 @@ module _ (decl : Declaration) (accepted : IsAccepted decl) where
       → slice_get ms number ≡ Some e → IsRequest (ms ++ more) number site tx want → IsRequest ms number site tx want
   earlier ms more site number tx want e here r =
       let same : r.is.0 ≡ e =
-              (let both_are : Some r.is.0 ≡ Some e = sym r.is.1 ∙ slice_get-append ms more number e here in cc) in
+      (let both_are : Some r.is.0 ≡ Some e = sym r.is.1 ∙ slice_get-append ms more number e here in cc) in
       record {
-            epoch = r.epoch;
-            life = r.life;
-            is = (r.is.0, here ∙ ap (λ (x : Envelope). Some x) (sym same), r.is.2, r.is.3)
-          }
+        epoch = r.epoch;
+        life = r.life;
+        is = (r.is.0, here ∙ ap (λ (x : Envelope). Some x) (sym same), r.is.2, r.is.3);
+      }
 
   abbrev HoldsOrEnded : Net → ℕ → TxId → Type 0
   HoldsOrEnded net site tx = (is_held (net.sites site).held tx ≡ true) ⊎ WasEnded net.mail tx
@@ -169,20 +167,20 @@ module _ (decl : Declaration) (accepted : IsAccepted decl) where
         put_one (λ (n : ℕ) (s : SiteState). is_held (before.sites n).held tx ≡ true
         → (is_held s.held tx ≡ true) ⊎ WasEnded (before.mail ++ posted) tx) before.sites a step.site site
         (λ held. elim (stays (before.sites a) g tx before.mail a before refl came calm_input held)
-            [ inl still ↦ inl still | inr ended ↦ inr (ended_more before.mail posted tx ended) ])
+        [ inl still ↦ inl still | inr ended ↦ inr (ended_more before.mail posted tx ended) ])
         (λ other held. inl held)
 
     new_holds : AreFullMessages before.mail → (k : IsGrantedBy (before.mail ++ posted) site tx) → In k.answer posted
         → HoldsOrEnded (after_site before a step) site tx
     new_holds full k among =
         let p : Place a step.turn.sends (before.mail ++ posted) k.answer =
-                placed before.mail a (length before.mail) step.turn.sends k.answer refl among in
+        placed before.mail a (length before.mail) step.turn.sends k.answer refl among in
         let here : site ≡ a = sym k.from ∙ p.from in
         let now : is_held step.site.held tx ≡ true = granted_now before a g p.posting k.number k.life k.clock k.log tx k.want full (numbered_in before r) came p.among (sym p.message ∙ k.grants) posted
         (subst (λ (n : ℕ). IsRequest (before.mail ++ posted) k.number n tx k.want) here k.asked)
-            (λ n e is. slice_get-append before.mail posted n e is) in
+        (λ n e is. slice_get-append before.mail posted n e is) in
         inl (put_one (λ (n : ℕ) (s : SiteState). n ≡ a → is_held s.held tx ≡ true) before.sites a step.site site
-            (λ same. now) (λ other same. absurd (other same)) here)
+        (λ same. now) (λ other same. absurd (other same)) here)
 
     site_step : AreFullMessages before.mail → (IsGrantedBy before.mail site tx → HoldsOrEnded before site tx)
         → IsGrantedBy (before.mail ++ posted) site tx → HoldsOrEnded (after_site before a step) site tx

@@ -23,13 +23,11 @@ use Rattle.qc_msg.specs.declared.message.Outcome.TheVariants.{Committed}
 use Rattle.qc_msg.specs.declared.message.Want.{Want}
 use Rattle.qc_msg.specs.declared.message.Want.TheVariants.{Read, Append, Prepare}
 use Rattle.qc_msg.specs.declared.turn.Posting.{Posting}
-use Rattle.qc_site.specs.Names.{SiteMove, SiteState, answers as answering_turn, clashing}
-use Rattle.qc_site.specs.Names.{closed_fault, fault_of, grants, is_final}
-use Rattle.qc_site.specs.Names.{is_prepared, moved, prepare_length, prepares}
-use Rattle.qc_site.specs.Names.{promise_of, promised, site_at, votes}
+use Rattle.qc_site.specs.Names.{SiteMove, SiteState, answers as answering_turn, clashing, closed_fault, fault_of}
+use Rattle.qc_site.specs.Names.{grants, is_final, is_prepared, moved, prepare_length, prepares, promise_of, promised}
+use Rattle.qc_site.specs.Names.{site_at, votes}
 use Rattle.qc_msg.specs.Names.{quiet}
-use Rattle.qc_site.proofs.RequestCases.{append_cases, choose, fault_is, prepare_cases, read_cases}
-use Rattle.qc_site.proofs.RequestCases.{request_cases}
+use Rattle.qc_site.proofs.RequestCases.{append_cases, choose, fault_is, prepare_cases, read_cases, request_cases}
 use Rattle.qc_site.proofs.Cases.{state_cases}
 use Rattle.laws_atomic.proofs.FirstSites.{IsCalmMessage}
 use Rattle.laws_guarantees.proofs.ForgettingAnswers.{Forgets}
@@ -43,22 +41,22 @@ given_now held tx locks own some = by ((length locks == 0) && (length own == 0))
   where
     by : (t : Bool) → t ≡ false
         → is_held
-          (cond t held
-            (with_entry held
-              (record {
-                  tx = tx;
-                  locks = with_locks (held_of held tx).locks locks;
-                  own = with_owns (held_of held tx).own own
-                }))) tx ≡ true
+        (cond t held
+        (with_entry held
+        (record {
+          tx = tx;
+          locks = with_locks (held_of held tx).locks locks;
+          own = with_owns (held_of held tx).own own;
+        }))) tx ≡ true
     by true is = absurd (let never : ⊥ = cc in never)
     by false is =
         ap is_some
         (entry-put held
-          (record {
-              tx = tx;
-              locks = with_locks (held_of held tx).locks locks;
-              own = with_owns (held_of held tx).own own
-            }))
+        (record {
+          tx = tx;
+          locks = with_locks (held_of held tx).locks locks;
+          own = with_owns (held_of held tx).own own;
+        }))
 
 held_given : (held : List Held) (tx t : TxId) (locks : List ReadLock) (own : List OwnLine) → is_held held t ≡ true
     → is_held (with_held held tx locks own) t ≡ true
@@ -70,11 +68,11 @@ held_given held tx t locks own is = by (same_tx tx t) refl
     here true none was =
         subst (λ (b : Bool). is_held (cond b held
         (with_entry held
-          (record {
-              tx = tx;
-              locks = with_locks (held_of held tx).locks locks;
-              own = with_owns (held_of held tx).own own
-            }))) tx ≡ true) (sym none) was
+        (record {
+          tx = tx;
+          locks = with_locks (held_of held tx).locks locks;
+          own = with_owns (held_of held tx).own own;
+        }))) tx ≡ true) (sym none) was
 
     by : (b : Bool) → same_tx tx t ≡ b → is_held (with_held held tx locks own) t ≡ true
     by true same =
@@ -113,10 +111,10 @@ pub granted_is_held : (decl : Declaration) (s : SiteState) (from number : ℕ) (
     → IsFull want → HoldsGranted tx (site_at decl s from number (messages.Request tx epoch life want))
 granted_is_held decl s from number tx epoch life want full =
     request_cases (HoldsGranted tx) decl s from number tx epoch life want
-        (no_grant tx number (moved s quiet) (says_nothing IsNoGrant number (moved s quiet) refl))
+    (no_grant tx number (moved s quiet) (says_nothing IsNoGrant number (moved s quiet) refl))
     (λ fault is. no_grant tx number (moved s (answering_turn from number fault))
-        (says_one IsNoGrant (moved s (answering_turn from number fault)) from number fault refl
-          (fault_is IsNoGrant s epoch life tt (λ other. tt) tt fault is))) (λ is. by want full)
+    (says_one IsNoGrant (moved s (answering_turn from number fault)) from number fault refl
+    (fault_is IsNoGrant s epoch life tt (λ other. tt) tt fault is))) (λ is. by want full)
   where
     some : (own : List OwnLine) → 0 < length own → (length own == 0) ≡ false
     some [] more = absurd (omega arith)
@@ -129,22 +127,22 @@ granted_is_held decl s from number tx epoch life want full =
     by : (w : Want) → IsFull w → HoldsGranted tx (grants decl s from number tx w)
     by (Read object inv) full = read_cases (HoldsGranted tx) decl s from number tx object inv
         (λ free p k life clock log among is. given_now s.held tx (record { object = object; inv = inv } ∷ []) [] refl)
-            (λ c clash. no_grant tx number (moved s (clashing decl from number c))
-              (says_clash IsNoGrant decl (moved s (clashing decl from number c)) from number c refl tt))
+        (λ c clash. no_grant tx number (moved s (clashing decl from number c))
+        (says_clash IsNoGrant decl (moved s (clashing decl from number c)) from number c refl tt))
     by (Append object view own) full = append_cases (HoldsGranted tx) decl s from number tx object view own
         (λ free p k life clock log among is. given_now s.held tx [] own (some own full))
-            (λ c clash. no_grant tx number (moved s (clashing decl from number c))
-              (says_clash IsNoGrant decl (moved s (clashing decl from number c)) from number c refl tt))
+        (λ c clash. no_grant tx number (moved s (clashing decl from number c))
+        (says_clash IsNoGrant decl (moved s (clashing decl from number c)) from number c refl tt))
     by Prepare full =
         prepare_cases (HoldsGranted tx) s from number tx
         (no_grant tx number (moved s (answering_turn from number answers.Stale))
-          (says_one IsNoGrant (moved s (answering_turn from number answers.Stale)) from number answers.Stale refl tt))
+        (says_one IsNoGrant (moved s (answering_turn from number answers.Stale)) from number answers.Stale refl tt))
         (λ held stands. no_grant tx number (moved s (answering_turn from number (answers.Yes s.clock)))
-            (says_one IsNoGrant (moved s (answering_turn from number (answers.Yes s.clock))) from number
-              (answers.Yes s.clock) refl tt))
+        (says_one IsNoGrant (moved s (answering_turn from number (answers.Yes s.clock))) from number
+        (answers.Yes s.clock) refl tt))
         (λ held made. no_grant tx number (moved (promised s (promise_of s tx)) (votes s from number (promise_of s tx)))
-            (says_one IsNoGrant (moved (promised s (promise_of s tx)) (votes s from number (promise_of s tx))) from
-              number (answers.Yes s.clock) refl tt))
+        (says_one IsNoGrant (moved (promised s (promise_of s tx)) (votes s from number (promise_of s tx))) from
+        number (answers.Yes s.clock) refl tt))
 
 -- what is held stays, or its transaction ends
 
@@ -178,10 +176,10 @@ is_not_behind : (s : SiteState) (epoch life : ℕ) (fault : Answer) → epoch �
 is_not_behind s epoch life fault same =
     choose (λ (o : Option Answer). o ≡ Some fault → Forgets fault → ⊥) (nat_lt s.epoch epoch) _ _
     (λ later is forgets.
-        (let low : s.epoch < epoch = ltb-true s.epoch epoch later in let never : ⊥ = omega arith in never))
+    (let low : s.epoch < epoch = ltb-true s.epoch epoch later in let never : ⊥ = omega arith in never))
     (λ later. choose (λ (o : Option Answer). o ≡ Some fault → Forgets fault → ⊥) (nat_lt epoch s.epoch) _ _
     (λ earlier is forgets. subst Forgets (sym (let e : answers.Closed s.epoch ≡ fault = cc in e)) forgets)
-        (λ earlier. by s.closed_for))
+    (λ earlier. by s.closed_for))
   where
     by : (shut : Option ℕ) → closed_fault s life shut ≡ Some fault → Forgets fault → ⊥
     by (Some other) is forgets = subst Forgets (sym (let e : answers.Closed other ≡ fault = cc in e)) forgets
@@ -189,7 +187,7 @@ is_not_behind s epoch life fault same =
         choose (λ (o : Option Answer). o ≡ Some fault → Forgets fault → ⊥) (life == 0) _ _
         (λ none is. absurd (let never : ⊥ = cc in never))
         (λ some. choose (λ (o : Option Answer). o ≡ Some fault → Forgets fault → ⊥) (life == s.life) _ _
-            (λ own is. absurd (let never : ⊥ = cc in never))
+        (λ own is. absurd (let never : ⊥ = cc in never))
         (λ other is forgets. subst Forgets (sym (let e : answers.Restarted s.life ≡ fault = cc in e)) forgets)) is forgets
 
 abbrev Remembers : Answer → Type 0
@@ -201,23 +199,23 @@ prepare_says : (s : SiteState) (from number : ℕ) (tx : TxId) → is_held s.hel
 prepare_says s from number tx held fits =
     choose (Says number Remembers) (not (is_held s.held tx)) _ _
     (λ none. absurd
-        (let n : not true ≡ true = subst (λ (b : Bool). not b ≡ true) held none in let never : ⊥ = cc in never))
+    (let n : not true ≡ true = subst (λ (b : Bool). not b ≡ true) held none in let never : ⊥ = cc in never))
     (λ some. choose (Says number Remembers) (is_prepared s.prepared tx) _ _
     (λ stands. says_one Remembers (moved s (answering_turn from number (answers.Yes s.clock))) from number
-        (answers.Yes s.clock) refl (λ never. never))
+    (answers.Yes s.clock) refl (λ never. never))
     (λ made. choose (Says number Remembers) (nat_le (prepare_length (promise_of s tx)) most_record_bytes) _ _
     (λ short. says_one Remembers (moved (promised s (promise_of s tx)) (votes s from number (promise_of s tx))) from
-        number (answers.Yes s.clock) refl (λ never. never))
+    number (answers.Yes s.clock) refl (λ never. never))
     (λ long. absurd (let never : ⊥ = cc in never))))
 
 pub prepares_remembered : (decl : Declaration) (s : SiteState) (from number : ℕ) (tx : TxId) (epoch life : ℕ)
     → epoch ≡ s.epoch → is_held s.held tx ≡ true → nat_le (prepare_length (promise_of s tx)) most_record_bytes ≡ true
     → (p : Posting) (k : ℕ) (x : Answer)
-        → In p (site_at decl s from number (messages.Request tx epoch life Prepare)).turn.sends
-        → p.message ≡ messages.Answer k x → Forgets x → ⊥
+    → In p (site_at decl s from number (messages.Request tx epoch life Prepare)).turn.sends
+    → p.message ≡ messages.Answer k x → Forgets x → ⊥
 prepares_remembered decl s from number tx epoch life same held fits p k x among is =
     (request_cases (Says number Remembers) decl s from number tx epoch life Prepare
-        (says_nothing Remembers number (moved s quiet) refl)
+    (says_nothing Remembers number (moved s quiet) refl)
     (λ fault it. says_one Remembers (moved s (answering_turn from number fault)) from number fault refl
-        (is_not_behind s epoch life fault same it))
+    (is_not_behind s epoch life fault same it))
     (λ none. prepare_says s from number tx held fits) p k x among is).1

@@ -1,6 +1,6 @@
 -- The end of a transaction is told to each site that it asked to hold something.
-use Rattle.std.proofs.Common.{◌≡◌, ℕ, ◌==◌, ◌&&◌, inl, inr, Bool, true, false, cond, List, ◌∷◌, map}
-use Rattle.std.proofs.Common.{fold, Option, Some, refl, sym, ap, ◌∙◌, subst, eq-eqb, eqb-true}
+use Rattle.std.proofs.Common.{◌≡◌, ℕ, ◌==◌, ◌&&◌, inl, inr, Bool, true, false, cond, List, ◌∷◌, map, fold, Option, Some}
+use Rattle.std.proofs.Common.{refl, sym, ap, ◌∙◌, subst, eq-eqb, eqb-true}
 use Rattle.qc_list.specs.Names.{In}
 use Rattle.qc_stamp.specs.declared.stamp.TxId.{TxId}
 use Rattle.qc_stamp.specs.Names.{same_tx}
@@ -14,8 +14,7 @@ use Rattle.qc_msg.specs.declared.turn.Posting.{Posting}
 use Rattle.qc_msg.specs.Names.{decisions}
 use Rattle.qc_promise.specs.Names.{is_final}
 use Rattle.qc_front.specs.declared.transaction.Transaction.{Transaction}
-use Rattle.qc_front.specs.Names.{request_of}
-use Rattle.qc_front.specs.Names.{with_asked}
+use Rattle.qc_front.specs.Names.{request_of, with_asked}
 use Rattle.laws_turns.specs.Names.{begun_in}
 use Rattle.laws_guarantees.proofs.Joined.{joined_first, joined_second}
 use Rattle.laws_guarantees.specs.Names.{asks_to_hold, open_said}
@@ -78,11 +77,11 @@ module _ (s : ℕ) (x : TxId) where
   asks_from : (b : Begun) (w : Transaction) (want : Want) (sites : List ℕ) → w.begun.tx ≡ b.tx
       → ((site : ℕ) → In site sites → In site w.begun.asked)
       → (before : Bool) → (before ≡ true → HasAsked s x (Some w))
-          → open_posted s x before (map (request_of b want) sites) ≡ true → HasAsked s x (Some w)
+      → open_posted s x before (map (request_of b want) sites) ≡ true → HasAsked s x (Some w)
   asks_from b w want [] named all before has is = has is
   asks_from b w want (site ∷ sites) named all before has is =
       asks_from b w want sites named (λ k among. all k (inr among))
-          (open_sent s x before site (request_of b want site).message) (one (site == s) refl) is
+      (open_sent s x before site (request_of b want site).message) (one (site == s) refl) is
     where
       one : (t : Bool) → (site == s) ≡ t → cond t (open_said x before (request_of b want site).message) before ≡ true
           → HasAsked s x (Some w)
@@ -96,7 +95,7 @@ module _ (s : ℕ) (x : TxId) where
                 t = w;
                 is = refl;
                 named = named ∙ tx_apart b.tx x same;
-                asked = subst (λ (k : ℕ). In k w.begun.asked) (eqb-true site s here) (all site (inl refl))
+                asked = subst (λ (k : ℕ). In k w.begun.asked) (eqb-true site s here) (all site (inl refl));
               }
           by false other held = has held
 
@@ -106,8 +105,8 @@ module _ (s : ℕ) (x : TxId) where
       → Keeps (Some t) (Some (with_asked u sites)) (map (request_of u.begun want) sites)
   asks t u want sites tx asked before has is =
       asks_from u.begun (with_asked u sites) want sites refl
-          (λ site among. joined_second site u.begun.asked sites among) before
-          (λ was. known (like t u tx asked (has was))) is
+      (λ site among. joined_second site u.begun.asked sites among) before
+      (λ was. known (like t u tx asked (has was))) is
     where
       known : HasAsked s x (Some u) → HasAsked s x (Some (with_asked u sites))
       known h =
@@ -146,8 +145,8 @@ module _ (s : ℕ) (x : TxId) where
           by same =
               let yes : same_tx y x ≡ true = subst (λ (k : TxId). same_tx y k ≡ true) same (same_self y) in
               let shut : open_said x before (messages.Decision y v) ≡ false =
-                      ap (λ (t : Bool). cond (t && is_final v) false before) yes
-                        ∙ ap (λ (t : Bool). cond t false before) final in
+              ap (λ (t : Bool). cond (t && is_final v) false before) yes
+              ∙ ap (λ (t : Bool). cond t false before) final in
               let never : ⊥ = (let now : open_said x before (messages.Decision y v) ≡ true = r.was in cc) in never
 
   -- the end of a transaction is told to each site that it asked
@@ -158,4 +157,4 @@ module _ (s : ℕ) (x : TxId) where
       let h : HasAsked s x old = has r.was in
       let same : b ≡ h.t.begun = (let e : Some b ≡ Some h.t.begun = sym is ∙ ap begun_in h.is in cc) in
       absurd
-          (r.apart (ap (λ (c : Begun). c.tx) same ∙ h.named) (subst (λ (c : Begun). In s c.asked) (sym same) h.asked))
+      (r.apart (ap (λ (c : Begun). c.tx) same ∙ h.named) (subst (λ (c : Begun). In s c.asked) (sym same) h.asked))

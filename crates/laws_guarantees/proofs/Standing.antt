@@ -1,6 +1,6 @@
 -- What stands among deeds was taken, and is held; own lines of one operation are one.
-use Rattle.std.proofs.Common.{◌≡◌, ◌&&◌, ◌||◌, ℕ, ◌+◌, Bool, true, false, cond, List, ◌∷◌, ◌++◌, inl}
-use Rattle.std.proofs.Common.{inr, refl, sym, ap, ◌∙◌, subst}
+use Rattle.std.proofs.Common.{◌≡◌, ◌&&◌, ◌||◌, ℕ, ◌+◌, Bool, true, false, cond, List, ◌∷◌, ◌++◌, inl, inr, refl, sym}
+use Rattle.std.proofs.Common.{ap, ◌∙◌, subst}
 use Rattle.std.specs.Prelude.{fold}
 use Rattle.std.specs.Option.{option_map_or}
 use Rattle.qc_stamp.specs.declared.stamp.TxId.{TxId}
@@ -19,10 +19,10 @@ use Rattle.qc_msg.specs.declared.message.Outcome.{Outcome}
 use Rattle.qc_msg.specs.declared.message.Want.{Want}
 use Rattle.qc_msg.specs.declared.message.Want.TheVariants.{Read, Append, Prepare}
 use Rattle.qc_msg.specs.declared.step.Input.TheVariants as inputs
-use Rattle.qc_msg.specs.Names.{Decided, Deed, Falls, Rises, Sends, Takes, Tells, Writes, decision_in}
-use Rattle.qc_msg.specs.Names.{got_in, request_in}
-use Rattle.qc_promise.specs.Names.{Grant, holding, is_decision, is_ended, is_final, standing}
-use Rattle.qc_promise.specs.Names.{standing_as, standing_by, stands}
+use Rattle.qc_msg.specs.Names.{Decided, Deed, Falls, Rises, Sends, Takes, Tells, Writes, decision_in, got_in}
+use Rattle.qc_msg.specs.Names.{request_in}
+use Rattle.qc_promise.specs.Names.{Grant, holding, is_decision, is_ended, is_final, standing, standing_as, standing_by}
+use Rattle.qc_promise.specs.Names.{stands}
 use Rattle.theory_machine.specs.Names.{Item, Lock, Own}
 use Rattle.laws_refinement.specs.Names.{IsHeld}
 use Rattle.laws_refinement.proofs.Held.{given_keeps, lock_given_here, own_given_here}
@@ -48,7 +48,7 @@ undecided tx (messages.Install epoch clock log) none = refl
 
 pub not_ended : (tx : TxId) (ds : List Deed)
     → ((e : Envelope) (verdict : Outcome) → In (Takes (inputs.Got e)) ds → e.message ≡ messages.Decision tx verdict
-      → is_final verdict ≡ true → ⊥) → is_ended tx ds ≡ false
+    → is_final verdict ≡ true → ⊥) → is_ended tx ds ≡ false
 not_ended tx [] none = refl
 not_ended tx (d ∷ ds) none =
     by (is_decision is_final tx d) (one d (λ e verdict same. none e verdict (inl (sym same))))
@@ -60,7 +60,7 @@ not_ended tx (d ∷ ds) none =
 
     one : (d : Deed)
         → ((e : Envelope) (verdict : Outcome) → d ≡ Takes (inputs.Got e) → e.message ≡ messages.Decision tx verdict
-          → is_final verdict ≡ true → ⊥) → is_decision is_final tx d ≡ false
+        → is_final verdict ≡ true → ⊥) → is_decision is_final tx d ≡ false
     one (Takes (inputs.Called command)) n = refl
     one (Takes (inputs.Got e)) n = undecided tx e.message (λ verdict is final. n e verdict refl is final)
     one (Takes (inputs.Lost number)) n = refl
@@ -105,14 +105,14 @@ was_taken (d ∷ ds) g among = elim (in_split g (option_map_or (standing_by ds) 
         → In g (option_map_or (standing_as e.number ds) (request_in m) []) → WasTakenFor (Takes (inputs.Got e) ∷ ds) g
     at_message e (messages.Request tx epoch life want) is here =
         let same : g ≡ record { tx = tx; want = want } =
-                by_test (stands e.number tx ds) (record { tx = tx; want = want }) here in
+        by_test (stands e.number tx ds) (record { tx = tx; want = want }) here in
         record {
-              envelope = e;
-              taken = inl refl;
-              epoch = epoch;
-              life = life;
-              content = is ∙ (λ i. messages.Request (sym same i).tx epoch life (sym same i).want)
-            }
+          envelope = e;
+          taken = inl refl;
+          epoch = epoch;
+          life = life;
+          content = is ∙ (λ i. messages.Request (sym same i).tx epoch life (sym same i).want);
+        }
     at_message e (messages.Answer to answer) is here = absurd here
     at_message e (messages.Decision tx verdict) is here = absurd here
     at_message e (messages.Inquiry tx) is here = absurd here
@@ -180,6 +180,6 @@ standing_held [] held g x among agree is = absurd among
 standing_held (k ∷ gs) held g x (inl same) agree is =
     kept gs (holding held k.tx k.want) g.tx x (λ o l j e there. agree o l j e (inr there))
     (subst (λ (y : Grant). IsHeld (held_of (holding held y.tx y.want) g.tx) x) same
-        (holding_has held g.tx g.want x (λ o l e. agree o l g e (inl same) refl) is))
+    (holding_has held g.tx g.want x (λ o l e. agree o l g e (inl same) refl) is))
 standing_held (k ∷ gs) held g x (inr there) agree is =
     standing_held gs (holding held k.tx k.want) g x there (λ o l j e more. agree o l j e (inr more)) is

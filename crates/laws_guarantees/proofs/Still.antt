@@ -1,8 +1,8 @@
 -- At most one client acts at a time: of two clients, one has called all that the phases so far ask it, runs nothing, and
 -- has the transaction begun that it had before this phase.
-use Rattle.std.proofs.Common.{◌≡◌, ℕ, suc, ◌+◌, ◌-◌, ◌<◌, ◌==◌, ◌&&◌, ◌||◌, ◌⊎◌, inl, inr, not, Bool, true, false}
-use Rattle.std.proofs.Common.{List, ◌∷◌, ◌++◌, length, fold, Option, Some, None, slice_get, refl, sym}
-use Rattle.std.proofs.Common.{ap, ◌∙◌, subst, arith, eq-eqb, eqb-true}
+use Rattle.std.proofs.Common.{◌≡◌, ℕ, suc, ◌+◌, ◌-◌, ◌<◌, ◌==◌, ◌&&◌, ◌||◌, ◌⊎◌, inl, inr, not, Bool, true, false, List}
+use Rattle.std.proofs.Common.{◌∷◌, ◌++◌, length, fold, Option, Some, None, slice_get, refl, sym, ap, ◌∙◌, subst, arith}
+use Rattle.std.proofs.Common.{eq-eqb, eqb-true}
 use Rattle.std.specs.Prelude.{is_some, replicate}
 use Rattle.std.specs.List.{filter_map}
 use Rattle.std.proofs.lemmas.List.{append-nil}
@@ -20,17 +20,15 @@ use Rattle.qc_msg.specs.declared.step.Step.TheVariants as steps
 use Rattle.qc_msg.specs.declared.turn.Posting.{Posting}
 use Rattle.qc_msg.specs.declared.record.Record.{Record}
 use Rattle.qc_msg.specs.declared.turn.Turn.{Turn}
-use Rattle.qc_msg.specs.Names.{Deed, Entry, by, deeds, mail, marked, posted, sends_of, tells_of}
-use Rattle.qc_msg.specs.Names.{turn_deeds, writes_of}
+use Rattle.qc_msg.specs.Names.{Deed, Entry, by, deeds, mail, marked, posted, sends_of, tells_of, turn_deeds, writes_of}
 use Rattle.qc_msg.proofs.DeedsGrow.{deeds-other}
 use Rattle.qc_msg.proofs.Growth.{deeds-posted}
-use Rattle.qc_script.specs.Names.{Runs, command_in, commands_for, controls_left, first_copy, first_lost}
-use Rattle.qc_script.specs.Names.{inbox, phase_at, phase_of, takes_commands}
+use Rattle.qc_script.specs.Names.{Runs, command_in, commands_for, controls_left, first_copy, first_lost, inbox}
+use Rattle.qc_script.specs.Names.{phase_at, phase_of, takes_commands}
 use Rattle.qc_script.specs.Runs.{begins, takes, posts, phase, control}
 use Rattle.qc_script.specs.declared.script.PhaseLines.{PhaseLines}
 use Rattle.qc_script.specs.declared.script.Script.{Script}
-use Rattle.laws_turns.specs.Names.{ActsIn, AsksDeclared, IsClosed, IsQuiet, asked_until, call_in}
-use Rattle.laws_turns.specs.Names.{calls_of}
+use Rattle.laws_turns.specs.Names.{ActsIn, AsksDeclared, IsClosed, IsQuiet, asked_until, call_in, calls_of}
 use Rattle.laws_turns.proofs.Acted.{as_many, deeds-silent, run_acts}
 use Rattle.laws_turns.proofs.PhaseCalls.{phase_posted}
 use Rattle.laws_turns.proofs.Calling.{run_asked}
@@ -76,17 +74,17 @@ module _ (decl : Declaration) (script : Script) (accepted : IsAccepted decl) (as
             ∙ ap (λ (t : Bool). t && not (is_some turn.told)) old.running;
         called =
             ap (λ (ds : List Deed). filter_map call_in ds) grown
-                ∙ filter_map-append call_in (deeds b [] h) (turn_deeds (length (mail h)) turn)
+            ∙ filter_map-append call_in (deeds b [] h) (turn_deeds (length (mail h)) turn)
             ∙ ap (λ (v : List Command). calls_of b h ++ v) (none_called (length (mail h)) turn)
-                ∙ append-nil (calls_of b h) ∙ old.called ∙ ap (asked_until b script) (sym phased);
+            ∙ append-nil (calls_of b h) ∙ old.called ∙ ap (asked_until b script) (sym phased);
         name =
             ap (λ (ds : List Deed). name_of (fold (account_at decl) (new_account (b - decl.sites)) ds)) grown
             ∙ ap name_of
-                (fold-append (account_at decl) (new_account (b - decl.sites)) (deeds b [] h)
-                  (turn_deeds (length (mail h)) turn))
+            (fold-append (account_at decl) (new_account (b - decl.sites)) (deeds b [] h)
+            (turn_deeds (length (mail h)) turn))
             ∙ stays_named (account decl b h)
-                (fold (account_at decl) (account decl b h) (turn_deeds (length (mail h)) turn))
-                (untold_stays decl (account decl b h) (length (mail h)) turn silent)
+            (fold (account_at decl) (account decl b h) (turn_deeds (length (mail h)) turn))
+            (untold_stays decl (account decl b h) (length (mail h)) turn silent)
             ∙ old.name ∙ ap (begun_by decl b) (sym (posted_parts h b (length (mail h)) turn));
       } where
         grown : deeds b [] (h ++ by b (posted (length (mail h)) turn))
@@ -97,8 +95,8 @@ module _ (decl : Declaration) (script : Script) (accepted : IsAccepted decl) (as
         silent =
             untold turn.told
             (λ told. let runs : is_running (deeds b [] h)
-              ≡ true = told_runs decl b (deeds b [] h) acts.above turn acts.acts lawful told in let rests : is_running
-                (deeds b [] h) ≡ false = old.running in let never : ⊥ = cc in never)
+            ≡ true = told_runs decl b (deeds b [] h) acts.above turn acts.acts lawful told in let rests : is_running
+            (deeds b [] h) ≡ false = old.running in let never : ⊥ = cc in never)
 
         none_called : (n : ℕ) (turn : Turn) → filter_map call_in (turn_deeds n turn) ≡ []
         none_called n turn = by turn.write
@@ -141,15 +139,15 @@ module _ (decl : Declaration) (script : Script) (accepted : IsAccepted decl) (as
         let idle : command_in decl c (inbox script c h) ≡ None =
         sym (ap (λ (es : List Envelope). first_copy es (first_lost (inbox script c h).lost (command_in decl c (inbox script c h)))) (copies_none decl script accepted asks h closed rests done c low)
         ∙ ap (λ (ns : List ℕ). first_lost ns (command_in decl c (inbox script c h)))
-            (losts_none decl script accepted asks h closed rests done c low))
+        (losts_none decl script accepted asks h closed rests done c low))
         ∙ nothing_ready decl script accepted asks h closed rests done c low in
         let left : (inbox script c h).commands ≡ [] =
         no_commands (takes_commands decl c) (inbox script c h).busy (inbox script c h).commands
-            (ap (λ (t : Bool). t || (c == administrator decl)) named)
+        (ap (λ (t : Bool). t || (c == administrator decl)) named)
         (busy_is_running script c h (run_up (IsLawful decl) decl script h before run c)
-            ∙ none_runs decl script accepted asks h closed rests done c named) idle in
+        ∙ none_runs decl script accepted asks h closed rests done c named) idle in
         sym (append-nil (calls_of c h)) ∙ ap (λ (v : List Command). calls_of c h ++ v) (sym left)
-            ∙ run_asked decl script c h before run
+        ∙ run_asked decl script c h before run
 
     now : List Entry
     now = h ++ marked (controller decl) (steps.Phase (phase_of h + 1)) ∷ []
@@ -158,17 +156,17 @@ module _ (decl : Declaration) (script : Script) (accepted : IsAccepted decl) (as
         → commands_for c p.commands ≡ [] → Still c (h ++ marked (controller decl) (steps.Phase (phase_of h + 1)) ∷ [])
     still_phase c named p is unasked =
         let same : deeds c [] (h ++ marked (controller decl) (steps.Phase (phase_of h + 1)) ∷ []) ≡ deeds c [] h =
-                deeds-silent c (controller decl) h (steps.Phase (phase_of h + 1)) (phase_silent (phase_of h + 1)) in
+        deeds-silent c (controller decl) h (steps.Phase (phase_of h + 1)) (phase_silent (phase_of h + 1)) in
         let phased : phase_of (h ++ marked (controller decl) (steps.Phase (phase_of h + 1)) ∷ []) ≡ phase_of h + 1 =
-                fold-append (λ (k : ℕ) (e : Entry). phase_at k e.step) 0 h
-                  (marked (controller decl) (steps.Phase (phase_of h + 1)) ∷ []) in
+        fold-append (λ (k : ℕ) (e : Entry). phase_at k e.step) 0 h
+        (marked (controller decl) (steps.Phase (phase_of h + 1)) ∷ []) in
         let after : suc (phase_of h) ≡ phase_of h + 1 = omega arith in
         record {
           running = ap is_running same ∙ none_runs decl script accepted asks h closed rests done c named;
           called =
               ap (λ (ds : List Deed). filter_map call_in ds) same ∙ all_called c named
               ∙ sym (append-nil (asked_until c script (phase_of h)))
-                  ∙ ap (λ (v : List Command). asked_until c script (phase_of h) ++ v) (sym unasked)
+              ∙ ap (λ (v : List Command). asked_until c script (phase_of h) ++ v) (sym unasked)
               ∙ sym (asked_more c script.phases (phase_of h) p is) ∙ ap (asked_until c script) (after ∙ sym phased);
           name =
               ap (λ (ds : List Deed). name_of (fold (account_at decl) (new_account (c - decl.sites)) ds)) same
@@ -177,29 +175,29 @@ module _ (decl : Declaration) (script : Script) (accepted : IsAccepted decl) (as
 
     one_phase : (c d : ℕ) → is_client decl c ≡ true → is_client decl d ≡ true → (c ≡ d → ⊥)
         → Still c (h ++ marked (controller decl) (steps.Phase (phase_of h + 1)) ∷ [])
-            ⊎ Still d (h ++ marked (controller decl) (steps.Phase (phase_of h + 1)) ∷ [])
+        ⊎ Still d (h ++ marked (controller decl) (steps.Phase (phase_of h + 1)) ∷ [])
     one_phase c d c_named d_named differ =
         let found : (p : PhaseLines) × (slice_get script.phases (phase_of h) ≡ Some p) =
-                slice_get-within script.phases (phase_of h) more in
+        slice_get-within script.phases (phase_of h) more in
         let asked : AsksOne found.0 = every-at AsksOne script.phases (phase_of h) found.0 calm.one found.1 in
         choose found.0 found.1 asked
       where
         choose : (p : PhaseLines) → slice_get script.phases (phase_of h) ≡ Some p → AsksOne p
             → Still c (h ++ marked (controller decl) (steps.Phase (phase_of h + 1)) ∷ [])
-                ⊎ Still d (h ++ marked (controller decl) (steps.Phase (phase_of h + 1)) ∷ [])
+            ⊎ Still d (h ++ marked (controller decl) (steps.Phase (phase_of h + 1)) ∷ [])
         choose p is asked = at (asked.actor == c) refl
           where
             at : (t : Bool) → (asked.actor == c) ≡ t
                 → Still c (h ++ marked (controller decl) (steps.Phase (phase_of h + 1)) ∷ [])
-                  ⊎ Still d (h ++ marked (controller decl) (steps.Phase (phase_of h + 1)) ∷ [])
+                ⊎ Still d (h ++ marked (controller decl) (steps.Phase (phase_of h + 1)) ∷ [])
             at true same =
                 inr (still_phase d d_named p is
                 (none_for d asked.actor (λ e. differ (sym (eqb-true asked.actor c same) ∙ e)) p.commands asked.alone))
             at false other =
                 inl (still_phase c c_named p is
                 (none_for c asked.actor
-                  (λ e. let yes : (asked.actor == c) ≡ true = eq-eqb asked.actor c e in let never : ⊥ = cc in never)
-                  p.commands asked.alone))
+                (λ e. let yes : (asked.actor == c) ≡ true = eq-eqb asked.actor c e in let never : ⊥ = cc in never)
+                p.commands asked.alone))
 
   either : {A B C D : Type 0} → (A → C) → (B → D) → A ⊎ B → C ⊎ D
   either f g (inl a) = inl (f a)
@@ -212,12 +210,12 @@ module _ (decl : Declaration) (script : Script) (accepted : IsAccepted decl) (as
       inl (record { running = refl; called = refl; name = refl })
   one_still h open_inputs (takes b g before older run free rdy) c d c_named d_named differ =
       either (still_takes decl script accepted asks calm b g before older run free rdy c)
-          (still_takes decl script accepted asks calm b g before older run free rdy d)
-          (one_still older before run c d c_named d_named differ)
+      (still_takes decl script accepted asks calm b g before older run free rdy d)
+      (one_still older before run c d c_named d_named differ)
   one_still h open_inputs (posts b turn before older run open_still lawful) c d c_named d_named differ =
       either (still_posts b turn before older run open_still lawful c)
-          (still_posts b turn before older run open_still lawful d)
-          (one_still older before run c d c_named d_named differ)
+      (still_posts b turn before older run open_still lawful d)
+      (one_still older before run c d c_named d_named differ)
   one_still h open_inputs (phase before older run none done rests more) c d c_named d_named differ =
       one_phase older before run none done rests more c d c_named d_named differ
   one_still h open_inputs (control line lines step before older run left is) c d c_named d_named differ =
@@ -228,6 +226,6 @@ module _ (decl : Declaration) (script : Script) (accepted : IsAccepted decl) (as
 pub one_acts : (decl : Declaration) (script : Script) → IsAccepted decl → AsksDeclared decl script
     → IsUndisturbed script → (h : List Entry) (open_inputs : List Bool) → Runs (IsLawful decl) decl script h open_inputs
     → (c d : ℕ) → is_client decl c ≡ true → is_client decl d ≡ true → (c ≡ d → ⊥)
-        → IsStill decl script c h ⊎ IsStill decl script d h
+    → IsStill decl script c h ⊎ IsStill decl script d h
 one_acts decl script accepted asks calm h open_inputs run c d c_named d_named differ =
     one_still decl script accepted asks calm h open_inputs run c d c_named d_named differ

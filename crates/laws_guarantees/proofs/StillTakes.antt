@@ -1,7 +1,7 @@
 -- Inputs that are all closed; and one client acts alone as it takes an input.
-use Rattle.std.proofs.Common.{◌≡◌, ℕ, zero, suc, ◌+◌, ◌-◌, ◌==◌, ◌&&◌, not, Bool, true, false}
-use Rattle.std.proofs.Common.{cond, List, ◌∷◌, ◌++◌, map, length, fold, Option, Some, None, slice_get, refl, sym}
-use Rattle.std.proofs.Common.{ap, ◌∙◌, subst, arith, eqb-true, length-append}
+use Rattle.std.proofs.Common.{◌≡◌, ℕ, zero, suc, ◌+◌, ◌-◌, ◌==◌, ◌&&◌, not, Bool, true, false, cond, List, ◌∷◌, ◌++◌}
+use Rattle.std.proofs.Common.{map, length, fold, Option, Some, None, slice_get, refl, sym, ap, ◌∙◌, subst, arith}
+use Rattle.std.proofs.Common.{eqb-true, length-append}
 use Rattle.std.specs.Prelude.{filter, is_some, replicate, slice_set, take}
 use Rattle.std.specs.List.{AllByRecursion as Every, filter_map}
 use Rattle.std.proofs.lemmas.List.{append-nil, append_assoc}
@@ -17,14 +17,12 @@ use Rattle.qc_msg.specs.declared.step.Input.TheVariants as inputs
 use Rattle.qc_msg.specs.Names.{Deed, Entry, Takes, by, deeds, marked, step_of}
 use Rattle.qc_msg.proofs.DeedsGrow.{deeds-other}
 use Rattle.qc_msg.proofs.Growth.{deeds-taken}
-use Rattle.qc_script.specs.Names.{Runs, commands_for, first_command}
-use Rattle.qc_script.specs.Names.{inbox, phase_of, ready}
+use Rattle.qc_script.specs.Names.{Runs, commands_for, first_command, inbox, phase_of, ready}
 use Rattle.qc_script.specs.Runs.{takes}
 use Rattle.qc_script.specs.declared.script.CommandLine.{CommandLine}
 use Rattle.qc_script.specs.declared.script.PhaseLines.{PhaseLines}
 use Rattle.qc_script.specs.declared.script.Script.{Script}
-use Rattle.laws_turns.specs.Names.{AsksDeclared, asked_in_all, asked_until, call_in}
-use Rattle.laws_turns.specs.Names.{calls_of}
+use Rattle.laws_turns.specs.Names.{AsksDeclared, asked_in_all, asked_until, call_in, calls_of}
 use Rattle.laws_turns.proofs.Arrivals.{what_is_ready_was_sent}
 use Rattle.laws_turns.proofs.PhaseCalls.{phase_taken}
 use Rattle.laws_turns.proofs.Calling.{run_asked}
@@ -50,8 +48,8 @@ none_for a b differs (l ∷ lines) all = by (l.actor == a) refl (none_for a b di
   where
     by : (t : Bool) → (l.actor == a) ≡ t → commands_for a lines ≡ []
         → map (λ (l : CommandLine). l.command)
-          (cond t (l ∷ filter (λ (l : CommandLine). l.actor == a) lines)
-            (filter (λ (l : CommandLine). l.actor == a) lines)) ≡ []
+        (cond t (l ∷ filter (λ (l : CommandLine). l.actor == a) lines)
+        (filter (λ (l : CommandLine). l.actor == a) lines)) ≡ []
     by true same rest = absurd (differs (sym all.0 ∙ eqb-true l.actor a same))
     by false other rest = rest
 
@@ -63,7 +61,7 @@ asked_more a (q ∷ phases) zero p is =
     ∙ ap (λ (x : PhaseLines). commands_for a x.commands) (let same : q ≡ p = cc in same)
 asked_more a (q ∷ phases) (suc k) p is =
     ap (λ (v : List Command). commands_for a q.commands ++ v) (asked_more a phases k p is)
-        ∙ sym (append_assoc (commands_for a q.commands) (asked_in_all a (take k phases)) (commands_for a p.commands))
+    ∙ sym (append_assoc (commands_for a q.commands) (asked_in_all a (take k phases)) (commands_for a p.commands))
 
 -- inputs that are all closed
 
@@ -145,9 +143,9 @@ module _ (decl : Declaration) (script : Script) (accepted : IsAccepted decl) (as
           by (inputs.Called command) is =
               absurd (too_long (calls_of b h) (inbox script b (h ++ marked b (step_of g) ∷ [])).commands command
               (ap (λ (v : List Command). v ++ (inbox script b (h ++ marked b (step_of g) ∷ [])).commands)
-                  (sym (calls ∙ ap (λ (x : Input). calls_of b h ++ filter_map call_in (Takes x ∷ [])) is))
+              (sym (calls ∙ ap (λ (x : Input). calls_of b h ++ filter_map call_in (Takes x ∷ [])) is))
               ∙ run_asked decl script b (h ++ marked b (step_of g) ∷ []) (slice_set before b true)
-                  (takes b g before h run free rdy)
+              (takes b g before h run free rdy)
               ∙ ap (asked_until b script) phased ∙ sym old.called))
           by (inputs.Got e) is =
               goes (running_more (deeds b [] h) (Takes g ∷ [])

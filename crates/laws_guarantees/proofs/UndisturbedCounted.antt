@@ -1,7 +1,7 @@
 -- In each undisturbed run what counts for a request is an answer that fits it; and a Clash names a transaction that is open
 -- elsewhere.
-use Rattle.std.proofs.Common.{◌≡◌, ℕ, ◌+◌, ◌-◌, ◌≤◌, inl, inr, Bool, true, false, List, ◌∷◌}
-use Rattle.std.proofs.Common.{Option, Some, None, option_map, refl, sym, ap, ◌∙◌, subst, arith}
+use Rattle.std.proofs.Common.{◌≡◌, ℕ, ◌+◌, ◌-◌, ◌≤◌, inl, inr, Bool, true, false, List, ◌∷◌, Option, Some, None}
+use Rattle.std.proofs.Common.{option_map, refl, sym, ap, ◌∙◌, subst, arith}
 use Rattle.qc_list.specs.Names.{In}
 use Rattle.qc_list.proofs.Members.{every-In}
 use Rattle.qc_stamp.specs.declared.stamp.TxId.{TxId}
@@ -22,10 +22,9 @@ use Rattle.qc_script.specs.Names.{Runs}
 use Rattle.qc_script.specs.declared.script.Script.{Script}
 use Rattle.laws_turns.specs.Names.{AsksDeclared}
 use Rattle.laws_turns.proofs.Numbered.{AreNumbered, run_numbered}
-use Rattle.qc_promise.specs.Names.{ClientRequest, Current, account}
-use Rattle.qc_promise.specs.Names.{new_account}
-use Rattle.laws_guarantees.specs.Names.{Fits, FitsHold, FitsPromise, IfAnswered, IsAnswered, IsUndisturbed}
-use Rattle.laws_guarantees.specs.Names.{begun_by, sent_before}
+use Rattle.qc_promise.specs.Names.{ClientRequest, Current, account, new_account}
+use Rattle.laws_guarantees.specs.Names.{Fits, FitsHold, FitsPromise, IfAnswered, IsAnswered, IsUndisturbed, begun_by}
+use Rattle.laws_guarantees.specs.Names.{sent_before}
 use Rattle.laws_guarantees.proofs.Accounts.{HasGrounds, WasSent, WasTaken}
 use Rattle.laws_guarantees.proofs.AnswersLater.{number_from}
 use Rattle.laws_guarantees.proofs.AnswerRuns.{run_answered}
@@ -105,20 +104,20 @@ module _ (decl : Declaration) (script : Script) (accepted : IsAccepted decl) (as
       let w : WasTaken (deeds a [] h) q.number answer = grounds.taken q answer among is in
       let there : In w.envelope (mail h) = taken_mail a [] h w.envelope w.taken in
       let fit : IfAnswered (mail h) w.envelope.from w.envelope.message =
-              every-In (λ (e : Envelope). IfAnswered (mail h) e.from e.message) w.envelope (mail h)
-                (run_answered decl script calm h open_inputs run) there in
+      every-In (λ (e : Envelope). IfAnswered (mail h) e.from e.message) w.envelope (mail h)
+      (run_answered decl script calm h open_inputs run) there in
       let r : IsAnswered (mail h) w.envelope.from q.number answer =
-              subst (IfAnswered (mail h) w.envelope.from) w.is fit in
+      subst (IfAnswered (mail h) w.envelope.from) w.is fit in
       let same : r.request ≡ sent_as a q.number q.site (messages.Request sent.0.tx sent.2.epoch q.life q.want) =
       same_number 0 (mail h) r.request
-          (sent_as a q.number q.site (messages.Request sent.0.tx sent.2.epoch q.life q.want))
-          (run_numbered (IsLawful decl) decl script h open_inputs run) r.among request r.number_is in
+      (sent_as a q.number q.site (messages.Request sent.0.tx sent.2.epoch q.life q.want))
+      (run_numbered (IsLawful decl) decl script h open_inputs run) r.among request r.number_is in
       let site : w.envelope.from ≡ q.site = sym r.site_is ∙ ap (λ (e : Envelope). e.to) same in
       subst (λ (k : ℕ). Fits (sent_before k q.number (mail h)) sent.0.tx q.want answer) site
       (fits_moved (sent_before w.envelope.from q.number (mail h)) answer r.tx sent.0.tx r.epoch sent.2.epoch r.life
-          q.life r.want q.want
+      q.life r.want q.want
       (message_is r.request (sent_as a q.number q.site (messages.Request sent.0.tx sent.2.epoch q.life q.want))
-          (messages.Request r.tx r.epoch r.life r.want) r.is same) r.fits)
+      (messages.Request r.tx r.epoch r.life r.want) r.is same) r.fits)
 
   hold_good : (answer : Answer) → FitsHold (sent_before q.site q.number (mail h)) sent.0.tx answer
       → GoodHold decl a h answer
@@ -126,11 +125,11 @@ module _ (decl : Declaration) (script : Script) (accepted : IsAccepted decl) (as
   hold_good (answers.Clash holder inv event) fit =
       run_clear decl script accepted asks calm h open_inputs run a named q among holder fit.0 (λ name.
       let mine : begun_by decl a h ≡ Some sent.0.tx =
-              ap (λ (o : Option Current). option_map (λ (t : Current). t.tx) o) sent.1 in
+      ap (λ (o : Option Current). option_map (λ (t : Current). t.tx) o) sent.1 in
       let both : Some sent.0.tx ≡ Some holder = sym mine ∙ name in
       let same : sent.0.tx ≡ holder = cc in
       let yes_same : same_tx holder sent.0.tx ≡ true =
-              subst (λ (x : TxId). same_tx holder x ≡ true) (sym same) (same_self holder) in
+      subst (λ (x : TxId). same_tx holder x ≡ true) (sym same) (same_self holder) in
       let apart : same_tx holder sent.0.tx ≡ false = fit.1 in
       let never : ⊥ = cc in never)
   hold_good (answers.Closed epoch) never = never

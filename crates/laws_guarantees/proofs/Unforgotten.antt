@@ -1,6 +1,6 @@
 -- So in no run an open vote has an answer that says that its site has forgotten, and none counts.
-use Rattle.std.proofs.Common.{◌*◌, ◌≡◌, ◌⊎◌, ◌<◌, ◌≤◌, ◌+◌, ◌-◌, ◌==◌, ℕ, Bool, true, false, cond, List, ◌∷◌, ◌++◌}
-use Rattle.std.proofs.Common.{inl, inr, length, Some, None, slice_get, refl, sym, ap, ◌∙◌, subst, arith, eqb-true}
+use Rattle.std.proofs.Common.{◌*◌, ◌≡◌, ◌⊎◌, ◌<◌, ◌≤◌, ◌+◌, ◌-◌, ◌==◌, ℕ, Bool, true, false, cond, List, ◌∷◌, ◌++◌, inl}
+use Rattle.std.proofs.Common.{inr, length, Some, None, slice_get, refl, sym, ap, ◌∙◌, subst, arith, eqb-true}
 use Rattle.std.proofs.Common.{length-append}
 use Rattle.std.specs.Prelude.{fold}
 use Rattle.qc_stamp.specs.declared.stamp.TxId.{TxId}
@@ -92,14 +92,14 @@ module _ (decl : Declaration) (script : Script) (accepted : IsAccepted decl) (so
         at true same =
             let here : b ≡ a = eqb-true b a same in
             let now : IsOpenVote (account_taken (account decl a h) g) q =
-                    subst (λ (d : Account). IsOpenVote d q)
-                      (account_taken_is decl a h g (subst (λ (n : ℕ). WasSentTo n (mail h) g) here sent))
-                      (subst (λ (n : ℕ). IsOpenVote (account decl a (h ++ marked n (step_of g) ∷ [])) q) here k) in
+            subst (λ (d : Account). IsOpenVote d q)
+            (account_taken_is decl a h g (subst (λ (n : ℕ). WasSentTo n (mail h) g) here sent))
+            (subst (λ (n : ℕ). IsOpenVote (account decl a (h ++ marked n (step_of g) ∷ [])) q) here k) in
             record {
-                  among = open_before decl (account decl a h) g q now.untaken now.among;
-                  want = now.want;
-                  untaken = now.untaken
-                }
+              among = open_before decl (account decl a h) g q now.untaken now.among;
+              want = now.want;
+              untaken = now.untaken;
+            }
 
     pub unforgotten_taken : Unforgotten h → Unforgotten (h ++ marked b (step_of g) ∷ [])
     unforgotten_taken u = same_mail h (h ++ marked b (step_of g) ∷ []) (mail-taken h b g) taken_open u
@@ -128,10 +128,10 @@ module _ (decl : Declaration) (script : Script) (accepted : IsAccepted decl) (so
         → IsAnswered (mail h) n x ⊎ IsPosted n x
     old_or_posted n x k =
         elim (in_split k.envelope (mail h) more (subst (λ (ms : List Envelope). In k.envelope ms) mail_is k.sent)) [
-      | inl old ↦ inl (record { envelope = k.envelope; sent = old; is = k.is })
-      | inr new ↦ (let p : Place b turn.sends (mail h ++ more) k.envelope = placed (mail h) b (length (mail h)) turn.sends k.envelope refl new in
-          inr (record { posting = p.posting; among = p.among; is = sym p.message ∙ k.is }))
-    ]
+          | inl old ↦ inl (record { envelope = k.envelope; sent = old; is = k.is })
+          | inr new ↦ (let p : Place b turn.sends (mail h ++ more) k.envelope = placed (mail h) b (length (mail h)) turn.sends k.envelope refl new in
+              inr (record { posting = p.posting; among = p.among; is = sym p.message ∙ k.is }))
+        ]
 
     -- a client answers nothing
     client_posts : is_client decl b ≡ true → (n : ℕ) (x : Answer) → IsPosted n x → ⊥
@@ -143,24 +143,24 @@ module _ (decl : Declaration) (script : Script) (accepted : IsAccepted decl) (so
             → (e : Envelope) × (g ≡ inputs.Got e) × ((tx : TxId) × (e.message ≡ messages.Ask tx)) → ⊥
         asked_nothing before g is r =
             let takes_it : In (Takes (inputs.Got r.0)) (deeds b [] h) =
-                    subst (λ (ds : List Deed). In (Takes (inputs.Got r.0)) ds) (sym is)
-                      (subst (λ (y : Input). In (Takes (inputs.Got r.0)) (before ++ Takes y ∷ [])) (sym r.1)
-                        (In-last (Takes (inputs.Got r.0)) before)) in
+            subst (λ (ds : List Deed). In (Takes (inputs.Got r.0)) ds) (sym is)
+            (subst (λ (y : Input). In (Takes (inputs.Got r.0)) (before ++ Takes y ∷ [])) (sym r.1)
+            (In-last (Takes (inputs.Got r.0)) before)) in
             let proper : IsProperFrom decl r.0.from r.0.to r.0.message =
-                    every-In (λ (y : Envelope). IsProperFrom decl y.from y.to y.message) r.0 (mail h)
-                      (run_proper decl script accepted (asks_declared decl script accepted sound) h open_inputs run)
-                      (taken_mail b [] h r.0 takes_it) in
+            every-In (λ (y : Envelope). IsProperFrom decl y.from y.to y.message) r.0 (mail h)
+            (run_proper decl script accepted (asks_declared decl script accepted sound) h open_inputs run)
+            (taken_mail b [] h r.0 takes_it) in
             subst (IsProperFrom decl r.0.from r.0.to) r.2.1 proper
 
         by : IsAtInput decl b client (deeds b [] h) → ⊥
         by at =
             let is : turn ≡ (client_takes decl (client_after decl (b - decl.sites) at.before).client at.given).turn =
             lawful_turn decl b (deeds b [] h) turn client law
-                ∙ ap (λ (ds : List Deed). (client_after decl (b - decl.sites) ds).turn) at.is
+            ∙ ap (λ (ds : List Deed). (client_after decl (b - decl.sites) ds).turn) at.is
             ∙ ap (λ (m : ClientMove). m.turn) (after_given decl (b - decl.sites) at.before at.given) in
             asked_nothing at.before at.given at.is
-                (client_answers decl (client_after decl (b - decl.sites) at.before).client at.given k.posting n x
-                  (subst (λ (t : Turn). In k.posting t.sends) is k.among) k.is)
+            (client_answers decl (client_after decl (b - decl.sites) at.before).client at.given k.posting n x
+            (subst (λ (t : Turn). In k.posting t.sends) is k.among) k.is)
 
     -- a site answers a request that it took
 
@@ -174,11 +174,11 @@ module _ (decl : Declaration) (script : Script) (accepted : IsAccepted decl) (so
         by o =
             let r : IsAnswering o.given n = answers_inputs decl ((stood decl script accepted sound h open_inputs run).net.sites b) o.given k.posting n x
             (subst (λ (m : SiteMove). In k.posting m.turn.sends) o.is
-                (subst (λ (t : Turn). In k.posting t.sends) (site_turn site) k.among)) k.is in
+            (subst (λ (t : Turn). In k.posting t.sends) (site_turn site) k.among)) k.is in
             let sent : (slice_get (mail h) r.envelope.number ≡ Some r.envelope) × (r.envelope.to ≡ b) =
-                    subst (WasSentTo b (mail h)) r.is o.sent in
+            subst (WasSentTo b (mail h)) r.is o.sent in
             subst (λ (m : ℕ). m < length (mail h)) r.numbered
-                (below_length (mail h) r.envelope.number r.envelope sent.0)
+            (below_length (mail h) r.envelope.number r.envelope sent.0)
 
     -- who posts is a site or a client
     pub who : (is_site decl b ≡ true) ⊎ (is_client decl b ≡ true)
@@ -186,7 +186,7 @@ module _ (decl : Declaration) (script : Script) (accepted : IsAccepted decl) (so
       where
         at : (s c : Bool) → is_site decl b ≡ s → is_client decl b ≡ c
             → cond s (Some (site_after decl b (deeds b [] h)).turn)
-              (cond c (Some (client_after decl (b - decl.sites) (deeds b [] h)).turn) None) ≡ Some turn
+            (cond c (Some (client_after decl (b - decl.sites) (deeds b [] h)).turn) None) ≡ Some turn
             → (is_site decl b ≡ true) ⊎ (is_client decl b ≡ true)
         at true c site client is = inl site
         at false true site client is = inr client
@@ -219,9 +219,9 @@ module _ (decl : Declaration) (script : Script) (accepted : IsAccepted decl) (so
     itself u client q x vote (inl old) forgets =
         elim (open_after decl (account decl b h) (length (mail h)) turn q
         (subst (λ (d : Account). IsOpenVote d q) (account_posted_is decl b (length (mail h)) h turn) vote)) [
-      | inl there ↦ u.votes b q x client there old forgets
-      | inr new ↦ (let low : q.number < length (mail h) = u.low q.number x old in omega arith)
-    ]
+          | inl there ↦ u.votes b q x client there old forgets
+          | inr new ↦ (let low : q.number < length (mail h) = u.low q.number x old in omega arith)
+        ]
 
     pub unforgotten_posted : Unforgotten h → Unforgotten (h ++ by_actor b (posted (length (mail h)) turn))
     unforgotten_posted u = record {
@@ -235,12 +235,12 @@ module _ (decl : Declaration) (script : Script) (accepted : IsAccepted decl) (so
         by a q x client vote k forgets false other =
             elsewhere u a q x client
             (subst (λ (d : Account). IsOpenVote d q) (account_other decl b a h (posted (length (mail h)) turn) other)
-              vote) k forgets
+            vote) k forgets
         by a q x client vote k forgets true same =
             let here : a ≡ b = sym (eqb-true b a same) in
             itself u (subst (λ (n : ℕ). is_client decl n ≡ true) here client) q x
-                (subst (λ (n : ℕ). IsOpenVote (account decl n (h ++ by_actor b (posted (length (mail h)) turn))) q) here
-                  vote) k forgets
+            (subst (λ (n : ℕ). IsOpenVote (account decl n (h ++ by_actor b (posted (length (mail h)) turn))) q) here
+            vote) k forgets
 
   pub few_before : (h k : List Entry) → operations_of (h ++ k) ≤ 2 * most_committed_operations
       → operations_of h ≤ 2 * most_committed_operations
@@ -252,22 +252,22 @@ module _ (decl : Declaration) (script : Script) (accepted : IsAccepted decl) (so
       record { low = λ n x k. absurd k.sent; votes = λ a q x client vote k forgets. k.sent }
   unforgotten h open_inputs (takes b g before older run free rdy) few =
       unforgotten_taken older b g (what_is_ready_was_sent (IsLawful decl) decl script older before run b g rdy)
-          (unforgotten older before run (few_before older (marked b (step_of g) ∷ []) few))
+      (unforgotten older before run (few_before older (marked b (step_of g) ∷ []) few))
   unforgotten h open_inputs (posts b turn before older run taken law) few =
       let less : operations_of older ≤ 2 * most_committed_operations =
-              few_before older (by_actor b (posted (length (mail older)) turn)) few in
+      few_before older (by_actor b (posted (length (mail older)) turn)) few in
       unforgotten_posted older before run less b turn taken law (unforgotten older before run less)
   unforgotten h open_inputs (phase before older run none done quiet_all left) few =
       same_mail older (older ++ marked (controller decl) (steps.Phase (phase_of older + 1)) ∷ [])
-          (mail-silent older (controller decl) (steps.Phase (phase_of older + 1)) (phase_silent (phase_of older + 1)))
+      (mail-silent older (controller decl) (steps.Phase (phase_of older + 1)) (phase_silent (phase_of older + 1)))
       (λ a q k. subst (λ (d : Account). IsOpenVote d q)
-          (account_silent decl a (controller decl) older (steps.Phase (phase_of older + 1))
-            (phase_silent (phase_of older + 1))) k)
+      (account_silent decl a (controller decl) older (steps.Phase (phase_of older + 1))
+      (phase_silent (phase_of older + 1))) k)
       (unforgotten older before run
-          (few_before older (marked (controller decl) (steps.Phase (phase_of older + 1)) ∷ []) few))
+      (few_before older (marked (controller decl) (steps.Phase (phase_of older + 1)) ∷ []) few))
   unforgotten h open_inputs (control line lines step before older run left is) few =
       same_mail older (older ++ marked (controller decl) step ∷ [])
-          (mail-silent older (controller decl) step (control_silent line step is))
+      (mail-silent older (controller decl) step (control_silent line step is))
       (λ a q k. subst (λ (d : Account). IsOpenVote d q)
-          (account_silent decl a (controller decl) older step (control_silent line step is)) k)
+      (account_silent decl a (controller decl) older step (control_silent line step is)) k)
       (unforgotten older before run (few_before older (marked (controller decl) step ∷ []) few))

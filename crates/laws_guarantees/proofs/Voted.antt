@@ -53,8 +53,7 @@ use Rattle.laws_guarantees.proofs.Mailed.{sent_as, sent_mail, taken_mail}
 use Rattle.laws_guarantees.proofs.NetMessages.{AreFullMessages, IsGrantedBy, WasEnded, same_request}
 use Rattle.laws_guarantees.proofs.NetHolds.{granted_or_ended}
 use Rattle.laws_guarantees.proofs.Rightful.{mail_full, mail_named}
-use Rattle.laws_guarantees.proofs.Room.{m as refined, promise_fits, votes_of}
-use Rattle.laws_guarantees.proofs.Room.{AreNamedMessages}
+use Rattle.laws_guarantees.proofs.Room.{m as refined, promise_fits, votes_of, AreNamedMessages}
 
 module _ (decl : Declaration) (d : Account) (c : Client) (q : ClientRequest) (k : IsOpenVote d q) where
   -- its client waits for votes

@@ -1,7 +1,6 @@
 -- The requests of a half went to the first sites of the client's order, in that order.
-use Rattle.std.proofs.Common.{◌≡◌, ℕ, suc, ◌+◌, ◌==◌, ◌&&◌, Bool, true, false, cond, List, ◌∷◌, ◌++◌}
-use Rattle.std.proofs.Common.{map, fold, length, Option, Some, None, option_map, refl, sym, ap, ◌∙◌, subst, arith}
-use Rattle.std.proofs.Common.{length-append}
+use Rattle.std.proofs.Common.{◌≡◌, ℕ, suc, ◌+◌, ◌==◌, ◌&&◌, Bool, true, false, cond, List, ◌∷◌, ◌++◌, map, fold, length}
+use Rattle.std.proofs.Common.{Option, Some, None, option_map, refl, sym, ap, ◌∙◌, subst, arith, length-append}
 use Rattle.std.specs.Prelude.{drop, filter, take}
 use Rattle.std.specs.Option.{option_map_or}
 use Rattle.std.proofs.lemmas.List.{append-nil, length-map, map-append}
@@ -18,11 +17,10 @@ use Rattle.qc_msg.specs.declared.message.Want.TheVariants.{Append, Prepare, Read
 use Rattle.qc_msg.specs.declared.step.Command.{Command}
 use Rattle.qc_msg.specs.declared.step.Command.TheVariants as commands
 use Rattle.qc_msg.specs.Names.{Deed, Falls, Rises, Sends, Takes, Tells, Writes}
-use Rattle.qc_promise.specs.Names.{Account, ClientRequest, Current, account_at, account_sent}
-use Rattle.qc_promise.specs.Names.{account_taken, account_written, answer_of, append_need, are_reads_met, asked_by}
-use Rattle.qc_promise.specs.Names.{carries, command_asks, commit_asks, do_asks}
-use Rattle.qc_promise.specs.Names.{is_append, is_asked_for, is_next_voter, is_of, is_read, is_this}
-use Rattle.qc_promise.specs.Names.{new_account, requests_for, round_of}
+use Rattle.qc_promise.specs.Names.{Account, ClientRequest, Current, account_at, account_sent, account_taken}
+use Rattle.qc_promise.specs.Names.{account_written, answer_of, append_need, are_reads_met, asked_by, carries}
+use Rattle.qc_promise.specs.Names.{command_asks, commit_asks, do_asks, is_append, is_asked_for, is_next_voter, is_of}
+use Rattle.qc_promise.specs.Names.{is_read, is_this, new_account, requests_for, round_of}
 use Rattle.laws_due.specs.Names.{AreByRows, IsSendDue}
 use Rattle.laws_guarantees.proofs.AskingOrder.{order, sites_in, count_in, IsInOrder, first_drop, first_of_two}
 use Rattle.laws_guarantees.proofs.AskingOrder.{second_of_two, IsHalf, taken_order, written_order}
@@ -46,20 +44,20 @@ module _ (decl : Declaration) where
   do_next half of_reads d t object inv site (Read o i) its is =
       left_first d t is_read (read_need_of decl t.epoch object inv) site
       (first_of_two (is_next_voter decl d t is_read (read_need_of decl t.epoch object inv) site)
-          (length (requests_for is_append d) == 0)
+      (length (requests_for is_append d) == 0)
       (second_of_two ((o == object) && (i == inv))
-          (is_next_voter decl d t is_read (read_need_of decl t.epoch object inv) site
-            && (length (requests_for is_append d) == 0)) is))
+      (is_next_voter decl d t is_read (read_need_of decl t.epoch object inv) site
+      && (length (requests_for is_append d) == 0)) is))
   do_next half of_reads d t object inv site (Append o view own) its is = absurd (let never : ⊥ = cc in never)
   do_next half of_reads d t object inv site Prepare its is = absurd (let never : ⊥ = cc in never)
   do_next half of_appends d t object inv site (Read o i) its is = absurd (let never : ⊥ = cc in never)
   do_next half of_appends d t object inv site (Append o view own) its is =
       left_first d t is_append (append_need decl t object inv) site
       (first_of_two (is_next_voter decl d t is_append (append_need decl t object inv) site)
-          (are_reads_met decl d t object inv)
+      (are_reads_met decl d t object inv)
       (second_of_two ((o == object) && carries decl t object view own (answer_of decl t object inv))
-          (is_next_voter decl d t is_append (append_need decl t object inv) site && are_reads_met decl d t object inv)
-          is))
+      (is_next_voter decl d t is_append (append_need decl t object inv) site && are_reads_met decl d t object inv)
+      is))
   do_next half of_appends d t object inv site Prepare its is = absurd (let never : ⊥ = cc in never)
 
   command_next : (half : Want → Bool) → IsHalf half
@@ -85,8 +83,8 @@ module _ (decl : Declaration) where
   asked_order : (half : Want → Bool) → IsHalf half → (d : Account) (n to : ℕ) (tx : TxId) (epoch life : ℕ) (want : Want)
       → is_asked_for decl d to tx epoch life want ≡ true → IsInOrder decl half d
       → IsInOrder decl half
-          (record d
-            { requests = d.requests ++ record { number = n; site = to; life = life; want = want; taken = None } ∷ [] })
+      (record d
+      { requests = d.requests ++ record { number = n; site = to; life = life; want = want; taken = None } ∷ [] })
   asked_order half is_half d n to tx epoch life want due old e is = by (half want) refl
     where
       q : ClientRequest
@@ -95,7 +93,7 @@ module _ (decl : Declaration) where
       split : filter (λ (q : ClientRequest). half q.want)
           (d.requests ++ record { number = n; site = to; life = life; want = want; taken = None } ∷ [])
           ≡ filter (λ (q : ClientRequest). half q.want) d.requests
-              ++ cond (half want) (record { number = n; site = to; life = life; want = want; taken = None } ∷ []) []
+          ++ cond (half want) (record { number = n; site = to; life = life; want = want; taken = None } ∷ []) []
       split =
           filter-append (λ (q : ClientRequest). half q.want) d.requests
           (record { number = n; site = to; life = life; want = want; taken = None } ∷ [])
@@ -104,14 +102,14 @@ module _ (decl : Declaration) where
       next its t current =
           let now : option_map_or (λ (t : Current). is_of t to tx epoch life && command_asks decl d t to want d.command) (Some t) false ≡ true = ap (λ (o : Option Current). option_map_or (λ (t : Current). is_of t to tx epoch life && command_asks decl d t to want d.command) o false) (sym current) ∙ due in
           command_next half is_half d t to want d.command its
-              (second_of_two (is_of t to tx epoch life) (command_asks decl d t to want d.command) now)
+          (second_of_two (is_of t to tx epoch life) (command_asks decl d t to want d.command) now)
 
       voter : (t : Current) → d.current ≡ Some t → t.epoch ≡ e → is_left_first decl d t half to ≡ true
           → is_this to (first (drop (count_in half d.requests) (order decl d.client e))) ≡ true
       voter t current at voted =
           (λ i. is_this to
-              (first (drop (sym (length-map (filter (λ (q : ClientRequest). half q.want) d.requests) asked_by) i)
-                (order decl d.client (sym at i))))) ∙ voted
+          (first (drop (sym (length-map (filter (λ (q : ClientRequest). half q.want) d.requests) asked_by) i)
+          (order decl d.client (sym at i))))) ∙ voted
 
       found : half want ≡ true → (o : Option Current) → d.current ≡ o → option_map (λ (t : Current). t.epoch) o ≡ Some e
           → is_this to (first (drop (count_in half d.requests) (order decl d.client e))) ≡ true
@@ -121,30 +119,30 @@ module _ (decl : Declaration) where
       by : (v : Bool) → half want ≡ v
           → sites_in half (d.requests ++ record { number = n; site = to; life = life; want = want; taken = None } ∷ [])
           ≡ take
-              (count_in half
-                (d.requests ++ record { number = n; site = to; life = life; want = want; taken = None } ∷ []))
-              (order decl d.client e)
+          (count_in half
+          (d.requests ++ record { number = n; site = to; life = life; want = want; taken = None } ∷ []))
+          (order decl d.client e)
       by false other =
           let same : filter (λ (q : ClientRequest). half q.want) (d.requests ++ record { number = n; site = to; life = life; want = want; taken = None } ∷ []) ≡ filter (λ (q : ClientRequest). half q.want) d.requests =
           split
-              ∙ ap
-                (λ (v : Bool). filter (λ (q : ClientRequest). half q.want) d.requests
-                  ++ cond v (record { number = n; site = to; life = life; want = want; taken = None } ∷ []) []) other
-              ∙ append-nil (filter (λ (q : ClientRequest). half q.want) d.requests) in
+          ∙ ap
+          (λ (v : Bool). filter (λ (q : ClientRequest). half q.want) d.requests
+          ++ cond v (record { number = n; site = to; life = life; want = want; taken = None } ∷ []) []) other
+          ∙ append-nil (filter (λ (q : ClientRequest). half q.want) d.requests) in
           ap (map (λ (q : ClientRequest). q.site)) same ∙ old e is
-              ∙ ap (λ (v : List ClientRequest). take (length v) (order decl d.client e)) (sym same)
+          ∙ ap (λ (v : List ClientRequest). take (length v) (order decl d.client e)) (sym same)
       by true its =
           let same : filter (λ (q : ClientRequest). half q.want) (d.requests ++ record { number = n; site = to; life = life; want = want; taken = None } ∷ []) ≡ filter (λ (q : ClientRequest). half q.want) d.requests ++ record { number = n; site = to; life = life; want = want; taken = None } ∷ [] =
           split
-              ∙ ap
-                (λ (v : Bool). filter (λ (q : ClientRequest). half q.want) d.requests
-                  ++ cond v (record { number = n; site = to; life = life; want = want; taken = None } ∷ []) []) its in
+          ∙ ap
+          (λ (v : Bool). filter (λ (q : ClientRequest). half q.want) d.requests
+          ++ cond v (record { number = n; site = to; life = life; want = want; taken = None } ∷ []) []) its in
           let long : length (filter (λ (q : ClientRequest). half q.want) d.requests ++ record { number = n; site = to; life = life; want = want; taken = None } ∷ []) ≡ suc (count_in half d.requests) =
           (let l : length (filter (λ (q : ClientRequest). half q.want) d.requests ++ record { number = n; site = to; life = life; want = want; taken = None } ∷ []) ≡ count_in half d.requests + 1 =
           length-append (filter (λ (q : ClientRequest). half q.want) d.requests) (record { number = n; site = to; life = life; want = want; taken = None } ∷ []) in omega arith) in
           ap (map (λ (q : ClientRequest). q.site)) same
           ∙ map-append (λ (q : ClientRequest). q.site) (filter (λ (q : ClientRequest). half q.want) d.requests)
-              (record { number = n; site = to; life = life; want = want; taken = None } ∷ [])
+          (record { number = n; site = to; life = life; want = want; taken = None } ∷ [])
           ∙ ap (λ (v : List ℕ). v ++ to ∷ []) (old e is)
           ∙ sym (first_drop (order decl d.client e) (count_in half d.requests) to (found its d.current refl is))
           ∙ ap (λ (k : ℕ). take k (order decl d.client e)) (sym (ap length same ∙ long))
@@ -153,13 +151,12 @@ module _ (decl : Declaration) where
       → IsInOrder decl half d → IsInOrder decl half (account_sent decl d n to m)
   sent_order half is_half d n to (messages.Request tx epoch life want) due old =
       subst (λ (t : Bool).
-          IsInOrder decl half
-            (cond t
-              (record d
-                {
-                    requests =
-                        d.requests ++ record { number = n; site = to; life = life; want = want; taken = None } ∷ []
-                  }) d)) (sym due)
+      IsInOrder decl half
+      (cond t
+      (record d {
+        requests =
+            d.requests ++ record { number = n; site = to; life = life; want = want; taken = None } ∷ [];
+      }) d)) (sym due)
       (asked_order half is_half d n to tx epoch life want due old)
   sent_order half is_half d n to (messages.Answer request answer) due old = old
   sent_order half is_half d n to (messages.Decision tx verdict) due old = old

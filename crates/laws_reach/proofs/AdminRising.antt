@@ -88,7 +88,8 @@ module _ (decl : Declaration) (h : List Entry) (inputs : List Bool) (old : Stood
             admin = λ at. absurd (other at);
           };
           up = put_here old.net.up a true ∙ sym (rising.up_now decl h inputs old a records turn law given down shut);
-          records = put_here old.net.records a (net_records ++ Life ∷ []) ∙ ap (λ (rs : List Record). rs ++ Life ∷ []) same
+          records =
+              put_here old.net.records a (net_records ++ Life ∷ []) ∙ ap (λ (rs : List Record). rs ++ Life ∷ []) same
               ∙ rising.written_now decl h inputs old a records turn law given down shut s wrote;
           pending = put_here old.net.pending a None
               ∙ ap (λ (j : Journal). j.pending) (sym (rising.journal_now decl h inputs old a records turn law given down

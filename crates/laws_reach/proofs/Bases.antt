@@ -1,6 +1,6 @@
 -- What ties a client's account to its dealings in one transaction: how a transaction begins, goes on, and ends.
-use Rattle.std.proofs.Common.{◌≡◌, ◌<◌, ◌≤◌, ◌⊎◌, inl, inr, ℕ, ◌+◌, Bool, true, false, cond, List, ◌++◌, Option}
-use Rattle.std.proofs.Common.{Some, None, option_map, refl, sym, ap, ◌∙◌, subst, arith}
+use Rattle.std.proofs.Common.{◌≡◌, ◌<◌, ◌≤◌, ◌⊎◌, inl, inr, ℕ, ◌+◌, Bool, true, false, cond, List, ◌++◌, Option, Some}
+use Rattle.std.proofs.Common.{None, option_map, refl, sym, ap, ◌∙◌, subst, arith}
 use Rattle.std.proofs.lemmas.List.{append-nil}
 use Rattle.qc_stamp.specs.Names.{same_tx}
 use Rattle.qc_stamp.proofs.Orders.{same_tx_is, same_tx_itself}
@@ -64,7 +64,7 @@ module _ (tx : TxId) (ops : List Op) where
       → Both off g x K → Both next k x L
   both_as off next g k x K L is same known s =
       subst (λ (b : Bool). Both b k x L) (sym is)
-          (subst (λ (e : Gist). Both off e x L) (sym same) (record { base = s.base; known = λ l. s.known (known l) }))
+      (subst (λ (e : Gist). Both off e x L) (sym same) (record { base = s.base; known = λ l. s.known (known l) }))
 
   -- a command is called where none runs
   pub called : (off : Bool) (g : Gist) (x : Dealing) (K : Type 0) (command : Command) → g.command ≡ None
@@ -76,7 +76,7 @@ module _ (tx : TxId) (ops : List Op) where
           begun = s.base.begun;
           down = s.base.down;
           told = s.base.told;
-          fresh = s.base.fresh
+          fresh = s.base.fresh;
         };
     known = λ k. (let t : Settled off g x = s.known k in record {
       same = t.same;
@@ -96,11 +96,11 @@ module _ (tx : TxId) (ops : List Op) where
           begun = s.base.begun;
           down = s.base.down;
           told = s.base.told;
-          fresh = s.base.fresh
+          fresh = s.base.fresh;
         };
     known =
         λ k. (let t : Settled off g x = s.known k in
-              record { same = t.same; past = t.past; quiet = λ o is named. absurd (never o is (t.quiet o is named)) });
+        record { same = t.same; past = t.past; quiet = λ o is named. absurd (never o is (t.quiet o is named)) });
   }
 
   -- the transaction ends, by a reply or by a fall
@@ -131,11 +131,11 @@ module _ (tx : TxId) (ops : List Op) where
     };
     known =
         λ k. (let t : Settled off g x = s.known k in
-              record {
-                    same = t.same;
-                    past = off_past off next g how t.past;
-                    quiet = λ o is named. absurd (none_some o None refl is)
-                  });
+        record {
+          same = t.same;
+          past = off_past off next g how t.past;
+          quiet = λ o is named. absurd (none_some o None refl is);
+        });
   }
 
   -- a transaction begins, which is a new one
@@ -175,8 +175,8 @@ module _ (tx : TxId) (ops : List Op) where
       down = λ is. absurd (true_false false is refl);
       told =
           λ o is named. (let at : record { tx = other; ops = [] } ≡ o =
-                                 some_is (record { tx = other; ops = [] }) o is in
-                         new o at (ap (λ (e : Going). e.tx) at ∙ named) s.base.fresh);
+          some_is (record { tx = other; ops = [] }) o is in
+          new o at (ap (λ (e : Going). e.tx) at ∙ named) s.base.fresh);
       fresh = fresh s.base.fresh;
     };
     known = λ k. (let t : Settled false g x = s.known k in record {
@@ -191,8 +191,10 @@ module _ (tx : TxId) (ops : List Op) where
       named_past : other ≡ tx → IsPast false (begun_with g other)
       named_past named = (
         sym (ap (λ (t : TxId). t.client) named) ∙ client,
-        inr (inl (sym (ap (λ (t : TxId). t.life) named) ∙ life,
-            (let same : other.number ≡ tx.number = ap (λ (t : TxId). t.number) named in omega arith))),
+        inr (inl (
+          sym (ap (λ (t : TxId). t.life) named) ∙ life,
+          (let same : other.number ≡ tx.number = ap (λ (t : TxId). t.number) named in omega arith),
+        )),
       )
 
       new : (o : Going) → record { tx = other; ops = [] } ≡ o → other ≡ tx → IsPast false g ⊎ (x.ops ≡ [])
@@ -237,8 +239,11 @@ module _ (tx : TxId) (ops : List Op) where
         begun = begun_after;
         down = λ down. absurd (off_not down);
         told =
-            λ e at named. (ap (λ (os : List Op). os ++ more) here.0
-            ∙ ap (λ (v : Going). v.ops) (some_is (record { tx = o.tx; ops = o.ops ++ more }) e at), here.1);
+            λ e at named. (
+              ap (λ (os : List Op). os ++ more) here.0
+                  ∙ ap (λ (v : Going). v.ops) (some_is (record { tx = o.tx; ops = o.ops ++ more }) e at),
+              here.1,
+            );
         fresh = inl here.1;
       };
       known = λ k. (let t : Settled off g x = s.known k in absurd (never (t.quiet o is (same_tx_is o.tx tx same))));
@@ -258,13 +263,13 @@ module _ (tx : TxId) (ops : List Op) where
       };
       known =
           λ k. (let t : Settled off g x = s.known k in
-                record { same = t.same; past = t.past; quiet = λ e at named. absurd (differs e at named) });
+          record { same = t.same; past = t.past; quiet = λ e at named. absurd (differs e at named) });
     }
       where
         differs : (e : Going) → Some (record { tx = o.tx; ops = o.ops ++ more }) ≡ Some e → e.tx ≡ tx → ⊥
         differs e at named =
             let is_tx : o.tx ≡ tx =
-                    ap (λ (v : Going). v.tx) (some_is (record { tx = o.tx; ops = o.ops ++ more }) e at) ∙ named in
+            ap (λ (v : Going). v.tx) (some_is (record { tx = o.tx; ops = o.ops ++ more }) e at) ∙ named in
             true_false (same_tx o.tx tx) (ap (λ (t : TxId). same_tx t tx) is_tx ∙ same_tx_itself tx) other
 
     pub adds : Both off (after (o.ops ++ more)) (dealt tx x resp) K

@@ -1,7 +1,6 @@
 -- A commit record that becomes known by an input, a record or a message has the operations that the client was told.
-use Rattle.std.proofs.Common.{◌≡◌, ◌≤◌, ◌⊎◌, inl, inr, ℕ, ◌+◌, Bool, true, false, cond, fold, List, ◌∷◌}
-use Rattle.std.proofs.Common.{Option, Some, None, option_map, option_and_then, refl, sym, ap, ◌∙◌}
-use Rattle.std.proofs.Common.{subst, arith}
+use Rattle.std.proofs.Common.{◌≡◌, ◌≤◌, ◌⊎◌, inl, inr, ℕ, ◌+◌, Bool, true, false, cond, fold, List, ◌∷◌, Option, Some}
+use Rattle.std.proofs.Common.{None, option_map, option_and_then, refl, sym, ap, ◌∙◌, subst, arith}
 use Rattle.std.proofs.lemmas.List.Sums.{fold-append}
 use Rattle.qc_list.specs.Names.{In}
 use Rattle.qc_list.proofs.Members.{In-more}
@@ -20,14 +19,13 @@ use Rattle.qc_msg.specs.declared.step.Command.TheVariants as commands
 use Rattle.qc_msg.specs.declared.step.Input.{Input}
 use Rattle.qc_msg.specs.declared.step.Input.TheVariants as inputs
 use Rattle.qc_msg.specs.Names.{Deed, Sends, Takes, Writes, is_life}
-use Rattle.qc_promise.specs.Names.{Account, Current, Dealing, IsInputDue, IsRecordDue, Journal, Place}
-use Rattle.qc_promise.specs.Names.{account_at, commit_of, deal, due, life_with, pending_next, reply_to}
+use Rattle.qc_promise.specs.Names.{Account, Current, Dealing, IsInputDue, IsRecordDue, Journal, Place, account_at}
+use Rattle.qc_promise.specs.Names.{commit_of, deal, due, life_with, pending_next, reply_to}
 use Rattle.laws_reach.specs.Names.{Says, SaysIn}
 use Rattle.laws_reach.proofs.Gists.{Gist, gist, going, counted_same, heard_same, sent_same, with_call}
 use Rattle.laws_reach.proofs.Rows.{reply_says}
-use Rattle.laws_reach.proofs.Bases.{Base, Both, IsPast, Settled, both_as, called, none_some}
+use Rattle.laws_reach.proofs.Bases.{Base, Both, IsPast, Settled, both_as, called, none_some, some_is, true_false}
 use Rattle.laws_reach.proofs.Steps.{lives_on}
-use Rattle.laws_reach.proofs.Bases.{some_is, true_false}
 use Rattle.laws_reach.proofs.DealingsTurning.{is_failing, is_off}
 
 -- a life is no less with more records
@@ -80,8 +78,8 @@ module _ (decl : Declaration) (c : CommitRecord) where
         (record x { asked = Some command }) (Known p j (Takes (inputs.Called command) ∷ after)) (Known q j after)
         place.0 refl
         (known_still p q j (Takes (inputs.Called command) ∷ after) after place.1)
-            (called c.tx c.ops (is_off p) (gist d) x (Known p j (Takes (inputs.Called command) ∷ after)) command input.1
-              s.both);
+        (called c.tx c.ops (is_off p) (gist d) x (Known p j (Takes (inputs.Called command) ∷ after)) command input.1
+        s.both);
     life = s.life;
   }
   takes p q d x j (inputs.Got envelope) after place input s = record {
@@ -133,7 +131,7 @@ module _ (decl : Declaration) (c : CommitRecord) where
   pub recorded : (off : Bool) (d : Account) (x : Dealing) (stamp : Stamp) (o : Option Current) → d.current ≡ o
       → Base c.tx c.ops off (gist d) x
       → option_map (λ (t : Current). record { stamp = stamp; tx = t.tx; ops = t.ops }) o ≡ Some c
-          → (c.ops ≡ x.ops) × IsPast c.tx c.ops off (gist d)
+      → (c.ops ≡ x.ops) × IsPast c.tx c.ops off (gist d)
   recorded off d x stamp None is base row = absurd (none_some c None refl row)
   recorded off d x stamp (Some t) is base row = (ap (λ (e : CommitRecord). e.ops) (sym same) ∙ sym here.0, here.1)
     where
@@ -146,7 +144,7 @@ module _ (decl : Declaration) (c : CommitRecord) where
   writes_life : (p q : Place) (d : Account) (x : Dealing) (j : Journal) (after : List Deed)
       → (is_off q ≡ false) × ((is_failing q ≡ false) × (is_off p ≡ true))
       → Ongoing p d x j (Writes Life ∷ after)
-          → Ongoing q (account_at decl d (Writes Life)) x (journal_at j (Writes Life)) after
+      → Ongoing q (account_at decl d (Writes Life)) x (journal_at j (Writes Life)) after
   writes_life p q d x j after place s = record {
     both =
         both_as c.tx c.ops false (is_off q) (gist (account_at decl d (Writes Life)))
@@ -154,7 +152,7 @@ module _ (decl : Declaration) (c : CommitRecord) where
         (Known q (journal_at j (Writes Life)) after) place.0 refl
         (λ k. old (written_known p q j Life (Writes Life ∷ after) after place.1.0 k))
         (lives_on c.tx c.ops (gist d) x (Known p j (Writes Life ∷ after))
-            (subst (λ (b : Bool). Both c.tx c.ops b (gist d) x (Known p j (Writes Life ∷ after))) place.1.1 s.both));
+        (subst (λ (b : Bool). Both c.tx c.ops b (gist d) x (Known p j (Writes Life ∷ after))) place.1.1 s.both));
     life = ap (λ (n : ℕ). n + 1) s.life ∙ sym (fold-append life_with first_life j.records (Life ∷ []));
   }
     where
@@ -165,12 +163,12 @@ module _ (decl : Declaration) (c : CommitRecord) where
   writes_commit : (p q : Place) (d : Account) (x : Dealing) (j : Journal) (commit : CommitRecord) (after : List Deed)
       → (is_off q ≡ false) × ((is_failing q ≡ false) × (is_off p ≡ false))
       → IsRecordDue d (due decl d false) (Commit commit) → Ongoing p d x j (Writes (Commit commit) ∷ after)
-          → Ongoing q (account_at decl d (Writes (Commit commit))) x (journal_at j (Writes (Commit commit))) after
+      → Ongoing q (account_at decl d (Writes (Commit commit))) x (journal_at j (Writes (Commit commit))) after
   writes_commit p q d x j commit after place its s = record {
     both =
         record {
           base = base;
-          known = λ k. known (written_known p q j (Commit commit) (Writes (Commit commit) ∷ after) after place.1.0 k)
+          known = λ k. known (written_known p q j (Commit commit) (Writes (Commit commit) ∷ after) after place.1.0 k);
         };
     life = s.life ∙ sym (fold-append life_with first_life j.records (Commit commit ∷ []));
   }
@@ -195,15 +193,15 @@ module _ (decl : Declaration) (c : CommitRecord) where
           let is : commit ≡ c = sym (ap commit_or new) in
           let row : commit_of d commit.stamp ≡ Some c = its.1 ∙ ap (λ (e : CommitRecord). Some e) is in
           let at : (c.ops ≡ x.ops) × IsPast c.tx c.ops (is_off q) (gist d) =
-                  recorded (is_off q) d x commit.stamp d.current refl old row in
+          recorded (is_off q) d x commit.stamp d.current refl old row in
           let run : (command : Command) × ((d.command ≡ Some command) × (command ≡ commands.Commit)) =
-                  said decl d false (replies.Committed commit.stamp) its.0 in
+          said decl d false (replies.Committed commit.stamp) its.0 in
           record { same = at.0; past = at.1; quiet = λ o begun named. run.1.0 ∙ ap (λ (e : Command). Some e) run.1.1 }
 
   pub wrote : (p q : Place) (d : Account) (x : Dealing) (j : Journal) (r : Record) (after : List Deed)
       → (is_off q ≡ false) × ((is_failing q ≡ false) × (is_off p ≡ is_life r))
       → IsRecordDue d (due decl d false) r → Ongoing p d x j (Writes r ∷ after)
-          → Ongoing q (account_at decl d (Writes r)) x (journal_at j (Writes r)) after
+      → Ongoing q (account_at decl d (Writes r)) x (journal_at j (Writes r)) after
   wrote p q d x j Life after place its s = writes_life p q d x j after place s
   wrote p q d x j (Prepare prepared) after place its s = absurd its
   wrote p q d x j (Done tx clock) after place its s = absurd its

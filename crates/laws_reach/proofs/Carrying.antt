@@ -1,7 +1,6 @@
 -- A commit record that is known after a client's deeds has the operations that the client was told: deed by deed.
-use Rattle.std.proofs.Common.{◌≡◌, ◌≤◌, ◌⊎◌, inl, inr, ℕ, ◌+◌, Bool, true, fold, List, ◌∷◌, ◌++◌}
-use Rattle.std.proofs.Common.{Option, Some, None, option_to_list, refl, sym, ap, ◌∙◌}
-use Rattle.std.proofs.Common.{subst, arith}
+use Rattle.std.proofs.Common.{◌≡◌, ◌≤◌, ◌⊎◌, inl, inr, ℕ, ◌+◌, Bool, true, fold, List, ◌∷◌, ◌++◌, Option, Some, None}
+use Rattle.std.proofs.Common.{option_to_list, refl, sym, ap, ◌∙◌, subst, arith}
 use Rattle.std.proofs.lemmas.List.Sums.{fold-append}
 use Rattle.qc_list.specs.Names.{In}
 use Rattle.qc_stamp.specs.Names.{first_life}
@@ -12,12 +11,11 @@ use Rattle.qc_msg.specs.declared.record.Record.{Record}
 use Rattle.qc_msg.specs.declared.record.Record.TheVariants.{Commit}
 use Rattle.qc_msg.specs.declared.step.Fall.{Fall}
 use Rattle.qc_msg.specs.Names.{Deed, Falls, Rises}
-use Rattle.qc_promise.specs.Names.{Account, Dealing, IsGivenBack, Journal, Place}
-use Rattle.qc_promise.specs.Names.{account_at, deal, life_with, pending_next, pending_with}
+use Rattle.qc_promise.specs.Names.{Account, Dealing, IsGivenBack, Journal, Place, account_at, deal, life_with}
+use Rattle.qc_promise.specs.Names.{pending_next, pending_with}
 use Rattle.laws_reach.proofs.Gists.{gist, finished}
-use Rattle.laws_reach.proofs.Bases.{Both, both_as, ends, none_some}
+use Rattle.laws_reach.proofs.Bases.{Both, both_as, ends, none_some, true_false}
 use Rattle.laws_reach.proofs.Steps.{risen}
-use Rattle.laws_reach.proofs.Bases.{true_false}
 use Rattle.laws_reach.proofs.DealingsTurning.{FellTo, RoseTo, is_failing, is_off}
 use Rattle.laws_reach.proofs.CarriedRecords.{life_up, Ongoing}
 
@@ -44,17 +42,17 @@ module _ (decl : Declaration) (c : CommitRecord) where
   pub fell : (p q : Place) (d : Account) (x : Dealing) (j : Journal) (cause : Fall) (pending : Option Record)
       (after : List Deed) → FellTo p cause pending (Some q)
       → Ongoing decl c p d x j (Falls cause pending ∷ after)
-          → Ongoing decl c q (account_at decl d (Falls cause pending)) (deal c.tx x (Falls cause pending))
-            (journal_at j (Falls cause pending)) after
+      → Ongoing decl c q (account_at decl d (Falls cause pending)) (deal c.tx x (Falls cause pending))
+      (journal_at j (Falls cause pending)) after
   fell p q d x j cause pending after place s = record {
     both =
         subst (λ (b : Bool). Both c.tx c.ops b (finished (gist d)) (record x { begun = None })
         (Known q (journal_at j (Falls cause pending)) after)) (sym place.0)
         (both_as c.tx c.ops true true (finished (gist d)) (finished (gist d)) (record x { begun = None })
-            (Known p j (Falls cause pending ∷ after)) (Known q (journal_at j (Falls cause pending)) after) refl refl
+        (Known p j (Falls cause pending ∷ after)) (Known q (journal_at j (Falls cause pending)) after) refl refl
         (fallen_known p q j cause pending after place)
-            (ends c.tx c.ops (is_off p) true (gist d) x x.ends (Known p j (Falls cause pending ∷ after)) (inr refl)
-              s.both));
+        (ends c.tx c.ops (is_off p) true (gist d) x x.ends (Known p j (Falls cause pending ∷ after)) (inr refl)
+        s.both));
     life = s.life;
   }
 
@@ -92,8 +90,8 @@ module _ (decl : Declaration) (c : CommitRecord) where
       life_up_none n = omega arith
   back_up j kept (inr more) =
       subst (λ (n : ℕ). fold life_with first_life j.records ≤ n)
-          (sym (ap (fold life_with first_life) more
-            ∙ fold-append life_with first_life j.records (option_to_list j.pending)))
+      (sym (ap (fold life_with first_life) more
+      ∙ fold-append life_with first_life j.records (option_to_list j.pending)))
       (life_up (fold life_with first_life j.records) (option_to_list j.pending))
 
   pub risen_known : (p q : Place) (j : Journal) (kept : List Record) (after : List Deed) → RoseTo (is_off p) (Some q)
@@ -111,14 +109,14 @@ module _ (decl : Declaration) (c : CommitRecord) where
   pub rose : (p q : Place) (d : Account) (x : Dealing) (j : Journal) (kept : List Record) (after : List Deed)
       → RoseTo (is_off p) (Some q) → IsGivenBack j kept
       → Ongoing decl c p d x j (Rises kept ∷ after)
-          → Ongoing decl c q (account_at decl d (Rises kept)) x (journal_at j (Rises kept)) after
+      → Ongoing decl c q (account_at decl d (Rises kept)) x (journal_at j (Rises kept)) after
   rose p q d x j kept after place back s = record {
     both =
         both_as c.tx c.ops true (is_off q) (gist (account_at decl d (Rises kept)))
         (gist (account_at decl d (Rises kept))) x (Known p j (Rises kept ∷ after))
         (Known q (journal_at j (Rises kept)) after) place.1.0 refl (risen_known p q j kept after place back)
         (risen c.tx c.ops (gist d) x (Known p j (Rises kept ∷ after)) (fold life_with first_life kept)
-            (lives_up d x p j kept (Rises kept ∷ after) back s)
+        (lives_up d x p j kept (Rises kept ∷ after) back s)
         (subst (λ (b : Bool). Both c.tx c.ops b (gist d) x (Known p j (Rises kept ∷ after))) place.0 s.both));
     life = refl;
   }

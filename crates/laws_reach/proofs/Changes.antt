@@ -137,7 +137,8 @@ module _ (decl : Declaration) (c : Client) where
         client = refl;
         life = refl;
         written = inl (record { write = v.write; commits = v.commits });
-        begins = λ x is. absurd (let no : None ≡ Some (replies.Began x) = sym v.told ∙ is in let never : ⊥ = cc in never);
+        begins =
+            λ x is. absurd (let no : None ≡ Some (replies.Began x) = sym v.told ∙ is in let never : ⊥ = cc in never);
         asks = requests_ask (Some b.tx) m.turn.sends v.sends;
       })
   desk_to b m (inr (inl r)) = subst (λ (o : Option Reply). Changes (page_of c)
@@ -152,7 +153,8 @@ module _ (decl : Declaration) (c : Client) where
           write = ap (λ (t : Turn). t.write) r.turn;
           commits = r.commits;
         });
-        asks = subst NoInquiries (sym (ap (λ (t : Turn). t.sends) r.turn)) (verdicts_ask b (outcomes.Committed r.stamp));
+        asks =
+            subst NoInquiries (sym (ap (λ (t : Turn). t.sends) r.turn)) (verdicts_ask b (outcomes.Committed r.stamp));
         begins = λ x is. absurd (let no : Some (replies.Committed r.stamp) ≡ Some (replies.Began x) =
             sym (ap (λ (t : Turn). t.told) r.turn) ∙ is in let never : ⊥ = cc in never);
       })

@@ -27,9 +27,8 @@ use Rattle.laws_reach.proofs.Gists.{counted_same, finished, gist, heard_same, se
 use Rattle.laws_reach.proofs.Bases.{none_some}
 use Rattle.laws_reach.proofs.DealingsTurning.{CameTo, FellTo, RoseTo, ToldTo, WroteTo, comes, falls, is_failing, is_off}
 use Rattle.laws_reach.proofs.DealingsTurning.{rises, sends, tells, writes}
-use Rattle.laws_reach.proofs.CarriedRecords.{Known, Ongoing, commit_or, known_still}
+use Rattle.laws_reach.proofs.CarriedRecords.{Known, Ongoing, commit_or, known_still, written_known}
 use Rattle.laws_reach.proofs.Carrying.{fallen_known, lives_up, risen_known}
-use Rattle.laws_reach.proofs.CarriedRecords.{written_known}
 use Rattle.laws_reach.proofs.Deeds.{new, one, stuck}
 use Rattle.laws_reach.proofs.Owners.{same_client}
 

@@ -15,10 +15,9 @@ use Rattle.qc_msg.specs.declared.reply.Reply.TheVariants as replies
 use Rattle.qc_promise.specs.Names.{Dealing, ended, is_begun}
 use Rattle.laws_reach.specs.Names.{HasRecord, IsToldOf}
 use Rattle.laws_reach.proofs.Gists.{Gist, Going, finished}
-use Rattle.laws_reach.proofs.Bases.{Base, IsPast, begun_with, next_past, none_some, not_new, off_past}
-use Rattle.laws_reach.proofs.Steps.{past_life}
-use Rattle.laws_reach.proofs.Bases.{some_is, true_false}
-use Rattle.laws_reach.proofs.Steps.{past_risen, risen_with}
+use Rattle.laws_reach.proofs.Bases.{Base, IsPast, begun_with, next_past, none_some, not_new, off_past, some_is}
+use Rattle.laws_reach.proofs.Bases.{true_false}
+use Rattle.laws_reach.proofs.Steps.{past_life, past_risen, risen_with}
 
 -- a list with one more item, or as it was
 last_in : (es : List Reply) (b : Bool) (e r : Reply) → In r (es ++ cond b (e ∷ []) [])

@@ -1,9 +1,8 @@
 -- An actor that posts a turn, or falls in it: what history it leaves, and what the next net has to show.
-use Rattle.std.proofs.Common.{◌≡◌, ◌≢◌, ℕ, ◌==◌, Bool, true, false, cond, List, ◌++◌, length, Option, Some}
-use Rattle.std.proofs.Common.{None, slice_get, inl, inr, refl, sym, ap, ◌∙◌, eqb-true}
+use Rattle.std.proofs.Common.{◌≡◌, ◌≢◌, ℕ, ◌==◌, Bool, true, false, cond, List, ◌++◌, length, Option, Some, None}
+use Rattle.std.proofs.Common.{slice_get, inl, inr, refl, sym, ap, ◌∙◌, eqb-true}
 use Rattle.qc_core.specs.declared.actor.Actor.TheVariants as actor
-use Rattle.qc_core.specs.Names.{IsLawfulWithFalls, actor_after, is_up}
-use Rattle.qc_core.specs.Names.{journal_after, with_record}
+use Rattle.qc_core.specs.Names.{IsLawfulWithFalls, actor_after, is_up, journal_after, with_record}
 use Rattle.qc_decl.specs.declared.declaration.Declaration.{Declaration}
 use Rattle.qc_decl.specs.Names.{administrator, is_administrator, is_client, is_site}
 use Rattle.qc_msg.specs.declared.message.Envelope.{Envelope}
@@ -11,8 +10,7 @@ use Rattle.qc_msg.specs.declared.record.Record.{Record}
 use Rattle.qc_msg.specs.declared.turn.Appended.{Appended}
 use Rattle.qc_msg.specs.declared.turn.Posting.{Posting}
 use Rattle.qc_msg.specs.declared.turn.Turn.{Turn}
-use Rattle.qc_msg.specs.Names.{Deed, Entry, by, deeds, deeds_as, envelopes, mail}
-use Rattle.qc_msg.specs.Names.{sends_as}
+use Rattle.qc_msg.specs.Names.{Deed, Entry, by, deeds, deeds_as, envelopes, mail, sends_as}
 use Rattle.laws_refinement.specs.Names.{Net, Reaches, after_fall}
 use Rattle.laws_refinement.proofs.Machine.{put_other}
 use Rattle.qc_promise.specs.Names.{Journal}
@@ -44,8 +42,8 @@ takes_inputs decl a ds turn law =
   where
     by : (t c m : Bool) → is_site decl a ≡ t → is_client decl a ≡ c → is_administrator decl a ≡ m
         → cond t (Some (actor_after decl a ds).turn)
-          (cond c (Some (actor_after decl a ds).turn) (cond m (Some (actor_after decl a ds).turn) None))
-          ≡ Some (with_record turn) → TakesInputs decl a
+        (cond c (Some (actor_after decl a ds).turn) (cond m (Some (actor_after decl a ds).turn) None))
+        ≡ Some (with_record turn) → TakesInputs decl a
     by true c m site client admin is = inl site
     by false true m none client admin is = inr (inl client)
     by false false true none no_client admin is = inr (inr (eqb-true a (administrator decl) admin))
@@ -56,10 +54,10 @@ takes_inputs decl a ds turn law =
 module _ (decl : Declaration) (h : List Entry) (inputs later : List Bool) (old : Stood decl h inputs) (a : ℕ)
     (turn : Turn) (end : Appended) (k : List Entry) (ds : List Deed)
     (deeds_are : deeds a [] k ≡ ds ++ deeds_as end (length (mail h)) turn)
-        (mail_is : mail k ≡ mail h ++ envelopes a (length (mail h)) (sends_as end turn))
+    (mail_is : mail k ≡ mail h ++ envelopes a (length (mail h)) (sends_as end turn))
     (others : (b : ℕ) → (a == b) ≡ false → deeds b [] k ≡ deeds b [] h)
-        (slots : (b : ℕ) → (a == b) ≡ false → slice_get later b ≡ slice_get inputs b)
-        (shut : slice_get later a ≡ Some true → ⊥) where
+    (slots : (b : ℕ) → (a == b) ≡ false → slice_get later b ≡ slice_get inputs b)
+    (shut : slice_get later a ≡ Some true → ⊥) where
   abbrev pub journal_then : Journal
   journal_then = ended_journal end turn.write (journal_after ds)
 

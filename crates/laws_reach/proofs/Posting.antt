@@ -1,7 +1,7 @@
 -- A site or a client posts its turn: the net takes and posts in one step, or falls in it. One that is down only tells a
 -- reply, which is nothing to the net.
-use Rattle.std.proofs.Common.{◌≡◌, ℕ, not, Bool, true, false, List, ◌++◌, length, Option, Some}
-use Rattle.std.proofs.Common.{None, option_to_list, slice_get, inl, inr, refl, sym, ap, ◌∙◌, subst}
+use Rattle.std.proofs.Common.{◌≡◌, ℕ, not, Bool, true, false, List, ◌++◌, length, Option, Some, None, option_to_list}
+use Rattle.std.proofs.Common.{slice_get, inl, inr, refl, sym, ap, ◌∙◌, subst}
 use Rattle.std.specs.Prelude.{slice_set}
 use Rattle.std.proofs.lemmas.List.{append-nil}
 use Rattle.qc_core.specs.declared.actor.Actor.{Actor}
@@ -19,8 +19,8 @@ use Rattle.qc_msg.specs.declared.turn.Appended.{Appended}
 use Rattle.qc_msg.specs.declared.turn.Appended.TheVariants.{Done, Failed, Stopped}
 use Rattle.qc_msg.specs.declared.turn.Posting.{Posting}
 use Rattle.qc_msg.specs.declared.turn.Turn.{Turn}
-use Rattle.qc_msg.specs.Names.{Deed, Entry, HasRecord, MayEnd, WasSentTo, by, deeds, envelopes, mail}
-use Rattle.qc_msg.specs.Names.{posted_as, sends_as}
+use Rattle.qc_msg.specs.Names.{Deed, Entry, HasRecord, MayEnd, WasSentTo, by, deeds, envelopes, mail, posted_as}
+use Rattle.qc_msg.specs.Names.{sends_as}
 use Rattle.qc_msg.proofs.GrownMail.{mail-append}
 use Rattle.qc_msg.proofs.DeedsGrow.{deeds-other}
 use Rattle.qc_msg.proofs.Growth.{deeds-posted_as, mail-posted_as}
@@ -60,18 +60,18 @@ module _ (decl : Declaration) (h : List Entry) (inputs : List Bool) (old : Stood
   -- the net after it
   pub to_net : (end : Appended) (next : Net)
       → Shows decl h inputs now old a turn end (after end) ds (deeds-posted_as end a n h turn) (mail_now end)
-          (λ b other. deeds-other a b [] h (posted_as end n turn) other) (λ b other. slot_other inputs a b false other)
-          (not_now inputs a false true true taken false_true) next
+      (λ b other. deeds-other a b [] h (posted_as end n turn) other) (λ b other. slot_other inputs a b false other)
+      (not_now inputs a false true true taken false_true) next
       → Stood decl (after end) now
   to_net end next shows =
       turned decl h inputs now old a turn end (after end) ds (deeds-posted_as end a n h turn) (mail_now end)
-          (λ b other. deeds-other a b [] h (posted_as end n turn) other) (λ b other. slot_other inputs a b false other)
-          (not_now inputs a false true true taken false_true) next shows
+      (λ b other. deeds-other a b [] h (posted_as end n turn) other) (λ b other. slot_other inputs a b false other)
+      (not_now inputs a false true true taken false_true) next shows
 
   pub fails_shows : (end : Appended) (r : Record) → Stands decl old.net a h (Some true) → turn.write ≡ Some r
       → ended_up end true ≡ false
       → ended_journal end turn.write (journal_after ds)
-        ≡ record (journal_after ds) { pending = pending_with (journal_after ds).pending turn.write }
+      ≡ record (journal_after ds) { pending = pending_with (journal_after ds).pending turn.write }
       → Reaches decl (after_fall old.net a (Some r) (sends_as end turn)) → is_up ds ≡ true → Stood decl (after end) now
   fails_shows end r s wrote falls journal reached up =
       let down : ended_up end (is_up ds) ≡ false = ap (ended_up end) up ∙ falls in
@@ -108,12 +108,12 @@ module _ (decl : Declaration) (h : List Entry) (inputs : List Bool) (old : Stood
 
     site_fails : (end : Appended) (r : Record) → turn.write ≡ Some r → ended_up end true ≡ false
         → ended_journal end turn.write (journal_after ds)
-          ≡ record (journal_after ds) { pending = pending_with (journal_after ds).pending turn.write }
+        ≡ record (journal_after ds) { pending = pending_with (journal_after ds).pending turn.write }
         → nets.AreFailedSends turn (sends_as end turn) → Stood decl (after end) now
     site_fails end r wrote falls journal failed =
         fails_shows end r s wrote falls journal
         (nets.site_fails a x.given r (sends_as end turn) old.net old.reached site (s.up ∙ up) came
-            (ap (λ (t : Turn). t.write) turn_is ∙ wrote)
+        (ap (λ (t : Turn). t.write) turn_is ∙ wrote)
         (elim failed [ inl same ↦ inl (same ∙ ap (λ (t : Turn). t.failed_sends) (sym turn_is)) | inr none ↦ inr none ])) up
 
     pub site_posts : (end : Appended) → MayEnd turn.write end → Stood decl (after end) now
@@ -137,8 +137,8 @@ module _ (decl : Declaration) (h : List Entry) (inputs : List Bool) (old : Stood
       state = λ is.
           actor_posted decl a ds n turn ∙ ap (λ (m : ActorMove). all_sent m.actor n turn.sends) moved_is
           ∙ sym
-              (in_site decl (after_site old.net a move) a site
-                ∙ ap (λ (v : _). actor.Site v) (put_here old.net.sites a move.site));
+          (in_site decl (after_site old.net a move) a site
+          ∙ ap (λ (v : _). actor.Site v) (put_here old.net.sites a move.site));
     })
     site_posts Failed may = by turn.write refl may
       where
@@ -171,12 +171,12 @@ module _ (decl : Declaration) (h : List Entry) (inputs : List Bool) (old : Stood
 
     client_fails : (end : Appended) (r : Record) → turn.write ≡ Some r → ended_up end true ≡ false
         → ended_journal end turn.write (journal_after ds)
-          ≡ record (journal_after ds) { pending = pending_with (journal_after ds).pending turn.write }
+        ≡ record (journal_after ds) { pending = pending_with (journal_after ds).pending turn.write }
         → nets.AreFailedSends turn (sends_as end turn) → Stood decl (after end) now
     client_fails end r wrote falls journal failed =
         fails_shows end r s wrote falls journal
         (nets.client_fails a y.given r (sends_as end turn) old.net old.reached client (s.up ∙ up) comes (y.may client)
-            (ap (λ (t : Turn). t.write) turn_was ∙ wrote)
+        (ap (λ (t : Turn). t.write) turn_was ∙ wrote)
         (elim failed [ inl same ↦ inl (same ∙ ap (λ (t : Turn). t.failed_sends) (sym turn_was)) | inr none ↦ inr none ])) up
 
     pub client_posts : (end : Appended) → MayEnd turn.write end → Stood decl (after end) now
@@ -201,9 +201,9 @@ module _ (decl : Declaration) (h : List Entry) (inputs : List Bool) (old : Stood
           actor_posted decl a ds n turn ∙ ap (λ (m : ActorMove). all_sent m.actor n turn.sends) step_is
           ∙ (λ i. actor.Client (sent_all step.client (length (sym old.mail_is i)) (sym turn_was i).sends))
           ∙ sym
-              (in_client decl (after_client old.net a step) a client
-                ∙ ap (λ (v : _). actor.Client v)
-                  (put_here old.net.clients a (sent_all step.client (length old.net.mail) step.turn.sends)));
+          (in_client decl (after_client old.net a step) a client
+          ∙ ap (λ (v : _). actor.Client v)
+          (put_here old.net.clients a (sent_all step.client (length old.net.mail) step.turn.sends)));
     })
     client_posts Failed may = by turn.write refl may
       where
@@ -237,8 +237,8 @@ module _ (decl : Declaration) (h : List Entry) (inputs : List Bool) (old : Stood
     records =
         s.records
         ∙ sym
-          (ap (λ (o : Option Record). (journal_after ds).records ++ option_to_list o)
-            ((tells decl).writes_none a ds turn law (fallen down)) ∙ append-nil (journal_after ds).records);
+        (ap (λ (o : Option Record). (journal_after ds).records ++ option_to_list o)
+        ((tells decl).writes_none a ds turn law (fallen down)) ∙ append-nil (journal_after ds).records);
     pending = s.pending;
     clear = s.clear;
     state = λ is. absurd (never_up (is_up ds) down is);

@@ -1,5 +1,7 @@
 -- Each run with falls whose records are kept is one of the net.
-use Rattle.std.proofs.Common.{◌≡◌, ◌≢◌, ℕ, ◌+◌, ◌<◌, ◌≤◌, Bool, true, false, List, [], ◌∷◌, ◌++◌, length, Option, Some, None, slice_get, inl, inr, refl, sym, ap, ◌∙◌, subst, arith, append_assoc, eq-eqb, eqb-true}
+use Rattle.std.proofs.Common.{◌≡◌, ◌≢◌, ℕ, ◌+◌, ◌<◌, ◌≤◌, Bool, true, false, List, [], ◌∷◌, ◌++◌, length, Option, Some}
+use Rattle.std.proofs.Common.{None, slice_get, inl, inr, refl, sym, ap, ◌∙◌, subst, arith, append_assoc, eq-eqb}
+use Rattle.std.proofs.Common.{eqb-true}
 use Rattle.std.specs.Prelude.{replicate, slice_set}
 use Rattle.std.proofs.lemmas.Bool.{ltb-true}
 use Rattle.std.proofs.lemmas.List.{append-nil}
@@ -58,7 +60,8 @@ use Rattle.laws_reach.proofs.Stood.{Leaves, Stands, Stood, in_client, itself, mo
 
 -- the records of a shorter history are kept too
 pub kept_of_first : (h k : List Entry) → Kept (h ++ k) → Kept h
-kept_of_first h k kept before later e is = kept before (later ++ k) e (sym (append_assoc before (e ∷ later) k) ∙ ap (λ (x : List Entry). x ++ k) is)
+kept_of_first h k kept before later e is =
+    kept before (later ++ k) e (sym (append_assoc before (e ∷ later) k) ∙ ap (λ (x : List Entry). x ++ k) is)
 
 mail_fall : (a : ℕ) (h : List Entry) (cause : Fall) → mail (h ++ marked a (steps.Fell cause None) ∷ []) ≡ mail h ++ []
 mail_fall a h cause = mail-append h (marked a (steps.Fell cause None) ∷ [])
@@ -68,7 +71,8 @@ within decl a (inl site) = let low : a < decl.sites = ltb-true a decl.sites site
 within decl a (inr (inl client)) = client_within decl a client
 within decl a (inr (inr at)) = omega arith
 
-module _ (decl : Declaration) (script : Script) (fits : ℕ → List Record → Type 0) (accepted : IsAccepted decl) (sound : IsScriptFor decl script) where
+module _ (decl : Declaration) (script : Script) (fits : ℕ → List Record → Type 0) (accepted : IsAccepted decl)
+    (sound : IsScriptFor decl script) where
   few : actors decl ≤ most_actors
   few = let s = accepted.sites in let c = accepted.clients in omega arith
 
@@ -92,16 +96,20 @@ module _ (decl : Declaration) (script : Script) (fits : ℕ → List Record → 
       life = run_lives decl script fits few h inputs run a false free
 
       named : (command : Command) → g ≡ given.Called command → IsNamed decl command
-      named command is = ready_named decl script (script_named decl accepted script sound) a h command (rdy ∙ ap (λ (x : Input). Some x) is)
+      named command is =
+          ready_named decl script (script_named decl accepted script sound) a h command
+          (rdy ∙ ap (λ (x : Input). Some x) is)
 
       may_admin : (x : Input) → g ≡ x → MayAdminister decl x
       may_admin (given.Called command) is = named command is
       may_admin (given.Got envelope) is = tt
       may_admin (given.Lost number) is = tt
 
-      may : (x : Input) → g ≡ x → (c : _) → (actor_after decl a (deeds a [] h)).actor ≡ actor.Client c → MayCommand decl c x
+      may : (x : Input) → g ≡ x → (c : _) → (actor_after decl a (deeds a [] h)).actor ≡ actor.Client c
+          → MayCommand decl c x
       may (given.Called command) is c state = (
-        client_free decl a (deeds a [] h) life.above c life.lives (may_take decl script a h (given.Called command) (rdy ∙ ap (λ (x : Input). Some x) is)) state,
+        client_free decl a (deeds a [] h) life.above c life.lives
+            (may_take decl script a h (given.Called command) (rdy ∙ ap (λ (x : Input). Some x) is)) state,
         named command is,
       )
       may (given.Got envelope) is c state = tt
@@ -111,10 +119,13 @@ module _ (decl : Declaration) (script : Script) (fits : ℕ → List Record → 
       same_up = ap is_up (deeds-taken a h g sent) ∙ fold-append up_at true (deeds a [] h) (Takes g ∷ [])
 
       same_journal : journal_after (deeds a [] now_taken) ≡ journal_after (deeds a [] h)
-      same_journal = ap journal_after (deeds-taken a h g sent) ∙ fold-append journal_at no_journal (deeds a [] h) (Takes g ∷ [])
+      same_journal =
+          ap journal_after (deeds-taken a h g sent) ∙ fold-append journal_at no_journal (deeds a [] h) (Takes g ∷ [])
 
       pub stands_taken : Stood decl now_taken (slice_set inputs a true)
-      stands_taken = moves decl h now_taken inputs (slice_set inputs a true) old a old.net [] old.reached (old.mail_is ∙ sym (mail-taken h a g)) grows (λ b other. itself decl old.net b)
+      stands_taken =
+          moves decl h now_taken inputs (slice_set inputs a true) old a old.net [] old.reached
+          (old.mail_is ∙ sym (mail-taken h a g)) grows (λ b other. itself decl old.net b)
           (λ b other. deeds-other a b [] h (step_of g ∷ []) other) (λ b other. slot_other inputs a b true other) here
         where
           here : TakesInputs decl a → Stands decl old.net a now_taken (slice_get (slice_set inputs a true) a)
@@ -129,12 +140,17 @@ module _ (decl : Declaration) (script : Script) (fits : ℕ → List Record → 
                 opened = λ up slot. record {
                   given = g;
                   sent = subst (λ (ms : List Envelope). WasSentTo a ms g) (sym (mail-taken h a g)) sent;
-                  may = λ client. may g refl (old.net.clients a) (s.closed (sym same_up ∙ up) free ∙ in_client decl old.net a client);
+                  may =
+                      λ client. may g refl (old.net.clients a)
+                      (s.closed (sym same_up ∙ up) free ∙ in_client decl old.net a client);
                   may_admin = λ at. may_admin g refl;
                   before = deeds a [] h;
                   deeds_are = deeds-taken a h g sent;
                   was = s.closed (sym same_up ∙ up) free;
-                  is = ap (actor_after decl a) (deeds-taken a h g sent) ∙ fold-append (actor_does decl a) _ (deeds a [] h) (Takes g ∷ []) ∙ ap (λ (v : Actor). actor_takes decl v g) (s.closed (sym same_up ∙ up) free);
+                  is =
+                      ap (actor_after decl a) (deeds-taken a h g sent)
+                      ∙ fold-append (actor_does decl a) _ (deeds a [] h) (Takes g ∷ [])
+                      ∙ ap (λ (v : Actor). actor_takes decl v g) (s.closed (sym same_up ∙ up) free);
                 };
               }
 
@@ -145,7 +161,10 @@ module _ (decl : Declaration) (script : Script) (fits : ℕ → List Record → 
       net = old.net;
       reached = old.reached;
       mail_is = old.mail_is ∙ sym (mail-silent h b step silent);
-      actors = λ a is. stays decl old.net old.net a h (h ++ marked b step ∷ []) [] (slice_get inputs a) (slice_get inputs a) is (itself decl old.net a) (deeds-silent a b h step silent) (mail-silent h b step silent ∙ sym (append-nil (mail h))) refl (old.actors a is);
+      actors =
+          λ a is. stays decl old.net old.net a h (h ++ marked b step ∷ []) [] (slice_get inputs a) (slice_get inputs a)
+          is (itself decl old.net a) (deeds-silent a b h step silent)
+          (mail-silent h b step silent ∙ sym (append-nil (mail h))) refl (old.actors a is);
     }
 
     -- an actor falls
@@ -156,15 +175,20 @@ module _ (decl : Declaration) (script : Script) (fits : ℕ → List Record → 
     up_in : (a : ℕ) → TakesInputs decl a → boxes.is_up (inbox script 0 h).up a ≡ is_up (deeds a [] h)
     up_in a is =
         let low : a < actors decl = within decl a is in
-        up_by_deeds (IsLawfulWithFalls decl) fits decl script h inputs few (tells decl) run a 0 (let f = few in omega arith) (omega arith) ∙ sym (up_is (deeds a [] h))
+        up_by_deeds (IsLawfulWithFalls decl) fits decl script h inputs few (tells decl) run a 0
+        (let f = few in omega arith) (omega arith) ∙ sym (up_is (deeds a [] h))
 
     fell_up : (a : ℕ) (cause : Fall) → is_up (deeds a [] (fallen a cause)) ≡ false
     fell_up a cause = ap is_up (deeds-fall a h cause) ∙ fold-append up_at true (deeds a [] h) (Falls cause None ∷ [])
 
     fell_journal : (a : ℕ) (cause : Fall) → journal_after (deeds a [] (fallen a cause)) ≡ journal_after (deeds a [] h)
-    fell_journal a cause = ap journal_after (deeds-fall a h cause) ∙ fold-append journal_at no_journal (deeds a [] h) (Falls cause None ∷ [])
+    fell_journal a cause =
+        ap journal_after (deeds-fall a h cause)
+        ∙ fold-append journal_at no_journal (deeds a [] h) (Falls cause None ∷ [])
 
-    fell_stands : (a : ℕ) (cause : Fall) (next : Net) (slot : Option Bool) → next.up a ≡ false → next.records a ≡ (journal_after (deeds a [] h)).records → next.pending a ≡ (journal_after (deeds a [] h)).pending → Stands decl next a (fallen a cause) slot
+    fell_stands : (a : ℕ) (cause : Fall) (next : Net) (slot : Option Bool) → next.up a ≡ false
+        → next.records a ≡ (journal_after (deeds a [] h)).records
+        → next.pending a ≡ (journal_after (deeds a [] h)).pending → Stands decl next a (fallen a cause) slot
     fell_stands a cause next slot up records pending = record {
       up = up ∙ sym (fell_up a cause);
       records = records ∙ ap (λ (j : Journal). j.records) (sym (fell_journal a cause));
@@ -174,43 +198,63 @@ module _ (decl : Declaration) (script : Script) (fits : ℕ → List Record → 
       opened = λ is. absurd (never_up _ (fell_up a cause) is);
     }
 
-    falls_to : (a : ℕ) (cause : Fall) (next : Net) → Reaches decl next → next.mail ≡ old.net.mail → ((b : ℕ) → b ≢ a → Leaves decl old.net next b) → (TakesInputs decl a → Stands decl next a (fallen a cause) (slice_get inputs a)) → Stood decl (fallen a cause) inputs
+    falls_to : (a : ℕ) (cause : Fall) (next : Net) → Reaches decl next → next.mail ≡ old.net.mail
+        → ((b : ℕ) → b ≢ a → Leaves decl old.net next b)
+        → (TakesInputs decl a → Stands decl next a (fallen a cause) (slice_get inputs a))
+        → Stood decl (fallen a cause) inputs
     falls_to a cause next reached same leaves here =
-        moves decl h (fallen a cause) inputs inputs old a next [] reached (same ∙ old.mail_is ∙ sym (append-nil (mail h)) ∙ sym (mail_fall a h cause)) (mail_fall a h cause) leaves (λ b other. deeds-other a b [] h (steps.Fell cause None ∷ []) other) (λ b other. refl) here
+        moves decl h (fallen a cause) inputs inputs old a next [] reached
+        (same ∙ old.mail_is ∙ sym (append-nil (mail h)) ∙ sym (mail_fall a h cause)) (mail_fall a h cause) leaves
+        (λ b other. deeds-other a b [] h (steps.Fell cause None ∷ []) other) (λ b other. refl) here
 
-    pub stands_fallen : (a : ℕ) (lines : List Control) → controls_left script h ≡ controls.Crash a ∷ lines → Stood decl (fallen a causes.Script) inputs
+    pub stands_fallen : (a : ℕ) (lines : List Control) → controls_left script h ≡ controls.Crash a ∷ lines
+        → Stood decl (fallen a causes.Script) inputs
     stands_fallen a lines left = by_kind (is_site decl a) (is_client decl a) (is_administrator decl a) refl refl refl
       where
         up : (is : TakesInputs decl a) → is_up (deeds a [] h) ≡ true
         up is = sym (up_in a is) ∙ crashes_up (IsLawfulWithFalls decl) fits decl script h inputs few run a lines left
 
-        to_net : (is : TakesInputs decl a) → Reaches decl (after_fall old.net a None []) → Stood decl (fallen a causes.Script) inputs
+        to_net : (is : TakesInputs decl a) → Reaches decl (after_fall old.net a None [])
+            → Stood decl (fallen a causes.Script) inputs
         to_net is reached =
             let s : Stands decl old.net a h (slice_get inputs a) = old.actors a is in
-            falls_to a causes.Script (after_fall old.net a None []) reached (append-nil old.net.mail) (fell_leaves decl old.net a None [])
-            (λ it. fell_stands a causes.Script (after_fall old.net a None []) (slice_get inputs a) (put_here old.net.up a false) s.records (put_here old.net.pending a None ∙ sym (s.clear (up is))))
+            falls_to a causes.Script (after_fall old.net a None []) reached (append-nil old.net.mail)
+            (fell_leaves decl old.net a None [])
+            (λ it. fell_stands a causes.Script (after_fall old.net a None []) (slice_get inputs a)
+            (put_here old.net.up a false) s.records (put_here old.net.pending a None ∙ sym (s.clear (up is))))
 
         reaches : (is : TakesInputs decl a) → Reaches decl (after_fall old.net a None [])
         reaches (inl site) = nets.site_falls a old.net old.reached site ((old.actors a (inl site)).up ∙ up (inl site))
-        reaches (inr (inl client)) = nets.client_falls a old.net old.reached client ((old.actors a (inr (inl client))).up ∙ up (inr (inl client)))
+        reaches (inr (inl client)) =
+            nets.client_falls a old.net old.reached client
+            ((old.actors a (inr (inl client))).up ∙ up (inr (inl client)))
         reaches (inr (inr at)) =
-            subst (λ (b : ℕ). old.net.up b ≡ true → Reaches decl (after_fall old.net b None [])) (sym at) (λ is_up. nets.admin_falls old.net old.reached is_up)
+            subst (λ (b : ℕ). old.net.up b ≡ true → Reaches decl (after_fall old.net b None [])) (sym at)
+            (λ is_up. nets.admin_falls old.net old.reached is_up)
             ((old.actors a (inr (inr at))).up ∙ up (inr (inr at)))
 
-        nobody : is_site decl a ≡ false → is_client decl a ≡ false → is_administrator decl a ≡ false → TakesInputs decl a → ⊥
+        nobody : is_site decl a ≡ false → is_client decl a ≡ false → is_administrator decl a ≡ false
+            → TakesInputs decl a → ⊥
         nobody none no_client no_admin (inl site) = let no : ⊥ = cc in no
         nobody none no_client no_admin (inr (inl client)) = let no : ⊥ = cc in no
-        nobody none no_client no_admin (inr (inr at)) = let is : is_administrator decl a ≡ true = eq-eqb a (administrator decl) at in let no : ⊥ = cc in no
+        nobody none no_client no_admin (inr (inr at)) =
+            let is : is_administrator decl a ≡ true = eq-eqb a (administrator decl) at in let no : ⊥ = cc in no
 
-        by_kind : (t c m : Bool) → is_site decl a ≡ t → is_client decl a ≡ c → is_administrator decl a ≡ m → Stood decl (fallen a causes.Script) inputs
+        by_kind : (t c m : Bool) → is_site decl a ≡ t → is_client decl a ≡ c → is_administrator decl a ≡ m
+            → Stood decl (fallen a causes.Script) inputs
         by_kind true c m site client admin = to_net (inl site) (reaches (inl site))
         by_kind false true m none client admin = to_net (inr (inl client)) (reaches (inr (inl client)))
-        by_kind false false true none no_client admin = let at : a ≡ administrator decl = eqb-true a (administrator decl) admin in to_net (inr (inr at)) (reaches (inr (inr at)))
-        by_kind false false false none no_client no_admin = falls_to a causes.Script old.net old.reached refl (λ b other. itself decl old.net b) (λ is. absurd (nobody none no_client no_admin is))
+        by_kind false false true none no_client admin =
+            let at : a ≡ administrator decl = eqb-true a (administrator decl) admin in
+            to_net (inr (inr at)) (reaches (inr (inr at)))
+        by_kind false false false none no_client no_admin =
+            falls_to a causes.Script old.net old.reached refl (λ b other. itself decl old.net b)
+            (λ is. absurd (nobody none no_client no_admin is))
 
     -- its journal isn't opened: it stays down
 
-    pub stands_unopened : (a : ℕ) (cause : Fall) (lines : List Control) → controls_left script h ≡ controls.Restart a ∷ lines → Stood decl (fallen a cause) inputs
+    pub stands_unopened : (a : ℕ) (cause : Fall) (lines : List Control)
+        → controls_left script h ≡ controls.Restart a ∷ lines → Stood decl (fallen a cause) inputs
     stands_unopened a cause lines left = falls_to a cause old.net old.reached refl (λ b other. itself decl old.net b) here
       where
         here : TakesInputs decl a → Stands decl old.net a (fallen a cause) (slice_get inputs a)

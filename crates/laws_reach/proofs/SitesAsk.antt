@@ -30,9 +30,8 @@ use Rattle.qc_site.specs.Names.{SiteMove, SiteState, answers, grants, in_order, 
 use Rattle.qc_site.specs.Names.{without_prepared}
 use Rattle.laws_turns.proofs.SitesAsk.{Asks, GivenTells, HeldFor, PreparedFor, SiteTells, Tells, held-promised}
 use Rattle.laws_turns.proofs.SitesAsk.{prepared-left, site_asks}
-use Rattle.qc_site.proofs.RequestCases.{append_cases, close_cases, join_cases, prepare_cases, read_cases}
+use Rattle.qc_site.proofs.RequestCases.{append_cases, close_cases, join_cases, prepare_cases, read_cases, request_cases}
 use Rattle.qc_site.proofs.Cases.{install_cases}
-use Rattle.qc_site.proofs.RequestCases.{request_cases}
 
 every-inserted : (P : TxId → Type 0) (xs : List TxId) (x : TxId) → Every P xs → P x → Every P (inserted tx_cmp xs x)
 every-inserted P [] x all here = (here, tt)

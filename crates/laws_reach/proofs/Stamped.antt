@@ -1,7 +1,7 @@
 -- Over all of a client's deeds, through its falls and rises, the stamps of its commit records rise, and its clock has
 -- passed them.
-use Rattle.std.proofs.Common.{◌≡◌, ◌<◌, ℕ, ◌-◌, Bool, true, false, List, ◌∷◌, ◌++◌, fold, inl, inr, Option, Some}
-use Rattle.std.proofs.Common.{None, refl, sym, ap, ◌∙◌, subst, append_assoc, arith}
+use Rattle.std.proofs.Common.{◌≡◌, ◌<◌, ℕ, ◌-◌, Bool, true, false, List, ◌∷◌, ◌++◌, fold, inl, inr, Option, Some, None}
+use Rattle.std.proofs.Common.{refl, sym, ap, ◌∙◌, subst, append_assoc, arith}
 use Rattle.std.specs.List.{AllByRecursion as Every}
 use Rattle.std.proofs.lemmas.List.{append-nil}
 use Rattle.std.proofs.lemmas.List.Sums.{fold-append}
@@ -118,28 +118,28 @@ module _ (decl : Declaration) (a : ℕ) (client : is_client decl a ≡ true) whe
         written (inl none) =
             subst (λ (o : Option Record). UpTo (fold journal_at (journal_after ds) (writes_of o))
             move.client.desk.clock.value) (sym none.write) (record {
-          passed =
-              low_later t.state.desk.clock.value move.client.desk.clock.value none.on
-              (commits_of (journal_after ds).records) now.passed;
-          rise = now.rise;
-          none = now.none;
-        })
+              passed =
+                  low_later t.state.desk.clock.value move.client.desk.clock.value none.on
+                  (commits_of (journal_after ds).records) now.passed;
+              rise = now.rise;
+              none = now.none;
+            })
         written (inr one) =
             subst (λ (o : Option Record). UpTo (fold journal_at (journal_after ds) (writes_of o))
             move.client.desk.clock.value) (sym one.write) (record {
-          passed =
-              subst (λ (n : ℕ). Every (IsUpTo n)
-              (commits_of ((journal_after ds).records ++ records.Commit one.commit ∷ []))) (sym one.passed)
-              (subst (Every (IsUpTo one.commit.stamp.clock))
+              passed =
+                  subst (λ (n : ℕ). Every (IsUpTo n)
+                  (commits_of ((journal_after ds).records ++ records.Commit one.commit ∷ []))) (sym one.passed)
+                  (subst (Every (IsUpTo one.commit.stamp.clock))
                   (sym (commits_more (journal_after ds).records (records.Commit one.commit ∷ [])))
-              (every-append (IsUpTo one.commit.stamp.clock) (commits_of (journal_after ds).records) (one.commit ∷ [])
-              (low_later t.state.desk.clock.value one.commit.stamp.clock
+                  (every-append (IsUpTo one.commit.stamp.clock) (commits_of (journal_after ds).records) (one.commit ∷ [])
+                  (low_later t.state.desk.clock.value one.commit.stamp.clock
                   (let l : t.state.desk.clock.value < one.commit.stamp.clock = one.above in omega arith)
                   (commits_of (journal_after ds).records) now.passed)
-              (omega arith, tt)));
-          rise = one_above (journal_after ds) t.state.desk.clock.value now one.commit one.above;
-          none = now.none;
-        })
+                  (omega arith, tt)));
+              rise = one_above (journal_after ds) t.state.desk.clock.value now one.commit one.above;
+              none = now.none;
+            })
 
         is_after : (first : ℕ) (c : Client)
             → (actor_after decl a (ds ++ Takes g ∷ turn_deeds first move.turn)).actor ≡ actors.Client c
@@ -155,21 +155,21 @@ module _ (decl : Declaration) (a : ℕ) (client : is_client decl a ≡ true) whe
             subst Timed (sym (append_assoc ds (Takes g ∷ []) (turn_deeds first move.turn)))
             (timed_more ds (Takes g ∷ turn_deeds first move.turn) true
             (up_more decl a ds (Takes g ∷ turn_deeds first move.turn)
-                ∙ steady_up (is_up ds) (turn_deeds first move.turn) (turn_steady first move.turn) ∙ r.is ∙ same)
+            ∙ steady_up (is_up ds) (turn_deeds first move.turn) (turn_steady first move.turn) ∙ r.is ∙ same)
             (λ c is. subst (λ (j : Journal). UpTo j c.desk.clock.value)
-                (sym (turn_journal (journal_after ds) first move.turn))
+            (sym (turn_journal (journal_after ds) first move.turn))
             (subst (UpTo (fold journal_at (journal_after ds) (writes_of move.turn.write)))
-                (sym (clock_posts decl move (turn_deeds first move.turn) (turn-posts first move.turn))
-                  ∙ ap (λ (x : Client). x.desk.clock.value) (is_after first c is))
+            (sym (clock_posts decl move (turn_deeds first move.turn) (turn-posts first move.turn))
+            ∙ ap (λ (x : Client). x.desk.clock.value) (is_after first c is))
             (written (takes_stamps decl t.state g))))
             (subst WithPending (sym (turn_journal (journal_after ds) first move.turn))
-                (none_pending (fold journal_at (journal_after ds) (writes_of move.turn.write))
-                  move.client.desk.clock.value (written (takes_stamps decl t.state g)))))
+            (none_pending (fold journal_at (journal_after ds) (writes_of move.turn.write))
+            move.client.desk.clock.value (written (takes_stamps decl t.state g)))))
 
         above : (w : IsCommitTurn move.turn) → Stamps t.state move → t.state.desk.clock.value < w.commit.stamp.clock
         above w (inl none) =
             absurd (let no : None ≡ Some (records.Commit w.commit) = sym none.write ∙ w.write in
-                    let never : ⊥ = cc in never)
+            let never : ⊥ = cc in never)
         above w (inr one) =
             let both : Some (records.Commit one.commit) ≡ Some (records.Commit w.commit) = sym one.write ∙ w.write in
             let one_is : one.commit ≡ w.commit = cc in
@@ -179,13 +179,13 @@ module _ (decl : Declaration) (a : ℕ) (client : is_client decl a ≡ true) whe
             → Timed ((ds ++ Takes g ∷ []) ++ Tells replies.Unknown ∷ Falls cause (Some (records.Commit w.commit)) ∷ [])
         unknown_timed cause w =
             let more : List Deed =
-                    Takes g ∷ Tells replies.Unknown ∷ Falls cause (Some (records.Commit w.commit)) ∷ [] in
+            Takes g ∷ Tells replies.Unknown ∷ Falls cause (Some (records.Commit w.commit)) ∷ [] in
             subst Timed
-                (sym (append_assoc ds (Takes g ∷ [])
-                  (Tells replies.Unknown ∷ Falls cause (Some (records.Commit w.commit)) ∷ [])))
+            (sym (append_assoc ds (Takes g ∷ [])
+            (Tells replies.Unknown ∷ Falls cause (Some (records.Commit w.commit)) ∷ [])))
             (timed_down ds more (up_more decl a ds more)
-                (one_above (journal_after ds) t.state.desk.clock.value now w.commit
-                  (above w (takes_stamps decl t.state g))))
+            (one_above (journal_after ds) t.state.desk.clock.value now w.commit
+            (above w (takes_stamps decl t.state g))))
 
         turn_timed : (end : Appended) (first : ℕ) → MayEnd move.turn.write end
             → Timed ((ds ++ Takes g ∷ []) ++ deeds_as end first move.turn)
@@ -197,7 +197,7 @@ module _ (decl : Declaration) (a : ℕ) (client : is_client decl a ≡ true) whe
             by (inr w) =
                 subst (λ (v : List Deed). Timed ((ds ++ Takes g ∷ []) ++ v))
                 (λ i. sends_of first (sym w.failed_sends i)
-                    ++ (tells_of (sym w.failed_told i) ++ Falls causes.Disk (sym w.write i) ∷ []))
+                ++ (tells_of (sym w.failed_told i) ++ Falls causes.Disk (sym w.write i) ∷ []))
                 (unknown_timed causes.Disk w)
         turn_timed Stopped first ends = by (takes_turn decl t.state g)
           where
@@ -221,7 +221,7 @@ module _ (decl : Declaration) (a : ℕ) (client : is_client decl a ≡ true) whe
       called_timed command =
           let more : List Deed = Takes (inputs.Called command) ∷ Tells replies.Down ∷ [] in
           subst Timed (sym (append_assoc ds (Takes (inputs.Called command) ∷ []) (Tells replies.Down ∷ [])))
-              (timed_down ds more (up_more decl a ds more ∙ down) fallen)
+          (timed_down ds more (up_more decl a ds more ∙ down) fallen)
 
       module _ (kept : List Record) (back : AreGivenBack no_journal (ds ++ Rises kept ∷ [])) where
         rise_kept : Rise (commits_of kept)
@@ -236,21 +236,21 @@ module _ (decl : Declaration) (a : ℕ) (client : is_client decl a ≡ true) whe
             subst Timed (sym (append_assoc ds (Rises kept ∷ []) (Writes records.Life ∷ [])))
             (timed_more ds more true (up_more decl a ds more)
             (λ c is. subst (λ (x : Client). UpTo (record { records = kept ++ records.Life ∷ []; pending = None })
-                x.desk.clock.value)
+            x.desk.clock.value)
             (same_client (client_rises number kept).client c
-                (sym (ap (λ (m : ActorMove). m.actor)
-                  (actor_more decl a ds more
-                    ∙ ap (λ (m : ActorMove). actor_does decl a m (Writes records.Life))
-                      (sym (actor_more decl a ds (Rises kept ∷ [])) ∙ rises_to decl a client ds kept))) ∙ is))
+            (sym (ap (λ (m : ActorMove). m.actor)
+            (actor_more decl a ds more
+            ∙ ap (λ (m : ActorMove). actor_does decl a m (Writes records.Life))
+            (sym (actor_more decl a ds (Rises kept ∷ [])) ∙ rises_to decl a client ds kept))) ∙ is))
             (record { passed = all_passed nothing_kept (kept ++ records.Life ∷ []); rise = rise_whole; none = refl }))
             (subst (λ (rs : List Record). Rise (commits_of rs)) (sym (append-nil (kept ++ records.Life ∷ [])))
-                rise_whole))
+            rise_whole))
 
         in_vain_timed : (cause : Fall) → Timed ((ds ++ Rises kept ∷ []) ++ Falls cause (Some records.Life) ∷ [])
         in_vain_timed cause =
             let more : List Deed = Rises kept ∷ Falls cause (Some records.Life) ∷ [] in
             subst Timed (sym (append_assoc ds (Rises kept ∷ []) (Falls cause (Some records.Life) ∷ [])))
-                (timed_down ds more (up_more decl a ds more) rise_whole)
+            (timed_down ds more (up_more decl a ds more) rise_whole)
 
         risen_timed : (end : Appended) (first : ℕ) → Timed ((ds ++ Rises kept ∷ []) ++ deeds_as end first (rising []))
         risen_timed Done first = written_timed
@@ -266,15 +266,15 @@ module _ (decl : Declaration) (a : ℕ) (client : is_client decl a ≡ true) whe
         turn_timed ds (rest (back_first no_journal ds (Takes g ∷ []) (back_first no_journal (ds ++ Takes g ∷ []) (deeds_as end first (client_takes decl t.state g).turn) back))) r same t g end first ends;
     called = λ ds down command rest back.
         called_timed ds
-            (rest (back_first no_journal ds (Takes (inputs.Called command) ∷ [])
-              (back_first no_journal (ds ++ Takes (inputs.Called command) ∷ []) (Tells replies.Down ∷ []) back))) down
-            command;
+        (rest (back_first no_journal ds (Takes (inputs.Called command) ∷ [])
+        (back_first no_journal (ds ++ Takes (inputs.Called command) ∷ []) (Tells replies.Down ∷ []) back))) down
+        command;
     crashed =
         λ ds r same t rest back. crashed_timed ds (rest (back_first no_journal ds (Falls causes.Script None ∷ []) back))
         r same t;
     risen = λ ds down kept end first rest back. (
         let risen_back : AreGivenBack no_journal (ds ++ Rises kept ∷ []) =
-                back_first no_journal (ds ++ Rises kept ∷ []) (deeds_as end first (rising [])) back in
+        back_first no_journal (ds ++ Rises kept ∷ []) (deeds_as end first (rising [])) back in
         risen_timed ds (rest (back_first no_journal ds (Rises kept ∷ []) risen_back)) down kept risen_back end first);
     unopened =
         λ ds down cause rest back. unopened_timed ds (rest (back_first no_journal ds (Falls cause None ∷ []) back)) down
@@ -288,8 +288,8 @@ module _ (decl : Declaration) (a : ℕ) (client : is_client decl a ≡ true) whe
       by : (x : Bool) → IsNow decl a client planned Keeps lasting ds x → WithPending (journal_after ds)
       by true at =
           let t : Timed at.before =
-                  at.rest (back_first no_journal at.before (Takes at.given ∷ [])
-                    (subst (AreGivenBack no_journal) at.is back)) in
+          at.rest (back_first no_journal at.before (Takes at.given ∷ [])
+          (subst (AreGivenBack no_journal) at.is back)) in
           subst (λ (v : List Deed). WithPending (journal_after v)) (sym at.is)
-              (subst WithPending (sym (journal_more at.before (Takes at.given ∷ []))) t.whole)
+          (subst WithPending (sym (journal_more at.before (Takes at.given ∷ []))) t.whole)
       by false rest = (rest back).whole

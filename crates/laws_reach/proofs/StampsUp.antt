@@ -1,14 +1,13 @@
 -- A client's clock has passed its records; what pends is above it, whether it is up, down, or rises.
-use Rattle.std.proofs.Common.{◌≡◌, ◌<◌, ℕ, ◌-◌, List, ◌∷◌, ◌++◌, inl, inr, Option}
-use Rattle.std.proofs.Common.{None, option_to_list, sym, ◌∙◌, subst}
+use Rattle.std.proofs.Common.{◌≡◌, ◌<◌, ℕ, ◌-◌, List, ◌∷◌, ◌++◌, inl, inr, Option, None, option_to_list, sym, ◌∙◌}
+use Rattle.std.proofs.Common.{subst}
 use Rattle.std.specs.List.{AllByRecursion as Every}
 use Rattle.std.proofs.lemmas.List.{append-nil}
 use Rattle.qc_entry.specs.declared.record.Commit.{Commit}
 use Rattle.qc_msg.specs.declared.record.Record.{Record}
 use Rattle.qc_msg.specs.declared.record.Record.TheVariants as records
 use Rattle.qc_promise.specs.Names.{IsGivenBack, Journal}
-use Rattle.laws_reach.proofs.RisingStamps.{IsUpTo, Rise, commits_more, commits_of, rise_first}
-use Rattle.laws_reach.proofs.RisingStamps.{rise_more}
+use Rattle.laws_reach.proofs.RisingStamps.{IsUpTo, Rise, commits_more, commits_of, rise_first, rise_more}
 
 -- while it is up its clock has passed its records, and none is pending; while it is down the pending one is above them
 
@@ -38,7 +37,7 @@ pub back_rise : (j : Journal) (kept : List Record) → IsGivenBack j kept → Wi
 back_rise j kept (inl same) up =
     subst (λ (rs : List Record). Rise (commits_of rs)) (sym same)
     (rise_first (commits_of j.records) (commits_of (option_to_list j.pending))
-      (subst Rise (commits_more j.records (option_to_list j.pending)) up))
+    (subst Rise (commits_more j.records (option_to_list j.pending)) up))
 back_rise j kept (inr more) up = subst (λ (rs : List Record). Rise (commits_of rs)) (sym more) up
 
 pub with_life : (kept : List Record) → commits_of (kept ++ records.Life ∷ []) ≡ commits_of kept

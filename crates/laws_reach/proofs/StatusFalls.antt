@@ -1,6 +1,6 @@
 -- How a transaction stands at its client while that is up, down, and risen: lives only grow.
-use Rattle.std.proofs.Common.{◌≡◌, ◌≢◌, ℕ, ◌<◌, ◌≤◌, ◌⊎◌, inl, inr, Bool, true, false, cond, List, ◌∷◌, ◌++◌}
-use Rattle.std.proofs.Common.{fold, Option, Some, None, option_to_list, refl, sym, ap, ◌∙◌, subst, arith}
+use Rattle.std.proofs.Common.{◌≡◌, ◌≢◌, ℕ, ◌<◌, ◌≤◌, ◌⊎◌, inl, inr, Bool, true, false, cond, List, ◌∷◌, ◌++◌, fold}
+use Rattle.std.proofs.Common.{Option, Some, None, option_to_list, refl, sym, ap, ◌∙◌, subst, arith}
 use Rattle.std.specs.List.{AllByRecursion as Every}
 use Rattle.std.proofs.lemmas.List.Sums.{fold-append}
 use Rattle.qc_list.specs.Names.{In}
@@ -26,7 +26,7 @@ listed_more tx stamp xs ys l =
       commit = l.commit;
       listed = In-first (records.Commit l.commit) xs ys l.listed;
       named = l.named;
-      stamped = l.stamped
+      stamped = l.stamped;
     }
 
 pub record Up (tx : TxId) (s : Status) (j : Journal) (k : ℕ) (p : Page) : Type 0 where
@@ -90,31 +90,31 @@ module _ (tx : TxId) where
           stamp = r.stamp;
           is = r.is;
           listed = record {
-                commit = r.listed.commit;
-                listed = inr r.listed.listed;
-                named = r.listed.named;
-                stamped = r.listed.stamped
-              }
+            commit = r.listed.commit;
+            listed = inr r.listed.listed;
+            named = r.listed.named;
+            stamped = r.listed.stamped;
+          };
         }
 
     same : (w : Record) → status_written tx s w ≡ s
         → (fold (status_written tx) (status_written tx s w) rs ≡ status_written tx s w)
-          ⊎ Rose rs (fold (status_written tx) (status_written tx s w) rs)
+        ⊎ Rose rs (fold (status_written tx) (status_written tx s w) rs)
         → (fold (status_written tx) (status_written tx s w) rs ≡ s)
-            ⊎ Rose (w ∷ rs) (fold (status_written tx) (status_written tx s w) rs)
+        ⊎ Rose (w ∷ rs) (fold (status_written tx) (status_written tx s w) rs)
     same w is (inl still) = inl (still ∙ is)
     same w is (inr r) = inr (later w (fold (status_written tx) (status_written tx s w) rs) r)
 
     commits : (c : Commit) (t : Bool) → same_tx c.tx tx ≡ t
         → (fold (status_written tx) (cond t (Committed c.stamp) s) rs ≡ cond t (Committed c.stamp) s)
-          ⊎ Rose rs (fold (status_written tx) (cond t (Committed c.stamp) s) rs)
+        ⊎ Rose rs (fold (status_written tx) (cond t (Committed c.stamp) s) rs)
         → (fold (status_written tx) (cond t (Committed c.stamp) s) rs ≡ s)
-            ⊎ Rose (records.Commit c ∷ rs) (fold (status_written tx) (cond t (Committed c.stamp) s) rs)
+        ⊎ Rose (records.Commit c ∷ rs) (fold (status_written tx) (cond t (Committed c.stamp) s) rs)
     commits c true its (inl still) =
         inr (record {
           stamp = c.stamp;
           is = still;
-          listed = record { commit = c; listed = inl refl; named = same_tx_is c.tx tx its; stamped = refl }
+          listed = record { commit = c; listed = inl refl; named = same_tx_is c.tx tx its; stamped = refl };
         })
     commits c true its (inr r) = inr (later (records.Commit c) (fold (status_written tx) (Committed c.stamp) rs) r)
     commits c false other (inl still) = inl still
@@ -122,9 +122,9 @@ module _ (tx : TxId) where
 
     by : (w : Record)
         → (fold (status_written tx) (status_written tx s w) rs ≡ status_written tx s w)
-          ⊎ Rose rs (fold (status_written tx) (status_written tx s w) rs)
+        ⊎ Rose rs (fold (status_written tx) (status_written tx s w) rs)
         → (fold (status_written tx) (status_written tx s w) rs ≡ s)
-            ⊎ Rose (w ∷ rs) (fold (status_written tx) (status_written tx s w) rs)
+        ⊎ Rose (w ∷ rs) (fold (status_written tx) (status_written tx s w) rs)
     by records.Life rest = same records.Life refl rest
     by (records.Prepare p) rest = same (records.Prepare p) refl rest
     by (records.Done other clock) rest = same (records.Done other clock) refl rest
@@ -156,7 +156,7 @@ module _ (tx : TxId) where
     born_by : (stamp : Stamp) → IsRecorded tx stamp rs → s ≢ Unborn
     born_by stamp l none =
         by (every-In (IsRightKept tx s) (records.Commit l.commit) rs right l.listed
-            (subst (λ (t : TxId). same_tx l.commit.tx t ≡ true) l.named (same_tx_itself l.commit.tx)))
+        (subst (λ (t : TxId). same_tx l.commit.tx t ≡ true) l.named (same_tx_itself l.commit.tx)))
       where
         by : (s ≡ Begun) ⊎ (s ≡ Committed l.commit.stamp) → ⊥
         by (inl is) = let never : ⊥ = cc in never
@@ -170,7 +170,7 @@ module _ (tx : TxId) where
       later =
           λ mine lower. by_later (d.later mine
           (let a : (kept_by j.records).life ≤ (kept_by rs).life = low in
-           let b : (kept_by rs).life < tx.life = lower in omega arith)) (rose (given_up s) rs);
+          let b : (kept_by rs).life < tx.life = lower in omega arith)) (rose (given_up s) rs);
       mine = λ born. by_mine born (rose (given_up s) rs);
     } where
       Case : Type 0
@@ -199,13 +199,13 @@ module _ (tx : TxId) where
       → AreRightKept tx s rs → Risen (status_risen tx s rs) rs k
   rises_back s j k d rs (inl same) right =
       rises_from s j k d rs right (λ stamp l. subst (IsRecorded tx stamp) (sym same) l)
-          (subst (λ (xs : List Record). (kept_by j.records).life ≤ (kept_by xs).life) (sym same) (omega arith))
+      (subst (λ (xs : List Record). (kept_by j.records).life ≤ (kept_by xs).life) (sym same) (omega arith))
   rises_back s j k d rs (inr both) right =
       rises_from s j k d rs right
-          (λ stamp l. subst (IsRecorded tx stamp) (sym both)
-            (listed_more tx stamp j.records (option_to_list j.pending) l))
+      (λ stamp l. subst (IsRecorded tx stamp) (sym both)
+      (listed_more tx stamp j.records (option_to_list j.pending) l))
       (subst (λ (xs : List Record). (kept_by j.records).life ≤ (kept_by xs).life) (sym both)
-          (lives_grow j.records (option_to_list j.pending)))
+      (lives_grow j.records (option_to_list j.pending)))
 
   -- and it falls again, its life unwritten
   pub falls_again : (s : Status) (rs : List Record) (k : ℕ) → Risen s rs k

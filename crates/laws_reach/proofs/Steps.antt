@@ -1,11 +1,11 @@
 -- What ties a client's account to its dealings in one transaction, whose record may be known: how it stays.
-use Rattle.std.proofs.Common.{◌≡◌, ◌<◌, ◌≤◌, ◌⊎◌, inl, inr, ℕ, ◌+◌, Bool, true, false, List, Option}
-use Rattle.std.proofs.Common.{None, option_map, refl, ap, ◌∙◌, arith}
+use Rattle.std.proofs.Common.{◌≡◌, ◌<◌, ◌≤◌, ◌⊎◌, inl, inr, ℕ, ◌+◌, Bool, true, false, List, Option, None, option_map}
+use Rattle.std.proofs.Common.{refl, ap, ◌∙◌, arith}
 use Rattle.qc_stamp.specs.declared.stamp.TxId.{TxId}
 use Rattle.qc_entry.specs.declared.line.Op.{Op}
 use Rattle.qc_promise.specs.Names.{Dealing}
 use Rattle.laws_reach.proofs.Gists.{Gist, Going}
-use Rattle.laws_reach.proofs.Bases.{none_some, true_false, Settled, Both, _}
+use Rattle.laws_reach.proofs.Bases.{none_some, true_false, Settled, Both}
 
 module _ (tx : TxId) (ops : List Op) where
   abbrev IsBehind : Bool → Gist → Type 0
@@ -38,7 +38,7 @@ module _ (tx : TxId) (ops : List Op) where
     };
     known =
         λ k. (let t : Settled tx ops true g x = s.known k in
-              record { same = t.same; past = past_life g t.past; quiet = t.quiet });
+        record { same = t.same; past = past_life g t.past; quiet = t.quiet });
   }
     where
       fresh : IsPast true g ⊎ (x.ops ≡ []) → IsPast false (record g { life = g.life + 1 }) ⊎ (x.ops ≡ [])
@@ -70,11 +70,11 @@ module _ (tx : TxId) (ops : List Op) where
     };
     known =
         λ k. (let t : Settled tx ops true g x = s.known k in
-              record {
-                    same = t.same;
-                    past = past_risen g life up t.past;
-                    quiet = λ o is named. absurd (none_some o None refl is)
-                  });
+        record {
+          same = t.same;
+          past = past_risen g life up t.past;
+          quiet = λ o is named. absurd (none_some o None refl is);
+        });
   }
     where
       fresh : IsPast true g ⊎ (x.ops ≡ []) → IsPast true (risen_with g life) ⊎ (x.ops ≡ [])

@@ -1,8 +1,7 @@
--- In every run with falls whose records are kept each deed of a client is right for each transaction, and the stamps of
--- its records rise.
-use Rattle.std.proofs.Common.{◌≡◌, ◌↔◌, ◌-◌, ◌≢◌, ◌≤◌, ◌<◌, ℕ, ◌+◌, ◌==◌, Bool, true, false, List, ◌∷◌, ◌++◌}
-use Rattle.std.proofs.Common.{length, option_to_list, Some, None, slice_get, refl, sym, ap, ◌∙◌, subst, arith}
-use Rattle.std.proofs.Common.{append_assoc, eqb-true}
+-- In every run with falls whose records are kept a client's deeds are right, and the stamps of its records rise.
+use Rattle.std.proofs.Common.{◌≡◌, ◌↔◌, ◌-◌, ◌≢◌, ◌≤◌, ◌<◌, ℕ, ◌+◌, ◌==◌, Bool, true, false, List, ◌∷◌, ◌++◌, length}
+use Rattle.std.proofs.Common.{option_to_list, Some, None, slice_get, refl, sym, ap, ◌∙◌, subst, arith, append_assoc}
+use Rattle.std.proofs.Common.{eqb-true}
 use Rattle.std.specs.List.{AllPairs, filter_map}
 use Rattle.std.proofs.lemmas.List.Sums.{fold-append}
 use Rattle.qc_decl.proofs.Clients.{client_past, client_within}
@@ -34,8 +33,8 @@ use Rattle.qc_msg.proofs.DeedsGrow.{deeds-other}
 use Rattle.qc_msg.proofs.Growth.{deeds-posted_as, deeds-taken}
 use Rattle.laws_refinement.specs.Names.{Backed, Refines}
 use Rattle.laws_refinement.proofs.Refining.{nets_refine}
-use Rattle.qc_promise.specs.Names.{AreRight, Begun, Committed, Dead, HasEnded, Journal, Kept, Status}
-use Rattle.qc_promise.specs.Names.{Unborn, status, status_at}
+use Rattle.qc_promise.specs.Names.{AreRight, Begun, Committed, Dead, HasEnded, Journal, Kept, Status, Unborn, status}
+use Rattle.qc_promise.specs.Names.{status_at}
 use Rattle.theory_machine.specs.Names.{state}
 use Rattle.laws_turns.proofs.KnownDeeds.{IsKnown, IsKnownIn, KnownFrom, known-append, known-posts, known-second}
 use Rattle.laws_turns.proofs.Lasting.{HasEnd, ended_on, request_born}
@@ -87,13 +86,13 @@ module _ (decl : Declaration) (script : Script) (fits : ℕ → List Record → 
   lived h open_inputs run a client =
       let low : a < actors decl = client_within decl a client in
       let long : length open_inputs ≡ actors decl =
-              run_long decl script fits (few decl script fits accepted sound) h open_inputs run in
+      run_long decl script fits (few decl script fits accepted sound) h open_inputs run in
       let place : (t : Bool) × (slice_get open_inputs a ≡ Some t) = slice_get-within open_inputs a (omega arith) in
       record {
-            is_open = place.0;
-            in_run =
-                run_lives decl script fits (few decl script fits accepted sound) h open_inputs run a place.0 place.1
-          }
+        is_open = place.0;
+        in_run =
+            run_lives decl script fits (few decl script fits accepted sound) h open_inputs run a place.0 place.1;
+      }
 
   module _ (h : List Entry) (open_inputs : List Bool) (run : IsRun h open_inputs) (kept : Kept h) (known : AreKnown h) where
     shows : (a : ℕ) (client : is_client decl a ≡ true) (tx : TxId) → Shows decl a client tx (deeds a [] h)
@@ -101,25 +100,25 @@ module _ (decl : Declaration) (script : Script) (fits : ℕ → List Record → 
         let l : Lived h open_inputs a = lived h open_inputs run a client in
         let d : Declares decl (deeds a [] h) = declares h open_inputs run kept a in
         course_shows decl a client tx d.first (deeds a [] h) l.is_open l.in_run.above l.in_run.lives d.deeds
-            (kept_given_back h kept a) (known a client tx)
+        (kept_given_back h kept a) (known a client tx)
 
     -- one that was asked for was begun
     asked_born : (a : ℕ) → is_client decl a ≡ true → (tx : TxId) → a ≡ client_actor decl tx.client
         → IsRequested (mail h) tx → status (deeds a [] h) tx ≢ Unborn
     asked_born a client tx its r =
         let net : IsReachedWithFalls decl h open_inputs =
-                net_of fits decl script h open_inputs accepted sound run kept in
+        net_of fits decl script h open_inputs accepted sound run kept in
         let m : Refines decl net.net = nets_refine decl accepted net.net net.reached in
         let backed : Backed decl (state m.acts) net.net.mail r.request.from r.request.to (messages.Request tx r.epoch r.life r.want) =
         subst (Backed decl (state m.acts) net.net.mail r.request.from r.request.to) r.is
-            (m.agrees.mail r.request (subst (In r.request) (sym net.mail_is) r.sent)) in
+        (m.agrees.mail r.request (subst (In r.request) (sym net.mail_is) r.sent)) in
         let from : r.request.from ≡ a = backed.0 ∙ sym its in
         let sent : In (Sends r.request.number r.request.to r.request.message) (deeds a [] h) =
-                subst (λ (b : ℕ). In (Sends r.request.number r.request.to r.request.message) (deeds b [] h)) from
-                  (mail_deed [] h r.request r.sent) in
+        subst (λ (b : ℕ). In (Sends r.request.number r.request.to r.request.message) (deeds b [] h)) from
+        (mail_deed [] h r.request r.sent) in
         request_born tx Unborn (deeds a [] h) r.request.number r.request.to r.epoch r.life r.want
-            (shows a client tx).right
-            (subst (λ (x : Message). In (Sends r.request.number r.request.to x) (deeds a [] h)) r.is sent)
+        (shows a client tx).right
+        (subst (λ (x : Message). In (Sends r.request.number r.request.to x) (deeds a [] h)) r.is sent)
 
     -- so what it takes next is so too
 
@@ -130,7 +129,7 @@ module _ (decl : Declaration) (script : Script) (fits : ℕ → List Record → 
     known_in a client tx to (messages.Decision other verdict) at tells = tt
     known_in a client tx to (messages.Inquiry other) at tells = λ same. (let is : other ≡ tx = same_tx_is other tx same in
         asked_born a client tx (sym at ∙ tells.0 ∙ ap (λ (t : TxId). client_actor decl t.client) is)
-            (subst (IsRequested (mail h)) is tells.1))
+        (subst (IsRequested (mail h)) is tells.1))
     known_in a client tx to (messages.Ask other) at tells = tt
     known_in a client tx to (messages.Close epoch) at tells = tt
     known_in a client tx to (messages.Install epoch clock log) at tells = tt
@@ -141,8 +140,8 @@ module _ (decl : Declaration) (script : Script) (fits : ℕ → List Record → 
     known_given a client tx (inputs.Got e) was =
         let asked : Asked decl h = run_asked decl script fits h open_inputs run kept in
         known_in a client tx e.to e.message was.1
-            (every-at (λ (d : Envelope). Tells decl (IsRequested (mail h)) d.to d.message) (mail h) e.number e asked.all
-              was.0)
+        (every-at (λ (d : Envelope). Tells decl (IsRequested (mail h)) d.to d.message) (mail h) e.number e asked.all
+        was.0)
     known_given a client tx (inputs.Lost number) was = tt
 
   -- an event by one actor, for each
@@ -157,8 +156,8 @@ module _ (decl : Declaration) (script : Script) (fits : ℕ → List Record → 
           let e : b ≡ a = eqb-true b a same in
           subst (λ (k : ℕ). KnownFrom tx Unborn (deeds k [] (h ++ by b xs))) e
           (subst (KnownFrom tx Unborn) (sym is)
-              (known-append tx Unborn (deeds b [] h) ds
-                (subst (λ (k : ℕ). KnownFrom tx Unborn (deeds k [] h)) (sym e) old) (new e)))
+          (known-append tx Unborn (deeds b [] h) ds
+          (subst (λ (k : ℕ). KnownFrom tx Unborn (deeds k [] h)) (sym e) old) (new e)))
       at false other = subst (KnownFrom tx Unborn) (sym (deeds-other b a [] h xs other)) old
 
   silent : (a b : ℕ) (tx : TxId) (h : List Entry) (step : Step) → IsSilent step → KnownFrom tx Unborn (deeds a [] h)
@@ -167,10 +166,10 @@ module _ (decl : Declaration) (script : Script) (fits : ℕ → List Record → 
 
   risen : (b : ℕ) (h : List Entry) (kept : List Record) (turn : Turn)
       → deeds b [] (h ++ by b (steps.Rose kept ∷ posted_as turn.append (length (mail h)) turn))
-        ≡ deeds b [] h ++ (Rises kept ∷ deeds_as turn.append (length (mail h)) turn)
+      ≡ deeds b [] h ++ (Rises kept ∷ deeds_as turn.append (length (mail h)) turn)
   risen b h kept turn =
       ap (deeds b [])
-          (sym (append_assoc h (marked b (steps.Rose kept) ∷ []) (by b (posted_as turn.append (length (mail h)) turn))))
+      (sym (append_assoc h (marked b (steps.Rose kept) ∷ []) (by b (posted_as turn.append (length (mail h)) turn))))
       ∙ deeds-posted_as turn.append b (length (mail h)) (h ++ marked b (steps.Rose kept) ∷ []) turn
       ∙ ap (λ (ds : List Deed). ds ++ deeds_as turn.append (length (mail h)) turn) (deeds-rise b h kept)
       ∙ append_assoc (deeds b [] h) (Rises kept ∷ []) (deeds_as turn.append (length (mail h)) turn)
@@ -180,40 +179,43 @@ module _ (decl : Declaration) (script : Script) (fits : ℕ → List Record → 
   all_known h open_inputs (takes b g before older run free rdy) kept a client tx =
       let known : AreKnown older = all_known older before run (part_kept older _ kept) in
       let was : WasSentTo b (mail older) g =
-              ready_sent (IsLawfulWithFalls decl) fits decl script older before run b g rdy in
+      ready_sent (IsLawfulWithFalls decl) fits decl script older before run b g rdy in
       by_actor b a tx older (step_of g ∷ []) (Takes g ∷ []) (deeds-taken b older g was) (known a client tx)
-      (λ same. (known_given older before run (part_kept older _ kept) known b (ap (is_client decl) same ∙ client) tx g
-          was, tt))
+      (λ same. (
+        known_given older before run (part_kept older _ kept) known b (ap (is_client decl) same ∙ client) tx g
+            was,
+        tt,
+      ))
   all_known h open_inputs (posts b turn before older run taken law) kept a client tx =
       by_actor b a tx older (posted_as turn.append (length (mail older)) turn)
-          (deeds_as turn.append (length (mail older)) turn)
-          (deeds-posted_as turn.append b (length (mail older)) older turn)
+      (deeds_as turn.append (length (mail older)) turn)
+      (deeds-posted_as turn.append b (length (mail older)) older turn)
       (all_known older before run (part_kept older _ kept) a client tx)
       (λ same. known-posts tx (status (deeds b [] older) tx) (deeds_as turn.append (length (mail older)) turn)
-          (post_posts turn.append (length (mail older)) turn))
+      (post_posts turn.append (length (mail older)) turn))
   all_known h open_inputs (phase before older run none done quiet more) kept a client tx =
       silent a (controller decl) tx older (steps.Phase (phase_of older + 1)) (phase_silent (phase_of older + 1))
-          (all_known older before run (part_kept older _ kept) a client tx)
+      (all_known older before run (part_kept older _ kept) a client tx)
   all_known h open_inputs (control line lines step before older run left is) kept a client tx =
       silent a (controller decl) tx older step (line_silent line step is)
-          (all_known older before run (part_kept older _ kept) a client tx)
+      (all_known older before run (part_kept older _ kept) a client tx)
   all_known h open_inputs (falls b lines before older run left) kept a client tx =
       by_actor b a tx older (steps.Fell causes.Script None ∷ []) (Falls causes.Script None ∷ [])
-          (deeds-fall b older causes.Script) (all_known older before run (part_kept older _ kept) a client tx)
-          (λ same. tt)
+      (deeds-fall b older causes.Script) (all_known older before run (part_kept older _ kept) a client tx)
+      (λ same. tt)
   all_known h open_inputs (rises b back turn lines before older run left fit has law) kept a client tx =
       by_actor b a tx older (steps.Rose back ∷ posted_as turn.append (length (mail older)) turn)
-          (Rises back ∷ deeds_as turn.append (length (mail older)) turn) (risen b older back turn)
+      (Rises back ∷ deeds_as turn.append (length (mail older)) turn) (risen b older back turn)
       (all_known older before run (part_kept older _ kept) a client tx)
       (λ same. known-posts tx (status (deeds b [] older) tx)
-          (Rises back ∷ deeds_as turn.append (length (mail older)) turn)
-          (tt, post_posts turn.append (length (mail older)) turn))
+      (Rises back ∷ deeds_as turn.append (length (mail older)) turn)
+      (tt, post_posts turn.append (length (mail older)) turn))
   all_known h open_inputs (damaged b offset lines before older run left) kept a client tx =
       silent a b tx older (steps.Damaged offset) (record { sends = λ x. refl; deeds = λ ms. refl })
-          (all_known older before run (part_kept older _ kept) a client tx)
+      (all_known older before run (part_kept older _ kept) a client tx)
   all_known h open_inputs (unopened b cause lines before older run left disk) kept a client tx =
       by_actor b a tx older (steps.Fell cause None ∷ []) (Falls cause None ∷ []) (deeds-fall b older cause)
-          (all_known older before run (part_kept older _ kept) a client tx) (λ same. tt)
+      (all_known older before run (part_kept older _ kept) a client tx) (λ same. tt)
 
   -- each deed is right
 
@@ -254,23 +256,23 @@ module _ (decl : Declaration) (script : Script) (fits : ℕ → List Record → 
       → before ++ later ≡ deeds a [] h → HasEnded (status before tx) → status (deeds a [] h) tx ≡ status before tx
   ended_transactions_stay_so_through_falls h open_inputs run kept a client tx before later is ended =
       let right : AreRight tx (before ++ later) =
-              subst (AreRight tx) (sym is) (transactions_move_on_through_falls h open_inputs run kept a client tx) in
+      subst (AreRight tx) (sym is) (transactions_move_on_through_falls h open_inputs run kept a client tx) in
       subst (λ (ds : List Deed). status ds tx ≡ status before tx) is
       (fold-append (status_at tx) Unborn before later
-          ∙ ended_on tx (status before tx) later (as_end tx (status before tx) ended)
-            (right_second tx Unborn before later right))
+      ∙ ended_on tx (status before tx) later (as_end tx (status before tx) ended)
+      (right_second tx Unborn before later right))
 
   -- a client is asked about begun transactions alone
   pub clients_are_asked_about_begun_ones_through_falls : (h : List Entry) (open_inputs : List Bool)
       → IsRun h open_inputs → Kept h → (a : ℕ) → is_client decl a ≡ true
       → (before later : List Deed) (e : Envelope) (tx : TxId)
       → before ++ Takes (inputs.Got e) ∷ later ≡ deeds a [] h → e.message ≡ messages.Inquiry tx
-          → status before tx ≢ Unborn
+      → status before tx ≢ Unborn
   clients_are_asked_about_begun_ones_through_falls h open_inputs run kept a client before later e tx is asks =
       let known : KnownFrom tx Unborn (before ++ Takes (inputs.Got e) ∷ later) =
-              subst (KnownFrom tx Unborn) (sym is) (all_known h open_inputs run kept a client tx) in
+      subst (KnownFrom tx Unborn) (sym is) (all_known h open_inputs run kept a client tx) in
       subst (IsKnownIn tx (status before tx)) asks
-          (known-second tx Unborn before (Takes (inputs.Got e) ∷ later) known).0 (same_tx_itself tx)
+      (known-second tx Unborn before (Takes (inputs.Got e) ∷ later) known).0 (same_tx_itself tx)
 
   -- and the stamps of its records rise
 
@@ -280,22 +282,22 @@ module _ (decl : Declaration) (script : Script) (fits : ℕ → List Record → 
       let l : Lived h open_inputs a = lived h open_inputs run a client in
       let d : Declares decl (deeds a [] h) = declares h open_inputs run kept a in
       course_rises decl a client d.first (deeds a [] h) l.is_open l.in_run.above l.in_run.lives d.deeds
-          (kept_given_back h kept a)
+      (kept_given_back h kept a)
 
   pub pending_rise : (h : List Entry) (open_inputs : List Bool) → IsRun h open_inputs → Kept h → (a : ℕ)
       → is_client decl a ≡ true
       → AllPairs (λ (c d : Commit). c.stamp.clock < d.stamp.clock)
-          (filter_map commit_of
-            ((journal_after (deeds a [] h)).records ++ option_to_list (journal_after (deeds a [] h)).pending))
+      (filter_map commit_of
+      ((journal_after (deeds a [] h)).records ++ option_to_list (journal_after (deeds a [] h)).pending))
   pending_rise h open_inputs run kept a client = rise_pairs _ (journal_rises h open_inputs run kept a client)
 
   pub records_rise : (h : List Entry) (open_inputs : List Bool) → IsRun h open_inputs → Kept h → (a : ℕ)
       → is_client decl a ≡ true
       → AllPairs (λ (c d : Commit). c.stamp.clock < d.stamp.clock)
-          (filter_map commit_of (journal_after (deeds a [] h)).records)
+      (filter_map commit_of (journal_after (deeds a [] h)).records)
   records_rise h open_inputs run kept a client =
       let j : Journal = journal_after (deeds a [] h) in
       rise_pairs (commits_of j.records)
-          (rise_first (commits_of j.records) (commits_of (option_to_list j.pending))
-            (subst Rise (commits_more j.records (option_to_list j.pending))
-              (journal_rises h open_inputs run kept a client)))
+      (rise_first (commits_of j.records) (commits_of (option_to_list j.pending))
+      (subst Rise (commits_more j.records (option_to_list j.pending))
+      (journal_rises h open_inputs run kept a client)))

@@ -1,10 +1,8 @@
 -- A post takes nothing, whatever becomes of its record; begun transactions alone are asked about.
-use Rattle.std.proofs.Common.{◌≡◌, ◌-◌, ◌≤◌, ℕ, ◌+◌, Bool, true, List, ◌∷◌, ◌++◌, fold}
-use Rattle.std.proofs.Common.{Option, Some, None, arith}
+use Rattle.std.proofs.Common.{◌≡◌, ◌-◌, ◌≤◌, ℕ, ◌+◌, Bool, true, List, ◌∷◌, ◌++◌, fold, Option, Some, None, arith}
 use Rattle.std.specs.List.{AllByRecursion as Every}
 use Rattle.qc_core.specs.Names.{IsLawfulWithFalls}
-use Rattle.qc_msg.specs.Names.{Deed, Entry, Falls, deeds, deeds_as}
-use Rattle.qc_msg.specs.Names.{sends_of, tells_of}
+use Rattle.qc_msg.specs.Names.{Deed, Entry, Falls, deeds, deeds_as, sends_of, tells_of}
 use Rattle.qc_decl.specs.Names.{IsAccepted, actors, is_client}
 use Rattle.qc_decl.specs.declared.declaration.Declaration.{Declaration}
 use Rattle.qc_link.specs.Names.{most_actors}
@@ -16,8 +14,7 @@ use Rattle.qc_msg.specs.declared.turn.Appended.{Appended}
 use Rattle.qc_msg.specs.declared.turn.Appended.TheVariants.{Done, Failed, Stopped}
 use Rattle.qc_msg.specs.declared.turn.Posting.{Posting}
 use Rattle.qc_msg.specs.declared.turn.Turn.{Turn}
-use Rattle.qc_promise.specs.Names.{AreRightFrom, Status}
-use Rattle.qc_promise.specs.Names.{Unborn, status_at}
+use Rattle.qc_promise.specs.Names.{AreRightFrom, Status, Unborn, status_at}
 use Rattle.laws_turns.proofs.Bounding.{turn-posts}
 use Rattle.laws_turns.proofs.ClientsWithin.{IsPost}
 use Rattle.laws_turns.proofs.KnownDeeds.{KnownFrom}
@@ -44,9 +41,9 @@ pub post_posts : (end : Appended) (n : ℕ) (turn : Turn) → Every IsPost (deed
 post_posts Done n turn = turn-posts n turn
 post_posts Failed n turn =
     every-append IsPost (sends_of n turn.failed_sends) (tells_of turn.failed_told ++ Falls causes.Disk turn.write ∷ [])
-        (sends_post n turn.failed_sends)
+    (sends_post n turn.failed_sends)
     (every-append IsPost (tells_of turn.failed_told) (Falls causes.Disk turn.write ∷ []) (tells_post turn.failed_told)
-        (tt, tt))
+    (tt, tt))
 post_posts Stopped n turn =
     every-append IsPost (tells_of turn.failed_told) (Falls causes.Stop turn.write ∷ []) (tells_post turn.failed_told)
     (tt, tt)

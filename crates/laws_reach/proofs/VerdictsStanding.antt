@@ -1,6 +1,6 @@
 -- How a transaction stands at its client, while that is up and while it is down, and as it rises.
-use Rattle.std.proofs.Common.{◌≡◌, ℕ, ◌<◌, ◌⊎◌, not, inl, inr, Bool, true, false, List, ◌∷◌, ◌++◌}
-use Rattle.std.proofs.Common.{filter, fold, None, refl, sym, ap, ◌∙◌, subst, arith}
+use Rattle.std.proofs.Common.{◌≡◌, ℕ, ◌<◌, ◌⊎◌, not, inl, inr, Bool, true, false, List, ◌∷◌, ◌++◌, filter, fold, None}
+use Rattle.std.proofs.Common.{refl, sym, ap, ◌∙◌, subst, arith}
 use Rattle.std.specs.List.{AllByRecursion as Every}
 use Rattle.std.proofs.lemmas.List.Sums.{fold-append}
 use Rattle.qc_list.specs.Names.{In}
@@ -8,8 +8,7 @@ use Rattle.qc_list.proofs.Members.{In-filter, In-first, In-last, In-more, In-unf
 use Rattle.qc_entry.specs.declared.record.Commit.{Commit}
 use Rattle.qc_msg.specs.declared.record.Record.{Record}
 use Rattle.qc_msg.specs.declared.record.Record.TheVariants as records
-use Rattle.qc_promise.specs.Names.{Committed}
-use Rattle.qc_promise.specs.Names.{Status}
+use Rattle.qc_promise.specs.Names.{Committed, Status}
 use Rattle.laws_turns.proofs.DealingParts.{HasRecord}
 use Rattle.laws_turns.proofs.Statuses.{Page}
 use Rattle.qc_recover.specs.Clients.{Kept, keeps, kept_by, nothing_kept}
@@ -19,7 +18,7 @@ use Rattle.qc_stamp.specs.Names.{same_tx}
 use Rattle.qc_stamp.proofs.Orders.{same_tx_is, same_tx_itself}
 use Rattle.laws_reach.specs.Names.{IsRecorded}
 use Rattle.laws_reach.proofs.Rises.{IsShown}
-use Rattle.laws_reach.proofs.StatusFalls.{Up, Risen, _}
+use Rattle.laws_reach.proofs.StatusFalls.{Up, Risen}
 
 module _ (tx : TxId) where
   -- its commits are those of its records, the last one of each transaction
@@ -38,10 +37,10 @@ module _ (tx : TxId) where
     by (records.Install epoch clock lines) (inl old) = inl old
     by (records.Commit one) (inl old) =
         of (In-more c one (filter (λ (d : Commit). not (same_tx d.tx one.tx)) x.commits) old) where
-      of : In c (filter (λ (d : Commit). not (same_tx d.tx one.tx)) x.commits) ⊎ (c ≡ one)
-          → In c x.commits ⊎ In (records.Commit c) (records.Commit one ∷ rs)
-      of (inl before) = inl (In-unfiltered (λ (d : Commit). not (same_tx d.tx one.tx)) c x.commits before)
-      of (inr last) = inr (inl (ap (λ (d : Commit). records.Commit d) last))
+          of : In c (filter (λ (d : Commit). not (same_tx d.tx one.tx)) x.commits) ⊎ (c ≡ one)
+              → In c x.commits ⊎ In (records.Commit c) (records.Commit one ∷ rs)
+          of (inl before) = inl (In-unfiltered (λ (d : Commit). not (same_tx d.tx one.tx)) c x.commits before)
+          of (inr last) = inr (inl (ap (λ (d : Commit). records.Commit d) last))
     by (records.Decide epoch clock lines) (inl old) = inl old
 
   record HasOne (cs : List Commit) : Type 0 where
@@ -56,8 +55,8 @@ module _ (tx : TxId) where
   kept_has x (r ∷ rs) c its (inl (inr later)) = kept_has (keeps x r) rs c its (inl later)
   kept_has x (r ∷ rs) c its (inl (inl same)) =
       kept_has (keeps x r) rs c its
-          (inr (subst (λ (w : Record). In c (keeps x w).commits) same
-            (In-last c (filter (λ (d : Commit). not (same_tx d.tx c.tx)) x.commits))))
+      (inr (subst (λ (w : Record). In c (keeps x w).commits) same
+      (In-last c (filter (λ (d : Commit). not (same_tx d.tx c.tx)) x.commits))))
   kept_has x (r ∷ rs) c its (inr old) = by r (λ y d same among. kept_has y rs d same (inr among)) where
     by : (r : Record) → ((y : Kept) (d : Commit) → d.tx ≡ tx → In d y.commits → HasOne (fold keeps y rs).commits)
         → HasOne (fold keeps (keeps x r) rs).commits
@@ -86,7 +85,7 @@ module _ (tx : TxId) where
         life = (kept_by (whole rs)).life;
         count = 0;
         commits = (kept_by (whole rs)).commits;
-        name = None
+        name = None;
       }
 
   pub risen_up : (s : Status) (rs : List Record) (k : ℕ) → Risen tx s rs k → Every (IsShown tx s) (whole rs)
@@ -106,7 +105,7 @@ module _ (tx : TxId) where
     later =
         λ mine low. r.later mine
         (let a : (kept_by rs).life < (kept_by (whole rs)).life = lower in
-         let b : (kept_by (whole rs)).life < tx.life = low in omega arith);
+        let b : (kept_by (whole rs)).life < tx.life = low in omega arith);
     none = refl;
   } where
     lower : (kept_by rs).life < (kept_by (whole rs)).life
@@ -129,8 +128,8 @@ module _ (tx : TxId) where
         → HasRecord (kept_by (whole rs)).commits tx stamp
     by_committed stamp is l =
         let one : HasOne (kept_by (whole rs)).commits =
-                kept_has nothing_kept (whole rs) l.commit l.named
-                  (inl (In-first (records.Commit l.commit) rs (records.Life ∷ []) l.listed)) in
+        kept_has nothing_kept (whole rs) l.commit l.named
+        (inl (In-first (records.Commit l.commit) rs (records.Life ∷ []) l.listed)) in
         let e : Committed one.commit.stamp ≡ Committed stamp =
-                sym (shows one.commit (listed one.commit one.among) one.named) ∙ is in
+        sym (shows one.commit (listed one.commit one.among) one.named) ∙ is in
         record { commit = one.commit; listed = one.among; named = one.named; stamped = cc }

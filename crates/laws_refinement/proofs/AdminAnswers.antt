@@ -1,6 +1,6 @@
 -- The administrator takes a command, or what comes of a Close.
-use Rattle.std.proofs.Common.{◌≡◌, ◌≤◌, ℕ, suc, ◌+◌, ◌==◌, Bool, true, false, cond, inl, inr, List, ◌∷◌, ◌++◌}
-use Rattle.std.proofs.Common.{length, map, Option, Some, None, refl, sym, ◌∙◌, subst, eqb-true, arith}
+use Rattle.std.proofs.Common.{◌≡◌, ◌≤◌, ℕ, suc, ◌+◌, ◌==◌, Bool, true, false, cond, inl, inr, List, ◌∷◌, ◌++◌, length}
+use Rattle.std.proofs.Common.{map, Option, Some, None, refl, sym, ◌∙◌, subst, eqb-true, arith}
 use Rattle.qc_list.specs.Names.{In}
 use Rattle.qc_list.proofs.Members.{In-second, In-unfiltered}
 use Rattle.qc_entry.specs.declared.line.Line.{Line}
@@ -25,16 +25,12 @@ use Rattle.qc_msg.specs.declared.reply.Reply.TheVariants as replies
 use Rattle.qc_msg.specs.declared.turn.Posting.{Posting}
 use Rattle.qc_msg.specs.Names.{envelopes, site_called, without_call}
 use Rattle.theory_machine.specs.Names.{Act, IsRun, state}
-use Rattle.qc_epoch.specs.Names.{Admin, ShutSite}
-use Rattle.qc_epoch.specs.Names.{again, close_need, close_of}
-use Rattle.qc_epoch.specs.Names.{close_round, close_round_by, closes, closes_by, closing_takes, doing, goes_on}
-use Rattle.qc_epoch.specs.Names.{in_asked_order, moves_to, replies_with}
+use Rattle.qc_epoch.specs.Names.{Admin, ShutSite, again, close_need, close_of, close_round, close_round_by, closes}
+use Rattle.qc_epoch.specs.Names.{closes_by, closing_takes, doing, goes_on, in_asked_order, moves_to, replies_with}
 use Rattle.qc_epoch.specs.Names.{standing_of, with_shut_of}
 use Rattle.qc_epoch.specs.Admin as admins
 use Rattle.laws_refinement.specs.Names.{AdminMirrors, AreEnough, AreSnapshots, Backed, DoingMirrors, IsAnswerBacked}
-use Rattle.laws_refinement.specs.Names.{IsMessage, IsPlanned, IsShutTo, IsSnapshot}
-use Rattle.laws_refinement.specs.Names.{Mirrors, Net}
-use Rattle.laws_refinement.specs.Names.{RoundMirrors}
+use Rattle.laws_refinement.specs.Names.{IsMessage, IsPlanned, IsShutTo, IsSnapshot, Mirrors, Net, RoundMirrors}
 use Rattle.laws_refinement.proofs.Asks.{IsCalled, called, order_among, order_told}
 use Rattle.laws_refinement.proofs.MessagesStay.{message_later}
 use Rattle.laws_refinement.proofs.Posts.{at_number}
@@ -59,12 +55,12 @@ module _ (decl : Declaration) (acts : List Act) (net : Net) (run : IsRun decl ac
       waits : Goes decl acts net run m up ((goes_on net.admin k calls round shuts))
       waits = rests decl acts net run m up (goes_on net.admin k calls round shuts) refl refl
           (λ p among. (let s : Mapped (close_of k) p (wanted round) = map_in (close_of k) p (wanted round) among in
-                       subst (λ (x : Posting). Backed decl (state acts) net.mail (administrator decl) x.to x.message)
-                           (sym s.is) planned))
+          subst (λ (x : Posting). Backed decl (state acts) net.mail (administrator decl) x.to x.message)
+          (sym s.is) planned))
           (subst (λ (x : Admin). AdminMirrors decl (state acts)
-              (net.mail ++ envelopes (administrator decl) (length net.mail) (map (close_of k) (wanted round))) x)
-              (sym (closing_sent net.admin k calls (asking_all round (wanted round)) shuts (length net.mail)
-                (wanted round))) (record {
+          (net.mail ++ envelopes (administrator decl) (length net.mail) (map (close_of k) (wanted round))) x)
+          (sym (closing_sent net.admin k calls (asking_all round (wanted round)) shuts (length net.mail)
+          (wanted round))) (record {
             planned = (m.admin up).planned;
             decided = (m.admin up).decided;
             doing = (
@@ -74,16 +70,16 @@ module _ (decl : Declaration) (acts : List Act) (net : Net) (run : IsRun decl ac
                   (net.mail ++ envelopes (administrator decl) (length net.mail) (map (close_of k) (wanted round)))
                   (administrator decl) k calls (length net.mail) (wanted round)
                   (λ c among. message_later net.mail
-                      (envelopes (administrator decl) (length net.mail) (map (close_of k) (wanted round))) c.number
-                      c.site (messages.Close k) (asked c among))
+                  (envelopes (administrator decl) (length net.mail) (map (close_of k) (wanted round))) c.number
+                  c.site (messages.Close k) (asked c among))
                   (at_number net.mail (administrator decl) (length net.mail) (map (close_of k) (wanted round)) refl),
               record {
-                    plan = r.plan;
-                    planned = r.planned;
-                    weights = asked_weights round (wanted round) ∙ r.weights;
-                    need = asked_need round (wanted round) ∙ r.need;
-                    granted = asked_told shuts round (wanted round) r.granted
-                  },
+                plan = r.plan;
+                planned = r.planned;
+                weights = asked_weights round (wanted round) ∙ r.weights;
+                need = asked_need round (wanted round) ∙ r.need;
+                granted = asked_told shuts round (wanted round) r.granted;
+              },
               told,
             );
           })) (λ is. absurd (let never : ⊥ = cc in never))
@@ -95,8 +91,8 @@ module _ (decl : Declaration) (acts : List Act) (net : Net) (run : IsRun decl ac
         sites = has_granted round.asked;
         closes = closes_more r.plan (close_need r.plan) (weight (has_granted round.asked) r.plan.weights)
             (subst (λ (n : ℕ). n ≤ weight (has_granted round.asked) r.plan.weights) r.need
-                (subst (λ (ws : List ℕ). round.need ≤ weight (has_granted round.asked) ws) r.weights
-                  (met_weighs round met)))
+            (subst (λ (ws : List ℕ). round.need ≤ weight (has_granted round.asked) ws) r.weights
+            (met_weighs round met)))
             (close_weight_is_least r.plan).closes;
         each =
             λ site is. granted_told (in_asked_order round.asked shuts) round.asked site
@@ -125,16 +121,16 @@ module _ (decl : Declaration) (acts : List Act) (net : Net) (run : IsRun decl ac
       round =
           subst (λ (o : Option Plan). RoundMirrors decl net.admin.epoch (close_round_by o) [])
           (sym (m.admin up).planned.1) (record {
-        plan = (m.admin up).planned.0;
-        planned = (m.admin up).planned.1;
-        weights = refl;
-        need = refl;
-        granted = λ a never. absurd never;
-      })
+            plan = (m.admin up).planned.0;
+            planned = (m.admin up).planned.1;
+            weights = refl;
+            need = refl;
+            granted = λ a never. absurd never;
+          })
 
       by : (b c : Bool) → (number == net.admin.epoch + 1) ≡ c → Goes decl acts net run m up ((cond b (again decl net.admin net.admin.decided)
           (cond c (closes decl net.admin number [] (close_round decl net.admin.epoch) [])
-              (replies_with net.admin (replies.Order net.admin.epoch)))))
+          (replies_with net.admin (replies.Order net.admin.epoch)))))
       by true c is = again_case decl acts net run m up net.admin.decided refl
       by false true is =
           closes_case number [] (close_round decl net.admin.epoch) []
@@ -154,7 +150,7 @@ module _ (decl : Declaration) (acts : List Act) (net : Net) (run : IsRun decl ac
       → DoingMirrors decl (state acts) net.mail net.admin.epoch (admins.Closing k calls round shuts)
       → (from number : ℕ) (answer : Option Answer) → IsAnswer from number answer
       → Goes decl acts net run m up
-          ((closing_takes decl net.admin k calls round shuts number answer (site_called calls number)))
+      ((closing_takes decl net.admin k calls round shuts number answer (site_called calls number)))
   closing_case k calls round shuts h from number answer backed = by (site_called calls number) refl
     where
       fewer : (c : Call) → In c (without_call calls number) → IsMessage net.mail c.number c.site (messages.Close k)
@@ -162,22 +158,22 @@ module _ (decl : Declaration) (acts : List Act) (net : Net) (run : IsRun decl ac
 
       missing : (site : ℕ) (standing : Standing) → (standing ≡ standings.Granted → ⊥)
           → Goes decl acts net run m up
-            ((closes decl net.admin k (without_call calls number) (note round site standing) shuts))
+          ((closes decl net.admin k (without_call calls number) (note round site standing) shuts))
       missing site standing not =
           closes_case k (without_call calls number) (note round site standing) shuts h.0 h.1 fewer
           (record {
-                plan = h.3.plan;
-                planned = h.3.planned;
-                weights = h.3.weights;
-                need = h.3.need;
-                granted = noted_told shuts site standing round.asked h.3.granted (λ is. absurd (not is))
-              }) h.4
+            plan = h.3.plan;
+            planned = h.3.planned;
+            weights = h.3.weights;
+            need = h.3.need;
+            granted = noted_told shuts site standing round.asked h.3.granted (λ is. absurd (not is));
+          }) h.4
 
       shut : (site clock : ℕ) (log : List Line) (prepared : List Prepared) → site_called calls number ≡ Some site
           → IsShutTo decl (state acts) net.mail from number clock log prepared
           → Goes decl acts net run m up
-              ((closes decl net.admin k (without_call calls number) (note round site standings.Granted)
-                (shuts ++ record { site = site; clock = clock; log = log; prepared = prepared } ∷ [])))
+          ((closes decl net.admin k (without_call calls number) (note round site standings.Granted)
+          (shuts ++ record { site = site; clock = clock; log = log; prepared = prepared } ∷ [])))
       shut site clock log prepared is b =
           closes_case k (without_call calls number) (note round site standings.Granted) (shuts ++ s ∷ []) h.0 h.1 fewer
           (record {
@@ -193,9 +189,11 @@ module _ (decl : Declaration) (acts : List Act) (net : Net) (run : IsRun decl ac
           (λ t among. elim (in_split t shuts (s ∷ []) among) [
             | inl old ↦ h.4 t old
             | inr new ↦
-                elim new
-                [ inl same ↦ subst (λ (y : ShutSite). IsSnapshot decl (state acts) y.site k y.clock y.log y.prepared)
-                  (sym same) told | inr never ↦ absurd never ]
+                elim new [
+                  | inl same ↦ subst (λ (y : ShutSite). IsSnapshot decl (state acts) y.site k y.clock y.log y.prepared)
+                      (sym same) told
+                  | inr never ↦ absurd never
+                ]
           ])
         where
           s : ShutSite
@@ -217,12 +215,12 @@ module _ (decl : Declaration) (acts : List Act) (net : Net) (run : IsRun decl ac
               let e : messages.Close k ≡ messages.Close b.epoch = same_one.1 in
               let f : k ≡ b.epoch = cc in
               subst (λ (n : ℕ). IsSnapshot decl (state acts) n k clock log prepared) (sym same_one.0)
-                  (subst (λ (n : ℕ). IsSnapshot decl (state acts) from n clock log prepared) (sym f) b.told)
+              (subst (λ (n : ℕ). IsSnapshot decl (state acts) from n clock log prepared) (sym f) b.told)
 
       of : (site : ℕ) (o : Option Answer) → IsAnswer from number o → site_called calls number ≡ Some site
           → Goes decl acts net run m up
-              ((closes decl net.admin k (without_call calls number) (note round site (standing_of o))
-                (with_shut_of shuts site o)))
+          ((closes decl net.admin k (without_call calls number) (note round site (standing_of o))
+          (with_shut_of shuts site o)))
       of site None b is = missing site standings.Missing (λ e. (let never : ⊥ = cc in never))
       of site (Some (answers.Granted life clock log)) b is =
           missing site standings.Missing (λ e. (let never : ⊥ = cc in never))

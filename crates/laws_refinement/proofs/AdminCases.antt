@@ -1,6 +1,6 @@
 -- What the administrator takes, whatever he does: a command, an answer, or that a request is lost.
-use Rattle.std.proofs.Common.{◌≡◌, ℕ, ◌==◌, Bool, true, false, cond, List}
-use Rattle.std.proofs.Common.{length, map, Option, Some, None, is_none, refl, sym, ap, ◌∙◌, subst, eqb-true}
+use Rattle.std.proofs.Common.{◌≡◌, ℕ, ◌==◌, Bool, true, false, cond, List, length, map, Option, Some, None, is_none}
+use Rattle.std.proofs.Common.{refl, sym, ap, ◌∙◌, subst, eqb-true}
 use Rattle.qc_stamp.specs.declared.stamp.TxId.{TxId}
 use Rattle.qc_list.specs.Names.{In}
 use Rattle.qc_plan.specs.Names.{verdict}
@@ -18,14 +18,11 @@ use Rattle.qc_msg.specs.declared.step.Input.{Input}
 use Rattle.qc_msg.specs.declared.step.Input.TheVariants.{Called, Got, Lost}
 use Rattle.qc_msg.specs.Names.{quiet, site_called, without_call}
 use Rattle.theory_machine.specs.Names.{Act, IsRun, state}
-use Rattle.qc_epoch.specs.Names.{Asking, Doing, Installing, Question, Resting, ShutSite}
-use Rattle.qc_epoch.specs.Names.{admin_takes, all_taken, answered_in, asking_takes}
-use Rattle.qc_epoch.specs.Names.{doing, heard}
-use Rattle.qc_epoch.specs.Names.{installing_takes, is_number, moved, outcome_in, replies_with}
-use Rattle.qc_epoch.specs.Names.{settles, site_set, taken_for, with_installed}
+use Rattle.qc_epoch.specs.Names.{Asking, Doing, Installing, Question, Resting, ShutSite, admin_takes, all_taken}
+use Rattle.qc_epoch.specs.Names.{answered_in, asking_takes, doing, heard, installing_takes, is_number, moved}
+use Rattle.qc_epoch.specs.Names.{outcome_in, replies_with, settles, site_set, taken_for, with_installed}
 use Rattle.qc_epoch.specs.Admin as admins
-use Rattle.laws_refinement.specs.Names.{Backed, DoingMirrors, IsAnswerBacked}
-use Rattle.laws_refinement.specs.Names.{IsCovered, IsMessage, IsNumbered, IsTaken}
+use Rattle.laws_refinement.specs.Names.{Backed, DoingMirrors, IsAnswerBacked, IsCovered, IsMessage, IsNumbered, IsTaken}
 use Rattle.laws_refinement.specs.Names.{IsVerdictBacked, MayAdminister, MayCome, Mirrors, Net, QuestionMirrors}
 use Rattle.laws_refinement.proofs.AdminTurns.{Goes, ended, nothing, settles_case, stays}
 use Rattle.laws_refinement.proofs.OpenRequests.{message_same}
@@ -44,7 +41,7 @@ module _ (decl : Declaration) (acts : List Act) (net : Net) (run : IsRun decl ac
       → DoingMirrors decl (state acts) net.mail net.admin.epoch (Asking k shuts qs)
       → (from number : ℕ) (answer : Option Answer) → IsAnswer from number answer
       → Goes decl acts net run m up
-          ((asking_takes decl net.admin k shuts (map (taken_for number (outcome_in answer)) qs)))
+      ((asking_takes decl net.admin k shuts (map (taken_for number (outcome_in answer)) qs)))
   asking_case k shuts qs h from number answer backed = by (all_taken (map (taken_for number (outcome_in answer)) qs))
     where
       told : (q : Question) (o : Option Answer) → IsAnswer from number o
@@ -63,8 +60,8 @@ module _ (decl : Declaration) (acts : List Act) (net : Net) (run : IsRun decl ac
       told q (Some answers.Installed) b mine = tt
       told q (Some (answers.Answered outcome)) b mine =
           let e : messages.Ask q.tx ≡ messages.Ask b.tx =
-                  (message_same net.mail number (client_actor decl q.tx.client) from (messages.Ask q.tx)
-                    (messages.Ask b.tx) mine b.asked).1 in
+          (message_same net.mail number (client_actor decl q.tx.client) from (messages.Ask q.tx)
+          (messages.Ask b.tx) mine b.asked).1 in
           let same : q.tx ≡ b.tx = cc in
           subst (λ (t : TxId). IsVerdictBacked (state acts) t outcome) (sym same) b.backed
 
@@ -80,7 +77,7 @@ module _ (decl : Declaration) (acts : List Act) (net : Net) (run : IsRun decl ac
           hit_by : (b : Bool)
               → (b ≡ true → IsMessage net.mail number (client_actor decl q.tx.client) (messages.Ask q.tx))
               → QuestionMirrors decl (state acts) net.mail
-                (cond b (cond (is_none q.taken) (record q { taken = Some (outcome_in answer) }) q) q)
+              (cond b (cond (is_none q.taken) (record q { taken = Some (outcome_in answer) }) q) q)
           hit_by true mine = taken_by (is_none q.taken) (mine refl)
           hit_by false mine = x
 
@@ -89,18 +86,18 @@ module _ (decl : Declaration) (acts : List Act) (net : Net) (run : IsRun decl ac
           number_by None e =
               hit_by (is_number number q.number)
               (λ is. absurd (let k : is_number number q.number ≡ false = ap (λ (o : Option ℕ). is_number number o) e in
-                             let never : ⊥ = cc in never))
+              let never : ⊥ = cc in never))
           number_by (Some n) e = hit_by (is_number number q.number) (λ is. (let k : (n == number) ≡ true = sym (ap (λ (o : Option ℕ). is_number number o) e) ∙ is in
               subst (λ (i : ℕ). IsMessage net.mail i (client_actor decl q.tx.client) (messages.Ask q.tx))
-                  (eqb-true n number k) (subst (λ (o : Option ℕ). IsNumbered decl net.mail q.tx o) e x.numbered)))
+              (eqb-true n number k) (subst (λ (o : Option ℕ). IsNumbered decl net.mail q.tx o) e x.numbered)))
 
       each : (q : Question) → In q (map (taken_for number (outcome_in answer)) qs)
           → QuestionMirrors decl (state acts) net.mail q
       each q among =
           let r : Mapped (taken_for number (outcome_in answer)) q qs =
-                  map_in (taken_for number (outcome_in answer)) q qs among in
+          map_in (taken_for number (outcome_in answer)) q qs among in
           subst (λ (x : Question). QuestionMirrors decl (state acts) net.mail x) (sym r.is)
-              (one r.from (h.5 r.from r.listed))
+          (one r.from (h.5 r.from r.listed))
 
       same_tx_of : (q : Question) → (taken_for number (outcome_in answer) q).tx ≡ q.tx
       same_tx_of q = by0 (is_number number q.number) (is_none q.taken)
@@ -112,14 +109,16 @@ module _ (decl : Declaration) (acts : List Act) (net : Net) (run : IsRun decl ac
 
       covered : IsCovered shuts (map (taken_for number (outcome_in answer)) qs)
       covered s p among has =
-          let c : (q : Question) × In q qs × (q.tx ≡ p.tx) = h.4 s p among has in
-          (taken_for number (outcome_in answer) c.0, in_map (taken_for number (outcome_in answer)) c.0 qs c.1,
-              same_tx_of c.0 ∙ c.2)
+          let c : (q : Question) × In q qs × (q.tx ≡ p.tx) = h.4 s p among has in (
+            taken_for number (outcome_in answer) c.0,
+            in_map (taken_for number (outcome_in answer)) c.0 qs c.1,
+            same_tx_of c.0 ∙ c.2,
+          )
 
       by : (b : Bool)
           → Goes decl acts net run m up
-            ((cond b (settles decl net.admin k shuts (map (taken_for number (outcome_in answer)) qs))
-              (moved (doing net.admin (Asking k shuts (map (taken_for number (outcome_in answer)) qs))) quiet)))
+          ((cond b (settles decl net.admin k shuts (map (taken_for number (outcome_in answer)) qs))
+          (moved (doing net.admin (Asking k shuts (map (taken_for number (outcome_in answer)) qs))) quiet)))
       by true =
           settles_case decl acts net run m up k shuts (map (taken_for number (outcome_in answer)) qs) h.0 h.1 h.2 h.3
           covered each
@@ -131,13 +130,13 @@ module _ (decl : Declaration) (acts : List Act) (net : Net) (run : IsRun decl ac
   -- to an Install
   installing_case : (closed awaited : List ℕ) (calls : List Call) (done : List ℕ) (number : ℕ) (answer : Option Answer)
       → Goes decl acts net run m up
-          ((installing_takes net.admin closed awaited calls done number answer (site_called calls number)))
+      ((installing_takes net.admin closed awaited calls done number answer (site_called calls number)))
   installing_case closed awaited calls done number answer = by (site_called calls number)
     where
       ends : (b : Bool) (cs : List Call) (is : List ℕ)
           → Goes decl acts net run m up
-            ((cond b (replies_with net.admin (replies.Moved (site_set closed) (site_set is)))
-              (moved (doing net.admin (Installing closed awaited cs is)) quiet)))
+          ((cond b (replies_with net.admin (replies.Moved (site_set closed) (site_set is)))
+          (moved (doing net.admin (Installing closed awaited cs is)) quiet)))
       ends true cs is =
           ended decl acts net run m up (replies.Moved (site_set closed) (site_set is))
           (λ same. absurd (let never : ⊥ = cc in never))

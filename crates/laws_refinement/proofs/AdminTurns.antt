@@ -1,6 +1,7 @@
 -- What the administrator does where he waits, ends, installs, asks or decides: an act of the machine where he decides,
 -- and none otherwise.
-use Rattle.std.proofs.Common.{◌≡◌, ◌≢◌, ℕ, zero, suc, ◌+◌, ◌==◌, ◌⊎◌, nat_le, Bool, true, false, cond, inl, inr, List, [], ◌∷◌, ◌++◌, length, fold, map, take, Option, Some, None, refl, sym, ap, ◌∙◌, subst}
+use Rattle.std.proofs.Common.{◌≡◌, ◌≢◌, ℕ, zero, suc, ◌+◌, ◌==◌, ◌⊎◌, nat_le, Bool, true, false, cond, inl, inr, List}
+use Rattle.std.proofs.Common.{[], ◌∷◌, ◌++◌, length, fold, map, take, Option, Some, None, refl, sym, ap, ◌∙◌, subst}
 use Rattle.qc_stamp.specs.declared.stamp.TxId.{TxId}
 use Rattle.qc_list.specs.Names.{In}
 use Rattle.qc_entry.specs.declared.line.Line.{Line}
@@ -41,7 +42,8 @@ use Rattle.laws_refinement.proofs.AdminRounds.{asking_sent, asks_sent}
 
 -- his records, one more
 
-rule_from : (k : Option Decided) (rs : List Record) (r : Record) → fold keeps k (rs ++ r ∷ []) ≡ keeps (fold keeps k rs) r
+rule_from : (k : Option Decided) (rs : List Record) (r : Record)
+    → fold keeps k (rs ++ r ∷ []) ≡ keeps (fold keeps k rs) r
 rule_from k [] r = refl
 rule_from k (x ∷ xs) r = rule_from (keeps k x) xs r
 
@@ -61,7 +63,8 @@ pub record DecidesNext (epoch : ℕ) (move : AdminMove) : Type 0 where
 abbrev pub IsInTurn : ℕ → AdminMove → Type 0
 IsInTurn epoch move = ((move.turn.write ≡ None) × (move.admin.epoch ≡ epoch)) ⊎ DecidesNext epoch move
 
-module _ (decl : Declaration) (acts : List Act) (net : Net) (run : IsRun decl acts) (m : Mirrors decl (state acts) net) (up : net.up (administrator decl) ≡ true) where
+module _ (decl : Declaration) (acts : List Act) (net : Net) (run : IsRun decl acts) (m : Mirrors decl (state acts) net)
+    (up : net.up (administrator decl) ≡ true) where
   abbrev more_of : AdminMove → List Envelope
   more_of move = envelopes (administrator decl) (length net.mail) move.turn.sends
 
@@ -69,15 +72,21 @@ module _ (decl : Declaration) (acts : List Act) (net : Net) (run : IsRun decl ac
   -- decision that is too long alone
   abbrev pub Goes : AdminMove → Type 0
   Goes move = Continues decl acts (after_admin decl net move)
-      × ((r : Record) → move.turn.write ≡ Some r → IsPendingRule decl (state acts) (Some r) × (move.turn.failed_sends ≡ []))
+      × ((r : Record) → move.turn.write ≡ Some r
+      → IsPendingRule decl (state acts) (Some r) × (move.turn.failed_sends ≡ []))
       × IsInTurn net.admin.epoch move
       × (move.turn.told ≡ Some replies.Fault → IsTooLong decl (state acts))
 
-  shown : (v : State) (move : AdminMove) → AdminMirrors decl v (net.mail ++ more_of move) (all_sent move.admin (length net.mail) move.turn.sends)
-      → RulesMirror decl v (kept_by (net.records (administrator decl) ++ option_to_list move.turn.write)) → AdminShows decl v (after_admin decl net move)
+  shown : (v : State) (move : AdminMove)
+      → AdminMirrors decl v (net.mail ++ more_of move) (all_sent move.admin (length net.mail) move.turn.sends)
+      → RulesMirror decl v (kept_by (net.records (administrator decl) ++ option_to_list move.turn.write))
+      → AdminShows decl v (after_admin decl net move)
   shown v move admin rules = record {
     mirrors = λ u. admin;
-    rules = subst (λ (rs : List Record). RulesMirror decl v (kept_by rs)) (sym (put_here net.records (administrator decl) (net.records (administrator decl) ++ option_to_list move.turn.write))) rules;
+    rules =
+        subst (λ (rs : List Record). RulesMirror decl v (kept_by rs))
+        (sym (put_here net.records (administrator decl)
+        (net.records (administrator decl) ++ option_to_list move.turn.write))) rules;
     decides = λ down. absurd (let never : ⊥ = cc in never);
   }
 
@@ -86,7 +95,9 @@ module _ (decl : Declaration) (acts : List Act) (net : Net) (run : IsRun decl ac
     sites = λ b other. refl;
     clients = λ b other. refl;
     up = λ b other. refl;
-    records = λ b other. put_other net.records (administrator decl) (net.records (administrator decl) ++ option_to_list move.turn.write) b other;
+    records =
+        λ b other. put_other net.records (administrator decl)
+        (net.records (administrator decl) ++ option_to_list move.turn.write) b other;
     pending = λ b other. refl;
     admin = λ other. absurd (other refl);
     mail = refl;

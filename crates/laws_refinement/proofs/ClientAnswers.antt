@@ -1,5 +1,6 @@
 -- A `do`, and whatever comes of a request of its rounds.
-use Rattle.std.proofs.Common.{◌≡◌, ℕ, nat_le, Bool, true, false, cond, inl, inr, List, [], ◌∷◌, filter, length, Option, Some, None, slice_get, refl, sym, ap, ◌∙◌, subst}
+use Rattle.std.proofs.Common.{◌≡◌, ℕ, nat_le, Bool, true, false, cond, inl, inr, List, [], ◌∷◌, filter, length, Option}
+use Rattle.std.proofs.Common.{Some, None, slice_get, refl, sym, ap, ◌∙◌, subst}
 use Rattle.qc_stamp.specs.declared.stamp.TxId.{TxId}
 use Rattle.qc_list.specs.Names.{In}
 use Rattle.qc_list.proofs.Members.{In-second}
@@ -53,19 +54,36 @@ module _ (decl : Declaration) where
   no_votes None is = refl
   no_votes (Some v) is = absurd (let never : ⊥ = cc in never)
 
-  pub core_of : (w : State) (ms : List Envelope) (a : ℕ) (c : Client) (t : Transaction) → ClientMirrors decl w ms a c → c.front.transaction ≡ Some t → c.desk.voting ≡ None → Core decl w a c t × RunningMirrors decl w ms c t
+  pub core_of : (w : State) (ms : List Envelope) (a : ℕ) (c : Client) (t : Transaction) → ClientMirrors decl w ms a c
+      → c.front.transaction ≡ Some t → c.desk.voting ≡ None → Core decl w a c t × RunningMirrors decl w ms c t
   core_of w ms a c t m is free =
-      let h : TransactionMirrors w c.front t × RunningMirrors decl w ms c t = subst (λ (x : Option Transaction). BegunMirrors decl w ms c x) is m.begun in
-      (record { own = subst (λ (x : Option Transaction). OwnMirrors decl w a c x) is m.own; begun = h.0; active = h.1.status_is ∙ no_votes c.desk.voting free; voting = free }, h.1)
+      let h : TransactionMirrors w c.front t × RunningMirrors decl w ms c t =
+      subst (λ (x : Option Transaction). BegunMirrors decl w ms c x) is m.begun in (
+        record {
+          own = subst (λ (x : Option Transaction). OwnMirrors decl w a c x) is m.own;
+          begun = h.0;
+          active = h.1.status_is ∙ no_votes c.desk.voting free;
+          voting = free;
+        },
+        h.1,
+      )
 
-  pub records_of : (f : Front) (t : Transaction) → FrontHolds decl f → f.transaction ≡ Some t → RecordsHold decl t.views t.own t.begun.ops × DoingHolds decl f.client t f.doing
+  pub records_of : (f : Front) (t : Transaction) → FrontHolds decl f → f.transaction ≡ Some t
+      → RecordsHold decl t.views t.own t.begun.ops × DoingHolds decl f.client t f.doing
   records_of f t holds is = subst (λ (x : Option Transaction). BegunHolds decl f.client x f.doing) is holds
 
   -- a `do`
-  pub do_case : (acts : List Act) (net : Net) (a object inv : ℕ) → IsRun decl acts → Mirrors decl (state acts) net → is_client decl a ≡ true → net.up a ≡ true → FrontStands decl net a → (net.clients a).front.doing ≡ Idle → (net.clients a).desk.voting ≡ None → IsNamedAt decl object inv
-      → (t : Option Transaction) → (net.clients a).front.transaction ≡ t → Refines decl (after_client net a (by_front (net.clients a) (performs decl (net.clients a).front t object inv)))
-  do_case acts net a object inv run m client up stands rests free named None is = nothing decl acts net a (by_front (net.clients a) (performs decl (net.clients a).front None object inv)) run m client up refl refl refl
-  do_case acts net a object inv run m client up stands rests free named (Some t) is = by t.begun.doomed (nat_le most_transaction_operations (length t.begun.ops)) refl
+  pub do_case : (acts : List Act) (net : Net) (a object inv : ℕ) → IsRun decl acts → Mirrors decl (state acts) net
+      → is_client decl a ≡ true → net.up a ≡ true → FrontStands decl net a → (net.clients a).front.doing ≡ Idle
+      → (net.clients a).desk.voting ≡ None → IsNamedAt decl object inv
+      → (t : Option Transaction) → (net.clients a).front.transaction ≡ t
+      → Refines decl
+      (after_client net a (by_front (net.clients a) (performs decl (net.clients a).front t object inv)))
+  do_case acts net a object inv run m client up stands rests free named None is =
+      nothing decl acts net a (by_front (net.clients a) (performs decl (net.clients a).front None object inv)) run m
+      client up refl refl refl
+  do_case acts net a object inv run m client up stands rests free named (Some t) is =
+      by t.begun.doomed (nat_le most_transaction_operations (length t.begun.ops)) refl
     where
       k : Core decl (state acts) a (net.clients a) t × RunningMirrors decl (state acts) net.mail (net.clients a) t
       k = core_of (state acts) net.mail a (net.clients a) t (m.clients a client up) is free
@@ -77,15 +95,26 @@ module _ (decl : Declaration) where
       records = (records_of (net.clients a).front t stands.holds is).0
 
       by : (dooms long : Bool) → t.begun.doomed ≡ dooms → Refines decl (after_client net a (by_front (net.clients a) (cond dooms (moved (net.clients a).front (telling replies.Doomed)) (cond long (moved (net.clients a).front (telling replies.TooLong))
-          (read_by decl (net.clients a).front t object inv [] (round_for decl (net.clients a).front t (read_need_of decl t.begun.epoch object inv)) (verdict (round_for decl (net.clients a).front t (read_need_of decl t.begun.epoch object inv))))))))
-      by true long e = nothing decl acts net a (by_front (net.clients a) (moved (net.clients a).front (telling replies.Doomed))) run m client up refl refl refl
-      by false true e = nothing decl acts net a (by_front (net.clients a) (moved (net.clients a).front (telling replies.TooLong))) run m client up refl refl refl
+          (read_by decl (net.clients a).front t object inv []
+          (round_for decl (net.clients a).front t (read_need_of decl t.begun.epoch object inv))
+          (verdict (round_for decl (net.clients a).front t (read_need_of decl t.begun.epoch object inv))))))))
+      by true long e =
+          nothing decl acts net a (by_front (net.clients a) (moved (net.clients a).front (telling replies.Doomed))) run
+          m client up refl refl refl
+      by false true e =
+          nothing decl acts net a (by_front (net.clients a) (moved (net.clients a).front (telling replies.TooLong))) run
+          m client up refl refl refl
       by false false e = refined decl (state acts) net a _ m client up
-          (reading decl (state acts) net a acts (net.clients a) t object inv [] (round_for decl (net.clients a).front t (read_need_of decl t.begun.epoch object inv)) refl (mid_first decl acts (net.clients a).front.client run) refl k.0 records (chosen e) named
+          (reading decl (state acts) net a acts (net.clients a) t object inv []
+          (round_for decl (net.clients a).front t (read_need_of decl t.begun.epoch object inv)) refl
+          (mid_first decl acts (net.clients a).front.client run) refl k.0 records (chosen e) named
           (started_round decl (net.clients a).front t (read_need_of decl t.begun.epoch object inv))
-          (λ x never. absurd never) (λ call never. absurd never) (verdict (round_for decl (net.clients a).front t (read_need_of decl t.begun.epoch object inv))) refl)
+          (λ x never. absurd never) (λ call never. absurd never)
+          (verdict (round_for decl (net.clients a).front t (read_need_of decl t.begun.epoch object inv))) refl)
 
-  module _ (acts : List Act) (net : Net) (a : ℕ) (run : IsRun decl acts) (m : Mirrors decl (state acts) net) (client : is_client decl a ≡ true) (up : net.up a ≡ true) (stands : FrontStands decl net a) (free : (net.clients a).desk.voting ≡ None) where
+  module _ (acts : List Act) (net : Net) (a : ℕ) (run : IsRun decl acts) (m : Mirrors decl (state acts) net)
+      (client : is_client decl a ≡ true) (up : net.up a ≡ true) (stands : FrontStands decl net a)
+      (free : (net.clients a).desk.voting ≡ None) where
     mid : Mid decl (state acts) acts (net.clients a).front.client
     mid = mid_first decl acts (net.clients a).front.client run
 

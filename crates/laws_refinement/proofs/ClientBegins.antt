@@ -1,6 +1,6 @@
 -- A client begins a transaction, gives it up, and tells how one stands.
-use Rattle.std.proofs.Common.{◌≡◌, ◌≢◌, ℕ, ◌+◌, Bool, true, false, inl, inr, List, ◌∷◌, ◌++◌}
-use Rattle.std.proofs.Common.{Option, Some, None, refl, sym, ap, ◌∙◌, subst, arith}
+use Rattle.std.proofs.Common.{◌≡◌, ◌≢◌, ℕ, ◌+◌, Bool, true, false, inl, inr, List, ◌∷◌, ◌++◌, Option, Some, None, refl}
+use Rattle.std.proofs.Common.{sym, ap, ◌∙◌, subst, arith}
 use Rattle.std.proofs.lemmas.List.{append-nil}
 use Rattle.qc_stamp.specs.Names.{same_tx}
 use Rattle.qc_stamp.specs.declared.stamp.Stamp.{Stamp}
@@ -17,8 +17,8 @@ use Rattle.qc_msg.specs.declared.message.Message.TheVariants as messages
 use Rattle.qc_msg.specs.declared.message.Outcome.TheVariants as outcomes
 use Rattle.qc_msg.specs.declared.turn.Posting.{Posting}
 use Rattle.qc_msg.specs.Names.{sending}
-use Rattle.theory_machine.specs.Names.{Aborted, Act, Active, Announce, Committed, IsRun, NotBegun, Status}
-use Rattle.theory_machine.specs.Names.{state, verdict_of}
+use Rattle.theory_machine.specs.Names.{Aborted, Act, Active, Announce, Committed, IsRun, NotBegun, Status, state}
+use Rattle.theory_machine.specs.Names.{verdict_of}
 use Rattle.qc_commit.specs.Names.{known_by, record_of}
 use Rattle.qc_client.specs.Names.{is_begun, moved, outcome_by, outcome_of}
 use Rattle.laws_refinement.specs.Names.{Backed, ClientMirrors, IsMessage, Mirrors, Net, OwnMirrors, Refines}
@@ -36,28 +36,28 @@ module _ (decl : Declaration) (acts : List Act) (net : Net) (a : ℕ) (run : IsR
   tells : (from : ℕ) (tx : TxId) (message : Message) → Backed decl (state (Announce tx ∷ acts)) net.mail a from message
       → IsAsking decl (net.clients a) from message
       → Refines decl
-          (after_client net a (moved (net.clients a) (sending (record { to = from; message = message } ∷ []))))
+      (after_client net a (moved (net.clients a) (sending (record { to = from; message = message } ∷ []))))
   tells from tx message backed asks =
       refined decl (state acts) net a (moved (net.clients a) (sending (record { to = from; message = message } ∷ []))) m
-          client up
+      client up
       (turns decl (state acts) net a (moved (net.clients a) (sending (record { to = from; message = message } ∷ [])))
-          (Announce tx ∷ acts)
-          (mid_announce decl (state acts) acts (net.clients a).front.client
-            (mid_first decl acts (net.clients a).front.client run) tx) refl
+      (Announce tx ∷ acts)
+      (mid_announce decl (state acts) acts (net.clients a).front.client
+      (mid_first decl acts (net.clients a).front.client run) tx) refl
       (subst (λ (ms : List Envelope). ClientMirrors decl (state (Announce tx ∷ acts)) ms a (net.clients a))
-          (append-nil net.mail)
+      (append-nil net.mail)
       (keep_client decl (state acts) (state (Announce tx ∷ acts)) (net.clients a).front.client
-          (record {
-              status = λ t h. refl;
-              epoch = λ t h. refl;
-              executed = λ t h. refl;
-              chosen = λ t h. refl;
-              clock = refl;
-              counted = λ g its h. h;
-              more = λ g h. h;
-              votes = λ x h. h;
-              appends = λ s h. h
-            }) net.mail [] a (net.clients a) refl (m.clients a client up)))
+      (record {
+        status = λ t h. refl;
+        epoch = λ t h. refl;
+        executed = λ t h. refl;
+        chosen = λ t h. refl;
+        clock = refl;
+        counted = λ g its h. h;
+        more = λ g h. h;
+        votes = λ x h. h;
+        appends = λ s h. h;
+      }) net.mail [] a (net.clients a) refl (m.clients a client up)))
       turn asking)
     where
       turn : (p : Posting) → In p (record { to = from; message = message } ∷ [])
@@ -73,9 +73,9 @@ module _ (decl : Declaration) (acts : List Act) (net : Net) (a : ℕ) (run : IsR
 
   pub inquiry_case : (from : ℕ) (tx : TxId) → a ≡ client_actor decl tx.client → (state acts).status tx ≢ NotBegun
       → Refines decl
-          (after_client net a
-            (moved (net.clients a)
-              (sending (record { to = from; message = messages.Decision tx (outcome_of (net.clients a) tx) } ∷ []))))
+      (after_client net a
+      (moved (net.clients a)
+      (sending (record { to = from; message = messages.Decision tx (outcome_of (net.clients a) tx) } ∷ []))))
   inquiry_case from tx to born =
       by (record_of (net.clients a).desk.commits tx) (is_begun tx (net.clients a).front.transaction) refl refl
     where
@@ -85,8 +85,8 @@ module _ (decl : Declaration) (acts : List Act) (net : Net) (a : ℕ) (run : IsR
       mine : tx.client ≡ (net.clients a).front.client
       mine =
           (let e : client_actor decl tx.client ≡ client_actor decl (net.clients a).front.client =
-                   sym to ∙ (m.clients a client up).own.actor in
-           let k : decl.sites + tx.client ≡ decl.sites + (net.clients a).front.client = e in omega arith)
+          sym to ∙ (m.clients a client up).own.actor in
+          let k : decl.sites + tx.client ≡ decl.sites + (net.clients a).front.client = e in omega arith)
 
       told : (s : Status) (outcome : Option Stamp) → (state acts).status tx ≡ s
           → In (record { tx = tx; stamp = outcome }) (verdict_of tx s ++ (state acts).verdicts)
@@ -100,11 +100,11 @@ module _ (decl : Declaration) (acts : List Act) (net : Net) (a : ℕ) (run : IsR
           → Refines decl (after_client net a (moved (net.clients a) (sending (record { to = from; message = messages.Decision tx (outcome_by (known_by r) active) } ∷ []))))
       by (Some r) active found is =
           let k : In r (net.clients a).desk.commits × (same_tx r.tx tx ≡ true) =
-                  find_in (λ (x : CommitRecord). same_tx x.tx tx) (net.clients a).desk.commits r found in
+          find_in (λ (x : CommitRecord). same_tx x.tx tx) (net.clients a).desk.commits r found in
           let same : r.tx ≡ tx = same_tx_is r.tx tx k.1 in
           tells from tx (messages.Decision tx (outcomes.Committed r.stamp))
-              (told (Committed r) (Some r.stamp) (ap (state acts).status (sym same) ∙ (own.committed r k.0).1)
-                (inl refl)) tt
+          (told (Committed r) (Some r.stamp) (ap (state acts).status (sym same) ∙ (own.committed r k.0).1)
+          (inl refl)) tt
       by None true found is = tells from tx (messages.Decision tx outcomes.Active) tt tt
       by None false found is =
           tells from tx (messages.Decision tx outcomes.Aborted)
@@ -114,12 +114,12 @@ module _ (decl : Declaration) (acts : List Act) (net : Net) (a : ℕ) (run : IsR
   pub ask_case : (from number : ℕ) (tx : TxId) → IsMessage net.mail number a (messages.Ask tx)
       → a ≡ client_actor decl tx.client → (state acts).status tx ≢ NotBegun
       → Refines decl
-          (after_client net a
-            (moved (net.clients a)
-              (sending (record {
-                  to = from;
-                  message = messages.Answer number (Answered (outcome_of (net.clients a) tx))
-                } ∷ []))))
+      (after_client net a
+      (moved (net.clients a)
+      (sending (record {
+        to = from;
+        message = messages.Answer number (Answered (outcome_of (net.clients a) tx));
+      } ∷ []))))
   ask_case from number tx asked to born =
       by (record_of (net.clients a).desk.commits tx) (is_begun tx (net.clients a).front.transaction) refl refl
     where
@@ -129,8 +129,8 @@ module _ (decl : Declaration) (acts : List Act) (net : Net) (a : ℕ) (run : IsR
       mine : tx.client ≡ (net.clients a).front.client
       mine =
           (let e : client_actor decl tx.client ≡ client_actor decl (net.clients a).front.client =
-                   sym to ∙ (m.clients a client up).own.actor in
-           let k : decl.sites + tx.client ≡ decl.sites + (net.clients a).front.client = e in omega arith)
+          sym to ∙ (m.clients a client up).own.actor in
+          let k : decl.sites + tx.client ≡ decl.sites + (net.clients a).front.client = e in omega arith)
 
       told : (s : Status) (outcome : Option Stamp) → (state acts).status tx ≡ s
           → In (record { tx = tx; stamp = outcome }) (verdict_of tx s ++ (state acts).verdicts)
@@ -142,23 +142,23 @@ module _ (decl : Declaration) (acts : List Act) (net : Net) (a : ℕ) (run : IsR
       by : (r : Option CommitRecord) (active : Bool) → record_of (net.clients a).desk.commits tx ≡ r
           → is_begun tx (net.clients a).front.transaction ≡ active
           → Refines decl
-              (after_client net a
-                (moved (net.clients a)
-                  (sending (record {
-                      to = from;
-                      message = messages.Answer number (Answered (outcome_by (known_by r) active))
-                    } ∷ []))))
+          (after_client net a
+          (moved (net.clients a)
+          (sending (record {
+            to = from;
+            message = messages.Answer number (Answered (outcome_by (known_by r) active));
+          } ∷ []))))
       by (Some r) active found is =
           let k : In r (net.clients a).desk.commits × (same_tx r.tx tx ≡ true) =
-                  find_in (λ (x : CommitRecord). same_tx x.tx tx) (net.clients a).desk.commits r found in
+          find_in (λ (x : CommitRecord). same_tx x.tx tx) (net.clients a).desk.commits r found in
           let same : r.tx ≡ tx = same_tx_is r.tx tx k.1 in
           tells from tx (messages.Answer number (Answered (outcomes.Committed r.stamp)))
-              (record {
-                  tx = tx;
-                  asked = asked;
-                  backed = told (Committed r) (Some r.stamp)
-                      (ap (state acts).status (sym same) ∙ (own.committed r k.0).1) (inl refl)
-                }) tt
+          (record {
+            tx = tx;
+            asked = asked;
+            backed = told (Committed r) (Some r.stamp)
+                (ap (state acts).status (sym same) ∙ (own.committed r k.0).1) (inl refl);
+          }) tt
       by None true found is =
           tells from tx (messages.Answer number (Answered outcomes.Active))
           (record { tx = tx; asked = asked; backed = tt }) tt

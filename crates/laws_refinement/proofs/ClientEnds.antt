@@ -1,6 +1,6 @@
 -- How a client's transaction ends: the machine's acts, and what the client is then.
-use Rattle.std.proofs.Common.{◌≡◌, ◌≤◌, ℕ, ◌+◌, max, Bool, true, false, cond, inl, inr, List, ◌∷◌}
-use Rattle.std.proofs.Common.{◌++◌, map, Option, Some, None, refl, sym, ap, ◌∙◌, subst, arith}
+use Rattle.std.proofs.Common.{◌≡◌, ◌≤◌, ℕ, ◌+◌, max, Bool, true, false, cond, inl, inr, List, ◌∷◌, ◌++◌, map, Option}
+use Rattle.std.proofs.Common.{Some, None, refl, sym, ap, ◌∙◌, subst, arith}
 use Rattle.std.specs.List.{find}
 use Rattle.qc_stamp.specs.Names.{same_tx}
 use Rattle.qc_stamp.specs.declared.stamp.TxId.{TxId}
@@ -17,21 +17,19 @@ use Rattle.qc_msg.specs.declared.message.Outcome.TheVariants as outcomes
 use Rattle.qc_msg.specs.declared.turn.Posting.{Posting}
 use Rattle.qc_msg.specs.Names.{decisions}
 use Rattle.theory_onecopy.proofs.Lists.{in_split}
-use Rattle.theory_machine.specs.Names.{Abort, Aborted, Act, Announce, Commit, Committed, Granted}
-use Rattle.theory_machine.specs.Names.{MayCommit, State, Status, Voting, put, put_tx, state}
-use Rattle.theory_machine.specs.Names.{verdict_of}
+use Rattle.theory_machine.specs.Names.{Abort, Aborted, Act, Announce, Commit, Committed, Granted, MayCommit, State}
+use Rattle.theory_machine.specs.Names.{Status, Voting, put, put_tx, state, verdict_of}
 use Rattle.theory_machine.proofs.Names.{put_here, put_tx_here}
 use Rattle.qc_commit.specs.Names.{commit_of, decides, next_stamp, record_of}
 use Rattle.qc_front.specs.declared.doing.Doing.TheVariants.{Idle}
 use Rattle.qc_front.specs.declared.transaction.Transaction.{Transaction}
 use Rattle.qc_client.specs.Names.{ClientMove, by_desk}
 use Rattle.qc_client.specs.declared.client.Client.{Client}
-use Rattle.laws_refinement.specs.Names.{Backed, BegunMirrors, ClientMirrors, IsPlanned, Net, OwnMirrors}
-use Rattle.laws_refinement.specs.Names.{commits_in}
+use Rattle.laws_refinement.specs.Names.{Backed, BegunMirrors, ClientMirrors, IsPlanned, Net, OwnMirrors, commits_in}
 use Rattle.laws_refinement.proofs.Planned.{planned_max}
 use Rattle.laws_refinement.proofs.RequestsSent.{IsAsking}
 use Rattle.laws_refinement.proofs.ClientSteps.{Mid, Turned, turns}
-use Rattle.laws_refinement.proofs.ClientEnding.{Ending, ends_mine, Remains, own_put, _}
+use Rattle.laws_refinement.proofs.ClientEnding.{Ending, ends_mine, Remains, own_put}
 
 module _ (decl : Declaration) where
   -- decisions
@@ -39,7 +37,7 @@ module _ (decl : Declaration) where
   told_all : (v : State) (ms : List Envelope) (a : ℕ) (tx : TxId) (outcome : Outcome) (sites : List ℕ)
       → ((to : ℕ) → Backed decl v ms a to (messages.Decision tx outcome))
       → (p : Posting) → In p (map (λ (site : ℕ). record { to = site; message = messages.Decision tx outcome }) sites)
-          → Backed decl v ms a p.to p.message
+      → Backed decl v ms a p.to p.message
   told_all v ms a tx outcome [] backed p among = absurd among
   told_all v ms a tx outcome (site ∷ sites) backed p (inl same) =
       subst (λ (x : Posting). Backed decl v ms a x.to x.message) (sym same) (backed site)
@@ -75,23 +73,23 @@ module _ (decl : Declaration) where
       → c.front.client ≡ (net.clients a).front.client → Mid decl w acts (net.clients a).front.client
       → (state acts).records ≡ w.records → Ending decl (state acts) a c t
       → Gone c move → move.client.desk.commits ≡ c.desk.commits → move.turn.sends ≡ decisions t.begun outcomes.Aborted
-          → commits_in move.turn.write ≡ [] → Turned decl w net a move
+      → commits_in move.turn.write ≡ [] → Turned decl w net a move
   aborts_it w acts net a c t move its m records e gone same sends unwritten =
       turns decl w net a move (Announce tx ∷ Abort tx ∷ acts)
-          (mid_announce w (Abort tx ∷ acts) (net.clients a).front.client
-            (mid_abort w acts (net.clients a).front.client m tx (ends_mine decl (state acts) a c t e ∙ its) e.live) tx)
+      (mid_announce w (Abort tx ∷ acts) (net.clients a).front.client
+      (mid_abort w acts (net.clients a).front.client m tx (ends_mine decl (state acts) a c t e ∙ its) e.live) tx)
       (records ∙ ap (λ (rs : List CommitRecord). rs ++ w.records) (sym unwritten))
       (gone_mirrors (state (Announce tx ∷ Abort tx ∷ acts)) net.mail a c move gone
       (own_put decl (state acts) (state (Announce tx ∷ Abort tx ∷ acts)) a c move.client t Aborted None e refl
-          gone.remains
+      gone.remains
       (let l : (state acts).clock c.front.client ≤ c.front.clock.value = e.own.clock in
-       let k : c.front.clock.value ≤ move.client.front.clock.value = gone.later in omega arith)
+      let k : c.front.clock.value ≤ move.client.front.clock.value = gone.later in omega arith)
       (λ r h. inl (subst (λ (rs : List CommitRecord). In r rs) same h)) (λ u is other none. refl)
-          (λ u none. subst (λ (rs : List CommitRecord). record_of rs u ≡ None) same none)))
+      (λ u none. subst (λ (rs : List CommitRecord). record_of rs u ≡ None) same none)))
       (λ p among. told_all (state (Announce tx ∷ Abort tx ∷ acts)) net.mail a tx outcomes.Aborted t.begun.asked
-          (λ to. told) p (subst (λ (ps : List Posting). In p ps) sends among))
+      (λ to. told) p (subst (λ (ps : List Posting). In p ps) sends among))
       (λ p among. told_asks move.client tx outcomes.Aborted t.begun.asked p
-          (subst (λ (ps : List Posting). In p ps) sends among))
+      (subst (λ (ps : List Posting). In p ps) sends among))
     where
       tx : TxId
       tx = t.begun.tx
@@ -129,34 +127,38 @@ module _ (decl : Declaration) where
       → c.front.client ≡ (net.clients a).front.client → Mid decl w acts (net.clients a).front.client
       → (state acts).records ≡ w.records → Ending decl (state acts) a c t → (state acts).status t.begun.tx ≡ Voting
       → (state acts).clock c.front.client ≤ c.desk.clock.value
-          → ((g : Granted) → In g (state acts).counted → g.tx ≡ t.begun.tx
-            → In (record { tx = t.begun.tx; site = g.site }) (state acts).votes)
-          → Turned decl w net a (by_desk c (decides c.desk t.begun))
+      → ((g : Granted) → In g (state acts).counted → g.tx ≡ t.begun.tx
+      → In (record { tx = t.begun.tx; site = g.site }) (state acts).votes)
+      → Turned decl w net a (by_desk c (decides c.desk t.begun))
   commits_it w acts net a c t its m records e voting clock votes =
       turns decl w net a (by_desk c (decides c.desk t.begun)) (Announce t.begun.tx ∷ Commit x ∷ acts)
-          (mid_announce w (Commit x ∷ acts) (net.clients a).front.client
-            (mid_commit w acts (net.clients a).front.client m x (ends_mine decl (state acts) a c t e ∙ its) may)
-                t.begun.tx)
+      (mid_announce w (Commit x ∷ acts) (net.clients a).front.client
+      (mid_commit w acts (net.clients a).front.client m x (ends_mine decl (state acts) a c t e ∙ its) may)
+      t.begun.tx)
       (ap (λ (rs : List CommitRecord). commit_of (next_stamp c.desk) t.begun ∷ rs) records)
       (gone_mirrors (state (Announce t.begun.tx ∷ Commit x ∷ acts)) net.mail a c (by_desk c (decides c.desk t.begun))
       (record { remains = remains; later = omega arith; transaction = refl; doing = refl; voting = refl })
       (own_put decl (state acts) (state (Announce t.begun.tx ∷ Commit (commit_of (next_stamp c.desk) t.begun) ∷ acts)) a
-          c
-          (by_desk c (decides c.desk t.begun)).client t (Committed (commit_of (next_stamp c.desk) t.begun)) None e refl
-          remains clock_is
+      c
+      (by_desk c (decides c.desk t.begun)).client t (Committed (commit_of (next_stamp c.desk) t.begun)) None e refl
+      remains clock_is
       (λ r h.
-          elim (in_split r c.desk.commits (commit_of (next_stamp c.desk) t.begun ∷ []) h)
-            [ inl old ↦ inl old | inr new ↦ elim new
-              [ inl same ↦ inr (ap (λ (y : CommitRecord). y.tx) same, ap Committed (sym same)) | inr never ↦ absurd
-                never ] ])
+      elim (in_split r c.desk.commits (commit_of (next_stamp c.desk) t.begun ∷ []) h) [
+        | inl old ↦ inl old
+        | inr new ↦ elim new [
+          | inl same ↦ inr (ap (λ (y : CommitRecord). y.tx) same, ap Committed (sym same))
+          | inr never ↦ absurd
+              never
+        ]
+      ])
       (λ u same other none. absurd (find_last (λ (r : CommitRecord). same_tx r.tx u) c.desk.commits
-          (commit_of (next_stamp c.desk) t.begun) same none))
+      (commit_of (next_stamp c.desk) t.begun) same none))
       (λ u none. find_front (λ (r : CommitRecord). same_tx r.tx u) c.desk.commits
-          (commit_of (next_stamp c.desk) t.begun ∷ []) none)))
+      (commit_of (next_stamp c.desk) t.begun ∷ []) none)))
       (told_all (state (Announce t.begun.tx ∷ Commit (commit_of (next_stamp c.desk) t.begun) ∷ acts)) net.mail a
-          t.begun.tx (outcomes.Committed (next_stamp c.desk)) t.begun.asked (λ to. told))
+      t.begun.tx (outcomes.Committed (next_stamp c.desk)) t.begun.asked (λ to. told))
       (told_asks (by_desk c (decides c.desk t.begun)).client t.begun.tx (outcomes.Committed (next_stamp c.desk))
-          t.begun.asked)
+      t.begun.asked)
     where
       x : CommitRecord
       x = commit_of (next_stamp c.desk) t.begun
@@ -175,7 +177,7 @@ module _ (decl : Declaration) where
             count = refl;
             epoch = epochs;
             desk = refl;
-            desk_epoch = e.own.desk_epoch
+            desk_epoch = e.own.desk_epoch;
           }
 
       may : MayCommit (state acts) (commit_of (next_stamp c.desk) t.begun)
@@ -185,8 +187,8 @@ module _ (decl : Declaration) where
         client = e.own.desk ∙ sym (ends_mine decl (state acts) a c t e);
         above =
             (let k : (state acts).clock t.begun.tx.client ≡ (state acts).clock c.front.client =
-                     ap (state acts).clock (ends_mine decl (state acts) a c t e) in
-             omega arith);
+            ap (state acts).clock (ends_mine decl (state acts) a c t e) in
+            omega arith);
         ops = e.begun.ops;
       }
 
@@ -196,8 +198,8 @@ module _ (decl : Declaration) where
 
       told : In (record { tx = t.begun.tx; stamp = Some (next_stamp c.desk) })
           (verdict_of t.begun.tx
-            (put_tx (state acts).status t.begun.tx (Committed (commit_of (next_stamp c.desk) t.begun)) t.begun.tx)
-            ++ (state acts).verdicts)
+          (put_tx (state acts).status t.begun.tx (Committed (commit_of (next_stamp c.desk) t.begun)) t.begun.tx)
+          ++ (state acts).verdicts)
       told =
           subst (λ (s : Status). In (record { tx = t.begun.tx; stamp = Some (next_stamp c.desk) })
           (verdict_of t.begun.tx s ++ (state acts).verdicts))
@@ -225,10 +227,10 @@ module _ (decl : Declaration) where
       → Mid decl w acts (net.clients a).front.client → (state acts).records ≡ w.records → Ending decl (state acts) a c t
       → (state acts).status t.begun.tx ≡ Voting
       → (state acts).clock c.front.client ≤ c.desk.clock.value
-          → ((g : Granted) → In g (state acts).counted → g.tx ≡ t.begun.tx
-            → In (record { tx = t.begun.tx; site = g.site }) (state acts).votes)
+      → ((g : Granted) → In g (state acts).counted → g.tx ≡ t.begun.tx
+      → In (record { tx = t.begun.tx; site = g.site }) (state acts).votes)
       → (r : Record) → (by_desk c (decides c.desk t.begun)).turn.write ≡ Some r
-          → Pends w net a r × ((by_desk c (decides c.desk t.begun)).turn.failed_sends ≡ [])
+      → Pends w net a r × ((by_desk c (decides c.desk t.begun)).turn.failed_sends ≡ [])
   pends_it w acts net a c t front same m records e voting clock votes r wrote = (
     record {
       acts = acts;
@@ -245,8 +247,8 @@ module _ (decl : Declaration) where
         client = e.own.desk ∙ sym (ends_mine decl (state acts) a c t e);
         above =
             (let k : (state acts).clock t.begun.tx.client ≡ (state acts).clock c.front.client =
-                     ap (state acts).clock (ends_mine decl (state acts) a c t e) in
-             omega arith);
+            ap (state acts).clock (ends_mine decl (state acts) a c t e) in
+            omega arith);
         ops = e.begun.ops;
       };
       its = refl;

@@ -1,6 +1,6 @@
 -- A client gives a transaction up, or begins one.
-use Rattle.std.proofs.Common.{◌≡◌, ℕ, zero, suc, ◌+◌, Bool, true, false, cond, inl, inr, List, ◌∷◌, map}
-use Rattle.std.proofs.Common.{length, Option, Some, None, slice_get, refl, sym, ap, ◌∙◌, subst, arith}
+use Rattle.std.proofs.Common.{◌≡◌, ℕ, zero, suc, ◌+◌, Bool, true, false, cond, inl, inr, List, ◌∷◌, map, length, Option}
+use Rattle.std.proofs.Common.{Some, None, slice_get, refl, sym, ap, ◌∙◌, subst, arith}
 use Rattle.std.specs.Prelude.{replicate}
 use Rattle.std.specs.List.{find}
 use Rattle.std.specs.Option.{option_map_or}
@@ -14,8 +14,7 @@ use Rattle.qc_decl.specs.Names.{IsAccepted, is_client}
 use Rattle.qc_msg.specs.declared.reply.Reply.{Reply}
 use Rattle.qc_msg.specs.declared.reply.Reply.TheVariants as replies
 use Rattle.theory_onecopy.specs.Names.{Executed}
-use Rattle.theory_machine.specs.Names.{Act, Active, Begin, Committed, IsRun, NotBegun, State}
-use Rattle.theory_machine.specs.Names.{op_of, own_on, state}
+use Rattle.theory_machine.specs.Names.{Act, Active, Begin, Committed, IsRun, NotBegun, State, op_of, own_on, state}
 use Rattle.theory_machine.proofs.Keeps.{laws}
 use Rattle.theory_machine.proofs.LogKeeps.{log_laws}
 use Rattle.theory_machine.proofs.Names.{put_tx_here, tx_test}
@@ -29,8 +28,8 @@ use Rattle.qc_front.specs.declared.transaction.Transaction.{Transaction}
 use Rattle.qc_front.specs.Names.{aborts, begins, fresh, gives_up, next_tx}
 use Rattle.qc_client.specs.Names.{by_front, is_begun}
 use Rattle.qc_client.specs.declared.client.Client.{Client}
-use Rattle.laws_refinement.specs.Names.{AreVotes, Mirrors, Net, OwnMirrors, Refines}
-use Rattle.laws_refinement.specs.Names.{RunningMirrors, after_client, name_at, status_by}
+use Rattle.laws_refinement.specs.Names.{AreVotes, Mirrors, Net, OwnMirrors, Refines, RunningMirrors, after_client}
+use Rattle.laws_refinement.specs.Names.{name_at, status_by}
 use Rattle.laws_refinement.proofs.ClientEnding.{Ending, ending_of}
 use Rattle.laws_refinement.proofs.ClientEnds.{aborts_it, mid_begin}
 use Rattle.laws_refinement.proofs.ClientRounds.{no_asks, no_sends, nothing}
@@ -64,22 +63,22 @@ module _ (decl : Declaration) (acts : List Act) (net : Net) (a : ℕ) (run : IsR
       let e : Ending decl (state acts) a (net.clients a) t × RunningMirrors decl (state acts) net.mail (net.clients a) t = ending_of decl (state acts) net.mail a (net.clients a) t (m.clients a client up) is in
       refined decl (state acts) net a (by_front (net.clients a) (gives_up (net.clients a).front t reply)) m client up
       (aborts_it decl (state acts) acts net a (net.clients a) t
-          (by_front (net.clients a) (gives_up (net.clients a).front t reply)) refl
-          (mid_first decl acts (net.clients a).front.client run) refl e.0
+      (by_front (net.clients a) (gives_up (net.clients a).front t reply)) refl
+      (mid_first decl acts (net.clients a).front.client run) refl e.0
       (record {
-            remains = record {
-                  client = refl;
-                  life = refl;
-                  count = refl;
-                  epoch = e.0.own.epoch;
-                  desk = refl;
-                  desk_epoch = e.0.own.desk_epoch
-                };
-            later = omega arith;
-            transaction = refl;
-            doing = refl;
-            voting = free
-          })
+        remains = record {
+          client = refl;
+          life = refl;
+          count = refl;
+          epoch = e.0.own.epoch;
+          desk = refl;
+          desk_epoch = e.0.own.desk_epoch;
+        };
+        later = omega arith;
+        transaction = refl;
+        doing = refl;
+        voting = free;
+      })
       refl refl refl)
 
   pub abort_case : (net.clients a).desk.voting ≡ None → (t : Option Transaction) → (net.clients a).front.transaction ≡ t
@@ -105,7 +104,7 @@ module _ (decl : Declaration) (acts : List Act) (net : Net) (a : ℕ) (run : IsR
       refined decl w net a (by_front (net.clients a) (begins decl f None)) m client up
       (turns decl w net a (by_front (net.clients a) (begins decl f None)) (Begin tx f.epoch ∷ acts)
       (mid_begin decl w acts f.client (mid_first decl acts f.client run) tx f.epoch own.epoch.0 refl fresh_tx
-          own.epoch.1) refl
+      own.epoch.1) refl
       (record {
         own = record {
           actor = own.actor;
@@ -122,17 +121,19 @@ module _ (decl : Declaration) (acts : List Act) (net : Net) (a : ℕ) (run : IsR
               (λ same. (let k : n ≡ f.count + 1 = ap (λ (t : TxId). t.number) same in absurd (omega arith)))
               ∙ own.to_come n (omega arith);
           committed =
-              λ r among. ((own.committed r among).0,
-              put_tx_other w.status tx Active r.tx
-                (λ same. (let k : NotBegun ≡ Committed r =
-                                  sym fresh_tx ∙ ap w.status (sym same) ∙ (own.committed r among).1 in
-                          let never : ⊥ = cc in never)) ∙ (own.committed r among).1);
+              λ r among. (
+                (own.committed r among).0,
+                put_tx_other w.status tx Active r.tx
+                    (λ same. (let k : NotBegun ≡ Committed r =
+                    sym fresh_tx ∙ ap w.status (sym same) ∙ (own.committed r among).1 in
+                    let never : ⊥ = cc in never)) ∙ (own.committed r among).1,
+              );
           aborted = λ t its born other none.
               (let apart : t ≡ tx → ⊥ =
-                       (λ e. (let s : same_tx tx t ≡ true = tx_test tx t (sym e) in let never : ⊥ = cc in never)) in
+              (λ e. (let s : same_tx tx t ≡ true = tx_test tx t (sym e) in let never : ⊥ = cc in never)) in
               put_tx_other w.status tx Active t apart
-                  ∙ own.aborted t its (λ e. born (put_tx_other w.status tx Active t apart ∙ e))
-                    (subst (λ (x : Option Transaction). is_begun t x ≡ false) (sym is) refl) none);
+              ∙ own.aborted t its (λ e. born (put_tx_other w.status tx Active t apart ∙ e))
+              (subst (λ (x : Option Transaction). is_begun t x ≡ false) (sym is) refl) none);
         };
         begun = (
           record {
@@ -154,7 +155,7 @@ module _ (decl : Declaration) (acts : List Act) (net : Net) (a : ℕ) (run : IsR
           },
           subst (λ (d : Doing). RunningMirrors decl (state (Begin tx f.epoch ∷ acts)) net.mail
               (record (net.clients a)
-                { front = record f { count = f.count + 1; transaction = Some (fresh decl tx f.epoch); doing = d } })
+              { front = record f { count = f.count + 1; transaction = Some (fresh decl tx f.epoch); doing = d } })
               (fresh decl tx f.epoch)) (sym rests)
               (record {
                 status_is = put_tx_here w.status tx Active ∙ sym (ap (λ (o : Option Voting). status_by o) free);
@@ -162,16 +163,15 @@ module _ (decl : Declaration) (acts : List Act) (net : Net) (a : ℕ) (run : IsR
                 counted = tt;
                 calls = λ call never. absurd never;
                 votes =
-                    no_votes (record (net.clients a)
-                    {
-                        front =
-                            record f { count = f.count + 1; transaction = Some (fresh decl tx f.epoch); doing = Idle }
-                      }) (fresh decl tx f.epoch) (state (Begin tx f.epoch ∷ acts)) (net.clients a).desk.voting free;
+                    no_votes (record (net.clients a) {
+                      front =
+                          record f { count = f.count + 1; transaction = Some (fresh decl tx f.epoch); doing = Idle };
+                    }) (fresh decl tx f.epoch) (state (Begin tx f.epoch ∷ acts)) (net.clients a).desk.voting free;
               }),
         );
       })
       (no_sends decl (state (Begin tx f.epoch ∷ acts)) net.mail a)
-          (no_asks decl (by_front (net.clients a) (begins decl f None)).client))
+      (no_asks decl (by_front (net.clients a) (begins decl f None)).client))
     where
       w : State
       w = state acts

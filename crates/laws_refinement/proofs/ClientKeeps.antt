@@ -1,7 +1,7 @@
 -- Each client that is up agrees with its records.
 use Rattle.std.specs.Prelude.{option_to_list}
-use Rattle.std.proofs.Common.{◌≡◌, ◌≢◌, ℕ, ◌+◌, ◌-◌, not, Bool, true, false, cond, inl, inr, List, ◌∷◌, ◌++◌}
-use Rattle.std.proofs.Common.{Option, Some, None, filter, length, refl, sym, ◌∙◌, subst}
+use Rattle.std.proofs.Common.{◌≡◌, ◌≢◌, ℕ, ◌+◌, ◌-◌, not, Bool, true, false, cond, inl, inr, List, ◌∷◌, ◌++◌, Option}
+use Rattle.std.proofs.Common.{Some, None, filter, length, refl, sym, ◌∙◌, subst}
 use Rattle.std.proofs.lemmas.List.{append-nil}
 use Rattle.qc_stamp.specs.declared.stamp.TxId.{TxId}
 use Rattle.qc_stamp.specs.Names.{same_tx}
@@ -23,13 +23,11 @@ use Rattle.theory_machine.proofs.Names.{put_here}
 use Rattle.qc_commit.specs.declared.desk.Voting.{Voting}
 use Rattle.qc_commit.specs.Conduct as desks
 use Rattle.qc_commit.specs.Names.{record_of}
-use Rattle.qc_client.specs.Names.{ClientMove, client_takes, commits}
-use Rattle.qc_client.specs.Names.{sent_one}
+use Rattle.qc_client.specs.Names.{ClientMove, client_takes, commits, sent_one}
 use Rattle.qc_client.specs.declared.client.Client.{Client}
 use Rattle.qc_recover.specs.Names.{client_rises}
 use Rattle.qc_recover.specs.Clients.{Kept, kept_by}
-use Rattle.laws_refinement.specs.Names.{IsClientKeptBy, Net, Reaches, after_client, after_client_rise}
-use Rattle.laws_refinement.specs.Names.{sent_all}
+use Rattle.laws_refinement.specs.Names.{IsClientKeptBy, Net, Reaches, after_client, after_client_rise, sent_all}
 use Rattle.qc_site.specs.Names.{site_takes}
 use Rattle.qc_epoch.specs.Names.{admin_takes}
 use Rattle.laws_refinement.specs.Net as nets
@@ -44,7 +42,7 @@ module _ (decl : Declaration) where
 
   one_life : (c : Client) (n to : ℕ) (message : Message)
       → ((sent_one c n to message).front.life ≡ c.front.life)
-        × ((sent_one c n to message).desk.commits ≡ c.desk.commits)
+      × ((sent_one c n to message).desk.commits ≡ c.desk.commits)
   one_life c n to (messages.Request tx epoch life (Read object inv)) = (refl, refl)
   one_life c n to (messages.Request tx epoch life (Append object view own)) = (refl, refl)
   one_life c n to (messages.Request tx epoch life Prepare) = (refl, by c.desk.voting)
@@ -89,39 +87,39 @@ module _ (decl : Declaration) where
           → IsClientKeptBy d (kept_by (rs ++ option_to_list o))
       by None (nothing still) =
           subst (λ (xs : List Record). IsClientKeptBy d (kept_by xs)) (sym (append-nil rs)) (record {
-        life = life ∙ k.life ∙ m.life;
-        commits = λ r among. subst (λ (cs : List CommitRecord). In r cs) (sym (same ∙ still)) (m.commits r among);
-        none = λ t none. subst (λ (cs : List CommitRecord). record_of cs t ≡ None) (sym (same ∙ still)) (m.none t none);
-      })
+            life = life ∙ k.life ∙ m.life;
+            commits = λ r among. subst (λ (cs : List CommitRecord). In r cs) (sym (same ∙ still)) (m.commits r among);
+            none = λ t none. subst (λ (cs : List CommitRecord). record_of cs t ≡ None) (sym (same ∙ still)) (m.none t none);
+          })
       by _ (commits_one r more) =
           subst (λ (x : Kept). IsClientKeptBy d x) (sym (client_kept_more rs (records.Commit r))) (record {
-        life = life ∙ k.life ∙ m.life;
-        commits = λ x among. subst (λ (cs : List CommitRecord). In x cs) (sym (same ∙ more)) (elim (in_split x (filter (λ (y : CommitRecord). not (same_tx y.tx r.tx)) (kept_by rs).commits) (r ∷ []) among) [
-          | inl old ↦
-              In-first x c.desk.commits (r ∷ [])
-              (m.commits x (In-unfiltered (λ (y : CommitRecord). not (same_tx y.tx r.tx)) x (kept_by rs).commits old))
-          | inr new ↦ In-second x c.desk.commits (r ∷ []) new
-        ]);
-        none = λ t none. (let f : (record_of (kept_by rs).commits t ≡ None) × (same_tx r.tx t ≡ false) = found_with (kept_by rs).commits r t none in
-            subst (λ (cs : List CommitRecord). record_of cs t ≡ None) (sym (same ∙ more))
+            life = life ∙ k.life ∙ m.life;
+            commits = λ x among. subst (λ (cs : List CommitRecord). In x cs) (sym (same ∙ more)) (elim (in_split x (filter (λ (y : CommitRecord). not (same_tx y.tx r.tx)) (kept_by rs).commits) (r ∷ []) among) [
+              | inl old ↦
+                  In-first x c.desk.commits (r ∷ [])
+                  (m.commits x (In-unfiltered (λ (y : CommitRecord). not (same_tx y.tx r.tx)) x (kept_by rs).commits old))
+              | inr new ↦ In-second x c.desk.commits (r ∷ []) new
+            ]);
+            none = λ t none. (let f : (record_of (kept_by rs).commits t ≡ None) × (same_tx r.tx t ≡ false) = found_with (kept_by rs).commits r t none in
+                subst (λ (cs : List CommitRecord). record_of cs t ≡ None) (sym (same ∙ more))
                 (none_last c.desk.commits r t (m.none t f.0) f.1));
-      })
+          })
 
   -- the one that moves or rises, and the others
   at_one : (net next : Net) (a : ℕ)
       → ((b : ℕ) → b ≢ a → (next.clients b ≡ net.clients b) × (next.up b ≡ net.up b) × (next.records b ≡ net.records b))
       → (next.up a ≡ true → IsClientKeptBy (next.clients a) (kept_by (next.records a)))
       → ((b : ℕ) → is_client decl b ≡ true → net.up b ≡ true → IsClientKeptBy (net.clients b) (kept_by (net.records b)))
-          → (b : ℕ) → is_client decl b ≡ true → next.up b ≡ true
-          → IsClientKeptBy (next.clients b) (kept_by (next.records b))
+      → (b : ℕ) → is_client decl b ≡ true → next.up b ≡ true
+      → IsClientKeptBy (next.clients b) (kept_by (next.records b))
   at_one net next a others here old b is u = elim (place b a) [
     | inl e ↦
         subst (λ (x : ℕ). IsClientKeptBy (next.clients x) (kept_by (next.records x))) (sym e)
         (here (subst (λ (x : ℕ). next.up x ≡ true) e u))
     | inr other ↦ (let o = others b other in
         subst (λ (c : Client). IsClientKeptBy c (kept_by (next.records b))) (sym o.0)
-            (subst (λ (rs : List Record). IsClientKeptBy (net.clients b) (kept_by rs)) (sym o.2)
-              (old b is (sym o.1 ∙ u))))
+        (subst (λ (rs : List Record). IsClientKeptBy (net.clients b) (kept_by rs)) (sym o.2)
+        (old b is (sym o.1 ∙ u))))
   ]
 
   not_up : (f : ℕ → Bool) (a : ℕ) → put f a false a ≡ true → ⊥
@@ -133,85 +131,90 @@ module _ (decl : Declaration) where
   clients_kept net (nets.serves a given before r site up came) b is u =
       let other : b ≢ a = (λ e. no_client decl a site (subst (λ (k : ℕ). is_client decl k ≡ true) e is)) in
       subst (λ (rs : List Record). IsClientKeptBy (before.clients b) (kept_by rs))
-          (sym (put_other before.records a
-            (before.records a ++ option_to_list (site_takes decl (before.sites a) given).turn.write) b other))
-          (clients_kept before r b is u)
+      (sym (put_other before.records a
+      (before.records a ++ option_to_list (site_takes decl (before.sites a) given).turn.write) b other))
+      (clients_kept before r b is u)
   clients_kept net (nets.takes a given before r client up came ready) b is u =
       at_one before (after_client before a (client_takes decl (before.clients a) given)) a
-          (λ d other. (put_other before.clients a
+      (λ d other. (
+        put_other before.clients a
             (sent_all (client_takes decl (before.clients a) given).client (length before.mail)
-              (client_takes decl (before.clients a) given).turn.sends) d other, refl,
-            put_other before.records a
-              (before.records a ++ option_to_list (client_takes decl (before.clients a) given).turn.write) d other))
+            (client_takes decl (before.clients a) given).turn.sends) d other,
+        refl,
+        put_other before.records a
+            (before.records a ++ option_to_list (client_takes decl (before.clients a) given).turn.write) d other,
+      ))
       (λ v. subst (λ (c : Client). IsClientKeptBy c (kept_by (put before.records a (before.records a ++ option_to_list (client_takes decl (before.clients a) given).turn.write) a))) (sym (put_here before.clients a (sent_all (client_takes decl (before.clients a) given).client (length before.mail) (client_takes decl (before.clients a) given).turn.sends))) (subst (λ (rs : List Record). IsClientKeptBy (sent_all (client_takes decl (before.clients a) given).client (length before.mail) (client_takes decl (before.clients a) given).turn.sends) (kept_by rs)) (sym (put_here before.records a (before.records a ++ option_to_list (client_takes decl (before.clients a) given).turn.write)))
       (let sent =
-               all_life (client_takes decl (before.clients a) given).client (length before.mail)
-                 (client_takes decl (before.clients a) given).turn.sends in
+      all_life (client_takes decl (before.clients a) given).client (length before.mail)
+      (client_takes decl (before.clients a) given).turn.sends in
       step_keeps (before.clients a) (before.records a) (client_takes decl (before.clients a) given)
-          (clients_kept before r a client up) (take_keeps decl (before.clients a) given)
-          (sent_all (client_takes decl (before.clients a) given).client (length before.mail)
-            (client_takes decl (before.clients a) given).turn.sends) sent.0 sent.1)))
+      (clients_kept before r a client up) (take_keeps decl (before.clients a) given)
+      (sent_all (client_takes decl (before.clients a) given).client (length before.mail)
+      (client_takes decl (before.clients a) given).turn.sends) sent.0 sent.1)))
       (clients_kept before r) b is u
   clients_kept net (nets.site_falls a before r site up) b is u =
       at_one before net a (λ d other. (refl, put_other before.up a false d other, refl))
-          (λ v. absurd (not_up before.up a v)) (clients_kept before r) b is u
+      (λ v. absurd (not_up before.up a v)) (clients_kept before r) b is u
   clients_kept net (nets.client_falls a before r client up) b is u =
       at_one before net a (λ d other. (refl, put_other before.up a false d other, refl))
-          (λ v. absurd (not_up before.up a v)) (clients_kept before r) b is u
+      (λ v. absurd (not_up before.up a v)) (clients_kept before r) b is u
   clients_kept net (nets.site_fails a given written sends before r site up came wrote failed) b is u =
       at_one before net a (λ d other. (refl, put_other before.up a false d other, refl))
-          (λ v. absurd (not_up before.up a v)) (clients_kept before r) b is u
+      (λ v. absurd (not_up before.up a v)) (clients_kept before r) b is u
   clients_kept net (nets.client_fails a given written sends before r client up came ready wrote failed) b is u =
       at_one before net a (λ d other. (refl, put_other before.up a false d other, refl))
-          (λ v. absurd (not_up before.up a v)) (clients_kept before r) b is u
+      (λ v. absurd (not_up before.up a v)) (clients_kept before r) b is u
   clients_kept net (nets.site_rises_up a back before r site down given) b is u =
       let other : b ≢ a = (λ e. no_client decl a site (subst (λ (k : ℕ). is_client decl k ≡ true) e is)) in
       subst (λ (rs : List Record). IsClientKeptBy (before.clients b) (kept_by rs))
-          (sym (put_other before.records a ((before.records a ++ option_to_list back) ++ records.Life ∷ []) b other))
-          (clients_kept before r b is (sym (put_other before.up a true b other) ∙ u))
+      (sym (put_other before.records a ((before.records a ++ option_to_list back) ++ records.Life ∷ []) b other))
+      (clients_kept before r b is (sym (put_other before.up a true b other) ∙ u))
   clients_kept net (nets.client_rises_up a back before r client down given) b is u =
       at_one before (after_client_rise decl before a back) a
-          (λ d other. (put_other before.clients a
+      (λ d other. (
+        put_other before.clients a
             (client_rises (a - decl.sites) (before.records a ++ option_to_list back)).client d other,
-            put_other before.up a true d other,
-            put_other before.records a ((before.records a ++ option_to_list back) ++ records.Life ∷ []) d other))
+        put_other before.up a true d other,
+        put_other before.records a ((before.records a ++ option_to_list back) ++ records.Life ∷ []) d other,
+      ))
       (λ v. subst (λ (c : Client). IsClientKeptBy c (kept_by (put before.records a ((before.records a ++ option_to_list back) ++ records.Life ∷ []) a))) (sym (put_here before.clients a (client_rises (a - decl.sites) (before.records a ++ option_to_list back)).client)) (subst (λ (rs : List Record). IsClientKeptBy (client_rises (a - decl.sites) (before.records a ++ option_to_list back)).client (kept_by rs)) (sym (put_here before.records a ((before.records a ++ option_to_list back) ++ records.Life ∷ [])))
       (record { life = refl; commits = λ r among. among; none = λ t none. none })))
       (clients_kept before r) b is u
   clients_kept net (nets.site_rises_in_vain a back before r site down given) b is u =
       let other : b ≢ a = (λ e. no_client decl a site (subst (λ (k : ℕ). is_client decl k ≡ true) e is)) in
       subst (λ (rs : List Record). IsClientKeptBy (before.clients b) (kept_by rs))
-          (sym (put_other before.records a (before.records a ++ option_to_list back) b other))
-          (clients_kept before r b is u)
+      (sym (put_other before.records a (before.records a ++ option_to_list back) b other))
+      (clients_kept before r b is u)
   clients_kept net (nets.client_rises_in_vain a back before r client down given) b is u =
       let other : b ≢ a =
-              (λ e. (let d : before.up b ≡ false = subst (λ (k : ℕ). before.up k ≡ false) (sym e) down in
-                     let never : ⊥ = cc in never)) in
+      (λ e. (let d : before.up b ≡ false = subst (λ (k : ℕ). before.up k ≡ false) (sym e) down in
+      let never : ⊥ = cc in never)) in
       subst (λ (rs : List Record). IsClientKeptBy (before.clients b) (kept_by rs))
-          (sym (put_other before.records a (before.records a ++ option_to_list back) b other))
-          (clients_kept before r b is u)
+      (sym (put_other before.records a (before.records a ++ option_to_list back) b other))
+      (clients_kept before r b is u)
   clients_kept net (nets.administers given before r up came named) b is u =
       let other : b ≢ administrator decl = (λ e. no_ruling decl (subst (λ (k : ℕ). is_client decl k ≡ true) e is)) in
       subst (λ (rs : List Record). IsClientKeptBy (before.clients b) (kept_by rs))
-          (sym (put_other before.records (administrator decl)
-            (before.records (administrator decl) ++ option_to_list (admin_takes decl before.admin given).turn.write) b
-            other)) (clients_kept before r b is u)
+      (sym (put_other before.records (administrator decl)
+      (before.records (administrator decl) ++ option_to_list (admin_takes decl before.admin given).turn.write) b
+      other)) (clients_kept before r b is u)
   clients_kept net (nets.admin_falls before r up) b is u =
       at_one before net (administrator decl)
-          (λ d other. (refl, put_other before.up (administrator decl) false d other, refl))
-          (λ v. absurd (not_up before.up (administrator decl) v)) (clients_kept before r) b is u
+      (λ d other. (refl, put_other before.up (administrator decl) false d other, refl))
+      (λ v. absurd (not_up before.up (administrator decl) v)) (clients_kept before r) b is u
   clients_kept net (nets.admin_fails given written sends before r up came named wrote failed) b is u =
       at_one before net (administrator decl)
-          (λ d other. (refl, put_other before.up (administrator decl) false d other, refl))
-          (λ v. absurd (not_up before.up (administrator decl) v)) (clients_kept before r) b is u
+      (λ d other. (refl, put_other before.up (administrator decl) false d other, refl))
+      (λ v. absurd (not_up before.up (administrator decl) v)) (clients_kept before r) b is u
   clients_kept net (nets.admin_rises_up back before r down given) b is u =
       let other : b ≢ administrator decl = (λ e. no_ruling decl (subst (λ (k : ℕ). is_client decl k ≡ true) e is)) in
       subst (λ (rs : List Record). IsClientKeptBy (before.clients b) (kept_by rs))
-          (sym (put_other before.records (administrator decl)
-            ((before.records (administrator decl) ++ option_to_list back) ++ records.Life ∷ []) b other))
-          (clients_kept before r b is (sym (put_other before.up (administrator decl) true b other) ∙ u))
+      (sym (put_other before.records (administrator decl)
+      ((before.records (administrator decl) ++ option_to_list back) ++ records.Life ∷ []) b other))
+      (clients_kept before r b is (sym (put_other before.up (administrator decl) true b other) ∙ u))
   clients_kept net (nets.admin_rises_in_vain back before r down given) b is u =
       let other : b ≢ administrator decl = (λ e. no_ruling decl (subst (λ (k : ℕ). is_client decl k ≡ true) e is)) in
       subst (λ (rs : List Record). IsClientKeptBy (before.clients b) (kept_by rs))
-          (sym (put_other before.records (administrator decl)
-            (before.records (administrator decl) ++ option_to_list back) b other)) (clients_kept before r b is u)
+      (sym (put_other before.records (administrator decl)
+      (before.records (administrator decl) ++ option_to_list back) b other)) (clients_kept before r b is u)

@@ -22,9 +22,8 @@ use Rattle.qc_commit.specs.Names.{prepared, prepared_in}
 use Rattle.qc_front.specs.Names.{requested}
 use Rattle.qc_client.specs.Names.{ClientMove, sent_one}
 use Rattle.qc_client.specs.declared.client.Client.{Client}
-use Rattle.laws_refinement.specs.Names.{Backed, ClientMirrors, IsMessage}
-use Rattle.laws_refinement.specs.Names.{IsRequest, Mirrors, Net}
-use Rattle.laws_refinement.specs.Names.{after_client, commits_in, sent_all}
+use Rattle.laws_refinement.specs.Names.{Backed, ClientMirrors, IsMessage, IsRequest, Mirrors, Net, after_client}
+use Rattle.laws_refinement.specs.Names.{commits_in, sent_all}
 use Rattle.laws_refinement.proofs.MessagesStay.{Keeps, Later, keeps_same}
 use Rattle.laws_refinement.proofs.Frames.{keep_client}
 use Rattle.laws_refinement.proofs.Posts.{AtNumber, at_number}
@@ -52,30 +51,36 @@ module _ (decl : Declaration) where
   found_request ms a n to tx u epoch life want found same = record {
     epoch = epoch;
     life = life;
-    is =
-        (record { number = n; from = a; to = to; message = messages.Request tx epoch life want }, found, refl,
-        (λ i. messages.Request (same i) epoch life want));
+    is = (
+      record { number = n; from = a; to = to; message = messages.Request tx epoch life want },
+      found,
+      refl,
+      (λ i. messages.Request (same i) epoch life want),
+    );
   }
 
   found_message : (ms : List Envelope) (a n to : ℕ) (tx u : TxId) (epoch e life l : ℕ) (want : Want)
       → slice_get ms n ≡ Some (record { number = n; from = a; to = to; message = messages.Request tx epoch life want })
       → tx ≡ u → epoch ≡ e → life ≡ l → IsMessage ms n to (messages.Request u e l want)
-  found_message ms a n to tx u epoch e life l want found same x y =
-      (record { number = n; from = a; to = to; message = messages.Request tx epoch life want }, found, refl,
-      (λ i. messages.Request (same i) (x i) (y i) want))
+  found_message ms a n to tx u epoch e life l want found same x y = (
+    record { number = n; from = a; to = to; message = messages.Request tx epoch life want },
+    found,
+    refl,
+    (λ i. messages.Request (same i) (x i) (y i) want),
+  )
 
   want_sent : (w : State) (ms : List Envelope) (a : ℕ) (c : Client) (n to : ℕ) (tx : TxId) (epoch life : ℕ)
       (want : Want) → ClientMirrors decl w ms a c → AsksFor decl c tx epoch life to want
       → slice_get ms n ≡ Some (record { number = n; from = a; to = to; message = messages.Request tx epoch life want })
-          → ClientMirrors decl w ms a (sent_one c n to (messages.Request tx epoch life want))
+      → ClientMirrors decl w ms a (sent_one c n to (messages.Request tx epoch life want))
   want_sent w ms a c n to tx epoch life (Read object inv) m k found =
       round_sent decl w ms a c n to k.t (Read object inv) m k.is k.for
       (found_message ms a n to tx k.t.begun.tx epoch k.t.begun.epoch life (life_of k.t.begun.lives to) (Read object inv)
-        found k.its k.epoch_is k.life_is)
+      found k.its k.epoch_is k.life_is)
   want_sent w ms a c n to tx epoch life (Append object view own) m k found =
       round_sent decl w ms a c n to k.t (Append object view own) m k.is k.for
       (found_message ms a n to tx k.t.begun.tx epoch k.t.begun.epoch life (life_of k.t.begun.lives to)
-        (Append object view own) found k.its k.epoch_is k.life_is)
+      (Append object view own) found k.its k.epoch_is k.life_is)
   want_sent w ms a c n to tx epoch life Prepare m k found =
       prepare_sent decl w ms a c n to k.t k.for.0 m k.is k.for.1
       (found_request ms a n to tx k.t.begun.tx epoch life Prepare found k.its)
@@ -83,7 +88,7 @@ module _ (decl : Declaration) where
   one_sent : (w : State) (ms : List Envelope) (a : ℕ) (c : Client) (n to : ℕ) (message : Message)
       → ClientMirrors decl w ms a c → IsAsking c to message
       → slice_get ms n ≡ Some (record { number = n; from = a; to = to; message = message })
-          → ClientMirrors decl w ms a (sent_one c n to message)
+      → ClientMirrors decl w ms a (sent_one c n to message)
   one_sent w ms a c n to (messages.Request tx epoch life want) m asks found =
       want_sent w ms a c n to tx epoch life want m asks found
   one_sent w ms a c n to (messages.Answer k answer) m asks found = m
@@ -105,7 +110,7 @@ module _ (decl : Declaration) where
         its = k.its;
         epoch_is = k.epoch_is;
         life_is = k.life_is;
-        for = for_more decl k.t c.front.doing n to (Read object inv) k.for
+        for = for_more decl k.t c.front.doing n to (Read object inv) k.for;
       }
   round_still c n to tx epoch life dest (Append object view own) k =
       record {
@@ -114,7 +119,7 @@ module _ (decl : Declaration) where
         its = k.its;
         epoch_is = k.epoch_is;
         life_is = k.life_is;
-        for = for_more decl k.t c.front.doing n to (Append object view own) k.for
+        for = for_more decl k.t c.front.doing n to (Append object view own) k.for;
       }
   round_still c n to tx epoch life dest Prepare k =
       record { t = k.t; is = k.is; its = k.its; epoch_is = k.epoch_is; life_is = k.life_is; for = k.for }
@@ -126,7 +131,7 @@ module _ (decl : Declaration) where
 
   desk_still : (c : Client) (n to : ℕ) (tx : TxId) (epoch life dest : ℕ) (want : Want)
       → AsksFor decl c tx epoch life dest want
-          → AsksFor decl (record c { desk = prepared c.desk n to }) tx epoch life dest want
+      → AsksFor decl (record c { desk = prepared c.desk n to }) tx epoch life dest want
   desk_still c n to tx epoch life dest (Read object inv) k =
       record { t = k.t; is = k.is; its = k.its; epoch_is = k.epoch_is; life_is = k.life_is; for = k.for }
   desk_still c n to tx epoch life dest (Append object view own) k =
@@ -138,7 +143,7 @@ module _ (decl : Declaration) where
         its = k.its;
         epoch_is = k.epoch_is;
         life_is = k.life_is;
-        for = voting_still c.desk n to k.for.0 k.for.1
+        for = voting_still c.desk n to k.for.0 k.for.1;
       }
 
   asks_still : (c : Client) (n to : ℕ) (first : Message) (tx : TxId) (epoch life dest : ℕ) (want : Want)
@@ -172,7 +177,7 @@ module _ (decl : Declaration) where
   all_sent w ms a c n [] m asks at = m
   all_sent w ms a c n (p ∷ ps) m asks at =
       all_sent w ms a (sent_one c n p.to p.message) (n + 1) ps
-          (one_sent w ms a c n p.to p.message m (asks p (inl refl)) at.0)
+      (one_sent w ms a c n p.to p.message m (asks p (inl refl)) at.0)
       (λ q among. still c n p.to p.message q.to q.message (asks q (inr among))) at.1
 
   -- what a client's step has to show of the machine's next state
@@ -190,11 +195,11 @@ module _ (decl : Declaration) where
   pub client_goes : (w v : State) (net : Net) (a : ℕ) (move : ClientMove) → Mirrors decl w net → is_client decl a ≡ true
       → net.up a ≡ true → ClientGoes w v net.mail a (net.clients a).front.client move
       → ((c : CommitRecord) → In c v.records → v.status c.tx ≡ Committed c)
-          → ((t : TxId) (c : CommitRecord) → v.status t ≡ Committed c → In c v.records)
-          → Mirrors decl v (after_client net a move)
+      → ((t : TxId) (c : CommitRecord) → v.status t ≡ Committed c → In c v.records)
+      → Mirrors decl v (after_client net a move)
   client_goes w v net a move m client up g wrote writes =
       client_net decl w v net (after_client net a move) a (net.clients a).front.client move.turn.sends m client
-          (m.clients a client up).own.actor
+      (m.clients a client up).own.actor
       (record {
         sites = λ b other. refl;
         clients = λ b other. put_other net.clients a (sent_all move.client (length net.mail) move.turn.sends) b other;
@@ -219,9 +224,9 @@ module _ (decl : Declaration) where
         written =
             λ c among. elim (in_split c (commits_in move.turn.write) w.records
             (subst (λ (cs : List CommitRecord). In c cs) g.records among)) [
-          | inl new ↦ In-second c net.written (commits_in move.turn.write) new
-          | inr old ↦ In-first c net.written (commits_in move.turn.write) (m.written c old)
-        ];
+              | inl new ↦ In-second c net.written (commits_in move.turn.write) new
+              | inr old ↦ In-first c net.written (commits_in move.turn.write) (m.written c old)
+            ];
         of_client = λ c among. of_client c among (c.tx.client == (net.clients a).front.client) refl;
         settled = writes;
       })
@@ -232,12 +237,12 @@ module _ (decl : Declaration) where
       of_client x among true e =
           subst (λ (n : ℕ). is_client decl n ≡ true)
           ((m.clients a client up).own.actor
-            ∙ ap (λ (n : ℕ). client_actor decl n) (sym (eqb-true x.tx.client (net.clients a).front.client e))) client
+          ∙ ap (λ (n : ℕ). client_actor decl n) (sym (eqb-true x.tx.client (net.clients a).front.client e))) client
       of_client x among false e =
           let other : x.tx.client ≢ (net.clients a).front.client =
-                  (λ same. (let k : (x.tx.client == (net.clients a).front.client) ≡ true =
-                                    eq-eqb x.tx.client (net.clients a).front.client same in
-                            let never : ⊥ = cc in never)) in
+          (λ same. (let k : (x.tx.client == (net.clients a).front.client) ≡ true =
+          eq-eqb x.tx.client (net.clients a).front.client same in
+          let never : ⊥ = cc in never)) in
           m.of_client x (m.settled x.tx x (sym ((g.keeps x.tx.client other).status x.tx refl) ∙ wrote x among))
 
       here : ClientMirrors decl v (net.mail ++ envelopes a (length net.mail) move.turn.sends) a
@@ -246,5 +251,5 @@ module _ (decl : Declaration) where
           all_sent v (net.mail ++ envelopes a (length net.mail) move.turn.sends) a move.client (length net.mail)
           move.turn.sends
           (keep_client decl v v move.client.front.client (keeps_same v move.client.front.client) net.mail
-              (envelopes a (length net.mail) move.turn.sends) a move.client refl g.here) g.asking
-              (at_number net.mail a (length net.mail) move.turn.sends refl)
+          (envelopes a (length net.mail) move.turn.sends) a move.client refl g.here) g.asking
+          (at_number net.mail a (length net.mail) move.turn.sends refl)

@@ -1,6 +1,7 @@
 -- A client rises: a pending record stands, or its transaction aborts; then it rises past its records.
 use Rattle.std.specs.Prelude.{option_to_list}
-use Rattle.std.proofs.Common.{◌≡◌, ◌≢◌, ◌≤◌, ◌<◌, ℕ, ◌-◌, not, Bool, true, false, ◌⊎◌, inl, inr, List, [], ◌∷◌, ◌++◌, Option, Some, None, filter, refl, sym, ap, ◌∙◌, subst, arith}
+use Rattle.std.proofs.Common.{◌≡◌, ◌≢◌, ◌≤◌, ◌<◌, ℕ, ◌-◌, not, Bool, true, false, ◌⊎◌, inl, inr, List, [], ◌∷◌, ◌++◌}
+use Rattle.std.proofs.Common.{Option, Some, None, filter, refl, sym, ap, ◌∙◌, subst, arith}
 use Rattle.std.proofs.lemmas.List.{append-nil}
 use Rattle.qc_stamp.specs.declared.stamp.TxId.{TxId}
 use Rattle.qc_stamp.specs.Names.{same_tx}
@@ -49,17 +50,22 @@ module _ (decl : Declaration) (planned : IsPlanned decl 1) where
         records : (state acts).records ≡ commits_in back ++ (state h.acts).records
 
       -- nothing was pending, or it was the record of a rise
-      as_it_was : (k : Kept) (o : Option Record) → FallenMirrors (state h.acts) (a - decl.sites) k o → ((t : TxId) → IsPendingOf t o → ⊥) → FallenMirrors (state h.acts) (a - decl.sites) k None
+      as_it_was : (k : Kept) (o : Option Record) → FallenMirrors (state h.acts) (a - decl.sites) k o
+          → ((t : TxId) → IsPendingOf t o → ⊥) → FallenMirrors (state h.acts) (a - decl.sites) k None
       as_it_was k o f none = record {
         to_come = f.to_come;
         committed = f.committed;
         passed = f.passed;
-        ended = λ t its born unrecorded. elim (f.ended t its born unrecorded) [ inl dead ↦ inl dead | inr waits ↦ absurd (none t waits) ];
+        ended =
+            λ t its born unrecorded. elim (f.ended t its born unrecorded)
+            [ inl dead ↦ inl dead | inr waits ↦ absurd (none t waits) ];
         pends = tt;
       }
 
       -- the record doesn't stand: its transaction aborts
-      not_stood : (r : CommitRecord) → FallenMirrors (state h.acts) (a - decl.sites) (kept_by (net.records a)) (Some (records.Commit r)) → back ≡ None → Stood
+      not_stood : (r : CommitRecord)
+          → FallenMirrors (state h.acts) (a - decl.sites) (kept_by (net.records a)) (Some (records.Commit r))
+          → back ≡ None → Stood
       not_stood r f none = record {
         acts = Abort r.tx ∷ h.acts;
         mid = mid_abort decl (state h.acts) h.acts (a - decl.sites) (mid_first decl h.acts (a - decl.sites) h.run) r.tx f.pends.1 (subst IsLive (sym f.pends.0.voting) tt);
@@ -77,7 +83,8 @@ module _ (decl : Declaration) (planned : IsPlanned decl 1) where
           other_status : (t : TxId) → t ≢ r.tx → put_tx (state h.acts).status r.tx Aborted t ≡ (state h.acts).status t
           other_status t other = put_tx_other (state h.acts).status r.tx Aborted t other
 
-          unborn : (t : TxId) → t.client ≡ a - decl.sites → (kept_by (net.records a)).life < t.life → (state h.acts).status t ≡ Voting → ⊥
+          unborn : (t : TxId) → t.client ≡ a - decl.sites → (kept_by (net.records a)).life < t.life
+              → (state h.acts).status t ≡ Voting → ⊥
           unborn t its later e = let k : NotBegun ≡ Voting = sym (f.to_come t its later) ∙ e in let never : ⊥ = cc in never
 
           by : (t : TxId) → t.client ≡ a - decl.sites → put_tx (state h.acts).status r.tx Aborted t ≢ NotBegun → record_of (kept_by (net.records a)).commits t ≡ None → (b : Bool) → same_tx t r.tx ≡ b → put_tx (state h.acts).status r.tx Aborted t ≡ Aborted

@@ -1,6 +1,6 @@
 -- A client's turn writes nothing, or one commit record that its desk then has.
-use Rattle.std.proofs.Common.{◌≡◌, ℕ, ◌+◌, ◌-◌, ◌==◌, Bool, true, false, cond, List, ◌∷◌, ◌++◌}
-use Rattle.std.proofs.Common.{Option, Some, None, is_some, length, map, refl, sym, subst}
+use Rattle.std.proofs.Common.{◌≡◌, ℕ, ◌+◌, ◌-◌, ◌==◌, Bool, true, false, cond, List, ◌∷◌, ◌++◌, Option, Some, None}
+use Rattle.std.proofs.Common.{is_some, length, map, refl, sym, subst}
 use Rattle.qc_entry.specs.declared.record.Commit.{Commit as CommitRecord}
 use Rattle.qc_decl.specs.declared.declaration.Declaration.{Declaration}
 use Rattle.qc_msg.specs.declared.begun.Begun.{Begun}
@@ -42,7 +42,7 @@ module _ (decl : Declaration) where
   front_keeps c move calm =
       record {
         life = calm.life;
-        kept = subst (λ (o : Option Record). IsKept c.desk.commits c.desk.commits o) (sym calm.write) (nothing refl)
+        kept = subst (λ (o : Option Record). IsKept c.desk.commits c.desk.commits o) (sym calm.write) (nothing refl);
       }
 
   desk_keeps : (c : Client) (move : DeskMove) → IsKept c.desk.commits move.desk.commits move.turn.write
@@ -59,14 +59,14 @@ module _ (decl : Declaration) where
     where
       by : (t : Bool)
           → IsKept desk.commits
-            (cond t (desks.decides (desks.passed desk clock) b)
-              (desk_moved (desks.with_voting (desks.passed desk clock)
-                (Some (record { begun = b; calls = []; ballots = blank (participants decl desk.client b) })))
-                (sending (map (prepares b) (participants decl desk.client b))))).desk.commits
           (cond t (desks.decides (desks.passed desk clock) b)
-              (desk_moved (desks.with_voting (desks.passed desk clock)
-                (Some (record { begun = b; calls = []; ballots = blank (participants decl desk.client b) })))
-                (sending (map (prepares b) (participants decl desk.client b))))).turn.write
+          (desk_moved (desks.with_voting (desks.passed desk clock)
+          (Some (record { begun = b; calls = []; ballots = blank (participants decl desk.client b) })))
+          (sending (map (prepares b) (participants decl desk.client b))))).desk.commits
+          (cond t (desks.decides (desks.passed desk clock) b)
+          (desk_moved (desks.with_voting (desks.passed desk clock)
+          (Some (record { begun = b; calls = []; ballots = blank (participants decl desk.client b) })))
+          (sending (map (prepares b) (participants decl desk.client b))))).turn.write
       by true = commits_one _ refl
       by false = nothing refl
 
@@ -81,13 +81,13 @@ module _ (decl : Declaration) where
     where
       by : (o : Option Voting)
           → IsKept desk.commits (desks.votes_in desk o number answer).desk.commits
-            (desks.votes_in desk o number answer).turn.write
+          (desks.votes_in desk o number answer).turn.write
       by None = nothing refl
       by (Some v) = at (site_called v.calls number)
         where
           at : (s : Option ℕ)
               → IsKept desk.commits (desks.votes_at desk v number answer s).desk.commits
-                (desks.votes_at desk v number answer s).turn.write
+              (desks.votes_at desk v number answer s).turn.write
           at None = nothing refl
           at (Some site) =
               subst (λ (cs : List CommitRecord). IsKept cs
@@ -97,24 +97,24 @@ module _ (decl : Declaration) where
             where
               all : (t : Bool)
                   → IsKept (desks.learns desk answer).commits
-                    (cond t
-                      (desks.counted_out (desks.learns desk answer) v.begun
-                        (first_against (cast v.ballots site (vote_of v.begun site answer))))
-                      (desk_moved (desks.with_voting (desks.learns desk answer)
-                        (Some (record {
-                            begun = v.begun;
-                            calls = without_call v.calls number;
-                            ballots = cast v.ballots site (vote_of v.begun site answer)
-                          }))) quiet)).desk.commits
                   (cond t
-                      (desks.counted_out (desks.learns desk answer) v.begun
-                        (first_against (cast v.ballots site (vote_of v.begun site answer))))
-                      (desk_moved (desks.with_voting (desks.learns desk answer)
-                        (Some (record {
-                            begun = v.begun;
-                            calls = without_call v.calls number;
-                            ballots = cast v.ballots site (vote_of v.begun site answer)
-                          }))) quiet)).turn.write
+                  (desks.counted_out (desks.learns desk answer) v.begun
+                  (first_against (cast v.ballots site (vote_of v.begun site answer))))
+                  (desk_moved (desks.with_voting (desks.learns desk answer)
+                  (Some (record {
+                    begun = v.begun;
+                    calls = without_call v.calls number;
+                    ballots = cast v.ballots site (vote_of v.begun site answer);
+                  }))) quiet)).desk.commits
+                  (cond t
+                  (desks.counted_out (desks.learns desk answer) v.begun
+                  (first_against (cast v.ballots site (vote_of v.begun site answer))))
+                  (desk_moved (desks.with_voting (desks.learns desk answer)
+                  (Some (record {
+                    begun = v.begun;
+                    calls = without_call v.calls number;
+                    ballots = cast v.ballots site (vote_of v.begun site answer);
+                  }))) quiet)).turn.write
               all true =
                   out_keeps (desks.learns desk answer) v.begun
                   (first_against (cast v.ballots site (vote_of v.begun site answer)))
@@ -127,8 +127,8 @@ module _ (decl : Declaration) where
     where
       by : (b : Bool)
           → Keeping c
-            (cond b (by_front c (fronts.called decl c.front commands.Commit))
-              (by_desk c (desks.prepare decl c.desk t.begun c.front.clock.value)))
+          (cond b (by_front c (fronts.called decl c.front commands.Commit))
+          (by_desk c (desks.prepare decl c.desk t.begun c.front.clock.value)))
       by true = front_keeps c (fronts.called decl c.front commands.Commit) (front_called decl c.front commands.Commit)
       by false =
           desk_keeps c (desks.prepare decl c.desk t.begun c.front.clock.value)

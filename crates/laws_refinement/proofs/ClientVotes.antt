@@ -1,6 +1,6 @@
 -- Votes come for a commit: the transaction commits, or aborts, or more votes are waited for.
-use Rattle.std.proofs.Common.{◌≡◌, ◌≤◌, ℕ, max, Bool, true, false, cond, inl, inr, List, Option, Some, None, refl}
-use Rattle.std.proofs.Common.{sym, ap, ◌∙◌, subst, arith}
+use Rattle.std.proofs.Common.{◌≡◌, ◌≤◌, ℕ, max, Bool, true, false, cond, inl, inr, List, Option, Some, None, refl, sym}
+use Rattle.std.proofs.Common.{ap, ◌∙◌, subst, arith}
 use Rattle.qc_list.specs.Names.{In}
 use Rattle.qc_entry.specs.declared.record.Commit.{Commit as CommitRecord}
 use Rattle.qc_decl.specs.declared.declaration.Declaration.{Declaration}
@@ -48,16 +48,16 @@ module _ (decl : Declaration) where
         → (net.clients a).front.transaction ≡ Some t → (net.clients a).desk.voting ≡ Some v
         → AnswerBacked decl (state acts) net.mail from number answer → site_called v.calls number ≡ Some site
         → (b : Begun) → b ≡ t.begun
-            → Goes
-              (by_desk (net.clients a)
-                (counts (learns (net.clients a).desk answer) b (without_call v.calls number)
-                  (cast v.ballots site (vote_of b site answer))))
+        → Goes
+        (by_desk (net.clients a)
+        (counts (learns (net.clients a).desk answer) b (without_call v.calls number)
+        (cast v.ballots site (vote_of b site answer))))
     counts_case from number site t v answer is votes backed called b begun_is =
         subst (λ (x : Begun). Goes (by_desk (net.clients a)
-            (counts (learns (net.clients a).desk answer) x (without_call v.calls number)
-              (cast v.ballots site (vote_of x site answer))))) (sym begun_is)
+        (counts (learns (net.clients a).desk answer) x (without_call v.calls number)
+        (cast v.ballots site (vote_of x site answer))))) (sym begun_is)
         (by (are_cast (cast v.ballots site (vote_of t.begun site answer)))
-            (first_against (cast v.ballots site (vote_of t.begun site answer))) refl refl)
+        (first_against (cast v.ballots site (vote_of t.begun site answer))) refl refl)
       where
         next : Desk
         next = learns (net.clients a).desk answer
@@ -87,8 +87,8 @@ module _ (decl : Declaration) where
         request : IsRequest net.mail number site t.begun.tx wants.Prepare
         request = (let found : IsCalled v.calls number site = called_in v.calls number site called in
             subst (λ (s : ℕ). IsRequest net.mail number s t.begun.tx wants.Prepare) found.at
-                (subst (λ (n : ℕ). IsRequest net.mail n found.call.site t.begun.tx wants.Prepare) found.numbered
-                  (vm.calls found.call found.among)))
+            (subst (λ (n : ℕ). IsRequest net.mail n found.call.site t.begun.tx wants.Prepare) found.numbered
+            (vm.calls found.call found.among)))
 
         each : (g : Granted) → In g (state acts).counted → g.tx ≡ t.begun.tx
             → (d : Ballot) × In {X = Ballot} d (cast v.ballots site (vote_of t.begun site answer)) × (d.site ≡ g.site)
@@ -104,7 +104,7 @@ module _ (decl : Declaration) where
           | inr new ↦
               subst (λ (s : ℕ). In {X = YesVote} (record { tx = t.begun.tx; site = s }) (state acts).votes) (sym new.0)
               (voted decl (state acts) net.mail from number site t.begun t.begun.tx answer backed request
-                  (let same : Some (vote_of t.begun site answer) ≡ Some For = sym new.1 ∙ for in cc))
+              (let same : Some (vote_of t.begun site answer) ≡ Some For = sym new.1 ∙ for in cc))
         ]
 
         -- the client with what its desk learned
@@ -138,39 +138,39 @@ module _ (decl : Declaration) where
             record {
               own = own (learns (net.clients a).desk answer) refl refl refl;
               begun = record {
-                    named = begun.named;
-                    epoch = begun.epoch;
-                    lives = begun.lives;
-                    ops = begun.ops;
-                    own = begun.own;
-                    sorted = begun.sorted;
-                    shown = begun.shown;
-                    whole = begun.whole
-                  };
-              live = e.0.live
+                named = begun.named;
+                epoch = begun.epoch;
+                lives = begun.lives;
+                ops = begun.ops;
+                own = begun.own;
+                sorted = begun.sorted;
+                shown = begun.shown;
+                whole = begun.whole;
+              };
+              live = e.0.live;
             }
 
         clock_is : (state acts).clock (net.clients a).front.client ≤ (learns (net.clients a).desk answer).clock.value
         clock_is =
             (let l : (state acts).clock (net.clients a).front.client ≤ (net.clients a).desk.clock.value = vm.clock in
-             let k : (net.clients a).desk.clock.value ≤ (learns (net.clients a).desk answer).clock.value = left.later in
-             omega arith)
+            let k : (net.clients a).desk.clock.value ≤ (learns (net.clients a).desk answer).clock.value = left.later in
+            omega arith)
 
         epochs : IsPlanned decl (max (net.clients a).front.epoch (learns (net.clients a).desk answer).epoch)
         epochs =
             planned_max decl (net.clients a).front.epoch (learns (net.clients a).desk answer).epoch
             (ending_of decl (state acts) net.mail a (net.clients a) t (m.clients a client up) is).0.own.epoch
             (left.epoch
-              (ending_of decl (state acts) net.mail a (net.clients a) t (m.clients a client up) is).0.own.desk_epoch)
+            (ending_of decl (state acts) net.mail a (net.clients a) t (m.clients a client up) is).0.own.desk_epoch)
 
         waits : DeskMove
         waits =
             desk_moved (with_voting (learns (net.clients a).desk answer)
             (Some (record {
-                begun = t.begun;
-                calls = without_call v.calls number;
-                ballots = cast v.ballots site (vote_of t.begun site answer)
-              }))) quiet
+              begun = t.begun;
+              calls = without_call v.calls number;
+              ballots = cast v.ballots site (vote_of t.begun site answer);
+            }))) quiet
 
         by : (all : Bool) (why : Option AbortCause) → are_cast (cast v.ballots site (vote_of t.begun site answer)) ≡ all
             → first_against (cast v.ballots site (vote_of t.begun site answer)) ≡ why
@@ -178,33 +178,33 @@ module _ (decl : Declaration) where
         by true (Some why) all nay = (
           refined decl (state acts) net a _ m client up
               (aborts_it decl (state acts) acts net a learnt t
-                  (by_desk (net.clients a) (desk_gives_up (learns (net.clients a).desk answer) t.begun why)) refl mid
-                  refl ending
+              (by_desk (net.clients a) (desk_gives_up (learns (net.clients a).desk answer) t.begun why)) refl mid
+              refl ending
               (record {
-                    remains = record {
-                          client = refl;
-                          life = refl;
-                          count = refl;
-                          epoch = epochs;
-                          desk = refl;
-                          desk_epoch = ending.own.desk_epoch
-                        };
-                    later = omega arith;
-                    transaction = refl;
-                    doing = refl;
-                    voting = refl
-                  }) refl refl refl),
+                remains = record {
+                  client = refl;
+                  life = refl;
+                  count = refl;
+                  epoch = epochs;
+                  desk = refl;
+                  desk_epoch = ending.own.desk_epoch;
+                };
+                later = omega arith;
+                transaction = refl;
+                doing = refl;
+                voting = refl;
+              }) refl refl refl),
           (λ r wrote. absurd (let never : ⊥ = cc in never)),
         )
         by true None all nay = (
           refined decl (state acts) net a _ m client up (commits_it decl (state acts) acts net a learnt t refl mid refl ending voting clock_is
               (λ g among its. (let d : (d : Ballot) × In {X = Ballot} d after × (d.site ≡ g.site) = each g among its in
-                               subst (λ (s : ℕ). In {X = YesVote} (record { tx = t.begun.tx; site = s })
-                                   (state acts).votes) d.2 (for_all d.0 d.1 (all_for after all nay d.0 d.1))))),
+              subst (λ (s : ℕ). In {X = YesVote} (record { tx = t.begun.tx; site = s })
+              (state acts).votes) d.2 (for_all d.0 d.1 (all_for after all nay d.0 d.1))))),
           pends_it decl (state acts) acts net a learnt t refl left.commits mid refl ending voting clock_is
               (λ g among its. (let d : (d : Ballot) × In {X = Ballot} d after × (d.site ≡ g.site) = each g among its in
-                               subst (λ (s : ℕ). In {X = YesVote} (record { tx = t.begun.tx; site = s })
-                                   (state acts).votes) d.2 (for_all d.0 d.1 (all_for after all nay d.0 d.1)))),
+              subst (λ (s : ℕ). In {X = YesVote} (record { tx = t.begun.tx; site = s })
+              (state acts).votes) d.2 (for_all d.0 d.1 (all_for after all nay d.0 d.1)))),
         )
         by false why all nay = (
           refined decl (state acts) net a (by_desk (net.clients a) waits) m client up
@@ -216,7 +216,7 @@ module _ (decl : Declaration) where
                 begun =
                     subst (λ (x : Option Transaction). BegunMirrors decl (state acts) net.mail
                     (by_desk (net.clients a) waits).client x) (sym is) (
-                  record {
+                      record {
                         named = begun.named;
                         epoch = begun.epoch;
                         lives = begun.lives;
@@ -224,24 +224,24 @@ module _ (decl : Declaration) where
                         own = begun.own;
                         sorted = begun.sorted;
                         shown = begun.shown;
-                        whole = begun.whole
+                        whole = begun.whole;
                       },
-                  record {
-                    status_is = voting;
-                    chosen = e.1.chosen;
-                    counted = e.1.counted;
-                    calls = e.1.calls;
-                    votes =
-                        record {
-                          begun = refl;
-                          idle = vm.idle;
-                          clock = clock_is;
-                          each = each;
-                          (voted decl) = for_all;
-                          calls = λ call more. vm.calls call (still_called v.calls number call more)
-                        };
-                  },
-                );
+                      record {
+                        status_is = voting;
+                        chosen = e.1.chosen;
+                        counted = e.1.counted;
+                        calls = e.1.calls;
+                        votes =
+                            record {
+                              begun = refl;
+                              idle = vm.idle;
+                              clock = clock_is;
+                              each = each;
+                              voted = for_all;
+                              calls = λ call more. vm.calls call (still_called v.calls number call more);
+                            };
+                      },
+                    );
               })
               (no_sends decl (state acts) net.mail a) (no_asks decl (by_desk (net.clients a) waits).client)),
           (λ r wrote. absurd (let never : ⊥ = cc in never)),
@@ -251,15 +251,15 @@ module _ (decl : Declaration) where
         → (net.clients a).front.transaction ≡ t → (net.clients a).desk.voting ≡ Some v
         → AnswerBacked decl (state acts) net.mail from number answer
         → (o : Option ℕ) → site_called v.calls number ≡ o
-            → Refines decl
-              (after_client net a (by_desk (net.clients a) (votes_at (net.clients a).desk v number answer o)))
+        → Refines decl
+        (after_client net a (by_desk (net.clients a) (votes_at (net.clients a).desk v number answer o)))
     vote_case from number t v answer is votes backed None none =
         nothing decl acts net a (by_desk (net.clients a) (desk_moved (net.clients a).desk quiet)) run m client up refl
         refl refl
     vote_case from number None v answer is votes backed (Some site) called =
         let free : (net.clients a).desk.voting ≡ None =
-                (subst (λ (x : Option Transaction). BegunMirrors decl (state acts) net.mail (net.clients a) x) is
-                  (m.clients a client up).begun).voting in
+        (subst (λ (x : Option Transaction). BegunMirrors decl (state acts) net.mail (net.clients a) x) is
+        (m.clients a client up).begun).voting in
         absurd (let never : ⊥ = cc in never)
     vote_case from number (Some t) v answer is votes backed (Some site) called =
         (counts_case from number site t v answer is votes backed called v.begun
@@ -270,14 +270,14 @@ module _ (decl : Declaration) where
         → (net.clients a).front.transaction ≡ t → (net.clients a).desk.voting ≡ Some v
         → AnswerBacked decl (state acts) net.mail from number answer
         → (o : Option ℕ) → site_called v.calls number ≡ o → (r : Record)
-            → (by_desk (net.clients a) (votes_at (net.clients a).desk v number answer o)).turn.write ≡ Some r
-            → Pends decl (state acts) net a r
-              × ((by_desk (net.clients a) (votes_at (net.clients a).desk v number answer o)).turn.failed_sends ≡ [])
+        → (by_desk (net.clients a) (votes_at (net.clients a).desk v number answer o)).turn.write ≡ Some r
+        → Pends decl (state acts) net a r
+        × ((by_desk (net.clients a) (votes_at (net.clients a).desk v number answer o)).turn.failed_sends ≡ [])
     vote_fails from number t v answer is votes backed None none r wrote = absurd (let never : ⊥ = cc in never)
     vote_fails from number None v answer is votes backed (Some site) called r wrote =
         let free : (net.clients a).desk.voting ≡ None =
-                (subst (λ (x : Option Transaction). BegunMirrors decl (state acts) net.mail (net.clients a) x) is
-                  (m.clients a client up).begun).voting in
+        (subst (λ (x : Option Transaction). BegunMirrors decl (state acts) net.mail (net.clients a) x) is
+        (m.clients a client up).begun).voting in
         absurd (let never : ⊥ = cc in never)
     vote_fails from number (Some t) v answer is votes backed (Some site) called r wrote =
         (counts_case from number site t v answer is votes backed called v.begun

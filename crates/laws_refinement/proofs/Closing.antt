@@ -1,5 +1,7 @@
 -- A site closes its epoch: it tells what it has, and holds just what it promised.
-use Rattle.std.proofs.Common.{◌≡◌, ◌≢◌, ◌≤◌, ◌<◌, ℕ, suc, ◌+◌, nat_le, nat_lt, Bool, true, false, cond, inl, inr, List, [], ◌∷◌, ◌++◌, Option, Some, None, is_some, refl, sym, ap, ◌∙◌, subst, ltb-false, leb-false, arith}
+use Rattle.std.proofs.Common.{◌≡◌, ◌≢◌, ◌≤◌, ◌<◌, ℕ, suc, ◌+◌, nat_le, nat_lt, Bool, true, false, cond, inl, inr, List}
+use Rattle.std.proofs.Common.{[], ◌∷◌, ◌++◌, Option, Some, None, is_some, refl, sym, ap, ◌∙◌, subst, ltb-false}
+use Rattle.std.proofs.Common.{leb-false, arith}
 use Rattle.qc_stamp.specs.declared.stamp.TxId.{TxId}
 use Rattle.qc_list.specs.Names.{In}
 use Rattle.qc_entry.specs.declared.line.Line.{Line}
@@ -36,7 +38,8 @@ use Rattle.laws_refinement.proofs.BothPromises.{Behind, asked_begun, behind, was
 use Rattle.laws_refinement.proofs.HeldByPromises.{by_promises_held, by_promises_holder, by_promises_owned}
 use Rattle.laws_refinement.proofs.Known.{known_ascends}
 
-module _ (decl : Declaration) (accepted : IsAccepted decl) (acts : List Act) (net : Net) (a : ℕ) (run : IsRun decl acts) (m : Mirrors decl (state acts) net) (site : is_site decl a ≡ true) (up : net.up a ≡ true) where
+module _ (decl : Declaration) (accepted : IsAccepted decl) (acts : List Act) (net : Net) (a : ℕ) (run : IsRun decl acts)
+    (m : Mirrors decl (state acts) net) (site : is_site decl a ≡ true) (up : net.up a ≡ true) where
   w : State
   w = state acts
 
@@ -49,56 +52,103 @@ module _ (decl : Declaration) (accepted : IsAccepted decl) (acts : List Act) (ne
   -- what a site has promised was begun
   promised_begun : (q : Prepared) → In q (net.sites a).prepared → (state acts).status q.tx ≢ NotBegun
   promised_begun q among =
-      let b : Behind (site_after ((state acts).deeds a)).prepared q = behind (site_after ((state acts).deeds a)).prepared (net.sites a).prepared q ms.promised ms.apart among in
+      let b : Behind (site_after ((state acts).deeds a)).prepared q =
+      behind (site_after ((state acts).deeds a)).prepared (net.sites a).prepared q ms.promised ms.apart among in
       let may : MayPrepare ((state acts).status b.promise.tx) = (laws decl acts run).deeds a (Prepares b.promise.tx) (was_asked ((state acts).deeds a) b.promise b.stands) in
       subst (λ (t : TxId). (state acts).status t ≢ NotBegun) b.its (asked_begun ((state acts).status b.promise.tx) may)
 
   in_ordered : (q : Prepared) → In q (promises_in_order (net.sites a).prepared) → In q (net.sites a).prepared
   in_ordered q among =
-      let e : prepared_of (promises_in_order (net.sites a).prepared) q.tx ≡ Some q = apart_found q (promises_in_order (net.sites a).prepared) (order_apart (net.sites a).prepared ms.apart) among in
+      let e : prepared_of (promises_in_order (net.sites a).prepared) q.tx ≡ Some q =
+      apart_found q (promises_in_order (net.sites a).prepared) (order_apart (net.sites a).prepared ms.apart)
+      among in
       (found_in q.tx (net.sites a).prepared q (sym (order_found (net.sites a).prepared q.tx ms.apart) ∙ e)).0
 
   abbrev snap : List Deed → Snapshot
   snap ds = record { site = a; clock = (net.sites a).clock; before = ds }
 
   -- it has closed already, and tells what it has
-  again : (from number k : ℕ) → IsMessage net.mail number a (messages.Close k) → k ≡ suc (net.sites a).epoch → shut_from false ((state acts).deeds a) ≡ true
-      → Continues decl acts (after_site net a (moved (net.sites a) (answers_with from number (shut_answer (net.sites a)))))
+  again : (from number k : ℕ) → IsMessage net.mail number a (messages.Close k) → k ≡ suc (net.sites a).epoch
+      → shut_from false ((state acts).deeds a) ≡ true
+      → Continues decl acts
+      (after_site net a (moved (net.sites a) (answers_with from number (shut_answer (net.sites a)))))
   again from number k asked next shut = record {
     more = TakeSnapshot (snap ((state acts).deeds a)) ∷ [];
     refines = record {
-      run = ((refl, record { shut = shut; passes_done = λ u stamp among. ms.done (record { tx = u; stamp = stamp }) among; passes_installs = ms.installs }), run);
-      agrees = site_goes decl (state acts) v net a (moved (net.sites a) (answers_with from number (shut_answer (net.sites a)))) m site up (record {
-        later = record { born = λ t h. h; epoch = λ t h. refl; asked = λ t h. h; counted = λ x h asked. h; granted = λ x h. h; votes = λ x h. h; verdicts = λ t h. h; appends = λ s h. h; snapshots = λ s h. inr h; decided = λ d h. h };
-        keeps = λ c. record { status = λ t h. refl; epoch = λ t h. refl; executed = λ t h. refl; chosen = λ t h. refl; clock = refl; counted = λ x its h. h; more = λ x h. h; votes = λ x h. h; appends = λ x h. h };
-        records = refl;
-        placed_at = m.placed;
-        kept = subst (λ (rs : List Record). KeptMirrors decl (kept_by rs) (state acts).status ((state acts).life a) ((state acts).deeds a)) (sym (append-nil (net.records a))) (m.kept a site);
-        alike = subst (λ (rs : List Record). IsKeptBy (net.sites a) (kept_by rs)) (sym (append-nil (net.records a))) (m.alike a site up);
-        here = ms;
-        there = λ b other. refl;
-        alive = λ b other. refl;
-        holders = λ t held. m.holders a t site up held;
-        turn = one_answer decl v net.mail a from number (shut_answer (net.sites a)) (record {
-          epoch = k;
-          asked = asked;
-          told = record {
-            snapshot = snap ((state acts).deeds a);
-            taken = inl refl;
-            of = refl;
-            clock_is = refl;
-            next = next ∙ ap (λ (n : ℕ). suc n) (sym ms.epoch);
-            lines = ms.log;
-            only = ms.logged;
-            sorted = known_ascends (net.sites a).began (net.sites a).log ms.sorted;
-            promised = λ t. subst (λ (o : Option Prepared). IsPromiseOf (promise_of t (site_after ((state acts).deeds a)).prepared) o) (sym (order_found (net.sites a).prepared t ms.apart)) (ms.promised t);
-            apart = order_apart (net.sites a).prepared ms.apart;
-            lined = λ p among l has. ms.lined p (in_ordered p among) l has;
-            single = ms.single;
-            begun = λ p among. promised_begun p (in_ordered p among);
-          };
-        });
-      });
+      run = (
+        (
+          refl,
+          record {
+            shut = shut;
+            passes_done = λ u stamp among. ms.done (record { tx = u; stamp = stamp }) among;
+            passes_installs = ms.installs;
+          },
+        ),
+        run,
+      );
+      agrees =
+          site_goes decl (state acts) v net a
+          (moved (net.sites a) (answers_with from number (shut_answer (net.sites a)))) m site up (record {
+            later =
+                record {
+                  born = λ t h. h;
+                  epoch = λ t h. refl;
+                  asked = λ t h. h;
+                  counted = λ x h asked. h;
+                  granted = λ x h. h;
+                  votes = λ x h. h;
+                  verdicts = λ t h. h;
+                  appends = λ s h. h;
+                  snapshots = λ s h. inr h;
+                  decided = λ d h. h;
+                };
+            keeps =
+                λ c. record {
+                  status = λ t h. refl;
+                  epoch = λ t h. refl;
+                  executed = λ t h. refl;
+                  chosen = λ t h. refl;
+                  clock = refl;
+                  counted = λ x its h. h;
+                  more = λ x h. h;
+                  votes = λ x h. h;
+                  appends = λ x h. h;
+                };
+            records = refl;
+            placed_at = m.placed;
+            kept =
+                subst (λ (rs : List Record). KeptMirrors decl (kept_by rs) (state acts).status ((state acts).life a)
+                ((state acts).deeds a)) (sym (append-nil (net.records a))) (m.kept a site);
+            alike =
+                subst (λ (rs : List Record). IsKeptBy (net.sites a) (kept_by rs)) (sym (append-nil (net.records a)))
+                (m.alike a site up);
+            here = ms;
+            there = λ b other. refl;
+            alive = λ b other. refl;
+            holders = λ t held. m.holders a t site up held;
+            turn = one_answer decl v net.mail a from number (shut_answer (net.sites a)) (record {
+              epoch = k;
+              asked = asked;
+              told = record {
+                snapshot = snap ((state acts).deeds a);
+                taken = inl refl;
+                of = refl;
+                clock_is = refl;
+                next = next ∙ ap (λ (n : ℕ). suc n) (sym ms.epoch);
+                lines = ms.log;
+                only = ms.logged;
+                sorted = known_ascends (net.sites a).began (net.sites a).log ms.sorted;
+                promised =
+                    λ t. subst (λ (o : Option Prepared). IsPromiseOf (promise_of t
+                    (site_after ((state acts).deeds a)).prepared) o) (sym (order_found (net.sites a).prepared t ms.apart))
+                    (ms.promised t);
+                apart = order_apart (net.sites a).prepared ms.apart;
+                lined = λ p among l has. ms.lined p (in_ordered p among) l has;
+                single = ms.single;
+                begun = λ p among. promised_begun p (in_ordered p among);
+              };
+            });
+          });
     };
   }
     where
@@ -106,47 +156,66 @@ module _ (decl : Declaration) (accepted : IsAccepted decl) (acts : List Act) (ne
       v = after_act (state acts) (TakeSnapshot (snap ((state acts).deeds a)))
 
   -- it closes, and tells what it has
-  shuts : (from number k : ℕ) → IsMessage net.mail number a (messages.Close k) → IsPlanned decl k → k ≡ suc (net.sites a).epoch
-      → Continues decl acts (after_site net a (moved (closed (net.sites a) k) (recording from number (records.Close k) (shut_answer (closed (net.sites a) k)))))
+  shuts : (from number k : ℕ) → IsMessage net.mail number a (messages.Close k) → IsPlanned decl k
+      → k ≡ suc (net.sites a).epoch
+      → Continues decl acts
+      (after_site net a
+      (moved (closed (net.sites a) k)
+      (recording from number (records.Close k) (shut_answer (closed (net.sites a) k)))))
   shuts from number k asked planned next = record {
     more = TakeSnapshot (snap more) ∷ Close a ∷ [];
     refines = record {
-      run = ((sym (put_here (state acts).deeds a more), record { shut = shut; passes_done = λ u stamp among. passes (record { tx = u; stamp = stamp }) among; passes_installs = passes_installs }), (tt, run));
-      agrees = site_goes decl (state acts) v net a (moved (closed (net.sites a) k) (recording from number (records.Close k) (shut_answer (closed (net.sites a) k)))) m site up (record {
-        later = record { born = λ t h. h; epoch = λ t h. refl; asked = λ t h. h; counted = λ x h asked. h; granted = λ x h. h; votes = λ x h. h; verdicts = λ t h. h; appends = λ s h. h; snapshots = λ s h. inr h; decided = λ d h. h };
-        keeps = λ c. record { status = λ t h. refl; epoch = λ t h. refl; executed = λ t h. refl; chosen = λ t h. refl; clock = refl; counted = λ x its h. h; more = λ x h. h; votes = λ x h. h; appends = λ x h. h };
-        records = refl;
-        placed_at = m.placed;
-        kept = subst (λ (n : ℕ). KeptMirrors decl (kept_by (net.records a ++ records.Close k ∷ [])) (state acts).status n (v.deeds a)) (sym (put_here (state acts).life a (suc ((state acts).life a))))
-            (subst (λ (ds : List Deed). KeptMirrors decl (kept_by (net.records a ++ records.Close k ∷ [])) (state acts).status (suc ((state acts).life a)) ds) (sym (put_here (state acts).deeds a more))
-            (subst (λ (x : Kept). KeptMirrors decl x (state acts).status (suc ((state acts).life a)) ((state acts).deeds a ++ Closes ∷ [])) (sym (kept_more (net.records a) (records.Close k)))
-            (kept_closes decl (kept_by (net.records a)) (state acts).status ((state acts).life a) ((state acts).deeds a) k (m.kept a site) (next ∙ ap (λ (n : ℕ). suc n) (epoch_kept a site up), planned))));
-        alike = subst (λ (x : Kept). IsKeptBy (closed (net.sites a) k) x) (sym (kept_more (net.records a) (records.Close k))) (record { began = (m.alike a site up).began; recorded = (m.alike a site up).recorded; promises = (m.alike a site up).promises });
-        here = subst (λ (n : ℕ). SiteMirrors decl (closed (net.sites a) k) (v.deeds a) n) (sym (put_here (state acts).life a (suc ((state acts).life a))))
-            (subst (λ (ds : List Deed). SiteMirrors decl (closed (net.sites a) k) ds (suc ((state acts).life a))) (sym (put_here (state acts).deeds a more)) here);
-        there = λ b other. put_other (state acts).deeds a more b other;
-        alive = λ b other. put_other (state acts).life a (suc ((state acts).life a)) b other;
-        holders = holders;
-        turn = one_answer decl v net.mail a from number (shut_answer (closed (net.sites a) k)) (record {
-          epoch = k;
-          asked = asked;
-          told = record {
-            snapshot = snap more;
-            taken = inl refl;
-            of = refl;
-            clock_is = refl;
-            next = next ∙ ap (λ (n : ℕ). suc n) (sym here.epoch);
-            lines = here.log;
-            only = here.logged;
-            sorted = known_ascends (net.sites a).began (net.sites a).log ms.sorted;
-            promised = λ t. subst (λ (o : Option Prepared). IsPromiseOf (promise_of t (site_after more).prepared) o) (sym (order_found (net.sites a).prepared t ms.apart)) (here.promised t);
-            apart = order_apart (net.sites a).prepared ms.apart;
-            lined = λ p among l has. ms.lined p (in_ordered p among) l has;
-            single = here.single;
-            begun = λ p among. promised_begun p (in_ordered p among);
-          };
-        });
-      });
+      run = (
+        (
+          sym (put_here (state acts).deeds a more),
+          record {
+            shut = shut;
+            passes_done = λ u stamp among. passes (record { tx = u; stamp = stamp }) among;
+            passes_installs = passes_installs;
+          },
+        ),
+        (tt, run),
+      );
+      agrees =
+          site_goes decl (state acts) v net a
+          (moved (closed (net.sites a) k)
+          (recording from number (records.Close k) (shut_answer (closed (net.sites a) k)))) m site up (record {
+            later = record { born = λ t h. h; epoch = λ t h. refl; asked = λ t h. h; counted = λ x h asked. h; granted = λ x h. h; votes = λ x h. h; verdicts = λ t h. h; appends = λ s h. h; snapshots = λ s h. inr h; decided = λ d h. h };
+            keeps = λ c. record { status = λ t h. refl; epoch = λ t h. refl; executed = λ t h. refl; chosen = λ t h. refl; clock = refl; counted = λ x its h. h; more = λ x h. h; votes = λ x h. h; appends = λ x h. h };
+            records = refl;
+            placed_at = m.placed;
+            kept =
+                subst (λ (n : ℕ). KeptMirrors decl (kept_by (net.records a ++ records.Close k ∷ [])) (state acts).status n
+                (v.deeds a)) (sym (put_here (state acts).life a (suc ((state acts).life a))))
+                (subst (λ (ds : List Deed). KeptMirrors decl (kept_by (net.records a ++ records.Close k ∷ [])) (state acts).status (suc ((state acts).life a)) ds) (sym (put_here (state acts).deeds a more))
+                (subst (λ (x : Kept). KeptMirrors decl x (state acts).status (suc ((state acts).life a)) ((state acts).deeds a ++ Closes ∷ [])) (sym (kept_more (net.records a) (records.Close k)))
+                (kept_closes decl (kept_by (net.records a)) (state acts).status ((state acts).life a) ((state acts).deeds a) k (m.kept a site) (next ∙ ap (λ (n : ℕ). suc n) (epoch_kept a site up), planned))));
+            alike = subst (λ (x : Kept). IsKeptBy (closed (net.sites a) k) x) (sym (kept_more (net.records a) (records.Close k))) (record { began = (m.alike a site up).began; recorded = (m.alike a site up).recorded; promises = (m.alike a site up).promises });
+            here = subst (λ (n : ℕ). SiteMirrors decl (closed (net.sites a) k) (v.deeds a) n) (sym (put_here (state acts).life a (suc ((state acts).life a))))
+                (subst (λ (ds : List Deed). SiteMirrors decl (closed (net.sites a) k) ds (suc ((state acts).life a))) (sym (put_here (state acts).deeds a more)) here);
+            there = λ b other. put_other (state acts).deeds a more b other;
+            alive = λ b other. put_other (state acts).life a (suc ((state acts).life a)) b other;
+            holders = holders;
+            turn = one_answer decl v net.mail a from number (shut_answer (closed (net.sites a) k)) (record {
+              epoch = k;
+              asked = asked;
+              told = record {
+                snapshot = snap more;
+                taken = inl refl;
+                of = refl;
+                clock_is = refl;
+                next = next ∙ ap (λ (n : ℕ). suc n) (sym here.epoch);
+                lines = here.log;
+                only = here.logged;
+                sorted = known_ascends (net.sites a).began (net.sites a).log ms.sorted;
+                promised = λ t. subst (λ (o : Option Prepared). IsPromiseOf (promise_of t (site_after more).prepared) o) (sym (order_found (net.sites a).prepared t ms.apart)) (here.promised t);
+                apart = order_apart (net.sites a).prepared ms.apart;
+                lined = λ p among l has. ms.lined p (in_ordered p among) l has;
+                single = here.single;
+                begun = λ p among. promised_begun p (in_ordered p among);
+              };
+            });
+          });
     };
   }
     where

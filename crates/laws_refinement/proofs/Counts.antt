@@ -1,6 +1,6 @@
 -- A grant that counts: its site is a participant, and the lines that it shows join the object's view.
-use Rattle.std.proofs.Common.{◌≡◌, ◌≢◌, ℕ, ◌==◌, Bool, true, false, inl, inr, List, ◌∷◌}
-use Rattle.std.proofs.Common.{Some, slice_get, refl, sym, ap, ◌∙◌, subst, eq-eqb, eqb-true}
+use Rattle.std.proofs.Common.{◌≡◌, ◌≢◌, ℕ, ◌==◌, Bool, true, false, inl, inr, List, ◌∷◌, Some, slice_get, refl, sym, ap}
+use Rattle.std.proofs.Common.{◌∙◌, subst, eq-eqb, eqb-true}
 use Rattle.qc_list.specs.Names.{In}
 use Rattle.qc_entry.specs.declared.line.Line.{Line}
 use Rattle.qc_entry.specs.declared.line.OwnLine.{OwnLine}
@@ -10,8 +10,7 @@ use Rattle.qc_entry.proofs.Union.{ascending-union, in_either, in_first, in_secon
 use Rattle.qc_decl.specs.declared.declaration.Declaration.{Declaration}
 use Rattle.qc_msg.specs.declared.message.Want.TheVariants.{Read, Append}
 use Rattle.qc_msg.specs.Names.{with_life}
-use Rattle.theory_machine.specs.Names.{Count, Granted, IsShown, Item, Lock, Shows, State, after_act}
-use Rattle.theory_machine.specs.Names.{site_after}
+use Rattle.theory_machine.specs.Names.{Count, Granted, IsShown, Item, Lock, Shows, State, after_act, site_after}
 use Rattle.qc_front.specs.Names.{lived, view_log, with_granted}
 use Rattle.qc_view.specs.declared.view.View.{View}
 use Rattle.qc_front.specs.declared.transaction.Transaction.{Transaction}
@@ -30,7 +29,7 @@ pub read_counted : (decl : Declaration) (w : State) (a : ℕ) (c : Client) (t : 
     → Core decl (after_act w (Count k.grant)) a (learned c clock) (with_granted (lived t site life) object log)
 read_counted decl w a c t site life clock object inv log k lives v is core =
     counted_core decl w a c t (with_granted (lived t site life) object log) site life clock log (Read object inv) k
-        lives core (granted_given t site life object log) sorted shown whole
+    lives core (granted_given t site life object log) sorted shown whole
   where
     here : view_log (with_granted (lived t site life) object log) object ≡ union (view_log t object) log
     here = granted_here (lived t site life) object log v is
@@ -52,7 +51,7 @@ read_counted decl w a c t site life clock object inv log k lives v is core =
         by false e =
             subst (P other)
             (sym (there other
-              (λ same. let t : (other == object) ≡ true = eq-eqb other object same in let never : ⊥ = cc in never)))
+            (λ same. let t : (other == object) ≡ true = eq-eqb other object same in let never : ⊥ = cc in never)))
             (old other)
 
     sorted : (other : ℕ) → IsAscending (view_log (with_granted (lived t site life) object log) other)
@@ -73,7 +72,7 @@ read_counted decl w a c t site life clock object inv log k lives v is core =
               lock = record { object = object; inv = inv };
               granted = subst (λ (xs : List Item). In (Lock (record { object = object; inv = inv })) xs)
                   (sym k.items_are) (inl refl);
-              on = sym (k.shown object inv refl l among)
+              on = sym (k.shown object inv refl l among);
             };
       },
     )
@@ -82,13 +81,16 @@ read_counted decl w a c t site life clock object inv log k lives v is core =
         → (l.object ≡ other) × IsShown (k.grant ∷ w.counted) t.begun.tx l
     shown = each (λ n ls. (l : Line) → In l ls → (l.object ≡ n) × IsShown (k.grant ∷ w.counted) t.begun.tx l)
         (λ l among. elim (in_either l (view_log t object) log among) [
-          | inl old ↦
-              ((core.begun.shown object l old).0,
-              more_shown w.counted k.grant t.begun.tx l (core.begun.shown object l old).1)
+          | inl old ↦ (
+            (core.begun.shown object l old).0,
+            more_shown w.counted k.grant t.begun.tx l (core.begun.shown object l old).1,
+          )
           | inr new ↦ fresh l new
         ])
-        (λ n l among. ((core.begun.shown n l among).0,
-            more_shown w.counted k.grant t.begun.tx l (core.begun.shown n l among).1))
+        (λ n l among. (
+          (core.begun.shown n l among).0,
+          more_shown w.counted k.grant t.begun.tx l (core.begun.shown n l among).1,
+        ))
 
     locked : (l : Line) → Shows k.grant l → l.object ≡ object
     locked l s = elim (subst (λ (xs : List Item). In (Lock s.lock) xs) k.items_are s.granted) [
@@ -104,11 +106,11 @@ read_counted decl w a c t site life clock object inv log k lives v is core =
       | inl same ↦
           in_second l (view_log t object) log
           (k.whole object inv refl l (subst (λ (g : Granted). In l (site_after g.before).volatile) same s.shows.stands)
-            on)
+          on)
       | inr old ↦
           in_first l (view_log t object) log
           (subst (λ (n : ℕ). In l (view_log t n)) on
-            (core.begun.whole l (record { grant = s.grant; counts = old; its = s.its; shows = s.shows })))
+          (core.begun.whole l (record { grant = s.grant; counts = old; its = s.its; shows = s.shows })))
     ]
 
     elsewhere : (l : Line) → IsShown (k.grant ∷ w.counted) t.begun.tx l → l.object ≢ object → In l (view_log t l.object)
@@ -126,11 +128,11 @@ read_counted decl w a c t site life clock object inv log k lives v is core =
         by true e =
             let on : l.object ≡ object = eqb-true l.object object e in
             subst (λ (n : ℕ). In l (view_log (with_granted (lived t site life) object log) n)) (sym on)
-                (subst (λ (ls : List Line). In l ls) (sym here) (at_object l s on))
+            (subst (λ (ls : List Line). In l ls) (sym here) (at_object l s on))
         by false e =
             let apart : l.object ≢ object =
-                    (λ same. let t : (l.object == object)
-                      ≡ true = eq-eqb l.object object same in let never : ⊥ = cc in never) in
+            (λ same. let t : (l.object == object)
+            ≡ true = eq-eqb l.object object same in let never : ⊥ = cc in never) in
             subst (λ (ls : List Line). In l ls) (sym (there l.object apart)) (elsewhere l s apart)
 
 -- a grant to an Append shows nothing
@@ -147,12 +149,14 @@ pub append_counted : (decl : Declaration) (w : State) (a : ℕ) (c : Client) (t 
     → Core decl (after_act w (Count k.grant)) a (learned c clock) (lived t site life)
 append_counted decl w a c t site life clock object view own log k lives core =
     counted_core decl w a c t (lived t site life) site life clock log (Append object view own) k lives core
-        (lived_given t site life) core.begun.sorted
-    (λ n l among. ((core.begun.shown n l among).0,
-        more_shown w.counted k.grant t.begun.tx l (core.begun.shown n l among).1))
+    (lived_given t site life) core.begun.sorted
+    (λ n l among. (
+      (core.begun.shown n l among).0,
+      more_shown w.counted k.grant t.begun.tx l (core.begun.shown n l among).1,
+    ))
     (λ l s. elim s.counts [
       | inl same ↦
           (let g : Shows k.grant l = subst (λ (g : Granted). Shows g l) same s.shows in
-           absurd (no_lock g.lock own (subst (λ (xs : List Item). In (Lock g.lock) xs) k.items_are g.granted)))
+          absurd (no_lock g.lock own (subst (λ (xs : List Item). In (Lock g.lock) xs) k.items_are g.granted)))
       | inr old ↦ core.begun.whole l (record { grant = s.grant; counts = old; its = s.its; shows = s.shows })
     ])

@@ -2,19 +2,15 @@
 use Rattle.std.proofs.Common.{◌≡◌, ℕ, List, ◌++◌, Option, Some, None, map, arith, ◌≤◌, ap, sym, ◌∙◌, subst}
 use Rattle.qc_stamp.specs.declared.stamp.TxId.{TxId}
 use Rattle.qc_list.specs.Names.{In}
-use Rattle.laws_refinement.specs.Names.{AreCounted, AreVotes, BegunMirrors}
-use Rattle.laws_refinement.specs.Names.{ClientMirrors, IsAskedBy}
-use Rattle.laws_refinement.specs.Names.{IsChosen, IsRoundCounted}
-use Rattle.laws_refinement.specs.Names.{OwnMirrors}
-use Rattle.laws_refinement.specs.Names.{RunningMirrors, TransactionMirrors, name_at}
+use Rattle.laws_refinement.specs.Names.{AreCounted, AreVotes, BegunMirrors, ClientMirrors, IsAskedBy, IsChosen}
+use Rattle.laws_refinement.specs.Names.{IsRoundCounted, OwnMirrors, RunningMirrors, TransactionMirrors, name_at}
 use Rattle.qc_client.specs.declared.client.Client.{Client}
 use Rattle.qc_front.specs.declared.transaction.Transaction.{Transaction}
 use Rattle.qc_front.specs.declared.front.Front.{Front}
 use Rattle.qc_front.specs.declared.doing.Doing.TheVariants.{Idle, Reading, Appending}
 use Rattle.qc_front.specs.declared.doing.Doing.{Doing as FrontDoing}
 use Rattle.qc_commit.specs.declared.desk.Voting.{Voting}
-use Rattle.theory_machine.specs.Names.{Granted, IsShown, Item}
-use Rattle.theory_machine.specs.Names.{State, op_of, own_on}
+use Rattle.theory_machine.specs.Names.{Granted, IsShown, Item, State, op_of, own_on}
 use Rattle.theory_onecopy.specs.Names.{Executed}
 use Rattle.qc_msg.specs.declared.call.Call.{Call}
 use Rattle.qc_plan.specs.declared.standing.Asked.{Asked}
@@ -31,10 +27,12 @@ module _ (decl : Declaration) where
 
   pub asked_later : (ms more : List Envelope) (t : Transaction) (doing : FrontDoing) (c : Call)
       → IsAskedBy decl ms t doing c → IsAskedBy decl (ms ++ more) t doing c
-  asked_later ms more t doing c h =
-      (h.0,
-      message_later ms more c.number c.site
-        (messages.Request t.begun.tx t.begun.epoch (life_of t.begun.lives c.site) h.0) h.1, h.2)
+  asked_later ms more t doing c h = (
+    h.0,
+    message_later ms more c.number c.site
+        (messages.Request t.begun.tx t.begun.epoch (life_of t.begun.lives c.site) h.0) h.1,
+    h.2,
+  )
 
   pub counted_later : (counted more : List Granted) (tx : TxId) (item : Item) (xs : List Asked)
       → ((g : Granted) → In g counted → In g more) → AreCounted counted tx item xs → AreCounted more tx item xs
@@ -51,8 +49,8 @@ module _ (decl : Declaration) where
       idle = h.idle;
       clock =
           (let e : v.clock c.front.client ≡ w.clock c.front.client =
-                   subst (λ (m : ℕ). v.clock m ≡ w.clock m) (sym mine) k.clock in
-           let l : w.clock c.front.client ≤ c.desk.clock.value = h.clock in omega arith);
+          subst (λ (m : ℕ). v.clock m ≡ w.clock m) (sym mine) k.clock in
+          let l : w.clock c.front.client ≤ c.desk.clock.value = h.clock in omega arith);
       each = λ g among is. h.each g (k.counted g (ap (λ (u : TxId). u.client) is ∙ its) among) is;
       voted = λ b among aye. k.votes _ (h.voted b among aye);
       calls = λ call among. request_later ms more call.number call.site t.begun.tx Prepare (h.calls call among);
@@ -94,11 +92,11 @@ module _ (decl : Declaration) where
           whole =
               λ l s. m.whole l
               (record {
-                  grant = s.grant;
-                  counts = k.counted s.grant (ap (λ (u : TxId). u.client) s.its ∙ mine) s.counts;
-                  its = s.its;
-                  shows = s.shows
-                });
+                grant = s.grant;
+                counts = k.counted s.grant (ap (λ (u : TxId). u.client) s.its ∙ mine) s.counts;
+                its = s.its;
+                shows = s.shows;
+              });
         }
 
     pub keep_running : (ms more : List Envelope) (c : Client) (t : Transaction) → c.front.client ≡ n
@@ -114,9 +112,10 @@ module _ (decl : Declaration) where
     keep_begun : (ms more : List Envelope) (c : Client) (t : Option Transaction) → c.front.client ≡ n
         → BegunMirrors decl w ms c t → BegunMirrors decl v (ms ++ more) c t
     keep_begun ms more c None its h = h
-    keep_begun ms more c (Some t) its h =
-        (keep_transaction c.front t its h.0,
-        keep_running ms more c t its (ap (λ (u : TxId). u.client) h.0.named ∙ its) h.1)
+    keep_begun ms more c (Some t) its h = (
+      keep_transaction c.front t its h.0,
+      keep_running ms more c t its (ap (λ (u : TxId). u.client) h.0.named ∙ its) h.1,
+    )
 
     pub keep_own : (a : ℕ) (c : Client) (t : Option Transaction) → c.front.client ≡ n → OwnMirrors decl w a c t
         → OwnMirrors decl v a c t
@@ -127,8 +126,8 @@ module _ (decl : Declaration) where
       desk_epoch = m.desk_epoch;
       clock =
           (let e : v.clock c.front.client ≡ w.clock c.front.client =
-                   subst (λ (m : ℕ). v.clock m ≡ w.clock m) (sym its) k.clock in
-           let l : w.clock c.front.client ≤ c.front.clock.value = m.clock in omega arith);
+          subst (λ (m : ℕ). v.clock m ≡ w.clock m) (sym its) k.clock in
+          let l : w.clock c.front.client ≤ c.front.clock.value = m.clock in omega arith);
       to_come = λ i later. k.status (name_at c.front i) its ∙ m.to_come i later;
       lives_to_come = λ u mine later. k.status u (mine ∙ its) ∙ m.lives_to_come u mine later;
       committed =
@@ -143,7 +142,7 @@ module _ (decl : Declaration) where
     keep_client ms more a c its m =
         record {
           own = keep_own a c c.front.transaction its m.own;
-          begun = keep_begun ms more c c.front.transaction its m.begun
+          begun = keep_begun ms more c c.front.transaction its m.begun;
         }
 
 -- a function that changes at one number

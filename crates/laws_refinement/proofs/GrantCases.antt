@@ -1,6 +1,6 @@
 -- A Read or an Append that a site looks at: a grant of the machine, or none where it clashes.
 use Rattle.std.proofs.Common.{◌≡◌, ◌≢◌, ◌≤◌, ℕ, ◌==◌, true, false, IsTrue, ◌⊎◌, inl, inr, List, [], ◌∷◌, ◌++◌, Some}
-use Rattle.std.proofs.Common.{None, refl, sym, ap, ◌∙◌, subst}
+use Rattle.std.proofs.Common.{None, refl, sym, ap, ◌∙◌, subst, eq-eqb, eqb-true}
 use Rattle.qc_stamp.specs.declared.stamp.TxId.{TxId}
 use Rattle.qc_stamp.specs.Names.{same_tx}
 use Rattle.qc_list.specs.Names.{In}
@@ -10,7 +10,6 @@ use Rattle.qc_entry.specs.declared.line.OwnLine.{OwnLine}
 use Rattle.qc_entry.specs.declared.line.ReadLock.{ReadLock}
 use Rattle.qc_entry.specs.Names.{of_object}
 use Rattle.qc_entry.proofs.Members.{ascending-of_object}
-use Rattle.std.proofs.Common.{eq-eqb, eqb-true}
 use Rattle.qc_decl.specs.declared.declaration.Declaration.{Declaration}
 use Rattle.qc_decl.specs.Names.{IsAccepted, is_site}
 use Rattle.qc_table.specs.Names.{depends}

@@ -1,6 +1,6 @@
 -- The participants, and the transaction, with what was granted.
-use Rattle.std.proofs.Common.{◌≡◌, ◌≢◌, ◌≤◌, ℕ, ◌==◌, ◌||◌, max, Bool, true, false, cond, inr, List, ◌∷◌, ◌++◌}
-use Rattle.std.proofs.Common.{map, Option, Some, None, slice_get, refl, sym, ap, ◌∙◌, subst, eq-eqb, arith}
+use Rattle.std.proofs.Common.{◌≡◌, ◌≢◌, ◌≤◌, ℕ, ◌==◌, ◌||◌, max, Bool, true, false, cond, inr, List, ◌∷◌, ◌++◌, map}
+use Rattle.std.proofs.Common.{Option, Some, None, slice_get, refl, sym, ap, ◌∙◌, subst, eq-eqb, arith}
 use Rattle.std.specs.Prelude.{option_map}
 use Rattle.std.specs.Option.{option_map_or}
 use Rattle.qc_stamp.specs.declared.stamp.TxId.{TxId}
@@ -12,8 +12,8 @@ use Rattle.qc_decl.specs.declared.declaration.Declaration.{Declaration}
 use Rattle.qc_msg.specs.declared.begun.LifeAt.{LifeAt}
 use Rattle.qc_msg.specs.declared.message.Want.{Want}
 use Rattle.qc_msg.specs.Names.{has_granted, with_life}
-use Rattle.theory_machine.specs.Names.{Aborted, Count, Granted, IsShown, NotBegun, State, after_act}
-use Rattle.theory_machine.specs.Names.{op_of, own_on as machine_own_on}
+use Rattle.theory_machine.specs.Names.{Aborted, Count, Granted, IsShown, NotBegun, State, after_act, op_of}
+use Rattle.theory_machine.specs.Names.{own_on as machine_own_on}
 use Rattle.qc_front.specs.Names.{lived, own_on, view_log, with_granted, with_view}
 use Rattle.theory_machine.proofs.Names.{put_case}
 use Rattle.qc_commit.specs.Names.{record_of}
@@ -97,7 +97,7 @@ granted_here t object log v is =
     ap (λ (o : Option View). view_log (with_view t object (option_map (λ (x : View). with_log x log) o)) object) is
     ∙ log_here t.views object v (with_log v log) is
     ∙ ap (λ (ls : List Line). union ls log)
-        (sym (ap (λ (o : Option View). option_map_or (λ (x : View). x.log) o []) is))
+    (sym (ap (λ (o : Option View). option_map_or (λ (x : View). x.log) o []) is))
 
 pub granted_there : (t : Transaction) (object other : ℕ) (log : List Line) → other ≢ object
     → view_log (with_granted t object log) other ≡ view_log t other
@@ -118,7 +118,7 @@ pub counted_core : (decl : Declaration) (w : State) (a : ℕ) (c : Client) (t u 
     → IsGiven t u site life
     → ((object : ℕ) → IsAscending (view_log u object))
     → ((object : ℕ) (l : Line) → In l (view_log u object)
-        → (l.object ≡ object) × IsShown (k.grant ∷ w.counted) t.begun.tx l)
+    → (l.object ≡ object) × IsShown (k.grant ∷ w.counted) t.begun.tx l)
     → ((l : Line) → IsShown (k.grant ∷ w.counted) t.begun.tx l → In l (view_log u l.object))
     → Core decl (after_act w (Count k.grant)) a (learned c clock) u
 counted_core decl w a c t u site life clock log want k lives core is sorted shown whole = record {
@@ -132,8 +132,8 @@ counted_core decl w a c t u site life clock log want k lives core is sorted show
         put_case (λ (n : ℕ). n ≤ max c.front.clock.value clock) w.clock k.grant.tx.client
         (max (w.clock k.grant.tx.client) k.grant.clock) c.front.client
         (λ e. (let l : w.clock c.front.client ≤ c.front.clock.value = core.own.clock in
-               let x : w.clock k.grant.tx.client ≡ w.clock c.front.client = ap w.clock (sym e) in
-               let y : k.grant.clock ≡ clock = k.clock_is in omega arith))
+        let x : w.clock k.grant.tx.client ≡ w.clock c.front.client = ap w.clock (sym e) in
+        let y : k.grant.clock ≡ clock = k.clock_is in omega arith))
         (λ ne. (let l : w.clock c.front.client ≤ c.front.clock.value = core.own.clock in omega arith));
     to_come = core.own.to_come;
     committed = core.own.committed;

@@ -1,6 +1,6 @@
 -- What a site's records give of promises and of what is done, as its machine's site does one deed more.
-use Rattle.std.proofs.Common.{◌≡◌, ◌≢◌, ◌≤◌, ℕ, not, Bool, true, false, ◌⊎◌, inl, inr, List, ◌∷◌, ◌++◌}
-use Rattle.std.proofs.Common.{Option, Some, None, is_some, refl, sym, ap, ◌∙◌, subst, arith}
+use Rattle.std.proofs.Common.{◌≡◌, ◌≢◌, ◌≤◌, ℕ, not, Bool, true, false, ◌⊎◌, inl, inr, List, ◌∷◌, ◌++◌, Option, Some}
+use Rattle.std.proofs.Common.{None, is_some, refl, sym, ap, ◌∙◌, subst, arith}
 use Rattle.qc_stamp.specs.declared.stamp.TxId.{TxId}
 use Rattle.qc_stamp.specs.Names.{same_tx}
 use Rattle.qc_stamp.proofs.Orders.{same_tx_is}
@@ -23,11 +23,10 @@ use Rattle.qc_site.proofs.Votes.{prepared-without, prepared-without_other}
 use Rattle.qc_recover.specs.Names.{Kept, keeps, with_promise}
 use Rattle.laws_refinement.specs.Names.{AreSingle, IsPromiseOf, KeptMirrors, kept_lines}
 use Rattle.laws_refinement.proofs.Known.{more_from, more_in}
-use Rattle.laws_refinement.proofs.Machine.{LeavesEpoch, epoch_after, epoch_stays, install_old, shut_after}
-use Rattle.laws_refinement.proofs.Machine.{shut_stays, single_from, singles_dropped, site_more}
+use Rattle.laws_refinement.proofs.Machine.{LeavesEpoch, epoch_after, epoch_stays, install_old, shut_after, shut_stays}
+use Rattle.laws_refinement.proofs.Machine.{single_from, singles_dropped, site_more}
 use Rattle.laws_refinement.proofs.Apart.{apart_more, aparts_dropped}
-use Rattle.laws_refinement.proofs.Promises.{dropped_promise}
-use Rattle.laws_refinement.proofs.Promises.{found_last, found_other, gone, more_promise}
+use Rattle.laws_refinement.proofs.Promises.{dropped_promise, found_last, found_other, gone, more_promise}
 use Rattle.laws_refinement.proofs.SiteSteps.{latest_grows, latest_passes}
 
 -- a Done record is one that was there, or one of the last deed
@@ -44,19 +43,21 @@ done_more (LearnsCommit tx stamp ∷ ds) d s m h =
     by : In m (done_record tx stamp (promise_of tx s.prepared))
         ⊎ In m (done_records (after_deed s (LearnsCommit tx stamp)) (ds ++ d ∷ []))
         → (In m (done_records (after_deed s (LearnsCommit tx stamp)) (ds ++ d ∷ []))
-            → In m (done_records (after_deed s (LearnsCommit tx stamp)) ds)
-              ⊎ In m (done_records (site_from (after_deed s (LearnsCommit tx stamp)) ds) (d ∷ [])))
+        → In m (done_records (after_deed s (LearnsCommit tx stamp)) ds)
+        ⊎ In m (done_records (site_from (after_deed s (LearnsCommit tx stamp)) ds) (d ∷ [])))
         → In m
-            (done_record tx stamp (promise_of tx s.prepared) ++ done_records (after_deed s (LearnsCommit tx stamp)) ds)
-            ⊎ In m (done_records (site_from (after_deed s (LearnsCommit tx stamp)) ds) (d ∷ []))
+        (done_record tx stamp (promise_of tx s.prepared) ++ done_records (after_deed s (LearnsCommit tx stamp)) ds)
+        ⊎ In m (done_records (site_from (after_deed s (LearnsCommit tx stamp)) ds) (d ∷ []))
     by (inl x) rest =
         inl (In-first m (done_record tx stamp (promise_of tx s.prepared))
         (done_records (after_deed s (LearnsCommit tx stamp)) ds) x)
     by (inr x) rest =
-        elim (rest x)
-        [ inl y ↦ inl
-          (In-second m (done_record tx stamp (promise_of tx s.prepared))
-            (done_records (after_deed s (LearnsCommit tx stamp)) ds) y) | inr y ↦ inr y ]
+        elim (rest x) [
+          | inl y ↦ inl
+              (In-second m (done_record tx stamp (promise_of tx s.prepared))
+              (done_records (after_deed s (LearnsCommit tx stamp)) ds) y)
+          | inr y ↦ inr y
+        ]
 done_more (LearnsAbort tx ∷ ds) d s m h = done_more ds d (after_deed s (LearnsAbort tx)) m h
 done_more (Closes ∷ ds) d s m h = done_more ds d (after_deed s Closes) m h
 done_more (Installs k c log ∷ ds) d s m h = done_more ds d (after_deed s (Installs k c log)) m h
@@ -73,7 +74,7 @@ leaves_epoch ds d l =
     record {
       epoch = epoch_stays ds d l;
       shut = shut_stays ds d l;
-      installs = λ k c log among. install_old ds d k c log l among
+      installs = λ k c log among. install_old ds d k c log l among;
     }
 
 -- a rise too
@@ -114,9 +115,9 @@ single_promises (d ∷ ds) s a = single_promises ds (after_deed s d) (single_dee
 pub kept_same : (decl : Declaration) (k : Kept) (status : TxId → Status) (life : ℕ) (ds : List Deed) (d : Deed)
     → Leaves ds d → KeptMirrors decl k status life ds
     → (after_deed (site_after ds) d).stable ≡ (site_after ds).stable
-        → (after_deed (site_after ds) d).promises ≡ (site_after ds).promises
+    → (after_deed (site_after ds) d).promises ≡ (site_after ds).promises
     → ((x : DoneRecord) → In x (done_records (site_after ds) (d ∷ [])) → x.stamp.clock ≤ k.clock)
-        → KeptMirrors decl k status life (ds ++ d ∷ [])
+    → KeptMirrors decl k status life (ds ++ d ∷ [])
 kept_same decl k status life ds d leaves m stable promises done = record {
   life_is = m.life_is;
   epoch = (leaves).epoch ∙ m.epoch;
@@ -134,7 +135,7 @@ kept_same decl k status life ds d leaves m stable promises done = record {
   promised =
       λ t. subst (λ (s : Site). IsPromiseOf (promise_of t s.promises) (prepared_of k.promises t)) (sym (site_more ds d))
       (subst (λ (ps : List Promise). IsPromiseOf (promise_of t ps) (prepared_of k.promises t)) (sym promises)
-          (m.promised t));
+      (m.promised t));
   last = m.last;
   apart = m.apart;
   lined = m.lined;
@@ -149,9 +150,9 @@ kept_same decl k status life ds d leaves m stable promises done = record {
 pub kept_prepares : (decl : Declaration) (k : Kept) (status : TxId → Status) (life : ℕ) (ds : List Deed) (p : Prepared)
     → KeptMirrors decl k status life ds
     → promise_of p.tx (site_after ds).prepared ≡ None
-        → IsPromiseOf (Some (record { tx = p.tx; items = items_of p.tx (site_after ds).held })) (Some p)
+    → IsPromiseOf (Some (record { tx = p.tx; items = items_of p.tx (site_after ds).held })) (Some p)
     → ((l : Line) → In l (site_after ds).volatile → In l (kept_lines k) ⊎ In l p.lines)
-        → ((l : Line) → In l p.lines → In l (site_after ds).volatile) → IsAscending p.lines
+    → ((l : Line) → In l p.lines → In l (site_after ds).volatile) → IsAscending p.lines
     → status p.tx ≢ NotBegun → KeptMirrors decl (keeps k (records.Prepare p)) status life (ds ++ Prepares p.tx ∷ [])
 kept_prepares decl k status life ds p m none same whole lines ascends begun = record {
   life_is = m.life_is;
@@ -161,8 +162,8 @@ kept_prepares decl k status life ds p m none same whole lines ascends begun = re
   closing = m.closing;
   installs =
       λ n c log among. (let c_low : c ≤ k.clock =
-                                m.installs n c log ((leaves_epoch ds (Prepares p.tx) tt).installs n c log among) in
-                        let g : k.clock ≤ latest k.clock p.lines = latest_grows k.clock p.lines in omega arith);
+      m.installs n c log ((leaves_epoch ds (Prepares p.tx) tt).installs n c log among) in
+      let g : k.clock ≤ latest k.clock p.lines = latest_grows k.clock p.lines in omega arith);
   stable = λ l among. into l (subst (λ (x : Site). In l x.stable) after among);
   kept = λ l among. subst (λ (x : Site). In l x.stable) (sym after) (elim (more_from l k.began k.lines p.lines among) [
     | inl old ↦ (site_laws ds).less l (m.kept l old)
@@ -172,20 +173,20 @@ kept_prepares decl k status life ds p m none same whole lines ascends begun = re
   done = λ x among. elim (done_more ds (Prepares p.tx) empty_site x among) [
     | inl old ↦
         (let c : x.stamp.clock ≤ k.clock = m.done x old in
-         let g : k.clock ≤ latest k.clock p.lines = latest_grows k.clock p.lines in omega arith)
+        let g : k.clock ≤ latest k.clock p.lines = latest_grows k.clock p.lines in omega arith)
     | inr never ↦ absurd never
   ];
   passed = λ l among. elim (whole l (subst (λ (x : Site). In l x.stable) after among)) [
     | inl old ↦
         (let c : l.stamp.clock ≤ k.clock = m.passed l (m.kept l old) in
-         let g : k.clock ≤ latest k.clock p.lines = latest_grows k.clock p.lines in omega arith)
+        let g : k.clock ≤ latest k.clock p.lines = latest_grows k.clock p.lines in omega arith)
     | inr new ↦ latest_passes k.clock p.lines l new
   ];
   promised =
       λ t. subst (λ (x : Site). IsPromiseOf (promise_of t x.promises) (prepared_of (with_promise k.promises p) t))
       (sym after)
       (more_promise p.tx t (record { tx = p.tx; items = items_of p.tx s.held }) p (without_promise p.tx s.promises)
-          (without_prepared k.promises p.tx) refl refl (prepared-without k.promises p.tx) same
+      (without_prepared k.promises p.tx) refl refl (prepared-without k.promises p.tx) same
       (dropped_promise p.tx t s.promises k.promises (m.promised t)));
   last = last;
   apart =
@@ -197,9 +198,11 @@ kept_prepares decl k status life ds p m none same whole lines ascends begun = re
         more_in l k.began k.lines p.lines
         (inl (m.lined q (In-unfiltered (λ (x : Prepared). not (same_tx x.tx p.tx)) q k.promises old) l has))
     | inr new ↦
-        elim new
-        [ inl is ↦ more_in l k.began k.lines p.lines (inr (subst (λ (x : Prepared). In l x.lines) is has)) | inr never ↦
-          absurd never ]
+        elim new [
+          | inl is ↦ more_in l k.began k.lines p.lines (inr (subst (λ (x : Prepared). In l x.lines) is has))
+          | inr never ↦
+              absurd never
+        ]
   ];
   begun = λ q among. elim (in_split q (without_prepared k.promises p.tx) (p ∷ []) among) [
     | inl old ↦ m.begun q (In-unfiltered (λ (x : Prepared). not (same_tx x.tx p.tx)) q k.promises old)
@@ -225,13 +228,13 @@ kept_prepares decl k status life ds p m none same whole lines ascends begun = re
         by true is =
             let at : p.tx ≡ t = same_tx_is p.tx t is in
             let one : prepared_of (with_promise k.promises p) p.tx ≡ Some p =
-                    found_last p.tx p (without_prepared k.promises p.tx) refl (prepared-without k.promises p.tx) in
+            found_last p.tx p (without_prepared k.promises p.tx) refl (prepared-without k.promises p.tx) in
             let two : prepared_of (with_promise k.prepares p) p.tx ≡ Some p =
-                    found_last p.tx p (without_prepared k.prepares p.tx) refl (prepared-without k.prepares p.tx) in
+            found_last p.tx p (without_prepared k.prepares p.tx) refl (prepared-without k.prepares p.tx) in
             subst (λ (u : TxId). prepared_of (with_promise k.prepares p) u ≡ Some q) at
-                (two ∙ sym one ∙ subst (λ (u : TxId). prepared_of (with_promise k.promises p) u ≡ Some q) (sym at) e)
+            (two ∙ sym one ∙ subst (λ (u : TxId). prepared_of (with_promise k.promises p) u ≡ Some q) (sym at) e)
         by false is =
             found_other t p (without_prepared k.prepares p.tx) is ∙ prepared-without_other k.prepares p.tx t is
             ∙ m.last t q
-                (sym (prepared-without_other k.promises p.tx t is)
-                  ∙ sym (found_other t p (without_prepared k.promises p.tx) is) ∙ e)
+            (sym (prepared-without_other k.promises p.tx t is)
+            ∙ sym (found_other t p (without_prepared k.promises p.tx) is) ∙ e)

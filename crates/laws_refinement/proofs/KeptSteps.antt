@@ -1,6 +1,6 @@
 -- What the records of a site give, as its machine's site does one deed more.
-use Rattle.std.proofs.Common.{◌≡◌, ◌≤◌, ℕ, suc, max, not, Bool, true, false, ◌⊎◌, inl, inr, List, ◌∷◌, ◌++◌}
-use Rattle.std.proofs.Common.{Option, Some, None, refl, sym, ap, ◌∙◌, subst, arith}
+use Rattle.std.proofs.Common.{◌≡◌, ◌≤◌, ℕ, suc, max, not, Bool, true, false, ◌⊎◌, inl, inr, List, ◌∷◌, ◌++◌, Option}
+use Rattle.std.proofs.Common.{Some, None, refl, sym, ap, ◌∙◌, subst, arith}
 use Rattle.std.specs.Option.{option_map_or}
 use Rattle.qc_stamp.specs.declared.stamp.TxId.{TxId}
 use Rattle.qc_stamp.specs.Names.{same_tx}
@@ -13,17 +13,14 @@ use Rattle.qc_entry.specs.declared.record.Prepared.{Prepared}
 use Rattle.qc_entry.specs.Names.{IsAscending, union, without}
 use Rattle.qc_msg.specs.declared.record.Record.TheVariants as records
 use Rattle.theory_onecopy.proofs.Lists.{in_split}
-use Rattle.theory_machine.specs.Names.{Closes, Deed, DoneRecord, Installs, LearnsCommit}
-use Rattle.theory_machine.specs.Names.{Promise, Rises, Site, Status, after_commit}
-use Rattle.theory_machine.specs.Names.{empty_site, promise_of}
-use Rattle.theory_machine.specs.Names.{site_after}
+use Rattle.theory_machine.specs.Names.{Closes, Deed, DoneRecord, Installs, LearnsCommit, Promise, Rises, Site, Status}
+use Rattle.theory_machine.specs.Names.{after_commit, empty_site, promise_of, site_after}
 use Rattle.qc_site.specs.Names.{SiteState, latest, lines_of, new_site, prepared_of, without_prepared}
 use Rattle.qc_site.proofs.Votes.{prepared-without, prepared-without_other}
 use Rattle.qc_recover.specs.Names.{Kept, done_lines, done_stamp, keeps}
 use Rattle.laws_refinement.specs.Names.{IsClosing, IsPlanned, IsPromiseOf, KeptMirrors}
 use Rattle.laws_refinement.proofs.Known.{known_from, known_in, learned_in}
-use Rattle.laws_refinement.proofs.Machine.{done_last, epoch_after, shut_after}
-use Rattle.laws_refinement.proofs.Machine.{site_more}
+use Rattle.laws_refinement.proofs.Machine.{done_last, epoch_after, shut_after, site_more}
 use Rattle.laws_refinement.proofs.Apart.{aparts_dropped}
 use Rattle.laws_refinement.proofs.Promises.{commit_log, commit_logged, commit_passed, commit_sorted, dropped_promise}
 use Rattle.laws_refinement.proofs.Promises.{gone}
@@ -34,7 +31,7 @@ use Rattle.laws_refinement.proofs.KeptDeeds.{leaves_epoch, leaves_life, kept_sam
 pub kept_finishes : (decl : Declaration) (k : Kept) (status : TxId → Status) (life : ℕ) (ds : List Deed) (tx : TxId)
     (clock : ℕ) (promise : Promise) (p : Prepared) → KeptMirrors decl k status life ds
     → promise_of tx (site_after ds).prepared ≡ Some promise → prepared_of k.promises tx ≡ Some p
-        → IsPromiseOf (Some promise) (Some p)
+    → IsPromiseOf (Some promise) (Some p)
     → KeptMirrors decl (keeps k (records.Done tx clock)) status life (ds ++ LearnsCommit tx (done_stamp tx clock) ∷ [])
 kept_finishes decl k status life ds tx clock promise p m some found same = record {
   life_is = m.life_is;
@@ -46,11 +43,11 @@ kept_finishes decl k status life ds tx clock promise p m some found same = recor
   stable =
       λ l among. subst (λ (ls : List Line). In l (union k.began (union k.lines (without ls k.began)))) (sym own)
       (commit_log logged stable_site m.stable tx (done_stamp tx clock) (Some promise) (Some p) same l
-        (subst (λ (x : Site). In l x.stable) after among));
+      (subst (λ (x : Site). In l x.stable) after among));
   kept =
       λ l among. subst (λ (x : Site). In l x.stable) (sym after)
       (commit_logged logged stable_site m.kept tx (done_stamp tx clock) (Some promise) (Some p) same l
-        (subst (λ (ls : List Line). In l (union k.began (union k.lines (without ls k.began)))) own among));
+      (subst (λ (ls : List Line). In l (union k.began (union k.lines (without ls k.began)))) own among));
   sorted =
       subst (λ (ls : List Line). IsAscending k.began × IsAscending (union k.lines (without ls k.began))) (sym own)
       (commit_sorted logged tx (done_stamp tx clock) (Some p) m.sorted);
@@ -98,8 +95,8 @@ kept_finishes decl k status life ds tx clock promise p m some found same = recor
         by : (b : Bool) → same_tx tx t ≡ b → prepared_of k.prepares t ≡ Some q
         by true is =
             let gone : prepared_of (without_prepared k.promises tx) t ≡ None =
-                    subst (λ (u : TxId). prepared_of (without_prepared k.promises tx) u ≡ None) (same_tx_is tx t is)
-                      (prepared-without k.promises tx) in
+            subst (λ (u : TxId). prepared_of (without_prepared k.promises tx) u ≡ None) (same_tx_is tx t is)
+            (prepared-without k.promises tx) in
             absurd (let both : Some q ≡ None = sym e ∙ gone in let never : ⊥ = cc in never)
         by false is = m.last t q (sym (prepared-without_other k.promises tx t is) ∙ e)
 
@@ -108,9 +105,9 @@ pub kept_rises : (decl : Declaration) (k : Kept) (status : TxId → Status) (lif
     → KeptMirrors decl k status life ds → KeptMirrors decl (keeps k records.Life) status (suc life) (ds ++ Rises ∷ [])
 kept_rises decl k status life ds m =
     let r : KeptMirrors decl k status life (ds ++ Rises ∷ []) =
-            kept_same decl k status life ds Rises
-              (leaves_life ds Rises refl refl (λ n c log. (λ same. (let never : ⊥ = cc in never)))) m refl refl
-              (λ x never. absurd never) in
+    kept_same decl k status life ds Rises
+    (leaves_life ds Rises refl refl (λ n c log. (λ same. (let never : ⊥ = cc in never)))) m refl refl
+    (λ x never. absurd never) in
     record {
       life_is = (let e : k.life ≡ life = m.life_is in omega arith);
       epoch = r.epoch;
@@ -141,9 +138,11 @@ kept_closes decl k status life ds epoch m closing = record {
   shut = shut_after ds (Closes ∷ []) false;
   closing = closing;
   installs =
-      λ n c log among. elim (in_split (Installs n c log) ds (Closes ∷ []) among)
-      [ inl old ↦ m.installs n c log old | inr new ↦ elim new
-        [ inl same ↦ absurd (let never : ⊥ = cc in never) | inr never ↦ absurd never ] ];
+      λ n c log among. elim (in_split (Installs n c log) ds (Closes ∷ []) among) [
+        | inl old ↦ m.installs n c log old
+        | inr new ↦ elim new
+            [ inl same ↦ absurd (let never : ⊥ = cc in never) | inr never ↦ absurd never ]
+      ];
   stable = λ l among. m.stable l (subst (λ (s : Site). In l s.stable) (site_more ds Closes) among);
   kept = λ l among. subst (λ (s : Site). In l s.stable) (sym (site_more ds Closes)) (m.kept l among);
   sorted = m.sorted;
@@ -177,15 +176,17 @@ kept_installs decl k status life ds epoch clock log m planned ascends = record {
       (elim (known_from l log [] among) [ inl first ↦ first | inr never ↦ absurd never ]);
   sorted = (ascends, tt);
   done =
-      λ x among. elim (done_last ds (Installs epoch clock log) empty_site x among)
-      [ inl old ↦
-        (let c : x.stamp.clock ≤ k.clock = m.done x old in
-         let g : k.clock ≤ latest k.clock log = latest_grows k.clock log in omega arith) | inr never ↦ absurd never ];
+      λ x among. elim (done_last ds (Installs epoch clock log) empty_site x among) [
+        | inl old ↦
+            (let c : x.stamp.clock ≤ k.clock = m.done x old in
+            let g : k.clock ≤ latest k.clock log = latest_grows k.clock log in omega arith)
+        | inr never ↦ absurd never
+      ];
   passed =
       λ l among. (let c : l.stamp.clock ≤ latest k.clock log =
-                          latest_passes k.clock log l
-                            (subst (λ (s : Site). In l s.stable) (site_more ds (Installs epoch clock log)) among) in
-                  omega arith);
+      latest_passes k.clock log l
+      (subst (λ (s : Site). In l s.stable) (site_more ds (Installs epoch clock log)) among) in
+      omega arith);
   promised =
       λ t. subst (λ (s : Site). IsPromiseOf (promise_of t s.promises) None)
       (sym (site_more ds (Installs epoch clock log))) tt;

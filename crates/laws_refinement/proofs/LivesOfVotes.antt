@@ -82,7 +82,7 @@ in_life s epoch life = by (nat_lt s.epoch epoch) (nat_lt epoch s.epoch)
 
     by : (c d : Bool)
         → cond c (Some (answers.Behind s.epoch))
-          (cond d (Some (answers.Closed s.epoch)) (closed_fault s life s.closed_for)) ≡ None
+        (cond d (Some (answers.Closed s.epoch)) (closed_fault s life s.closed_for)) ≡ None
         → (life ≡ 0) ⊎ (life ≡ s.life)
     by true d is = absurd (let never : ⊥ = cc in never)
     by false true is = absurd (let never : ⊥ = cc in never)
@@ -101,7 +101,7 @@ module _ (decl : Declaration) where
       Prepare
       (λ p among to clock is. absurd among)
       (λ fault is p among to clock told. absurd (no_fault (passed s (messages.Request tx epoch life Prepare)) epoch life
-          clock (is ∙ ap Some (one_answer from number fault p among to clock told).1)))
+      clock (is ∙ ap Some (one_answer from number fault p among to clock told).1)))
       (λ is p among to clock told. in_life (passed s (messages.Request tx epoch life Prepare)) epoch life is)
 
   -- steps

@@ -2,12 +2,11 @@
 use Rattle.std.proofs.Common.{◌≡◌, ◌≢◌, ℕ, List, ◌++◌, Option, Some, None, refl, sym, ◌∙◌, subst}
 use Rattle.qc_stamp.specs.declared.stamp.TxId.{TxId}
 use Rattle.qc_list.specs.Names.{In}
-use Rattle.laws_refinement.specs.Names.{AdminMirrors, AreSnapshots, Backed}
-use Rattle.laws_refinement.specs.Names.{DecidedMirrors, DoingMirrors, IsAnswerBacked}
-use Rattle.laws_refinement.specs.Names.{IsDecided, IsGrant, IsMessage, IsNumbered, IsRequest}
+use Rattle.laws_refinement.specs.Names.{AdminMirrors, AreSnapshots, Backed, DecidedMirrors, DoingMirrors}
+use Rattle.laws_refinement.specs.Names.{IsAnswerBacked, IsDecided, IsGrant, IsMessage, IsNumbered, IsRequest}
 use Rattle.laws_refinement.specs.Names.{IsSnapshot, IsTaken, IsVerdictBacked, IsWanted, QuestionMirrors}
-use Rattle.theory_machine.specs.Names.{AppendRequest, Decision, Granted, MayPrepare, NotBegun, Snapshot}
-use Rattle.theory_machine.specs.Names.{State, Verdict, YesVote}
+use Rattle.theory_machine.specs.Names.{AppendRequest, Decision, Granted, MayPrepare, NotBegun, Snapshot, State, Verdict}
+use Rattle.theory_machine.specs.Names.{YesVote}
 use Rattle.qc_entry.specs.declared.line.Line.{Line}
 use Rattle.qc_entry.specs.declared.record.Prepared.{Prepared}
 use Rattle.qc_decl.specs.declared.declaration.Declaration.{Declaration}
@@ -51,7 +50,7 @@ same_state w =
       verdicts = λ t h. h;
       appends = λ s h. h;
       snapshots = λ s h. h;
-      decided = λ d h. h
+      decided = λ d h. h;
     }
 
 pub later_both : (w u v : State) → Later w u → Later u v → Later w v
@@ -91,7 +90,7 @@ keeps_same w c =
       counted = λ g its h. h;
       more = λ g h. h;
       votes = λ x h. h;
-      appends = λ s h. h
+      appends = λ s h. h;
     }
 
 pub keeps_both : (w u v : State) (c : ℕ) → Keeps w u c → Keeps u v c → Keeps w v c
@@ -117,7 +116,7 @@ request_later ms more number site tx want r =
     record {
       epoch = r.epoch;
       life = r.life;
-      is = message_later ms more number site (messages.Request tx r.epoch r.life want) r.is
+      is = message_later ms more number site (messages.Request tx r.epoch r.life want) r.is;
     }
 
 module _ (decl : Declaration) (w v : State) (l : Later w v) where
@@ -144,9 +143,11 @@ module _ (decl : Declaration) (w v : State) (l : Later w v) where
   wanted_later : (tx : TxId) (site life : ℕ) (want : Want) → IsWanted w tx site life want → IsWanted v tx site life want
   wanted_later tx site life (Read object inv) h = tt
   wanted_later tx site life (Append object view own) h = (l.appends _ h.0, h.1, h.2)
-  wanted_later tx site life Prepare h =
-      (l.asked tx h.0, h.1,
-      λ g among its at. h.2 g (l.counted g among (subst (λ (t : TxId). MayPrepare (w.status t)) (sym its) h.0)) its at)
+  wanted_later tx site life Prepare h = (
+    l.asked tx h.0,
+    h.1,
+    λ g among its at. h.2 g (l.counted g among (subst (λ (t : TxId). MayPrepare (w.status t)) (sym its) h.0)) its at,
+  )
 
   pub verdict_later : (tx : TxId) (verdict : Outcome) → IsVerdictBacked w tx verdict → IsVerdictBacked v tx verdict
   verdict_later tx (outcomes.Committed stamp) b = l.verdicts _ b
@@ -181,7 +182,7 @@ module _ (decl : Declaration) (w v : State) (l : Later w v) where
         clock_is = d.clock_is;
         log_is = d.log_is;
         sorted = d.sorted;
-        planned = d.planned
+        planned = d.planned;
       }
 
   answer_later : (ms more : List Envelope) (from n : ℕ) (answer : Answer) → IsAnswerBacked decl w ms from n answer
@@ -208,14 +209,14 @@ module _ (decl : Declaration) (w v : State) (l : Later w v) where
       record {
         epoch = b.epoch;
         asked = message_later ms more n from (messages.Close b.epoch) b.asked;
-        told = snapshot_later from b.epoch clock log prepared b.told
+        told = snapshot_later from b.epoch clock log prepared b.told;
       }
   answer_later ms more from n answers.Installed b = tt
   answer_later ms more from n (answers.Answered verdict) b =
       record {
         tx = b.tx;
         asked = message_later ms more n from (messages.Ask b.tx) b.asked;
-        backed = verdict_later b.tx verdict b.backed
+        backed = verdict_later b.tx verdict b.backed;
       }
 
   pub backed_later : (ms more : List Envelope) (from to : ℕ) (message : Message) → Backed decl w ms from to message
@@ -250,15 +251,19 @@ module _ (decl : Declaration) (w v : State) (l : Later w v) where
       record {
         begun = l.born q.tx h.begun;
         numbered = numbered_later ms more q.tx q.number h.numbered;
-        taken = taken_later q.tx q.taken h.taken
+        taken = taken_later q.tx q.taken h.taken;
       }
 
   pub doing_later : (ms more : List Envelope) (epoch : ℕ) (d : Doing) → DoingMirrors decl w ms epoch d
       → DoingMirrors decl v (ms ++ more) epoch d
   doing_later ms more epoch Resting h = tt
-  doing_later ms more epoch (admins.Closing k calls round shuts) h =
-      (h.0, h.1, (λ c among. message_later ms more c.number c.site (messages.Close k) (h.2 c among)), h.3,
-          snapshots_later k shuts h.4)
+  doing_later ms more epoch (admins.Closing k calls round shuts) h = (
+    h.0,
+    h.1,
+    (λ c among. message_later ms more c.number c.site (messages.Close k) (h.2 c among)),
+    h.3,
+    snapshots_later k shuts h.4,
+  )
   doing_later ms more epoch (Asking k shuts questions) h =
       (h.0, h.1, h.2, snapshots_later k shuts h.3, h.4, λ q among. question_later ms more q (h.5 q among))
   doing_later ms more epoch (Installing closed awaited calls installed) h = tt
@@ -273,5 +278,5 @@ module _ (decl : Declaration) (w v : State) (l : Later w v) where
       record {
         planned = h.planned;
         decided = decision_later m.epoch m.decided h.decided;
-        doing = doing_later ms more m.epoch m.doing h.doing
+        doing = doing_later ms more m.epoch m.doing h.doing;
       }

@@ -1,6 +1,6 @@
 -- One actor moves, falls or rises: all else of the net agrees as it did.
-use Rattle.std.proofs.Common.{◌≡◌, ◌≢◌, ℕ, ◌-◌, true, false, inl, inr, List, ◌++◌, Option, length}
-use Rattle.std.proofs.Common.{slice_get, Some, refl, sym, ap, ◌∙◌, subst}
+use Rattle.std.proofs.Common.{◌≡◌, ◌≢◌, ℕ, ◌-◌, true, false, inl, inr, List, ◌++◌, Option, length, slice_get, Some}
+use Rattle.std.proofs.Common.{refl, sym, ap, ◌∙◌, subst}
 use Rattle.qc_stamp.specs.declared.stamp.TxId.{TxId}
 use Rattle.qc_list.specs.Names.{In}
 use Rattle.qc_entry.specs.declared.record.Commit.{Commit as CommitRecord}
@@ -59,30 +59,30 @@ module _ (decl : Declaration) where
     placed = λ g among. m.placed g (subst (λ (gs : List Granted). In g gs) at.granted among);
     sites = λ b is u. (let other : b ≢ a = no_client_at b is in
         subst (λ (x : SiteState). SiteMirrors decl x (v.deeds b) (v.life b)) (sym (apart.sites b other))
-            (subst (λ (f : ℕ → ℕ). SiteMirrors decl (net.sites b) (v.deeds b) (f b)) (sym at.lives)
-              (subst (λ (f : ℕ → List Deed). SiteMirrors decl (net.sites b) (f b) (w.life b)) (sym at.deeds)
-                (m.sites b is (sym (apart.up b other) ∙ u)))));
+        (subst (λ (f : ℕ → ℕ). SiteMirrors decl (net.sites b) (v.deeds b) (f b)) (sym at.lives)
+        (subst (λ (f : ℕ → List Deed). SiteMirrors decl (net.sites b) (f b) (w.life b)) (sym at.deeds)
+        (m.sites b is (sym (apart.up b other) ∙ u)))));
     alike = λ b is u. (let other : b ≢ a = no_client_at b is in
         subst (λ (x : SiteState). IsKeptBy x (kept_by (next.records b))) (sym (apart.sites b other))
-            (subst (λ (rs : List Record). IsKeptBy (net.sites b) (kept_by rs)) (sym (apart.records b other))
-              (m.alike b is (sym (apart.up b other) ∙ u))));
+        (subst (λ (rs : List Record). IsKeptBy (net.sites b) (kept_by rs)) (sym (apart.records b other))
+        (m.alike b is (sym (apart.up b other) ∙ u))));
     holders = λ b t is u. (let other : b ≢ a = no_client_at b is in
         subst (λ (x : SiteState). is_held x.held t ≡ true → v.status t ≢ NotBegun) (sym (apart.sites b other))
-            (λ held. at.later.born t (m.holders b t is (sym (apart.up b other) ∙ u) held)));
+        (λ held. at.later.born t (m.holders b t is (sym (apart.up b other) ∙ u) held)));
     kept = λ b is. (let other : b ≢ a = no_client_at b is in
         subst (λ (rs : List Record). KeptMirrors decl (kept_by rs) v.status (v.life b) (v.deeds b))
-            (sym (apart.records b other))
+        (sym (apart.records b other))
         (subst (λ (f : ℕ → ℕ). KeptMirrors decl (kept_by (net.records b)) v.status (f b) (v.deeds b)) (sym at.lives)
         (subst (λ (f : ℕ → List Deed). KeptMirrors decl (kept_by (net.records b)) v.status (w.life b) (f b)) (sym at.deeds) (kept_later decl w v (kept_by (net.records b)) (w.life b) (w.deeds b) at.later (m.kept b is)))));
     pends = λ b is down. (let other : b ≢ a = no_client_at b is in
         subst (λ (rs : List Record). IsPendingAt decl v (kept_by rs) (v.deeds b) (next.pending b))
-            (sym (apart.records b other))
+        (sym (apart.records b other))
         (subst (λ (o : Option Record). IsPendingAt decl v (kept_by (net.records b)) (v.deeds b) o)
-            (sym (apart.pending b other))
+        (sym (apart.pending b other))
         (subst (λ (f : ℕ → List Deed). IsPendingAt decl v (kept_by (net.records b)) (f b) (net.pending b))
-            (sym at.deeds)
-            (pends_later decl w v (kept_by (net.records b)) (w.deeds b) (net.pending b) at.later
-              (m.pends b is (sym (apart.up b other) ∙ down))))));
+        (sym at.deeds)
+        (pends_later decl w v (kept_by (net.records b)) (w.deeds b) (net.pending b) at.later
+        (m.pends b is (sym (apart.up b other) ∙ down))))));
     clients = λ b is u. elim (place b a) [
       | inl e ↦
           subst (λ (x : ℕ). ClientMirrors decl v next.mail x (next.clients x)) (sym e)
@@ -96,13 +96,13 @@ module _ (decl : Declaration) where
           (sym e) (s.fallen (subst (λ (x : ℕ). next.up x ≡ false) e down))
       | inr other ↦ subst (λ (rs : List Record). FallenMirrors v (b - decl.sites) (clients.kept_by rs) (next.pending b)) (sym (apart.records b other)) (subst (λ (o : Option Record). FallenMirrors v (b - decl.sites) (clients.kept_by (net.records b)) o) (sym (apart.pending b other))
           (fallen_keeps w v (b - decl.sites) (clients.kept_by (net.records b)) (net.pending b)
-              (at.keeps (b - decl.sites) (numbered_apart b is other)) (m.fallen b is (sym (apart.up b other) ∙ down))))
+          (at.keeps (b - decl.sites) (numbered_apart b is other)) (m.fallen b is (sym (apart.up b other) ∙ down))))
     ];
     admin =
         λ u. subst (λ (x : Admin). AdminMirrors decl v next.mail x) (sym (apart.admin no_rule))
         (subst (λ (ms : List Envelope). AdminMirrors decl v ms net.admin) (sym apart.mail)
-          (admin_later decl w v at.later net.mail (envelopes a (length net.mail) sends) net.admin
-            (m.admin (sym (apart.up (administrator decl) (λ e. no_rule (sym e))) ∙ u))));
+        (admin_later decl w v at.later net.mail (envelopes a (length net.mail) sends) net.admin
+        (m.admin (sym (apart.up (administrator decl) (λ e. no_rule (sym e))) ∙ u))));
     rules =
         subst (λ (rs : List Record). RulesMirror decl v (admins.kept_by rs))
         (sym (apart.records (administrator decl) (λ e. no_rule (sym e))))
@@ -111,7 +111,7 @@ module _ (decl : Declaration) where
         λ down. subst (λ (o : Option Record). IsPendingRule decl v o)
         (sym (apart.pending (administrator decl) (λ e. no_rule (sym e))))
         (ruling_later decl w v (net.pending (administrator decl)) at.later
-          (m.decides (sym (apart.up (administrator decl) (λ e. no_rule (sym e))) ∙ down)));
+        (m.decides (sym (apart.up (administrator decl) (λ e. no_rule (sym e))) ∙ down)));
     mail =
         subst (λ (ms : List Envelope). (e : Envelope) → In e ms → Backed decl v ms e.from e.to e.message)
         (sym apart.mail) (more_mail decl w v net.mail a sends at.later m.mail turn);
@@ -159,39 +159,39 @@ module _ (decl : Declaration) where
     placed = λ g among. m.placed g (subst (λ (gs : List Granted). In g gs) at.granted among);
     sites = λ b is u. (let other : b ≢ administrator decl = no_site b is in
         subst (λ (x : SiteState). SiteMirrors decl x (v.deeds b) (v.life b)) (sym (apart.sites b other))
-            (subst (λ (f : ℕ → ℕ). SiteMirrors decl (net.sites b) (v.deeds b) (f b)) (sym at.lives)
-              (subst (λ (f : ℕ → List Deed). SiteMirrors decl (net.sites b) (f b) (w.life b)) (sym at.deeds)
-                (m.sites b is (sym (apart.up b other) ∙ u)))));
+        (subst (λ (f : ℕ → ℕ). SiteMirrors decl (net.sites b) (v.deeds b) (f b)) (sym at.lives)
+        (subst (λ (f : ℕ → List Deed). SiteMirrors decl (net.sites b) (f b) (w.life b)) (sym at.deeds)
+        (m.sites b is (sym (apart.up b other) ∙ u)))));
     alike = λ b is u. (let other : b ≢ administrator decl = no_site b is in
         subst (λ (x : SiteState). IsKeptBy x (kept_by (next.records b))) (sym (apart.sites b other))
-            (subst (λ (rs : List Record). IsKeptBy (net.sites b) (kept_by rs)) (sym (apart.records b other))
-              (m.alike b is (sym (apart.up b other) ∙ u))));
+        (subst (λ (rs : List Record). IsKeptBy (net.sites b) (kept_by rs)) (sym (apart.records b other))
+        (m.alike b is (sym (apart.up b other) ∙ u))));
     holders = λ b t is u. (let other : b ≢ administrator decl = no_site b is in
         subst (λ (x : SiteState). is_held x.held t ≡ true → v.status t ≢ NotBegun) (sym (apart.sites b other))
-            (λ held. at.later.born t (m.holders b t is (sym (apart.up b other) ∙ u) held)));
+        (λ held. at.later.born t (m.holders b t is (sym (apart.up b other) ∙ u) held)));
     kept = λ b is. (let other : b ≢ administrator decl = no_site b is in
         subst (λ (rs : List Record). KeptMirrors decl (kept_by rs) v.status (v.life b) (v.deeds b))
-            (sym (apart.records b other))
+        (sym (apart.records b other))
         (subst (λ (f : ℕ → ℕ). KeptMirrors decl (kept_by (net.records b)) v.status (f b) (v.deeds b)) (sym at.lives)
         (subst (λ (f : ℕ → List Deed). KeptMirrors decl (kept_by (net.records b)) v.status (w.life b) (f b)) (sym at.deeds) (kept_later decl w v (kept_by (net.records b)) (w.life b) (w.deeds b) at.later (m.kept b is)))));
     pends = λ b is down. (let other : b ≢ administrator decl = no_site b is in
         subst (λ (rs : List Record). IsPendingAt decl v (kept_by rs) (v.deeds b) (next.pending b))
-            (sym (apart.records b other))
+        (sym (apart.records b other))
         (subst (λ (o : Option Record). IsPendingAt decl v (kept_by (net.records b)) (v.deeds b) o)
-            (sym (apart.pending b other))
+        (sym (apart.pending b other))
         (subst (λ (f : ℕ → List Deed). IsPendingAt decl v (kept_by (net.records b)) (f b) (net.pending b))
-            (sym at.deeds)
-            (pends_later decl w v (kept_by (net.records b)) (w.deeds b) (net.pending b) at.later
-              (m.pends b is (sym (apart.up b other) ∙ down))))));
+        (sym at.deeds)
+        (pends_later decl w v (kept_by (net.records b)) (w.deeds b) (net.pending b) at.later
+        (m.pends b is (sym (apart.up b other) ∙ down))))));
     clients = λ b is u. (let other : b ≢ administrator decl = no_client_at b is in
         subst (λ (c : Client). ClientMirrors decl v next.mail b c) (sym (apart.clients b other)) (subst (λ (ms : List Envelope). ClientMirrors decl v ms b (net.clients b)) (sym apart.mail)
         (keep_client decl w v (net.clients b).front.client (at.keeps (net.clients b).front.client) net.mail
-            (envelopes (administrator decl) (length net.mail) sends) b (net.clients b) refl
-            (m.clients b is (sym (apart.up b other) ∙ u)))));
+        (envelopes (administrator decl) (length net.mail) sends) b (net.clients b) refl
+        (m.clients b is (sym (apart.up b other) ∙ u)))));
     fallen = λ b is down. (let other : b ≢ administrator decl = no_client_at b is in
         subst (λ (rs : List Record). FallenMirrors v (b - decl.sites) (clients.kept_by rs) (next.pending b)) (sym (apart.records b other)) (subst (λ (o : Option Record). FallenMirrors v (b - decl.sites) (clients.kept_by (net.records b)) o) (sym (apart.pending b other))
         (fallen_keeps w v (b - decl.sites) (clients.kept_by (net.records b)) (net.pending b) (at.keeps (b - decl.sites))
-            (m.fallen b is (sym (apart.up b other) ∙ down)))));
+        (m.fallen b is (sym (apart.up b other) ∙ down)))));
     admin = s.mirrors;
     rules = s.rules;
     decides = s.decides;
@@ -248,13 +248,13 @@ module _ (decl : Declaration) where
       })
       refl
       (record {
-            later = g.later;
-            keeps = g.keeps;
-            records = g.records;
-            placed_at = g.placed_at;
-            there = g.there;
-            lives = g.alive
-          })
+        later = g.later;
+        keeps = g.keeps;
+        records = g.records;
+        placed_at = g.placed_at;
+        there = g.there;
+        lives = g.alive;
+      })
       (record {
         kept =
             subst (λ (rs : List Record). KeptMirrors decl (kept_by rs) v.status (v.life a) (v.deeds a))
@@ -267,7 +267,7 @@ module _ (decl : Declaration) where
             (kept_by (put net.records a (net.records a ++ option_to_list move.turn.write) a)))
             (sym (put_here net.sites a move.site))
             (subst (λ (rs : List Record). IsKeptBy move.site (kept_by rs))
-                (sym (put_here net.records a (net.records a ++ option_to_list move.turn.write))) g.alike);
+            (sym (put_here net.records a (net.records a ++ option_to_list move.turn.write))) g.alike);
         holders =
             λ u t held. g.later.born t
             (g.holders t (subst (λ (s : SiteState). is_held s.held t ≡ true) (put_here net.sites a move.site) held));

@@ -1,6 +1,5 @@
 -- A record that was being written as its site fell, and stays: what the machine does for it as the site rises.
-use Rattle.std.proofs.Common.{◌≡◌, ◌<◌, ℕ, suc, arith, true, List, ◌∷◌, ◌++◌, Option, Some, None, refl, sym}
-use Rattle.std.proofs.Common.{subst}
+use Rattle.std.proofs.Common.{◌≡◌, ◌<◌, ℕ, suc, arith, true, List, ◌∷◌, ◌++◌, Option, Some, None, refl, sym, subst}
 use Rattle.qc_stamp.specs.declared.stamp.TxId.{TxId}
 use Rattle.qc_list.specs.Names.{In}
 use Rattle.qc_entry.specs.declared.record.Prepared.{Prepared}
@@ -43,7 +42,7 @@ module _ (decl : Declaration) where
               verdicts = λ t h. h;
               appends = λ s h. h;
               snapshots = λ s h. h;
-              decided = λ d h. h
+              decided = λ d h. h;
             };
         keeps =
             λ c. record {
@@ -55,7 +54,7 @@ module _ (decl : Declaration) where
               counted = λ x its h. h;
               more = λ x h. h;
               votes = λ x h. h;
-              appends = λ x h. h
+              appends = λ x h. h;
             };
         records = refl;
         placed_at = placed;
@@ -66,7 +65,7 @@ module _ (decl : Declaration) where
           subst (λ (ds : List Deed). KeptMirrors decl (keeps k (records.Prepare p)) (state acts).status
           ((state acts).life a) ds) (sym (put_here (state acts).deeds a ((state acts).deeds a ++ Prepares p.tx ∷ [])))
           (kept_prepares decl k (state acts).status ((state acts).life a) ((state acts).deeds a) p m h.fresh h.same
-              h.whole h.lines h.ascends (λ e. subst MayPrepare e h.asked));
+          h.whole h.lines h.ascends (λ e. subst MayPrepare e h.asked));
     }
 
     finishes_act : (k : Kept) (tx : TxId) (clock : ℕ)
@@ -88,7 +87,7 @@ module _ (decl : Declaration) where
               verdicts = λ t h. h;
               appends = λ s h. h;
               snapshots = λ s h. h;
-              decided = λ d h. h
+              decided = λ d h. h;
             };
         keeps =
             λ c. record {
@@ -100,7 +99,7 @@ module _ (decl : Declaration) where
               counted = λ x its h. h;
               more = λ x h. h;
               votes = λ x h. h;
-              appends = λ x h. h
+              appends = λ x h. h;
             };
         records = refl;
         placed_at = placed;
@@ -114,7 +113,7 @@ module _ (decl : Declaration) where
           ((state acts).life a) ds)
           (sym (put_here (state acts).deeds a ((state acts).deeds a ++ LearnsCommit tx (done_stamp tx clock) ∷ [])))
           (kept_finishes decl k (state acts).status ((state acts).life a) ((state acts).deeds a) tx clock h.promise
-              h.prepared m h.promised h.kept h.same);
+          h.prepared m h.promised h.kept h.same);
     }
 
     abbrev pub rises_act : (k : Kept)
@@ -135,7 +134,7 @@ module _ (decl : Declaration) where
               verdicts = λ t h. h;
               appends = λ s h. h;
               snapshots = λ s h. h;
-              decided = λ d h. h
+              decided = λ d h. h;
             };
         keeps =
             λ c. record {
@@ -147,7 +146,7 @@ module _ (decl : Declaration) where
               counted = λ x its h. h;
               more = λ x h. h;
               votes = λ x h. h;
-              appends = λ x h. h
+              appends = λ x h. h;
             };
         records = refl;
         placed_at = placed;
@@ -159,7 +158,7 @@ module _ (decl : Declaration) where
           (put (state acts).life a (suc ((state acts).life a)) a) ds)
           (sym (put_here (state acts).deeds a ((state acts).deeds a ++ Rises ∷ [])))
           (subst (λ (n : ℕ). KeptMirrors decl (keeps k records.Life) (state acts).status n
-              ((state acts).deeds a ++ Rises ∷ [])) (sym (put_here (state acts).life a (suc ((state acts).life a))))
+          ((state acts).deeds a ++ Rises ∷ [])) (sym (put_here (state acts).life a (suc ((state acts).life a))))
           (kept_rises decl k (state acts).status ((state acts).life a) ((state acts).deeds a) m));
     }
 
@@ -181,7 +180,7 @@ module _ (decl : Declaration) where
               verdicts = λ t h. h;
               appends = λ s h. h;
               snapshots = λ s h. h;
-              decided = λ d h. h
+              decided = λ d h. h;
             };
         keeps =
             λ c. record {
@@ -193,7 +192,7 @@ module _ (decl : Declaration) where
               counted = λ x its h. h;
               more = λ x h. h;
               votes = λ x h. h;
-              appends = λ x h. h
+              appends = λ x h. h;
             };
         records = refl;
         placed_at = placed;
@@ -205,7 +204,7 @@ module _ (decl : Declaration) where
           (put (state acts).life a (suc ((state acts).life a)) a) ds)
           (sym (put_here (state acts).deeds a ((state acts).deeds a ++ Closes ∷ [])))
           (subst (λ (n : ℕ). KeptMirrors decl (keeps k (records.Close epoch)) (state acts).status n
-              ((state acts).deeds a ++ Closes ∷ [])) (sym (put_here (state acts).life a (suc ((state acts).life a))))
+          ((state acts).deeds a ++ Closes ∷ [])) (sym (put_here (state acts).life a (suc ((state acts).life a))))
           (kept_closes decl k (state acts).status ((state acts).life a) ((state acts).deeds a) epoch m h));
     }
 
@@ -215,10 +214,14 @@ module _ (decl : Declaration) where
         → SiteMid decl (state acts) a (keeps k (records.Install epoch clock lines))
     installs_act k epoch clock lines m h = record {
       acts = Install a h.0.decision ∷ acts;
-      run =
-          ((h.0.decided,
+      run = (
+        (
+          h.0.decided,
           (let e : epoch_from 1 ((state acts).deeds a) ≡ k.epoch = m.epoch in
-           let f : h.0.decision.epoch ≡ epoch = h.0.epoch_is in let g : k.epoch < epoch = h.1 in omega arith)), run);
+              let f : h.0.decision.epoch ≡ epoch = h.0.epoch_is in let g : k.epoch < epoch = h.1 in omega arith),
+        ),
+        run,
+      );
       at = record {
         later =
             record {
@@ -231,7 +234,7 @@ module _ (decl : Declaration) where
               verdicts = λ t h. h;
               appends = λ s h. h;
               snapshots = λ s h. h;
-              decided = λ d h. h
+              decided = λ d h. h;
             };
         keeps =
             λ c. record {
@@ -243,7 +246,7 @@ module _ (decl : Declaration) where
               counted = λ x its h. h;
               more = λ x h. h;
               votes = λ x h. h;
-              appends = λ x h. h
+              appends = λ x h. h;
             };
         records = refl;
         placed_at = placed;
@@ -256,11 +259,11 @@ module _ (decl : Declaration) where
           subst (λ (ds : List Deed). KeptMirrors decl (keeps k (records.Install epoch clock lines)) (state acts).status
           ((state acts).life a) ds)
           (sym (put_here (state acts).deeds a
-            ((state acts).deeds a ++ Installs h.0.decision.epoch h.0.decision.clock h.0.decision.log ∷ [])))
+          ((state acts).deeds a ++ Installs h.0.decision.epoch h.0.decision.clock h.0.decision.log ∷ [])))
           (subst (λ (x : Deed). KeptMirrors decl (keeps k (records.Install epoch clock lines)) (state acts).status
-              ((state acts).life a) ((state acts).deeds a ++ x ∷ [])) (sym (deed_is h.0))
+          ((state acts).life a) ((state acts).deeds a ++ x ∷ [])) (sym (deed_is h.0))
           (kept_installs decl k (state acts).status ((state acts).life a) ((state acts).deeds a) epoch clock lines m
-              h.0.planned h.0.sorted));
+          h.0.planned h.0.sorted));
     }
 
     -- what stands of a pending record

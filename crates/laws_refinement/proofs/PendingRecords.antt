@@ -4,8 +4,7 @@ use Rattle.qc_list.specs.Names.{In}
 use Rattle.qc_decl.specs.declared.declaration.Declaration.{Declaration}
 use Rattle.qc_decl.specs.Names.{is_site}
 use Rattle.qc_msg.specs.declared.record.Record.TheVariants as records
-use Rattle.theory_machine.specs.Names.{Act, Granted, IsRun}
-use Rattle.theory_machine.specs.Names.{State, state}
+use Rattle.theory_machine.specs.Names.{Act, Granted, IsRun, State, state}
 use Rattle.qc_recover.specs.Names.{Kept, keeps}
 use Rattle.laws_refinement.specs.Names.{KeptMirrors}
 use Rattle.laws_refinement.proofs.MessagesStay.{keeps_both, keeps_same, later_both, same_state}
@@ -20,7 +19,7 @@ module _ (decl : Declaration) where
         records = refl;
         placed_at = placed;
         there = λ b other. refl;
-        lives = λ b other. refl
+        lives = λ b other. refl;
       }
 
   pub at_both : (w u v : State) (a : ℕ) → AtSite decl w u a → AtSite decl u v a → AtSite decl w v a

@@ -1,13 +1,11 @@
 -- Every net that may come about is what a run of the machine may look like.
-use Rattle.std.proofs.Common.{◌≡◌, ◌++◌, ℕ, ◌+◌, true, List}
-use Rattle.std.proofs.Common.{Some, None, sym, ◌∙◌, subst, ap, inl, inr}
+use Rattle.std.proofs.Common.{◌≡◌, ◌++◌, ℕ, ◌+◌, true, List, Some, None, sym, ◌∙◌, subst, ap, inl, inr}
 use Rattle.qc_decl.specs.declared.declaration.Declaration.{Declaration}
 use Rattle.qc_decl.specs.Names.{IsAccepted, administrator, is_client}
 use Rattle.theory_machine.specs.Names.{Act, state}
 use Rattle.qc_commit.specs.Names.{record_of}
 use Rattle.laws_refinement.proofs.AdminFalls.{admin_falls, admin_rises_in_vain, admin_rises_up}
-use Rattle.laws_refinement.specs.Names.{Continues, IsClientKeptBy}
-use Rattle.laws_refinement.specs.Names.{Net, Reaches, Refines, after_fall}
+use Rattle.laws_refinement.specs.Names.{Continues, IsClientKeptBy, Net, Reaches, Refines, after_fall}
 use Rattle.laws_refinement.proofs.AdminCases.{admin_case}
 use Rattle.laws_refinement.proofs.SiteCases.{serve_case}
 use Rattle.laws_refinement.proofs.Standing.{front_ends_stand}
@@ -25,7 +23,7 @@ use Rattle.laws_refinement.proofs.ClientKeeps.{clients_kept}
 use Rattle.laws_refinement.proofs.SiteFails.{take_fails as site_take_fails}
 use Rattle.laws_refinement.proofs.SiteFalls.{site_falls, site_rises_in_vain, site_rises_up}
 use Rattle.laws_refinement.specs.Net as nets
-use Rattle.laws_refinement.proofs.RefiningTurns.{_, at_first, first_plan}
+use Rattle.laws_refinement.proofs.RefiningTurns.{at_first, first_plan}
 
 module _ (decl : Declaration) (accepted : IsAccepted decl) where
   client_pends : (net : Net) (h : Refines decl net) (a : ℕ) → is_client decl a ≡ true → net.up a ≡ true
@@ -34,14 +32,14 @@ module _ (decl : Declaration) (accepted : IsAccepted decl) where
   client_pends net h a client up kept r p =
       subst (λ (x : Record). Refines decl (after_fall net a (Some x) [])) (sym p.is)
       (client_fails decl (first_plan decl accepted) net h a client p.acts p.client p.transaction p.commit p.own.actor
-          p.mid p.records
-          p.own
+      p.mid p.records
+      p.own
       (record {
-            life = ap (λ (f : Front). f.life) p.front ∙ kept.life;
-            commits = λ x among. subst (λ (cs : List CommitRecord). In x cs) (sym p.commits) (kept.commits x among);
-            none =
-                λ t none. subst (λ (cs : List CommitRecord). record_of cs t ≡ None) (sym p.commits) (kept.none t none)
-          })
+        life = ap (λ (f : Front). f.life) p.front ∙ kept.life;
+        commits = λ x among. subst (λ (cs : List CommitRecord). In x cs) (sym p.commits) (kept.commits x among);
+        none =
+            λ t none. subst (λ (cs : List CommitRecord). record_of cs t ≡ None) (sym p.commits) (kept.none t none);
+      })
       p.may p.its (ap (λ (u : TxId). u.client) p.its ∙ p.mine))
 
   any : (net : Net) (acts : List Act) → Continues decl acts net → Refines decl net
@@ -60,7 +58,7 @@ module _ (decl : Declaration) (accepted : IsAccepted decl) where
       site_falls decl accepted before (nets_refine before r) a site None [] tt (λ p never. absurd never)
   nets_refine net (nets.client_falls a before r client up) =
       client_falls decl (first_plan decl accepted) before (nets_refine before r) a client up
-          (clients_kept decl before r a client up)
+      (clients_kept decl before r a client up)
   nets_refine net (nets.site_fails a given written sends before r site up came wrote failed) =
       let h : Refines decl before = nets_refine before r in
       let f = site_take_fails decl h.acts before a h.run h.agrees site up given came written wrote in
@@ -73,7 +71,7 @@ module _ (decl : Declaration) (accepted : IsAccepted decl) where
       let p = take_fails h.acts before a h.run h.agrees client up given came ready written wrote in
       let none : sends ≡ [] = elim failed [ inl same ↦ same ∙ p.1 | inr empty ↦ empty ] in
       subst (λ (ps : List Posting). Refines decl (after_fall before a (Some written) ps)) (sym none)
-          (client_pends before h a client up (clients_kept decl before r a client up) written p.0)
+      (client_pends before h a client up (clients_kept decl before r a client up) written p.0)
   nets_refine net (nets.site_rises_up a back before r site down given) =
       site_rises_up decl accepted before (nets_refine before r) a site back down given
   nets_refine net (nets.client_rises_up a back before r client down given) =
@@ -91,7 +89,7 @@ module _ (decl : Declaration) (accepted : IsAccepted decl) where
       let p = (admin_case decl h.acts before h.run h.agrees up given came named).1 written wrote in
       let none : sends ≡ [] = elim failed [ inl same ↦ same ∙ p.1 | inr empty ↦ empty ] in
       subst (λ (ps : List Posting). Refines decl (after_fall before (administrator decl) (Some written) ps)) (sym none)
-          (admin_falls decl before h (Some written) p.0)
+      (admin_falls decl before h (Some written) p.0)
   nets_refine net (nets.admin_rises_up back before r down given) =
       admin_rises_up decl before (nets_refine before r) back down given
   nets_refine net (nets.admin_rises_in_vain back before r down given) =

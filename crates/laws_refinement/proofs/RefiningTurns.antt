@@ -1,7 +1,7 @@
 -- At the beginning, and as a client's turn whose record isn't written, a net is what a run of the machine may look
 -- like.
-use Rattle.std.proofs.Common.{◌≡◌, ◌<◌, ◌≤◌, ◌∷◌, length, slice_get, ℕ, ◌+◌, ◌-◌, ◌&&◌, Bool, true, false, List}
-use Rattle.std.proofs.Common.{Option, Some, None, refl, sym, ◌∙◌, subst, arith}
+use Rattle.std.proofs.Common.{◌≡◌, ◌<◌, ◌≤◌, ◌∷◌, length, slice_get, ℕ, ◌+◌, ◌-◌, ◌&&◌, Bool, true, false, List, Option}
+use Rattle.std.proofs.Common.{Some, None, refl, sym, ◌∙◌, subst, arith}
 use Rattle.qc_decl.proofs.Clients.{client_past}
 use Rattle.qc_decl.specs.declared.declaration.Declaration.{Declaration}
 use Rattle.qc_decl.specs.Names.{IsAccepted, is_client}
@@ -15,8 +15,8 @@ use Rattle.theory_machine.specs.Names.{Act, IsRun, state}
 use Rattle.qc_commit.specs.declared.desk.Voting.{Voting}
 use Rattle.qc_commit.specs.Names.{votes_in}
 use Rattle.qc_client.specs.Names.{ClientMove, answered_by, by_desk, by_front, client_takes, heard, moved}
-use Rattle.laws_refinement.specs.Names.{Backed, FrontStands, IsPlanned, MayCome, MayCommand}
-use Rattle.laws_refinement.specs.Names.{Mirrors, Net, Refines, after_client, first_net}
+use Rattle.laws_refinement.specs.Names.{Backed, FrontStands, IsPlanned, MayCome, MayCommand, Mirrors, Net, Refines}
+use Rattle.laws_refinement.specs.Names.{after_client, first_net}
 use Rattle.laws_refinement.proofs.ClientAnswers.{do_case, takes_case}
 use Rattle.laws_refinement.proofs.OpenRequests.{AnswerBacked}
 use Rattle.laws_refinement.proofs.ClientGivesUp.{abort_case, begin_case}
@@ -50,10 +50,10 @@ module _ (decl : Declaration) (accepted : IsAccepted decl) where
     answer_case from number answer backed (Some v) votes =
         let waits : Refines decl (after_client net a (by_desk (net.clients a) (votes_in (net.clients a).desk (Some v) number answer))) =
         vote_case decl acts net a run m client up from number (net.clients a).front.transaction v answer refl votes
-            backed (site_called v.calls number) refl in
+        backed (site_called v.calls number) refl in
         subst (λ (o : Option Voting). Refines decl
-            (after_client net a (by_desk (net.clients a) (votes_in (net.clients a).desk o number answer)))) (sym votes)
-            waits
+        (after_client net a (by_desk (net.clients a) (votes_in (net.clients a).desk o number answer)))) (sym votes)
+        waits
 
     -- whatever a client takes
     take_case : (given : Input) → MayCome net a given → MayCommand decl (net.clients a) given
@@ -198,9 +198,9 @@ module _ (decl : Declaration) (accepted : IsAccepted decl) where
     answer_fails from number answer backed (Some v) votes =
         let waits : Failing (by_desk (net.clients a) (votes_in (net.clients a).desk (Some v) number answer)) =
         (λ r wrote. vote_fails decl acts net a run m client up from number (net.clients a).front.transaction v answer
-            refl votes backed (site_called v.calls number) refl r wrote) in
+        refl votes backed (site_called v.calls number) refl r wrote) in
         subst (λ (o : Option Voting). Failing (by_desk (net.clients a) (votes_in (net.clients a).desk o number answer)))
-            (sym votes) waits
+        (sym votes) waits
 
     take_fails : (given : Input) → MayCome net a given → MayCommand decl (net.clients a) given
         → Failing (client_takes decl (net.clients a) given)

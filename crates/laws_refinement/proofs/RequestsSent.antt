@@ -1,6 +1,5 @@
 -- A request of a client's turn is one of what runs there, with its number.
-use Rattle.std.proofs.Common.{◌≡◌, ℕ, inl, inr, List, ◌∷◌, Option}
-use Rattle.std.proofs.Common.{Some, None, sym, ap, ◌∙◌, subst}
+use Rattle.std.proofs.Common.{◌≡◌, ℕ, inl, inr, List, ◌∷◌, Option, Some, None, sym, ap, ◌∙◌, subst}
 use Rattle.qc_stamp.specs.declared.stamp.TxId.{TxId}
 use Rattle.qc_list.specs.Names.{In}
 use Rattle.theory_onecopy.proofs.Lists.{in_split}
@@ -21,8 +20,8 @@ use Rattle.qc_front.specs.declared.transaction.Transaction.{Transaction}
 use Rattle.qc_front.specs.Names.{IsFor, calls_in, requested, requested_in}
 use Rattle.qc_client.specs.declared.client.Client.{Client}
 use Rattle.laws_refinement.specs.Names.{AreVotes, BegunMirrors, ClientMirrors, IsAskedBy, IsChosen, IsMessage}
-use Rattle.laws_refinement.specs.Names.{IsRequest, IsRoundCounted, RunningMirrors, TransactionMirrors}
-use Rattle.laws_refinement.specs.Names.{VotesMirror, status_by}
+use Rattle.laws_refinement.specs.Names.{IsRequest, IsRoundCounted, RunningMirrors, TransactionMirrors, VotesMirror}
+use Rattle.laws_refinement.specs.Names.{status_by}
 
 module _ (decl : Declaration) where
   -- a request of a client's turn is one of what runs there
@@ -71,28 +70,28 @@ module _ (decl : Declaration) where
   calls_more : (ms : List Envelope) (t : Transaction) (d : Doing) (n to : ℕ) (want : Want) → IsFor decl t d want
       → IsMessage ms n to (messages.Request t.begun.tx t.begun.epoch (life_of t.begun.lives to) want)
       → ((call : Call) → In call (calls_in d) → IsAskedBy decl ms t d call) → (call : Call)
-          → In call (calls_in (requested_in d n to)) → IsAskedBy decl ms t (requested_in d n to) call
+      → In call (calls_in (requested_in d n to)) → IsAskedBy decl ms t (requested_in d n to) call
   calls_more ms t Idle n to want for r old call among = absurd for
   calls_more ms t (Reading object inv calls round) n to want for r old call among =
       elim (in_split call calls (record { number = n; site = to } ∷ []) among) [
-    | inl h ↦ old call h
-    | inr h ↦ elim h [
-      | inl same ↦
-          subst (λ (y : Call). IsAskedBy decl ms t (Reading object inv (with_call calls n to) round) y) (sym same)
-          (want, r, for)
-      | inr never ↦ absurd never
-    ]
-  ]
+        | inl h ↦ old call h
+        | inr h ↦ elim h [
+          | inl same ↦
+              subst (λ (y : Call). IsAskedBy decl ms t (Reading object inv (with_call calls n to) round) y) (sym same)
+              (want, r, for)
+          | inr never ↦ absurd never
+        ]
+      ]
   calls_more ms t (Appending object inv event calls round) n to want for r old call among =
       elim (in_split call calls (record { number = n; site = to } ∷ []) among) [
-    | inl h ↦ old call h
-    | inr h ↦ elim h [
-      | inl same ↦
-          subst (λ (y : Call). IsAskedBy decl ms t (Appending object inv event (with_call calls n to) round) y)
-          (sym same) (want, r, for)
-      | inr never ↦ absurd never
-    ]
-  ]
+        | inl h ↦ old call h
+        | inr h ↦ elim h [
+          | inl same ↦
+              subst (λ (y : Call). IsAskedBy decl ms t (Appending object inv event (with_call calls n to) round) y)
+              (sym same) (want, r, for)
+          | inr never ↦ absurd never
+        ]
+      ]
 
   votes_more : (w : State) (ms : List Envelope) (c : Client) (t : Transaction) (n to : ℕ) (o : Option Voting)
       → AreVotes w ms c t o → AreVotes w ms (record c { front = requested c.front n to }) t o
@@ -104,7 +103,7 @@ module _ (decl : Declaration) where
         clock = h.clock;
         each = h.each;
         voted = h.voted;
-        calls = h.calls
+        calls = h.calls;
       }
 
   pub round_sent : (w : State) (ms : List Envelope) (a : ℕ) (c : Client) (n to : ℕ) (t : Transaction) (want : Want)
@@ -113,7 +112,7 @@ module _ (decl : Declaration) where
       → ClientMirrors decl w ms a (record c { front = requested c.front n to })
   round_sent w ms a c n to t want m is for r =
       let h : TransactionMirrors w c.front t × RunningMirrors decl w ms c t =
-              subst (λ (x : Option Transaction). BegunMirrors decl w ms c x) is m.begun in
+      subst (λ (x : Option Transaction). BegunMirrors decl w ms c x) is m.begun in
       record {
         own =
             record {
@@ -125,12 +124,12 @@ module _ (decl : Declaration) where
               clock = m.own.clock;
               to_come = m.own.to_come;
               committed = m.own.committed;
-              aborted = m.own.aborted
+              aborted = m.own.aborted;
             };
         begun =
             subst (λ (x : Option Transaction). BegunMirrors decl w ms (record c { front = requested c.front n to }) x)
             (sym is) (
-          record {
+              record {
                 named = h.0.named;
                 epoch = h.0.epoch;
                 lives = h.0.lives;
@@ -138,16 +137,16 @@ module _ (decl : Declaration) where
                 own = h.0.own;
                 sorted = h.0.sorted;
                 shown = h.0.shown;
-                whole = h.0.whole
+                whole = h.0.whole;
               },
-          record {
-            status_is = h.1.status_is;
-            chosen = chosen_more w t c.front.doing n to h.1.chosen;
-            counted = counted_more w t c.front.doing n to h.1.counted;
-            calls = calls_more ms t c.front.doing n to want for r h.1.calls;
-            votes = votes_more w ms c t n to c.desk.voting h.1.votes;
-          },
-        );
+              record {
+                status_is = h.1.status_is;
+                chosen = chosen_more w t c.front.doing n to h.1.chosen;
+                counted = counted_more w t c.front.doing n to h.1.counted;
+                calls = calls_more ms t c.front.doing n to want for r h.1.calls;
+                votes = votes_more w ms c t n to c.desk.voting h.1.votes;
+              },
+            );
       }
 
   -- so does a Prepare
@@ -158,7 +157,7 @@ module _ (decl : Declaration) where
       → ClientMirrors decl w ms a (record c { desk = prepared c.desk n to })
   prepare_sent w ms a c n to t v m is voted r =
       subst (λ (o : Option Voting). ClientMirrors decl w ms a (record c { desk = prepared_in c.desk o n to }))
-          (sym voted) (record {
+      (sym voted) (record {
         own =
             record {
               actor = m.own.actor;
@@ -169,12 +168,12 @@ module _ (decl : Declaration) where
               clock = m.own.clock;
               to_come = m.own.to_come;
               committed = m.own.committed;
-              aborted = m.own.aborted
+              aborted = m.own.aborted;
             };
         begun =
             subst (λ (x : Option Transaction). BegunMirrors decl w ms
             (record c { desk = with_voting c.desk (Some (record v { calls = with_call v.calls n to })) }) x) (sym is) (
-          record {
+              record {
                 named = h.0.named;
                 epoch = h.0.epoch;
                 lives = h.0.lives;
@@ -182,23 +181,23 @@ module _ (decl : Declaration) where
                 own = h.0.own;
                 sorted = h.0.sorted;
                 shown = h.0.shown;
-                whole = h.0.whole
+                whole = h.0.whole;
               },
-          record {
+              record {
                 status_is = h.1.status_is ∙ ap (λ (o : Option Voting). status_by o) voted;
                 chosen = h.1.chosen;
                 counted = h.1.counted;
                 calls = h.1.calls;
                 votes = record {
-                      begun = vm.begun;
-                      idle = vm.idle;
-                      clock = vm.clock;
-                      each = vm.each;
-                      voted = vm.voted;
-                      calls = calls
-                    }
+                  begun = vm.begun;
+                  idle = vm.idle;
+                  clock = vm.clock;
+                  each = vm.each;
+                  voted = vm.voted;
+                  calls = calls;
+                };
               },
-        );
+            );
       })
     where
       h : TransactionMirrors w c.front t × RunningMirrors decl w ms c t

@@ -1,6 +1,6 @@
 -- Each message that a site takes: an act of the machine, or none.
-use Rattle.std.proofs.Common.{◌≡◌, ◌≤◌, ◌⊎◌, inl, inr, ℕ, ◌==◌, ◌∙◌, nat_lt, Bool, true}
-use Rattle.std.proofs.Common.{false, cond, List, Option, Some, None, refl, subst, arith, ◌<◌}
+use Rattle.std.proofs.Common.{◌≡◌, ◌≤◌, ◌⊎◌, inl, inr, ℕ, ◌==◌, ◌∙◌, nat_lt, Bool, true, false, cond, List, Option}
+use Rattle.std.proofs.Common.{Some, None, refl, subst, arith, ◌<◌}
 use Rattle.qc_stamp.specs.declared.stamp.TxId.{TxId}
 use Rattle.qc_list.specs.Names.{In}
 use Rattle.qc_decl.specs.declared.declaration.Declaration.{Declaration}
@@ -13,13 +13,11 @@ use Rattle.qc_msg.specs.declared.message.Want.TheVariants.{Read, Append, Prepare
 use Rattle.qc_msg.specs.declared.step.Input.{Input}
 use Rattle.qc_msg.specs.declared.step.Input.TheVariants.{Called, Got, Lost}
 use Rattle.qc_msg.specs.Names.{quiet}
-use Rattle.theory_machine.specs.Names.{Act, IsRun}
-use Rattle.theory_machine.specs.Names.{state}
-use Rattle.qc_site.specs.Names.{SiteMove, SiteState, clock_after, closed_fault, fault_of, grants}
-use Rattle.qc_site.specs.Names.{latest, moved, passed, site_on, site_takes}
+use Rattle.theory_machine.specs.Names.{Act, IsRun, state}
+use Rattle.qc_site.specs.Names.{SiteMove, SiteState, clock_after, closed_fault, fault_of, grants, latest, moved, passed}
+use Rattle.qc_site.specs.Names.{site_on, site_takes}
 use Rattle.qc_site.proofs.RequestCases.{request_cases}
-use Rattle.laws_refinement.specs.Names.{Backed, Continues, IsClosing, IsMessage}
-use Rattle.laws_refinement.specs.Names.{IsPlanned, MayCome, Mirrors, Net}
+use Rattle.laws_refinement.specs.Names.{Backed, Continues, IsClosing, IsMessage, IsPlanned, MayCome, Mirrors, Net}
 use Rattle.laws_refinement.specs.Names.{after_site}
 use Rattle.laws_refinement.proofs.Closing.{close_case}
 use Rattle.laws_refinement.proofs.InstallCases.{install_case}
@@ -59,7 +57,7 @@ module _ (decl : Declaration) (accepted : IsAccepted decl) (acts : List Act) (ne
 
       by : (b c : Bool)
           → cond b (Some (answers.Behind s.epoch))
-            (cond c (Some (answers.Closed s.epoch)) (closed_fault s life s.closed_for)) ≡ Some refusal
+          (cond c (Some (answers.Closed s.epoch)) (closed_fault s life s.closed_for)) ≡ Some refusal
           → Backed decl (state acts) net.mail a from (messages.Answer number refusal)
       by true c e = given (answers.Behind s.epoch) tt e
       by false true e = given (answers.Closed s.epoch) planned e
@@ -71,19 +69,19 @@ module _ (decl : Declaration) (accepted : IsAccepted decl) (acts : List Act) (ne
       → Backed decl (state acts) net.mail from a (messages.Request tx epoch life want)
       → IsMessage net.mail number a (messages.Request tx epoch life want)
       → Continues decl acts
-          (after_site net a (site_on decl (net.sites a) from number (messages.Request tx epoch life want)))
+      (after_site net a (site_on decl (net.sites a) from number (messages.Request tx epoch life want)))
   request_case from number epoch life tx want backed request =
       request_cases (λ (move : SiteMove). Continues decl acts (after_site net a move)) decl
-          (passed (net.sites a) (messages.Request tx epoch life want)) from number tx epoch life want
+      (passed (net.sites a) (messages.Request tx epoch life want)) from number tx epoch life want
       (stands decl acts net a run m site up (clock_after (net.sites a).clock (messages.Request tx epoch life want))
-          (moved (passed (net.sites a) (messages.Request tx epoch life want)) quiet) (grows want) refl refl
-          (λ p never. absurd never))
+      (moved (passed (net.sites a) (messages.Request tx epoch life want)) quiet) (grows want) refl refl
+      (λ p never. absurd never))
       (λ refusal is. says decl acts net a run m site up
-          (clock_after (net.sites a).clock (messages.Request tx epoch life want)) from number refusal (grows want)
+      (clock_after (net.sites a).clock (messages.Request tx epoch life want)) from number refusal (grows want)
       (refused epoch life from number (passed (net.sites a) (messages.Request tx epoch life want))
-          (m.sites a site up).planned (m.sites a site up).closing refusal is))
+      (m.sites a site up).planned (m.sites a site up).closing refusal is))
       (λ is. looked_at want backed request
-          (passes (passed (net.sites a) (messages.Request tx epoch life want)) epoch life is))
+      (passes (passed (net.sites a) (messages.Request tx epoch life want)) epoch life is))
     where
       grows : (w : Want) → (net.sites a).clock ≤ clock_after (net.sites a).clock (messages.Request tx epoch life w)
       grows (Read object inv) = omega arith
@@ -133,7 +131,7 @@ module _ (decl : Declaration) (accepted : IsAccepted decl) (acts : List Act) (ne
           (e, m.numbered e among, to, same)
       by (messages.Decision tx verdict) same =
           decision_case decl accepted acts net a run m site up tx verdict e.from e.number
-              (back (messages.Decision tx verdict) same)
+          (back (messages.Decision tx verdict) same)
       by (messages.Answer n answer) same = nothing
       by (messages.Inquiry tx) same = nothing
       by (messages.Ask tx) same = nothing

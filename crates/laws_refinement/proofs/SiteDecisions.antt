@@ -1,7 +1,6 @@
 -- A Decision that a site takes, as an act of the machine.
 use Rattle.std.proofs.Common.{◌≡◌, ◌≤◌, ◌⊎◌, inl, inr, ℕ, ◌==◌, ◌∙◌, max, nat_lt, ltb-false, eqb-true, Bool, true}
-use Rattle.std.proofs.Common.{false, cond, List, ◌∷◌, ◌++◌, Option, Some, None, not, refl, ap, subst, arith}
-use Rattle.std.proofs.Common.{sym}
+use Rattle.std.proofs.Common.{false, cond, List, ◌∷◌, ◌++◌, Option, Some, None, not, refl, ap, subst, arith, sym}
 use Rattle.qc_stamp.specs.declared.stamp.Stamp.{Stamp}
 use Rattle.qc_stamp.specs.declared.stamp.TxId.{TxId}
 use Rattle.qc_stamp.specs.Names.{same_tx}
@@ -18,11 +17,10 @@ use Rattle.qc_msg.specs.Names.{quiet}
 use Rattle.theory_machine.specs.Names.{Aborted, Act, Active, Committed, Deed, DoneRecord, HasRecord, IsOutcome, IsRun}
 use Rattle.theory_machine.specs.Names.{LearnsAbort, LearnsCommit, NotBegun, Pending, Promise, Site, Status, Voting}
 use Rattle.theory_machine.specs.Names.{after_commit, done_record, promise_of, site_after, state, without_tx}
-use Rattle.qc_site.specs.Names.{SiteMove, SiteState, closed_fault, dropped, fault_of, joins, known}
-use Rattle.qc_site.specs.Names.{lines_of, moved, passed, prepared_of, site_on, without_prepared}
-use Rattle.laws_refinement.specs.Names.{AreApart, AreLined, Continues, IsKeptBy}
-use Rattle.laws_refinement.specs.Names.{IsPromiseOf, IsVerdictBacked, KeptMirrors, Mirrors, Net}
-use Rattle.laws_refinement.specs.Names.{after_site}
+use Rattle.qc_site.specs.Names.{SiteMove, SiteState, closed_fault, dropped, fault_of, joins, known, lines_of, moved}
+use Rattle.qc_site.specs.Names.{passed, prepared_of, site_on, without_prepared}
+use Rattle.laws_refinement.specs.Names.{AreApart, AreLined, Continues, IsKeptBy, IsPromiseOf, IsVerdictBacked}
+use Rattle.laws_refinement.specs.Names.{KeptMirrors, Mirrors, Net, after_site}
 use Rattle.laws_refinement.proofs.Apart.{aparts_dropped}
 use Rattle.laws_refinement.proofs.Known.{learned_in}
 use Rattle.laws_refinement.proofs.Promises.{commit_log, commit_logged, commit_passed, commit_promised, commit_sorted}
@@ -99,7 +97,7 @@ passes s epoch life = by (nat_lt s.epoch epoch) (nat_lt epoch s.epoch) refl refl
 
     by : (b c : Bool) → nat_lt s.epoch epoch ≡ b → nat_lt epoch s.epoch ≡ c
         → cond b (Some (answers.Behind s.epoch))
-          (cond c (Some (answers.Closed s.epoch)) (closed_fault s life s.closed_for)) ≡ None → Passes s epoch life
+        (cond c (Some (answers.Closed s.epoch)) (closed_fault s life s.closed_for)) ≡ None → Passes s epoch life
     by true c p q e = absurd (let never : ⊥ = cc in never)
     by false true p q e = absurd (let never : ⊥ = cc in never)
     by false false p q e =
@@ -121,27 +119,27 @@ module _ (decl : Declaration) (accepted : IsAccepted decl) (acts : List Act) (ne
       let j : JoinKeeps (record (net.sites a) { clock = clock }) tx (joins (record (net.sites a) { clock = clock }) tx stamp (prepared_of (net.sites a).prepared tx)) = join_keeps (record (net.sites a) { clock = clock }) tx stamp (prepared_of (net.sites a).prepared tx) in
       let joined : Joined decl (net.records a) (state acts).status ((state acts).life a) ((state acts).deeds a ++ LearnsCommit tx stamp ∷ []) (joins (record (net.sites a) { clock = clock }) tx stamp (prepared_of (net.sites a).prepared tx)) = joins_kept clock (promise_of tx k.prepared) (prepared_of (net.sites a).prepared tx) refl refl ((m.sites a site up).promised tx) in
       learns_it decl acts net a run m site up clock tx (record { tx = tx; stamp = Some stamp })
-          (joins (record (net.sites a) { clock = clock }) tx stamp (prepared_of (net.sites a).prepared tx)) tt backed
+      (joins (record (net.sites a) { clock = clock }) tx stamp (prepared_of (net.sites a).prepared tx)) tt backed
       (λ k. join_drops tx stamp (promise_of tx k.prepared) k)
       (λ x is. (let e : x.stamp.clock ≡ stamp.clock = ap (λ (y : DoneRecord). y.stamp.clock) is in omega arith))
-          joined.kept joined.alike (omega arith) j.held
-          (record { life = j.stays.life; epoch = j.stays.epoch; closed_for = j.stays.closed_for }) j.clock j.sends
+      joined.kept joined.alike (omega arith) j.held
+      (record { life = j.stays.life; epoch = j.stays.epoch; closed_for = j.stays.closed_for }) j.clock j.sends
       (commit_log (record (net.sites a) { clock = clock }) k (m.sites a site up).log tx stamp (promise_of tx k.prepared)
-          (prepared_of (net.sites a).prepared tx) ((m.sites a site up).promised tx))
+      (prepared_of (net.sites a).prepared tx) ((m.sites a site up).promised tx))
       (commit_logged (record (net.sites a) { clock = clock }) k (m.sites a site up).logged tx stamp
-          (promise_of tx k.prepared) (prepared_of (net.sites a).prepared tx) ((m.sites a site up).promised tx))
+      (promise_of tx k.prepared) (prepared_of (net.sites a).prepared tx) ((m.sites a site up).promised tx))
       (commit_passed k clock
-          (λ l among. (let c : l.stamp.clock ≤ (net.sites a).clock = (m.sites a site up).passed l among in omega arith))
-          tx stamp (promise_of tx k.prepared) (omega arith))
+      (λ l among. (let c : l.stamp.clock ≤ (net.sites a).clock = (m.sites a site up).passed l among in omega arith))
+      tx stamp (promise_of tx k.prepared) (omega arith))
       (commit_sorted (record (net.sites a) { clock = clock }) tx stamp (prepared_of (net.sites a).prepared tx)
-          (m.sites a site up).sorted)
+      (m.sites a site up).sorted)
       (λ u. commit_promised k (record (net.sites a) { clock = clock }) tx stamp u (promise_of tx k.prepared)
-          (prepared_of (net.sites a).prepared tx) ((m.sites a site up).promised tx) refl
-          ((m.sites a site up).promised u))
+      (prepared_of (net.sites a).prepared tx) ((m.sites a site up).promised tx) refl
+      ((m.sites a site up).promised u))
       (join_apart (record (net.sites a) { clock = clock }) tx stamp (prepared_of (net.sites a).prepared tx)
-          (m.sites a site up).apart)
+      (m.sites a site up).apart)
       (join_lined (record (net.sites a) { clock = clock }) tx stamp (prepared_of (net.sites a).prepared tx)
-          (m.sites a site up).lined)
+      (m.sites a site up).lined)
     where
       k : Site
       k = site_after ((state acts).deeds a)
@@ -182,27 +180,27 @@ module _ (decl : Declaration) (accepted : IsAccepted decl) (acts : List Act) (ne
           → promise_of tx (site_after ((state acts).deeds a)).prepared ≡ p → prepared_of (net.sites a).prepared tx ≡ q
           → IsPromiseOf p q
           → Joined decl (net.records a) (state acts).status ((state acts).life a)
-            ((state acts).deeds a ++ LearnsCommit tx stamp ∷ [])
-            (joins (record (net.sites a) { clock = clock }) tx stamp q)
+          ((state acts).deeds a ++ LearnsCommit tx stamp ∷ [])
+          (joins (record (net.sites a) { clock = clock }) tx stamp q)
       joins_kept clock None None none free same = record {
         kept =
             subst (λ (rs : List Record). KeptMirrors decl (kept_by rs) (state acts).status ((state acts).life a)
             ((state acts).deeds a ++ LearnsCommit tx stamp ∷ [])) (sym (append-nil (net.records a)))
             (kept_same decl (kept_by (net.records a)) (state acts).status ((state acts).life a) ((state acts).deeds a)
-                (LearnsCommit tx stamp) (leaves_epoch ((state acts).deeds a) (LearnsCommit tx stamp) tt) (m.kept a site)
+            (LearnsCommit tx stamp) (leaves_epoch ((state acts).deeds a) (LearnsCommit tx stamp) tt) (m.kept a site)
             (ap (λ (o : Option Promise). (after_commit tx stamp o k).stable) none)
-                (ap (λ (o : Option Promise). (after_commit tx stamp o k).promises) none)
+            (ap (λ (o : Option Promise). (after_commit tx stamp o k).promises) none)
             (λ x among. absurd (subst (λ (o : Option Promise). In x (done_record tx stamp o ++ [])) none among)));
         alike =
             subst (λ (rs : List Record). IsKeptBy (dropped (record (net.sites a) { clock = clock }) tx) (kept_by rs))
             (sym (append-nil (net.records a)))
             (record {
-                  began = al.began;
-                  recorded = al.recorded;
-                  promises = λ t q e. al.promises t q
-                      (subst (λ (ps : List Prepared). prepared_of ps t ≡ Some q)
-                        (undropped_site (net.sites a).prepared tx free) e)
-                });
+              began = al.began;
+              recorded = al.recorded;
+              promises = λ t q e. al.promises t q
+                  (subst (λ (ps : List Prepared). prepared_of ps t ≡ Some q)
+                  (undropped_site (net.sites a).prepared tx free) e);
+            });
       }
       joins_kept clock None (Some q) none free same = absurd same
       joins_kept clock (Some p) None some free same = absurd same
@@ -212,47 +210,47 @@ module _ (decl : Declaration) (accepted : IsAccepted decl) (acts : List Act) (ne
             ((state acts).deeds a ++ LearnsCommit tx stamp ∷ []))
             (sym (kept_more (net.records a) (records.Done tx stamp.clock)))
             (subst (λ (y : Stamp). KeptMirrors decl (keeps (kept_by (net.records a)) (records.Done tx stamp.clock))
-                (state acts).status ((state acts).life a) ((state acts).deeds a ++ LearnsCommit tx y ∷ []))
-                (sym stamp_is)
+            (state acts).status ((state acts).life a) ((state acts).deeds a ++ LearnsCommit tx y ∷ []))
+            (sym stamp_is)
             (kept_finishes decl (kept_by (net.records a)) (state acts).status ((state acts).life a)
-                ((state acts).deeds a) tx stamp.clock p q (m.kept a site) some (al.promises tx q found) same));
+            ((state acts).deeds a) tx stamp.clock p q (m.kept a site) some (al.promises tx q found) same));
         alike =
             subst (λ (x : Kept). IsKeptBy (joins (record (net.sites a) { clock = clock }) tx stamp (Some q)).site x)
             (sym (kept_more (net.records a) (records.Done tx stamp.clock))) (record {
-          began = al.began;
-          recorded =
-              ap (λ (ls : List Line). union ls (without (lines_of stamp tx q.own) (net.sites a).began)) al.recorded
-              ∙ ap (λ (ls : List Line). union (kept_by (net.records a)).lines (without (lines_of stamp tx q.own) ls))
+              began = al.began;
+              recorded =
+                  ap (λ (ls : List Line). union ls (without (lines_of stamp tx q.own) (net.sites a).began)) al.recorded
+                  ∙ ap (λ (ls : List Line). union (kept_by (net.records a)).lines (without (lines_of stamp tx q.own) ls))
                   al.began
-              ∙ ap (λ (ls : List Line). union (kept_by (net.records a)).lines (without ls (kept_by (net.records a)).began)) (ap (λ (y : Stamp). lines_of y tx q.own) stamp_is
-              ∙ sym
+                  ∙ ap (λ (ls : List Line). union (kept_by (net.records a)).lines (without ls (kept_by (net.records a)).began)) (ap (λ (y : Stamp). lines_of y tx q.own) stamp_is
+                  ∙ sym
                   (ap (λ (o : Option Prepared). option_map_or (λ (x : Prepared). lines_of (done_stamp tx stamp.clock) tx
-                    x.own) o []) ((m.kept a site).last tx q (al.promises tx q found))));
-          promises = fewer;
-        });
+                  x.own) o []) ((m.kept a site).last tx q (al.promises tx q found))));
+              promises = fewer;
+            });
       }
   decision_case tx outcomes.Aborted from number backed =
       learns_it decl acts net a run m site up (net.sites a).clock tx (record { tx = tx; stamp = None })
-          (moved (dropped (net.sites a) tx) quiet) tt backed (λ k. refl) (λ x never. absurd never)
+      (moved (dropped (net.sites a) tx) quiet) tt backed (λ k. refl) (λ x never. absurd never)
       (subst (λ (rs : List Record). KeptMirrors decl (kept_by rs) (state acts).status ((state acts).life a)
-          ((state acts).deeds a ++ LearnsAbort tx ∷ [])) (sym (append-nil (net.records a)))
+      ((state acts).deeds a ++ LearnsAbort tx ∷ [])) (sym (append-nil (net.records a)))
       (kept_same decl (kept_by (net.records a)) (state acts).status ((state acts).life a) ((state acts).deeds a)
-          (LearnsAbort tx) (leaves_epoch ((state acts).deeds a) (LearnsAbort tx) tt) (m.kept a site) refl refl
-          (λ x never. absurd never)))
+      (LearnsAbort tx) (leaves_epoch ((state acts).deeds a) (LearnsAbort tx) tt) (m.kept a site) refl refl
+      (λ x never. absurd never)))
       (subst (λ (rs : List Record). IsKeptBy (dropped (net.sites a) tx) (kept_by rs)) (sym (append-nil (net.records a)))
       (record {
-            began = (m.alike a site up).began;
-            recorded = (m.alike a site up).recorded;
-            promises = λ t q e. (m.alike a site up).promises t q (still_promised (net.sites a).prepared tx t q e)
-          }))
+        began = (m.alike a site up).began;
+        recorded = (m.alike a site up).recorded;
+        promises = λ t q e. (m.alike a site up).promises t q (still_promised (net.sites a).prepared tx t q e);
+      }))
       (omega arith) refl
       (record { life = refl; epoch = refl; closed_for = refl }) refl refl
       (m.sites a site up).log (m.sites a site up).logged (m.sites a site up).passed (m.sites a site up).sorted
       (λ u. dropped_promise tx u (site_after ((state acts).deeds a)).prepared (net.sites a).prepared
-          ((m.sites a site up).promised u))
+      ((m.sites a site up).promised u))
       (aparts_dropped tx (net.sites a).prepared (m.sites a site up).apart)
       (λ p among l has. (m.sites a site up).lined p
-          (In-unfiltered (λ (q : Prepared). not (same_tx q.tx tx)) p (net.sites a).prepared among) l has)
+      (In-unfiltered (λ (q : Prepared). not (same_tx q.tx tx)) p (net.sites a).prepared among) l has)
   decision_case tx outcomes.Active from number backed =
       stands decl acts net a run m site up (net.sites a).clock (moved (net.sites a) quiet) (omega arith) refl refl
-          (λ p never. absurd never)
+      (λ p never. absurd never)

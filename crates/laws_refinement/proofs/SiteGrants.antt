@@ -1,6 +1,6 @@
 -- Where the machine does nothing, and where its site grants, a site agrees with it.
-use Rattle.std.proofs.Common.{◌≡◌, ◌≢◌, ◌≤◌, ℕ, Bool, true, false, ◌⊎◌, inl, inr, List, ◌∷◌, ◌++◌, Option, Some}
-use Rattle.std.proofs.Common.{None, unwrap_or, refl, sym, subst}
+use Rattle.std.proofs.Common.{◌≡◌, ◌≢◌, ◌≤◌, ℕ, Bool, true, false, ◌⊎◌, inl, inr, List, ◌∷◌, ◌++◌, Option, Some, None}
+use Rattle.std.proofs.Common.{unwrap_or, refl, sym, subst}
 use Rattle.qc_stamp.specs.declared.stamp.TxId.{TxId}
 use Rattle.qc_stamp.specs.Names.{same_tx}
 use Rattle.qc_stamp.proofs.Orders.{other_tx_sym, same_tx_is}
@@ -19,16 +19,13 @@ use Rattle.qc_msg.specs.declared.message.Message.TheVariants as messages
 use Rattle.qc_msg.specs.declared.message.Want.{Want}
 use Rattle.qc_msg.specs.declared.message.Want.TheVariants.{Read}
 use Rattle.qc_msg.specs.declared.turn.Posting.{Posting}
-use Rattle.theory_machine.specs.Names.{Act, Deed, Grant, Granted, Grants, IsRun, Item}
-use Rattle.theory_machine.specs.Names.{NotBegun, Own, Promise, Site, State, after_act}
-use Rattle.theory_machine.specs.Names.{after_prepare, items_of, site_after, state}
-use Rattle.theory_machine.specs.Names.{without_tx}
+use Rattle.theory_machine.specs.Names.{Act, Deed, Grant, Granted, Grants, IsRun, Item, NotBegun, Own, Promise, Site}
+use Rattle.theory_machine.specs.Names.{State, after_act, after_prepare, items_of, site_after, state, without_tx}
 use Rattle.theory_machine.proofs.Names.{put_here}
 use Rattle.theory_machine.proofs.SiteLists.{items_of-dropped, items_of-kept}
 use Rattle.qc_site.specs.Names.{SiteMove, SiteState, answers as answers_with, moved, view_in}
-use Rattle.laws_refinement.specs.Names.{Backed, Continues, IsGrantable, IsHeld, IsKeptBy, IsMessage}
-use Rattle.laws_refinement.specs.Names.{KeptMirrors, Mirrors, Net, SiteMirrors, after_site}
-use Rattle.laws_refinement.specs.Names.{items_wanted}
+use Rattle.laws_refinement.specs.Names.{Backed, Continues, IsGrantable, IsHeld, IsKeptBy, IsMessage, KeptMirrors}
+use Rattle.laws_refinement.specs.Names.{Mirrors, Net, SiteMirrors, after_site, items_wanted}
 use Rattle.std.specs.Prelude.{option_to_list}
 use Rattle.std.proofs.lemmas.List.{append-nil}
 use Rattle.qc_msg.specs.declared.record.Record.{Record}
@@ -90,7 +87,7 @@ module _ (decl : Declaration) (acts : List Act) (net : Net) (a : ℕ) (run : IsR
   pub stands : (clock : ℕ) (move : SiteMove) → (net.sites a).clock ≤ clock → move.site ≡ at_clock clock
       → move.turn.write ≡ None
       → ((p : Posting) → In p move.turn.sends → Backed decl (state acts) net.mail a p.to p.message)
-          → Continues decl acts (after_site net a move)
+      → Continues decl acts (after_site net a move)
   stands clock move more same unwritten turn = record {
     more = [];
     refines = record {
@@ -104,21 +101,21 @@ module _ (decl : Declaration) (acts : List Act) (net : Net) (a : ℕ) (run : IsR
             subst (λ (o : Option Record). KeptMirrors decl (kept_by (net.records a ++ option_to_list o))
             (state acts).status ((state acts).life a) ((state acts).deeds a)) (sym unwritten)
             (subst (λ (rs : List Record). KeptMirrors decl (kept_by rs) (state acts).status ((state acts).life a)
-              ((state acts).deeds a)) (sym (append-nil (net.records a))) (m.kept a site));
+            ((state acts).deeds a)) (sym (append-nil (net.records a))) (m.kept a site));
         alike =
             subst (λ (o : Option Record). IsKeptBy move.site (kept_by (net.records a ++ option_to_list o)))
             (sym unwritten)
             (subst (λ (rs : List Record). IsKeptBy move.site (kept_by rs)) (sym (append-nil (net.records a)))
-              (subst (λ (s : SiteState). IsKeptBy s (kept_by (net.records a))) (sym same)
-                (record {
-                    began = (m.alike a site up).began;
-                    recorded = (m.alike a site up).recorded;
-                    promises = (m.alike a site up).promises
-                  })));
+            (subst (λ (s : SiteState). IsKeptBy s (kept_by (net.records a))) (sym same)
+            (record {
+              began = (m.alike a site up).began;
+              recorded = (m.alike a site up).recorded;
+              promises = (m.alike a site up).promises;
+            })));
         here =
             subst (λ (s : SiteState). SiteMirrors decl s ((state acts).deeds a) ((state acts).life a)) (sym same)
             (clock_mirrors decl ((state acts).life a) (net.sites a) ((state acts).deeds a) clock more
-              (m.sites a site up));
+            (m.sites a site up));
         there = λ b other. refl;
         alive = λ b other. refl;
         holders = λ t held. m.holders a t site up (subst (λ (s : SiteState). is_held s.held t ≡ true) same held);
@@ -133,108 +130,110 @@ module _ (decl : Declaration) (acts : List Act) (net : Net) (a : ℕ) (run : IsR
       → Continues decl acts (after_site net a (moved (at_clock clock) (answers_with from number answer)))
   says clock from number answer more backed =
       stands clock (moved (at_clock clock) (answers_with from number answer)) more refl refl
-          (one_answer decl (state acts) net.mail a from number answer backed)
+      (one_answer decl (state acts) net.mail a from number answer backed)
 
   -- the machine's site grants, and so does this one
   pub grants_it : (clock from number : ℕ) (tx : TxId) (epoch named : ℕ) (want : Want) → IsGrantable want
       → (log : List Line) (now : SiteState) → IsKeptBy now (kept_by (net.records a))
       → IsRun decl (Grant (grant_of decl (state acts) a clock tx (items_wanted want) (view_in want)) ∷ acts)
       → (state acts).status tx ≢ NotBegun → IsMessage net.mail number a (messages.Request tx epoch named want)
-          → ((named ≡ 0) ⊎ (named ≡ (net.sites a).life))
+      → ((named ≡ 0) ⊎ (named ≡ (net.sites a).life))
       → SiteMirrors decl now ((state acts).deeds a ++ Grants tx (items_wanted want) (view_in want) ∷ [])
-          ((state acts).life a)
+      ((state acts).life a)
       → ((t : TxId) → is_held now.held t ≡ true → (state acts).status t ≢ NotBegun)
       → IsAscending log → ((l : Line) → In l log → In l (site_after ((state acts).deeds a)).volatile)
       → ((object inv : ℕ) → want ≡ Read object inv → (l : Line) → In l log → l.object ≡ object)
       → ((object inv : ℕ) → want ≡ Read object inv → (l : Line) → In l (site_after ((state acts).deeds a)).volatile
-          → l.object ≡ object → In l log)
+      → l.object ≡ object → In l log)
       → Continues decl acts
-          (after_site net a (moved now (answers_with from number (answers.Granted (net.sites a).life clock log))))
+      (after_site net a (moved now (answers_with from number (answers.Granted (net.sites a).life clock log))))
   grants_it clock from number tx epoch named want asks log now alike going born request lived here holders sorted lines
       shown whole = record {
-    more = Grant g ∷ [];
-    refines = record {
-      run = going;
-      agrees =
-          site_goes decl w v net a (moved now (answers_with from number (answers.Granted (net.sites a).life clock log)))
-          m site up (record {
-        later =
-            record {
-              born = λ t h. h;
-              epoch = λ t h. refl;
-              asked = λ t h. h;
-              counted = λ x h asked. h;
-              granted = λ x h. inr h;
-              votes = λ x h. h;
-              verdicts = λ t h. h;
-              appends = λ s h. h;
-              snapshots = λ s h. h;
-              decided = λ d h. h
-            };
-        keeps =
-            λ c. record {
-              status = λ t h. refl;
-              epoch = λ t h. refl;
-              executed = λ t h. refl;
-              chosen = λ t h. refl;
-              clock = refl;
-              counted = λ x its h. h;
-              more = λ x h. h;
-              votes = λ x h. h;
-              appends = λ x h. h
-            };
-        records = refl;
-        placed_at =
-            λ x among.
-            elim among
-              [ inl same ↦ subst (λ (y : Granted). is_site decl y.site ≡ true) (sym same) site | inr old ↦ m.placed x
-                old ];
-        kept =
-            subst (λ (ds : List Deed). KeptMirrors decl (kept_by (net.records a ++ [])) w.status (w.life a) ds)
-            (sym (put_here w.deeds a (w.deeds a ++ Grants tx (items_wanted want) (view_in want) ∷ [])))
-            (subst (λ (rs : List Record). KeptMirrors decl (kept_by rs) w.status (w.life a)
-                (w.deeds a ++ Grants tx (items_wanted want) (view_in want) ∷ [])) (sym (append-nil (net.records a)))
-                (kept_same decl (kept_by (net.records a)) w.status (w.life a) (w.deeds a)
-                  (Grants tx (items_wanted want) (view_in want))
-                  (leaves_epoch (w.deeds a) (Grants tx (items_wanted want) (view_in want)) tt) (m.kept a site) refl refl
-                  (λ x never. absurd never)));
-        alike = subst (λ (rs : List Record). IsKeptBy now (kept_by rs)) (sym (append-nil (net.records a))) alike;
-        here =
-            subst (λ (ds : List Deed). SiteMirrors decl now ds (w.life a))
-            (sym (put_here w.deeds a (w.deeds a ++ Grants tx (items_wanted want) (view_in want) ∷ []))) here;
-        there = λ b other. put_other w.deeds a _ b other;
-        alive = λ b other. refl;
-        holders = holders;
-        turn = one_answer decl v net.mail a from number (answers.Granted (net.sites a).life clock log) (record {
-          tx = tx;
-          want = want;
-          begun = born;
-          epoch = epoch;
-          named = named;
-          request = request;
-          lived = lived;
-          grant =
-              record {
-                grant = g;
-                given = inl refl;
-                its = refl;
-                by = refl;
-                place = site;
-                epoch_is = refl;
-                life_is = sym (m.sites a site up).life;
-                some = (m.sites a site up).some;
-                clock_is = refl;
-                asks = asks;
-                items_are = refl;
-                sorted = sorted;
-                lines = lines;
-                shown = shown;
-                whole = whole
-              };
-        });
-      });
-    };
-  }
+        more = Grant g ∷ [];
+        refines = record {
+          run = going;
+          agrees =
+              site_goes decl w v net a (moved now (answers_with from number (answers.Granted (net.sites a).life clock log)))
+              m site up (record {
+                later =
+                    record {
+                      born = λ t h. h;
+                      epoch = λ t h. refl;
+                      asked = λ t h. h;
+                      counted = λ x h asked. h;
+                      granted = λ x h. inr h;
+                      votes = λ x h. h;
+                      verdicts = λ t h. h;
+                      appends = λ s h. h;
+                      snapshots = λ s h. h;
+                      decided = λ d h. h;
+                    };
+                keeps =
+                    λ c. record {
+                      status = λ t h. refl;
+                      epoch = λ t h. refl;
+                      executed = λ t h. refl;
+                      chosen = λ t h. refl;
+                      clock = refl;
+                      counted = λ x its h. h;
+                      more = λ x h. h;
+                      votes = λ x h. h;
+                      appends = λ x h. h;
+                    };
+                records = refl;
+                placed_at =
+                    λ x among.
+                    elim among [
+                      | inl same ↦ subst (λ (y : Granted). is_site decl y.site ≡ true) (sym same) site
+                      | inr old ↦ m.placed x
+                          old
+                    ];
+                kept =
+                    subst (λ (ds : List Deed). KeptMirrors decl (kept_by (net.records a ++ [])) w.status (w.life a) ds)
+                    (sym (put_here w.deeds a (w.deeds a ++ Grants tx (items_wanted want) (view_in want) ∷ [])))
+                    (subst (λ (rs : List Record). KeptMirrors decl (kept_by rs) w.status (w.life a)
+                    (w.deeds a ++ Grants tx (items_wanted want) (view_in want) ∷ [])) (sym (append-nil (net.records a)))
+                    (kept_same decl (kept_by (net.records a)) w.status (w.life a) (w.deeds a)
+                    (Grants tx (items_wanted want) (view_in want))
+                    (leaves_epoch (w.deeds a) (Grants tx (items_wanted want) (view_in want)) tt) (m.kept a site) refl refl
+                    (λ x never. absurd never)));
+                alike = subst (λ (rs : List Record). IsKeptBy now (kept_by rs)) (sym (append-nil (net.records a))) alike;
+                here =
+                    subst (λ (ds : List Deed). SiteMirrors decl now ds (w.life a))
+                    (sym (put_here w.deeds a (w.deeds a ++ Grants tx (items_wanted want) (view_in want) ∷ []))) here;
+                there = λ b other. put_other w.deeds a _ b other;
+                alive = λ b other. refl;
+                holders = holders;
+                turn = one_answer decl v net.mail a from number (answers.Granted (net.sites a).life clock log) (record {
+                  tx = tx;
+                  want = want;
+                  begun = born;
+                  epoch = epoch;
+                  named = named;
+                  request = request;
+                  lived = lived;
+                  grant =
+                      record {
+                        grant = g;
+                        given = inl refl;
+                        its = refl;
+                        by = refl;
+                        place = site;
+                        epoch_is = refl;
+                        life_is = sym (m.sites a site up).life;
+                        some = (m.sites a site up).some;
+                        clock_is = refl;
+                        asks = asks;
+                        items_are = refl;
+                        sorted = sorted;
+                        lines = lines;
+                        shown = shown;
+                        whole = whole;
+                      };
+                });
+              });
+        };
+      }
     where
       w : State
       w = state acts

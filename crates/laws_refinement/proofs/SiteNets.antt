@@ -22,8 +22,8 @@ use Rattle.laws_refinement.specs.Names.{IsPendingRule, KeptMirrors, Mirrors, Net
 use Rattle.qc_recover.specs.Names.{kept_by}
 use Rattle.laws_refinement.proofs.MessagesStay.{Keeps, Later, admin_later}
 use Rattle.laws_refinement.proofs.Frames.{keep_client}
-use Rattle.laws_refinement.proofs.Kepts.{fallen_keeps, kept_later, no_client, no_ruler}
-use Rattle.laws_refinement.proofs.Kepts.{pends_later, rules_later, ruling_later}
+use Rattle.laws_refinement.proofs.Kepts.{fallen_keeps, kept_later, no_client, no_ruler, pends_later, rules_later}
+use Rattle.laws_refinement.proofs.Kepts.{ruling_later}
 use Rattle.laws_refinement.proofs.Posts.{more_mail, more_numbered}
 
 pub place : (b a : ℕ) → (b ≡ a) ⊎ (b ≢ a)
@@ -74,8 +74,8 @@ module _ (decl : Declaration) where
       | inr other ↦
           subst (λ (x : SiteState). SiteMirrors decl x (v.deeds b) (v.life b)) (sym (apart.sites b other))
           (subst (λ (n : ℕ). SiteMirrors decl (net.sites b) (v.deeds b) n) (sym (at.lives b other))
-            (subst (λ (ds : List Deed). SiteMirrors decl (net.sites b) ds (w.life b)) (sym (at.there b other))
-              (m.sites b is (sym (apart.up b other) ∙ u))))
+          (subst (λ (ds : List Deed). SiteMirrors decl (net.sites b) ds (w.life b)) (sym (at.there b other))
+          (m.sites b is (sym (apart.up b other) ∙ u))))
     ];
     alike = λ b is u. elim (place b a) [
       | inl e ↦
@@ -84,7 +84,7 @@ module _ (decl : Declaration) where
       | inr other ↦
           subst (λ (x : SiteState). IsKeptBy x (kept_by (next.records b))) (sym (apart.sites b other))
           (subst (λ (rs : List Record). IsKeptBy (net.sites b) (kept_by rs)) (sym (apart.records b other))
-            (m.alike b is (sym (apart.up b other) ∙ u)))
+          (m.alike b is (sym (apart.up b other) ∙ u)))
     ];
     holders = λ b t is u. elim (place b a) [
       | inl e ↦
@@ -102,8 +102,8 @@ module _ (decl : Declaration) where
           (sym (apart.records b other))
           (subst (λ (n : ℕ). KeptMirrors decl (kept_by (net.records b)) v.status n (v.deeds b)) (sym (at.lives b other))
           (subst (λ (ds : List Deed). KeptMirrors decl (kept_by (net.records b)) v.status (w.life b) ds)
-              (sym (at.there b other))
-              (kept_later decl w v (kept_by (net.records b)) (w.life b) (w.deeds b) at.later (m.kept b is))))
+          (sym (at.there b other))
+          (kept_later decl w v (kept_by (net.records b)) (w.life b) (w.deeds b) at.later (m.kept b is))))
     ];
     pends = λ b is down. elim (place b a) [
       | inl e ↦
@@ -113,11 +113,11 @@ module _ (decl : Declaration) where
           subst (λ (rs : List Record). IsPendingAt decl v (kept_by rs) (v.deeds b) (next.pending b))
           (sym (apart.records b other))
           (subst (λ (o : Option Record). IsPendingAt decl v (kept_by (net.records b)) (v.deeds b) o)
-              (sym (apart.pending b other))
+          (sym (apart.pending b other))
           (subst (λ (ds : List Deed). IsPendingAt decl v (kept_by (net.records b)) ds (net.pending b))
-              (sym (at.there b other))
-              (pends_later decl w v (kept_by (net.records b)) (w.deeds b) (net.pending b) at.later
-                (m.pends b is (sym (apart.up b other) ∙ down)))))
+          (sym (at.there b other))
+          (pends_later decl w v (kept_by (net.records b)) (w.deeds b) (net.pending b) at.later
+          (m.pends b is (sym (apart.up b other) ∙ down)))))
     ];
     clients = λ b is u. (let other : b ≢ a = no_site b is in
         subst (λ (c : Client). ClientMirrors decl v next.mail b c) (sym (apart.clients b other)) (subst (λ (ms : List Envelope). ClientMirrors decl v ms b (net.clients b)) (sym apart.mail)
@@ -125,12 +125,12 @@ module _ (decl : Declaration) where
     fallen = λ b is down. (let other : b ≢ a = no_site b is in
         subst (λ (rs : List Record). FallenMirrors v (b - decl.sites) (clients.kept_by rs) (next.pending b)) (sym (apart.records b other)) (subst (λ (o : Option Record). FallenMirrors v (b - decl.sites) (clients.kept_by (net.records b)) o) (sym (apart.pending b other))
         (fallen_keeps w v (b - decl.sites) (clients.kept_by (net.records b)) (net.pending b) (at.keeps (b - decl.sites))
-            (m.fallen b is (sym (apart.up b other) ∙ down)))));
+        (m.fallen b is (sym (apart.up b other) ∙ down)))));
     admin =
         λ u. subst (λ (x : Admin). AdminMirrors decl v next.mail x) (sym (apart.admin no_rule))
         (subst (λ (ms : List Envelope). AdminMirrors decl v ms net.admin) (sym apart.mail)
-          (admin_later decl w v at.later net.mail (envelopes a (length net.mail) sends) net.admin
-            (m.admin (sym (apart.up (administrator decl) (λ e. no_rule (sym e))) ∙ u))));
+        (admin_later decl w v at.later net.mail (envelopes a (length net.mail) sends) net.admin
+        (m.admin (sym (apart.up (administrator decl) (λ e. no_rule (sym e))) ∙ u))));
     rules =
         subst (λ (rs : List Record). RulesMirror decl v (admins.kept_by rs))
         (sym (apart.records (administrator decl) (λ e. no_rule (sym e))))
@@ -139,7 +139,7 @@ module _ (decl : Declaration) where
         λ down. subst (λ (o : Option Record). IsPendingRule decl v o)
         (sym (apart.pending (administrator decl) (λ e. no_rule (sym e))))
         (ruling_later decl w v (net.pending (administrator decl)) at.later
-          (m.decides (sym (apart.up (administrator decl) (λ e. no_rule (sym e))) ∙ down)));
+        (m.decides (sym (apart.up (administrator decl) (λ e. no_rule (sym e))) ∙ down)));
     mail =
         subst (λ (ms : List Envelope). (e : Envelope) → In e ms → Backed decl v ms e.from e.to e.message)
         (sym apart.mail) (more_mail decl w v net.mail a sends at.later m.mail turn);

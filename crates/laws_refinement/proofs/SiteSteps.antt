@@ -77,7 +77,8 @@ mirrors_more decl life s r ds d leaves m stays clock held owned done passed log 
       lined = lined;
       single = single_more ds d (λ is. subst (λ (x : Deed). LeavesEpoch x) is leaves) m.single;
       held = λ t x among. held t x (subst (λ (k : Site). In x (items_of t k.held)) (site_more ds d) among);
-      owned = λ t o among. subst (λ (k : Site). In (Own o) (items_of t k.held)) (sym (site_more ds d)) (owned t o among);
+      owned =
+          λ t o among. subst (λ (k : Site). In (Own o) (items_of t k.held)) (sym (site_more ds d)) (owned t o among);
       done = λ x among. by x (done_last ds d empty_site x among);
       passed = λ l among. passed l (subst (λ (k : Site). In l k.volatile) (site_more ds d) among);
       log = λ l among. log l (subst (λ (k : Site). In l k.volatile) (site_more ds d) among);
@@ -140,7 +141,8 @@ grants_more decl life s r ds tx items view m stays clock old new back passed new
         → In (Own o) (items_of t (each_held tx items ++ (site_after ds).held))
     owned t o among = subst (λ (xs : List Item). In (Own o) xs)
         (sym (items_of-append t (each_held tx items) (site_after ds).held)) (elim (back t o among) [
-          | inl a ↦ In-second (Own o) (items_of t (each_held tx items)) (items_of t (site_after ds).held) (m.owned t o a)
+          | inl a ↦
+              In-second (Own o) (items_of t (each_held tx items)) (items_of t (site_after ds).held) (m.owned t o a)
           | inr b ↦ In-first (Own o) (items_of t (each_held tx items)) (items_of t (site_after ds).held)
               (subst (λ (u : TxId). In (Own o) (items_of u (each_held tx items))) (sym b.0)
               (subst (λ (xs : List Item). In (Own o) xs) (sym (items_of-each_held tx items)) b.1))

@@ -28,9 +28,8 @@ use Rattle.qc_site.specs.Names.{fault_of, grants, installed, installs, is_closed
 use Rattle.qc_site.specs.Names.{prepared_of, promise_of, recording, shut_answer, site_on, site_takes, without_prepared}
 use Rattle.qc_decl.specs.Names.{most_record_bytes}
 use Rattle.qc_msg.specs.Names.{epoch_length}
-use Rattle.qc_site.proofs.RequestCases.{append_cases, close_cases, join_cases, prepare_cases, read_cases}
+use Rattle.qc_site.proofs.RequestCases.{append_cases, close_cases, join_cases, prepare_cases, read_cases, request_cases}
 use Rattle.qc_site.proofs.Cases.{install_cases}
-use Rattle.qc_site.proofs.RequestCases.{request_cases}
 use Rattle.qc_recover.specs.Names.{Kept, inquiry, keeps, kept_by, nothing_kept}
 use Rattle.laws_refinement.proofs.Apart.{found_in}
 

@@ -1,7 +1,7 @@
 -- A vote that is cast later is cast in the life that its request names.
 use Rattle.std.specs.Prelude.{option_to_list}
-use Rattle.std.proofs.Common.{◌≡◌, ◌⊎◌, ℕ, ◌≤◌, arith, inl, inr, true}
-use Rattle.std.proofs.Common.{map, take, List, ◌++◌, length, refl, sym, ◌∙◌, subst}
+use Rattle.std.proofs.Common.{◌≡◌, ◌⊎◌, ℕ, ◌≤◌, arith, inl, inr, true, map, take, List, ◌++◌, length, refl, sym, ◌∙◌}
+use Rattle.std.proofs.Common.{subst}
 use Rattle.std.proofs.lemmas.List.{append-nil}
 use Rattle.qc_list.specs.Names.{In}
 use Rattle.qc_list.proofs.Members.{In-first}
@@ -44,7 +44,7 @@ module _ (decl : Declaration) where
     life_later next b (steps.more middle later l s) =
         let one : (kept_by (net.records b)).life ≤ (kept_by (middle.records b)).life = life_later middle b l in
         let two : (kept_by (middle.records b)).life ≤ (kept_by (next.records b)).life =
-                step_life decl middle next b s in
+        step_life decl middle next b s in
         omega arith
 
     abbrev Stand : Net → Type 0
@@ -63,45 +63,45 @@ module _ (decl : Declaration) where
           epoch = v.epoch;
           life = v.life;
           named = v.named;
-          low = v.low
+          low = v.low;
         }
 
     step : (middle next : Net) (a : ℕ) (ps : List Posting)
         → next.mail ≡ middle.mail ++ envelopes a (length middle.mail) ps
         → (is_site decl a ≡ true → (p : Posting) → In p ps → (to clock : ℕ)
-            → p.message ≡ messages.Answer to (answers.Yes clock) → IsNamedLater net next a to) → Stand middle
-            → Stand next
+        → p.message ≡ messages.Answer to (answers.Yes clock) → IsNamedLater net next a to) → Stand middle
+        → Stand next
     step middle next a ps mail new old e among site to clock is =
         elim (in_split e middle.mail (envelopes a (length middle.mail) ps)
         (subst (λ (es : List Envelope). In e es) mail among)) [
-      | inl before ↦ elim (old e before site to clock is) [
-        | inl there ↦ inl there
-        | inr named ↦
-            inr (grows middle next e.from to
-            (λ x h. subst (λ (es : List Envelope). In x es) (sym mail)
-              (In-first x middle.mail (envelopes a (length middle.mail) ps) h)) named)
-      ]
-      | inr now ↦ (let r : Place a ps (middle.mail ++ envelopes a (length middle.mail) ps) e = placed middle.mail a (length middle.mail) ps e refl now in
-          inr (subst (λ (x : ℕ). IsNamedLater net next x to) (sym r.from)
+          | inl before ↦ elim (old e before site to clock is) [
+            | inl there ↦ inl there
+            | inr named ↦
+                inr (grows middle next e.from to
+                (λ x h. subst (λ (es : List Envelope). In x es) (sym mail)
+                (In-first x middle.mail (envelopes a (length middle.mail) ps) h)) named)
+          ]
+          | inr now ↦ (let r : Place a ps (middle.mail ++ envelopes a (length middle.mail) ps) e = placed middle.mail a (length middle.mail) ps e refl now in
+              inr (subst (λ (x : ℕ). IsNamedLater net next x to) (sym r.from)
               (new (subst (λ (x : ℕ). is_site decl x ≡ true) r.from site) r.posting r.among to clock
-                (sym r.message ∙ is))))
-    ]
+              (sym r.message ∙ is))))
+        ]
 
     served : (a : ℕ) (given : Input) (middle : Net) → IsLater decl net middle → is_site decl a ≡ true
         → middle.up a ≡ true → nets.MayCome middle a given
         → (p : Posting) → In p (site_takes decl (middle.sites a) given).turn.sends → (to clock : ℕ)
-            → p.message ≡ messages.Answer to (answers.Yes clock)
-            → IsNamedLater net (nets.after_site middle a (site_takes decl (middle.sites a) given)) a to
+        → p.message ≡ messages.Answer to (answers.Yes clock)
+        → IsNamedLater net (nets.after_site middle a (site_takes decl (middle.sites a) given)) a to
     served a (Called command) middle l site up came p among to clock is = absurd among
     served a (Lost number) middle l site up came p among to clock is = absurd among
     served a (Got e) middle l site up came p among to clock is =
         let m : Refines decl middle = nets_refine decl accepted middle (reach_later middle l) in
         let v : Voted (middle.sites a) e.number e.message (site_takes decl (middle.sites a) (Got e)).turn.write to =
-                message_votes decl (middle.sites a) e.from e.number e.message p among to clock is in
+        message_votes decl (middle.sites a) e.from e.number e.message p among to clock is in
         let among_named : In p (site_on decl (middle.sites a) e.from e.number (messages.Request v.promise.tx v.epoch v.life Prepare)).turn.sends = subst (λ (x : Message). In p (site_on decl (middle.sites a) e.from e.number x).turn.sends) v.named among in
         let grown : (kept_by (net.records a)).life ≤ (kept_by (middle.records a)).life = life_later middle a l in
         let alike : (middle.sites a).life ≡ (kept_by (middle.records a)).life =
-                (m.agrees.sites a site up).life ∙ sym (m.agrees.kept a site).life_is in
+        (m.agrees.sites a site up).life ∙ sym (m.agrees.kept a site).life_is in
         record {
           request = e;
           sent =
@@ -115,9 +115,9 @@ module _ (decl : Declaration) where
           low =
               elim
               (votes_in_life decl (middle.sites a) e.from e.number v.epoch v.life v.promise.tx p among_named to clock is) [
-            | inl none ↦ inl none
-            | inr same ↦ inr (omega arith)
-          ];
+                | inl none ↦ inl none
+                | inr same ↦ inr (omega arith)
+              ];
         }
 
     pub later_votes_name_later_lives : (next : Net) → IsLater decl net next → Stand next
@@ -142,9 +142,9 @@ module _ (decl : Declaration) where
     later_votes_name_later_lives next (steps.more middle later l (steps.site_rises_up a back now site down given)) =
         step middle next a (site_rises decl a (middle.records a ++ option_to_list back)).turn.sends refl
         (λ s p among to clock is. absurd (no_inquiry decl
-            (take most_inquiries
-              (in_order (map (λ (q : Prepared). q.tx) (kept_by (middle.records a ++ option_to_list back)).promises))) p
-            among to clock is)) (later_votes_name_later_lives middle l)
+        (take most_inquiries
+        (in_order (map (λ (q : Prepared). q.tx) (kept_by (middle.records a ++ option_to_list back)).promises))) p
+        among to clock is)) (later_votes_name_later_lives middle l)
     later_votes_name_later_lives next (steps.more middle later l (steps.client_rises_up a back now client down given)) =
         step middle next a [] (sym (append-nil middle.mail)) (λ s p among to clock is. absurd among)
         (later_votes_name_later_lives middle l)

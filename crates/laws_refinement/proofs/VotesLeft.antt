@@ -1,6 +1,5 @@
 -- What a desk learns leaves the rest of it; a vote for the commit was voted.
-use Rattle.std.proofs.Common.{◌≡◌, ◌≤◌, ℕ, List, Option, Some, None, refl}
-use Rattle.std.proofs.Common.{sym, subst, arith}
+use Rattle.std.proofs.Common.{◌≡◌, ◌≤◌, ℕ, List, Option, Some, None, refl, sym, subst, arith}
 use Rattle.qc_stamp.specs.declared.stamp.TxId.{TxId}
 use Rattle.qc_list.specs.Names.{In}
 use Rattle.qc_decl.specs.declared.declaration.Declaration.{Declaration}
@@ -65,9 +64,9 @@ module _ (decl : Declaration) where
   voted w ms from number site b tx (Some answers.Fault) bk r e = absurd (let never : ⊥ = cc in never)
   voted w ms from number site b tx (Some (answers.Yes clock)) bk r e =
       let one : (tx ≡ bk.tx) × (site ≡ from) × (wants.Prepare ≡ wants.Prepare) =
-              one_request ms number site from tx bk.tx wants.Prepare wants.Prepare r bk.request in
+      one_request ms number site from tx bk.tx wants.Prepare wants.Prepare r bk.request in
       subst (λ (s : ℕ). In (record { tx = tx; site = s }) w.votes) (sym one.1)
-          (subst (λ (u : TxId). In (record { tx = u; site = from }) w.votes) (sym one.0) bk.vote)
+      (subst (λ (u : TxId). In (record { tx = u; site = from }) w.votes) (sym one.0) bk.vote)
   voted w ms from number site b tx (Some (answers.Shut clock log prepared)) bk r e =
       absurd (let never : ⊥ = cc in never)
   voted w ms from number site b tx (Some answers.Installed) bk r e = absurd (let never : ⊥ = cc in never)

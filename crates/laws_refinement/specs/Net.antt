@@ -2,8 +2,8 @@
 -- and late, and any request may be taken for lost. An actor takes an input and posts its turn in one step. Any actor
 -- may fall, at any time or as it writes a record, and rises with the records that it wrote, and maybe the one that it
 -- was writing.
-use Rattle.std.specs.Prelude.{◌≡◌, ℕ, ◌+◌, true, List, [], ◌∷◌, ◌++◌, length, Some}
-use Rattle.std.specs.Prelude.{◌-◌, ◌<◌, ◌⊎◌, Bool, false, Option, None, option_to_list}
+use Rattle.std.specs.Prelude.{◌≡◌, ℕ, ◌+◌, true, List, [], ◌∷◌, ◌++◌, length, Some, ◌-◌, ◌<◌, ◌⊎◌, Bool, false, Option}
+use Rattle.std.specs.Prelude.{None, option_to_list}
 use Rattle.qc_entry.specs.declared.record.Commit.{Commit as CommitRecord}
 use Rattle.qc_table.specs.declared.kind.Kind.{Kind}
 use Rattle.qc_decl.specs.Names.{administrator, is_client, is_site, kind_at}

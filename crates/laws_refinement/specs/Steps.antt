@@ -14,9 +14,9 @@ use Rattle.qc_epoch.specs.Names.{admin_takes}
 use Rattle.qc_client.specs.Names.{client_takes}
 use Rattle.qc_site.specs.Names.{site_takes}
 use Rattle.qc_recover.specs.Names.{kept_by}
-use Rattle.laws_refinement.specs.Net.{AreFailedSends, IsGivenBack, MayAdminister, MayCome, MayCommand, Net}
-use Rattle.laws_refinement.specs.Net.{after_admin, after_admin_rise, after_client, after_client_rise, after_fall}
-use Rattle.laws_refinement.specs.Net.{after_site, after_site_rise, after_vain_rise}
+use Rattle.laws_refinement.specs.Net.{AreFailedSends, IsGivenBack, MayAdminister, MayCome, MayCommand, Net, after_admin}
+use Rattle.laws_refinement.specs.Net.{after_admin_rise, after_client, after_client_rise, after_fall, after_site}
+use Rattle.laws_refinement.specs.Net.{after_site_rise, after_vain_rise}
 
 -- one step, the same ones as those of `Reaches`
 pub data Step (decl : Declaration) : Net → Net → Type 0 where

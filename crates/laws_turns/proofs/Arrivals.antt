@@ -1,8 +1,7 @@
 -- Every copy in an inbox is a message that was sent, under its number, to the inbox's actor; so what is ready for an
 -- actor was sent to it.
 use Rattle.std.proofs.Common.{◌≡◌, ℕ, ◌+◌, ◌-◌, ◌==◌, ◌&&◌, not, Bool, true, false, cond, if◌then◌else◌, List, ◌∷◌}
-use Rattle.std.proofs.Common.{◌++◌, length, Option, Some, None, slice_get, sym, ap, ◌∙◌, subst, arith}
-use Rattle.std.proofs.Common.{append_assoc}
+use Rattle.std.proofs.Common.{◌++◌, length, Option, Some, None, slice_get, sym, ap, ◌∙◌, subst, arith, append_assoc}
 use Rattle.std.specs.Prelude.{option_to_list, set}
 use Rattle.std.specs.List.{cons_option, fold}
 use Rattle.std.proofs.lemmas.List.{append-nil}
@@ -19,13 +18,10 @@ use Rattle.qc_msg.specs.declared.turn.Turn.{Turn}
 use Rattle.qc_msg.specs.Names.{Deed, Entry, WasSentTo, envelope_of, mail, marked}
 use Rattle.qc_script.specs.declared.script.Script.{Script}
 use Rattle.qc_msg.specs.declared.step.Fall.{Fall}
-use Rattle.qc_script.specs.Names.{Inbox, Runs, actor_fell, after_controls, comes}
-use Rattle.qc_script.specs.Names.{command_called, command_in, control_acted}
-use Rattle.qc_script.specs.Names.{copy_taken, emptied, empty_inbox, fell_by, first_command, first_copy}
-use Rattle.qc_script.specs.Names.{first_lost, inbox, inbox_at, is_by_line}
-use Rattle.qc_script.specs.Names.{is_up, loss_taken}
-use Rattle.qc_script.specs.Names.{ready, ready_in, reply_told, requests_to}
-use Rattle.qc_script.specs.Names.{requests_to_others, takes_commands, with_lost, wrote_record}
+use Rattle.qc_script.specs.Names.{Inbox, Runs, actor_fell, after_controls, comes, command_called, command_in}
+use Rattle.qc_script.specs.Names.{control_acted, copy_taken, emptied, empty_inbox, fell_by, first_command, first_copy}
+use Rattle.qc_script.specs.Names.{first_lost, inbox, inbox_at, is_by_line, is_up, loss_taken, ready, ready_in}
+use Rattle.qc_script.specs.Names.{reply_told, requests_to, requests_to_others, takes_commands, with_lost, wrote_record}
 use Rattle.laws_turns.proofs.Numbered.{AreNumbered, run_numbered}
 use Rattle.laws_turns.proofs.Places.{slice_get-last}
 use Rattle.laws_turns.proofs.ArrivedMail.{AreMail, mail_left, Arrived, arrived_more, arrived_if, arrived_comes}
@@ -40,25 +36,24 @@ arrived_emptied a ms false i r = r
 arrived_fallen : (a : ℕ) (ms : List Envelope) (i : Inbox) (b : ℕ) → Arrived a ms i → Arrived a ms (actor_fell a i b)
 arrived_fallen a ms i b r =
     arrived_emptied a ms (b == a)
-        (record i
-          {
-              up = set i.up b false;
-              unanswered = requests_to_others b i.unanswered;
-              lost = with_lost (requests_to b i.unanswered) i.lost
-            })
+    (record i {
+      up = set i.up b false;
+      unanswered = requests_to_others b i.unanswered;
+      lost = with_lost (requests_to b i.unanswered) i.lost;
+    })
     (record { copies = r.copies; opening = r.opening; late = r.late })
 
 arrived_fell : (a : ℕ) (ms : List Envelope) (i : Inbox) (b : ℕ) (cause : Fall) → Arrived a ms i
     → Arrived a ms (fell_by a i b cause)
 arrived_fell a ms i b cause r =
     arrived_if a ms (is_by_line (is_up i.up b) cause) (control_acted a (actor_fell a i b)) (actor_fell a i b)
-        (arrived_acted a ms (actor_fell a i b) (arrived_fallen a ms i b r)) (arrived_fallen a ms i b r)
+    (arrived_acted a ms (actor_fell a i b) (arrived_fallen a ms i b r)) (arrived_fallen a ms i b r)
 
 arrived_wrote : (a : ℕ) (ms : List Envelope) (i : Inbox) (b : ℕ) → Arrived a ms i → Arrived a ms (wrote_record a i b)
 arrived_wrote a ms i b r =
     arrived_if a ms (is_up i.up b) i _ r
-        (arrived_acted a ms (record i { up = set i.up b true })
-          (record { copies = r.copies; opening = r.opening; late = r.late }))
+    (arrived_acted a ms (record i { up = set i.up b true })
+    (record { copies = r.copies; opening = r.opening; late = r.late }))
 
 -- the next message has the next number
 
@@ -90,27 +85,27 @@ arrived_step script a ms i b (steps.Armed actor kind at) r next =
     arrived_more a ms [] (control_acted a i) (arrived_acted a ms i r)
 arrived_step script a ms i b (steps.Called command) r next =
     arrived_more a ms [] (if b == a then command_called i else i)
-        (arrived_if a ms (b == a) (command_called i) i
-          (record { copies = r.copies; opening = r.opening; late = r.late }) r)
+    (arrived_if a ms (b == a) (command_called i) i
+    (record { copies = r.copies; opening = r.opening; late = r.late }) r)
 arrived_step script a ms i b (steps.Got n) r next =
     arrived_more a ms [] (if b == a then copy_taken i else i)
-        (arrived_if a ms (b == a) (copy_taken i) i
-          (record { copies = mail_left a ms i.copies r.copies; opening = r.opening; late = r.late }) r)
+    (arrived_if a ms (b == a) (copy_taken i) i
+    (record { copies = mail_left a ms i.copies r.copies; opening = r.opening; late = r.late }) r)
 arrived_step script a ms i b (steps.Lost n) r next =
     arrived_more a ms [] (if b == a then loss_taken i else i)
-        (arrived_if a ms (b == a) (loss_taken i) i (record { copies = r.copies; opening = r.opening; late = r.late }) r)
+    (arrived_if a ms (b == a) (loss_taken i) i (record { copies = r.copies; opening = r.opening; late = r.late }) r)
 arrived_step script a ms i b (steps.Wrote written) r next =
     arrived_more a ms [] (wrote_record a i b) (arrived_wrote a ms i b r)
 arrived_step script a ms i b (steps.Sent n to message) r next =
     let e : Envelope = record { number = n; from = b; to = to; message = message } in
     let there : slice_get (ms ++ e ∷ []) n ≡ Some e =
-            ap (λ (k : ℕ). slice_get (ms ++ record { number = n; from = b; to = to; message = message } ∷ []) k) next
-              ∙ slice_get-last ms (record { number = n; from = b; to = to; message = message }) in
+    ap (λ (k : ℕ). slice_get (ms ++ record { number = n; from = b; to = to; message = message } ∷ []) k) next
+    ∙ slice_get-last ms (record { number = n; from = b; to = to; message = message }) in
     arrived_goes script a (ms ++ e ∷ []) (comes script.links a i e) e
-        (arrived_comes script a (ms ++ e ∷ []) i e (arrived_more a ms (e ∷ []) i r) there)
+    (arrived_comes script a (ms ++ e ∷ []) i e (arrived_more a ms (e ∷ []) i r) there)
 arrived_step script a ms i b (steps.Told reply) r next =
     arrived_more a ms [] (if b == a then reply_told i else i)
-        (arrived_if a ms (b == a) (reply_told i) i (record { copies = r.copies; opening = r.opening; late = r.late }) r)
+    (arrived_if a ms (b == a) (reply_told i) i (record { copies = r.copies; opening = r.opening; late = r.late }) r)
 arrived_step script a ms i b (steps.Fell cause pending) r next =
     arrived_more a ms [] (fell_by a i b cause) (arrived_fell a ms i b cause r)
 arrived_step script a ms i b (steps.Rose records) r next = arrived_more a ms [] i r
@@ -155,8 +150,8 @@ arrived_all : (script : Script) (a : ℕ) (h : List Entry) (ms : List Envelope) 
 arrived_all script a [] ms i r are = arrived_more a ms [] i r
 arrived_all script a (e ∷ h) ms i r are =
     subst (λ (v : List Envelope). Arrived a v
-        (fold (λ (i : Inbox) (x : Entry). inbox_at script a i x.actor x.step) (inbox_at script a i e.actor e.step) h))
-        (whole_mail ms (envelope_of e) (mail h))
+    (fold (λ (i : Inbox) (x : Entry). inbox_at script a i x.actor x.step) (inbox_at script a i e.actor e.step) h))
+    (whole_mail ms (envelope_of e) (mail h))
     (arrived_all script a h (ms ++ option_to_list (envelope_of e)) (inbox_at script a i e.actor e.step)
     (arrived_step script a ms i e.actor e.step r (next_of ms e.actor e.step (mail h) are))
     (numbered_rest ms (envelope_of e) (mail h) are))
@@ -192,7 +187,7 @@ ready_was_sent decl a ms i taken r is = by i.controls is
     by [] e =
         copy_was_sent a ms i.copies (first_lost i.lost (command_in decl a i)) taken r.copies
         (lost_was_sent a ms i.lost (command_in decl a i) taken
-          (command_was_sent a ms (takes_commands decl a && not i.busy) i.commands taken)) e
+        (command_was_sent a ms (takes_commands decl a && not i.busy) i.commands taken)) e
     by (line ∷ lines) e = absurd (let never : ⊥ = cc in never)
 
 -- in each run

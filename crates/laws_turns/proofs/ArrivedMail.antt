@@ -1,6 +1,6 @@
 -- Messages to an actor, as they come and go: each copy in its inbox was sent to it, under its number.
-use Rattle.std.proofs.Common.{◌≡◌, ℕ, ◌+◌, ◌-◌, ◌==◌, ◌&&◌, Bool, true, false, if◌then◌else◌, List, ◌∷◌}
-use Rattle.std.proofs.Common.{◌++◌, Option, Some, None, slice_get, refl, eqb-true}
+use Rattle.std.proofs.Common.{◌≡◌, ℕ, ◌+◌, ◌-◌, ◌==◌, ◌&&◌, Bool, true, false, if◌then◌else◌, List, ◌∷◌, ◌++◌, Option}
+use Rattle.std.proofs.Common.{Some, None, slice_get, refl, eqb-true}
 use Rattle.std.specs.Prelude.{drop}
 use Rattle.std.specs.Option.{option_map_or}
 use Rattle.qc_link.specs.Names.{fate}
@@ -14,13 +14,10 @@ use Rattle.qc_msg.specs.declared.step.Input.TheVariants as inputs
 use Rattle.qc_msg.specs.Names.{WasSentTo}
 use Rattle.qc_script.specs.declared.script.PhaseLines.{PhaseLines}
 use Rattle.qc_script.specs.declared.script.Script.{Script}
-use Rattle.qc_script.specs.Names.{Inbox, acting, answers_by, comes, comes_at_once}
-use Rattle.qc_script.specs.Names.{comes_with, commands_for, control_acted, copies_at_once}
-use Rattle.qc_script.specs.Names.{count_of}
-use Rattle.qc_script.specs.Names.{goes, goes_with, has_request, if_up}
+use Rattle.qc_script.specs.Names.{Inbox, acting, answers_by, comes, comes_at_once, comes_with, commands_for}
+use Rattle.qc_script.specs.Names.{control_acted, copies_at_once, count_of, goes, goes_with, has_request, if_up}
 use Rattle.qc_script.specs.Names.{is_request, is_up, late_copies, one_more, opened, opened_by, phase_begun}
-use Rattle.qc_script.specs.Names.{request_answered, request_sent}
-use Rattle.qc_script.specs.Names.{with_copies}
+use Rattle.qc_script.specs.Names.{request_answered, request_sent, with_copies}
 use Rattle.laws_turns.proofs.Places.{slice_get-more}
 
 -- messages that were sent to an actor
@@ -114,14 +111,14 @@ arrived_comes script a ms i e r there = by (e.to == a) refl
   where
     by : (t : Bool) → (e.to == a) ≡ t
         → Arrived a ms
-          (if t then comes_with (is_up i.up a) i e
-            (fate script.links i.cuts e.from e.to (count_of i.from_each e.from + 1)) else i)
+        (if t then comes_with (is_up i.up a) i e
+        (fate script.links i.cuts e.from e.to (count_of i.from_each e.from + 1)) else i)
     by true is =
         arrived_answers a ms
         (with_copies (is_up i.up a) i e (fate script.links i.cuts e.from e.to (count_of i.from_each e.from + 1)))
         e.message (fate script.links i.cuts e.from e.to (count_of i.from_each e.from + 1))
         (arrived_copies a ms (is_up i.up a) i e (fate script.links i.cuts e.from e.to (count_of i.from_each e.from + 1))
-            r (there, eqb-true e.to a is))
+        r (there, eqb-true e.to a is))
     by false is = r
 
 -- a message that goes
@@ -138,7 +135,7 @@ arrived_goes_with : (a : ℕ) (ms : List Envelope) (i : Inbox) (e : Envelope) (f
 arrived_goes_with a ms i e f r =
     arrived_if a ms (is_request e.message) _ _
     (arrived_sent a ms (record i { to_each = one_more i.to_each e.to }) e.number e.to f
-        (record { copies = r.copies; opening = r.opening; late = r.late }))
+    (record { copies = r.copies; opening = r.opening; late = r.late }))
     (record { copies = r.copies; opening = r.opening; late = r.late })
 
 pub arrived_goes : (script : Script) (a : ℕ) (ms : List Envelope) (i : Inbox) (e : Envelope) → Arrived a ms i
@@ -163,20 +160,19 @@ arrived_opened_by a ms (line ∷ lines) i r = r
 arrived_opened : (a : ℕ) (ms : List Envelope) (i : Inbox) → Arrived a ms i → Arrived a ms (opened a i)
 arrived_opened a ms i r =
     arrived_opened_by a ms (acting i.up i.controls) (record i { controls = acting i.up i.controls })
-        (record { copies = r.copies; opening = r.opening; late = r.late })
+    (record { copies = r.copies; opening = r.opening; late = r.late })
 
 pub arrived_phase : (a : ℕ) (ms : List Envelope) (i : Inbox) (o : Option PhaseLines) → Arrived a ms i
     → Arrived a ms (option_map_or (phase_begun a i) o i)
 arrived_phase a ms i None r = r
 arrived_phase a ms i (Some p) r =
     arrived_opened a ms
-        (record i
-          {
-              opening = i.opening ++ i.late;
-              late = [];
-              controls = p.controls;
-              commands = i.commands ++ commands_for a p.commands
-            })
+    (record i {
+      opening = i.opening ++ i.late;
+      late = [];
+      controls = p.controls;
+      commands = i.commands ++ commands_for a p.commands;
+    })
     (record { copies = r.copies; opening = mail_joins a ms i.opening i.late r.opening r.late; late = tt })
 
 pub arrived_acted : (a : ℕ) (ms : List Envelope) (i : Inbox) → Arrived a ms i → Arrived a ms (control_acted a i)

@@ -1,7 +1,6 @@
 -- What a front end's move asks and sends: so its turns are short.
-use Rattle.std.proofs.Common.{◌≡◌, ℕ, ◌<◌, ◌≤◌, ◌⊎◌, inl, inr, nat_le, Bool, true, false, cond}
-use Rattle.std.proofs.Common.{length, Option, Some, None, option_map, refl, ap}
-use Rattle.std.proofs.Common.{subst, arith}
+use Rattle.std.proofs.Common.{◌≡◌, ℕ, ◌<◌, ◌≤◌, ◌⊎◌, inl, inr, nat_le, Bool, true, false, cond, length, Option, Some}
+use Rattle.std.proofs.Common.{None, option_map, refl, ap, subst, arith}
 use Rattle.std.specs.Prelude.{slice_get}
 use Rattle.std.proofs.lemmas.List.{length-map}
 use Rattle.qc_list.specs.Names.{In}
@@ -27,11 +26,9 @@ use Rattle.qc_front.specs.declared.doing.Doing.{Doing}
 use Rattle.qc_front.specs.declared.doing.Doing.TheVariants.{Idle, Reading, Appending}
 use Rattle.qc_front.specs.declared.front.Front.{Front}
 use Rattle.qc_front.specs.declared.transaction.Transaction.{Transaction}
-use Rattle.qc_front.specs.Names.{AsksFew, FrontFits, FrontHolds, FrontMove, aborts}
-use Rattle.qc_front.specs.Names.{appended_with, appending_takes, begins, called, commits, fresh}
-use Rattle.qc_front.specs.Names.{gives_up, learns, lived, moved, next_tx, performs}
-use Rattle.qc_front.specs.Names.{read_with, reading_takes, reads, round_for, standing_of}
-use Rattle.qc_front.specs.Names.{takes, takes_in}
+use Rattle.qc_front.specs.Names.{AsksFew, FrontFits, FrontHolds, FrontMove, aborts, appended_with, appending_takes}
+use Rattle.qc_front.specs.Names.{begins, called, commits, fresh, gives_up, learns, lived, moved, next_tx, performs}
+use Rattle.qc_front.specs.Names.{read_with, reading_takes, reads, round_for, standing_of, takes, takes_in}
 use Rattle.qc_front.proofs.Fitting.{fits}
 use Rattle.qc_front.proofs.CommandsKeep.{called_holds, view_keeps}
 use Rattle.qc_front.proofs.Keeping.{appended_is, takes_holds}
@@ -52,9 +49,9 @@ gives-asks front t reply = record {
   grows = tt;
   short =
       inr (let same : length (gives_up front t reply).turn.sends ≡ length t.begun.asked =
-                   length-map t.begun.asked
-                     (λ (site : ℕ). record { to = site; message = messages.Decision t.begun.tx Aborted }) in
-           omega arith);
+      length-map t.begun.asked
+      (λ (site : ℕ). record { to = site; message = messages.Decision t.begun.tx Aborted }) in
+      omega arith);
 }
 
 module _ (decl : Declaration) (front : Front) where
@@ -65,20 +62,20 @@ module _ (decl : Declaration) (front : Front) where
       (still front (telling replies.NoTransaction) refl)
   performs-asks (Some t) object inv is =
       by t.begun.doomed (nat_le most_transaction_operations (length t.begun.ops)) where
-    said : (reply : Reply) → AsksOn t.begun.asked (moved front (telling reply))
-    said reply =
-        subst (λ (p : Option Transaction). AsksOn (asked_by p) (moved front (telling reply))) is
-        (still front (telling reply) refl)
+        said : (reply : Reply) → AsksOn t.begun.asked (moved front (telling reply))
+        said reply =
+            subst (λ (p : Option Transaction). AsksOn (asked_by p) (moved front (telling reply))) is
+            (still front (telling reply) refl)
 
-    by : (doomed long : Bool)
-        → AsksOn t.begun.asked
-          (cond doomed (moved front (telling replies.Doomed))
+        by : (doomed long : Bool)
+            → AsksOn t.begun.asked
+            (cond doomed (moved front (telling replies.Doomed))
             (cond long (moved front (telling replies.TooLong))
-              (reads decl front t object inv [] (round_for decl front t (read_need_of decl t.begun.epoch object inv)))))
-    by true long = said replies.Doomed
-    by false true = said replies.TooLong
-    by false false =
-        read_by-asks decl t.begun.asked front t object inv []
+            (reads decl front t object inv [] (round_for decl front t (read_need_of decl t.begun.epoch object inv)))))
+        by true long = said replies.Doomed
+        by false true = said replies.TooLong
+        by false false =
+            read_by-asks decl t.begun.asked front t object inv []
             (round_for decl front t (read_need_of decl t.begun.epoch object inv))
             (verdict (round_for decl front t (read_need_of decl t.begun.epoch object inv))) refl
 
@@ -86,7 +83,7 @@ module _ (decl : Declaration) (front : Front) where
   begins-asks None is =
       record {
         grows = same_asked [] (fresh decl (next_tx front) front.epoch) front.doing refl;
-        short = inr (omega arith)
+        short = inr (omega arith);
       }
   begins-asks (Some t) is =
       subst (λ (p : Option Transaction). AsksOn (asked_by p) (moved front (telling (replies.Already t.begun.tx)))) is
@@ -120,7 +117,7 @@ module _ (decl : Declaration) (front : Front) where
   read_asked t site object None = refl
   read_asked t site object (Some (answers.Granted life clock log)) =
       ap (λ (b : Begun). b.asked)
-          (view_keeps (lived t site life) object (option_map (λ (v : View). with_log v log) (slice_get t.views object)))
+      (view_keeps (lived t site life) object (option_map (λ (v : View). with_log v log) (slice_get t.views object)))
   read_asked t site object (Some (answers.Clash holder inv event)) = refl
   read_asked t site object (Some (answers.Closed epoch)) = refl
   read_asked t site object (Some (answers.Behind epoch)) = refl
@@ -143,8 +140,8 @@ module _ (decl : Declaration) (front : Front) where
     by None = subst (λ (p : Option Transaction). AsksOn (asked_by p) (moved front quiet)) is (still front quiet refl)
     by (Some site) =
         read_by-asks decl t.begun.asked (learns front answer) (read_with t site object answer) object inv
-            (without_call calls number) (note round site (standing_of answer))
-            (verdict (note round site (standing_of answer)))
+        (without_call calls number) (note round site (standing_of answer))
+        (verdict (note round site (standing_of answer)))
         (read_asked t site object answer)
   takes_in-asks (Appending object inv event calls round) (Some t) number answer is = by (site_called calls number) where
     by : (s : Option ℕ)
@@ -152,8 +149,8 @@ module _ (decl : Declaration) (front : Front) where
     by None = subst (λ (p : Option Transaction). AsksOn (asked_by p) (moved front quiet)) is (still front quiet refl)
     by (Some site) =
         append_by-asks decl t.begun.asked (learns front answer) (appended_with t site answer) object inv event
-            (without_call calls number) (note round site (standing_of answer))
-            (verdict (note round site (standing_of answer)))
+        (without_call calls number) (note round site (standing_of answer))
+        (verdict (note round site (standing_of answer)))
         (ap (λ (u : Transaction). u.begun.asked) (appended_is t site answer))
 
 -- so sites alone are asked, and turns are short
@@ -171,36 +168,36 @@ shorten : (decl : Declaration) (front : Front) (m : FrontMove) → IsAccepted de
     → FrontHolds decl m.front → AsksOn (asked_by front.transaction) m → IsShort decl m
 shorten decl front m accepted sites holds asks =
     record { asked = grown m.front.transaction asks.grows; few = short asks.short } where
-  old : (o : Option Transaction) → AskedSites decl o → AreSites decl (asked_by o)
-  old None are = record { ascending = tt; declared = tt }
-  old (Some t) are = are
+      old : (o : Option Transaction) → AskedSites decl o → AreSites decl (asked_by o)
+      old None are = record { ascending = tt; declared = tt }
+      old (Some t) are = are
 
-  before : AreSites decl (asked_by front.transaction)
-  before = old front.transaction sites
+      before : AreSites decl (asked_by front.transaction)
+      before = old front.transaction sites
 
-  grown : (o : Option Transaction) → Grows (asked_by front.transaction) o m.front.doing → AskedSites decl o
-  grown None grows = tt
-  grown (Some t) grows = record {
-    ascending = grows.0 before.ascending;
-    declared = every-from_In (λ site. site < decl.sites) t.begun.asked (λ x among. by x (grows.1 x among));
-  } where
-    by : (x : ℕ) → In x (asked_by front.transaction) ⊎ InRound x m.front.doing → x < decl.sites
-    by x (inl first) = every-In (λ site. site < decl.sites) x (asked_by front.transaction) before.declared first
-    by x (inr round) = doing_below decl m.front.client m.front.transaction m.front.doing x accepted holds round
+      grown : (o : Option Transaction) → Grows (asked_by front.transaction) o m.front.doing → AskedSites decl o
+      grown None grows = tt
+      grown (Some t) grows = record {
+        ascending = grows.0 before.ascending;
+        declared = every-from_In (λ site. site < decl.sites) t.begun.asked (λ x among. by x (grows.1 x among));
+      } where
+        by : (x : ℕ) → In x (asked_by front.transaction) ⊎ InRound x m.front.doing → x < decl.sites
+        by x (inl first) = every-In (λ site. site < decl.sites) x (asked_by front.transaction) before.declared first
+        by x (inr round) = doing_below decl m.front.client m.front.transaction m.front.doing x accepted holds round
 
-  asks_few : AsksFew m.front.doing
-  asks_few =
-      let f : FrontFits (record m.front { count = 0 }) =
-              fits decl (record m.front { count = 0 }) accepted holds (omega arith) in
-      f.few
+      asks_few : AsksFew m.front.doing
+      asks_few =
+          let f : FrontFits (record m.front { count = 0 }) =
+          fits decl (record m.front { count = 0 }) accepted holds (omega arith) in
+          f.few
 
-  short : (length m.turn.sends ≤ count_in m.front.doing) ⊎ (length m.turn.sends ≤ length (asked_by front.transaction))
-      → length m.turn.sends ≤ 16
-  short (inl low) = let few : count_in m.front.doing ≤ 16 = few_in m.front.doing asks_few in omega arith
-  short (inr low) =
-      let few : length (asked_by front.transaction) ≤ decl.sites = few_sites decl (asked_by front.transaction) before in
-      let most : decl.sites ≤ 16 = accepted.sites in
-      omega arith
+      short : (length m.turn.sends ≤ count_in m.front.doing) ⊎ (length m.turn.sends ≤ length (asked_by front.transaction))
+          → length m.turn.sends ≤ 16
+      short (inl low) = let few : count_in m.front.doing ≤ 16 = few_in m.front.doing asks_few in omega arith
+      short (inr low) =
+          let few : length (asked_by front.transaction) ≤ decl.sites = few_sites decl (asked_by front.transaction) before in
+          let most : decl.sites ≤ 16 = accepted.sites in
+          omega arith
 
 pub called-short : (decl : Declaration) (front : Front) (command : Command) → IsAccepted decl
     → AskedSites decl front.transaction → FrontHolds decl front → IsShort decl (called decl front command)
@@ -212,4 +209,4 @@ pub takes_short : (decl : Declaration) (front : Front) (number : ℕ) (answer : 
     → AskedSites decl front.transaction → FrontHolds decl front → IsShort decl (takes decl front number answer)
 takes_short decl front number answer accepted sites holds =
     shorten decl front (takes decl front number answer) accepted sites (takes_holds decl front number answer holds)
-        (takes_in-asks decl front front.doing front.transaction number answer refl)
+    (takes_in-asks decl front front.doing front.transaction number answer refl)

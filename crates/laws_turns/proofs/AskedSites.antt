@@ -1,7 +1,7 @@
 -- What a front end's move asks: those asked before, and those of its round.
-use Rattle.std.proofs.Common.{◌≡◌, ℕ, ◌+◌, ◌≤◌, ◌⊎◌, inl, inr, Bool, true, false, cond, List, ◌∷◌}
-use Rattle.std.proofs.Common.{◌++◌, map, filter, fold, length, Option, Some, None, option_map, refl, sym, ap, ◌∙◌}
-use Rattle.std.proofs.Common.{subst, arith, length-append}
+use Rattle.std.proofs.Common.{◌≡◌, ℕ, ◌+◌, ◌≤◌, ◌⊎◌, inl, inr, Bool, true, false, cond, List, ◌∷◌, ◌++◌, map, filter}
+use Rattle.std.proofs.Common.{fold, length, Option, Some, None, option_map, refl, sym, ap, ◌∙◌, subst, arith}
+use Rattle.std.proofs.Common.{length-append}
 use Rattle.std.specs.Prelude.{is_none, slice_get}
 use Rattle.std.specs.Ordering.{nat_cmp}
 use Rattle.std.proofs.lemmas.List.{length-map}
@@ -23,11 +23,8 @@ use Rattle.qc_front.specs.declared.doing.Doing.{Doing}
 use Rattle.qc_front.specs.declared.doing.Doing.TheVariants.{Idle, Reading, Appending}
 use Rattle.qc_front.specs.declared.front.Front.{Front}
 use Rattle.qc_front.specs.declared.transaction.Transaction.{Transaction}
-use Rattle.qc_front.specs.Names.{FrontMove, answer_of, answered, append_by}
-use Rattle.qc_front.specs.Names.{append_want, awaited}
-use Rattle.qc_front.specs.Names.{next_own, read_by, read_want}
-use Rattle.qc_front.specs.Names.{request_of, resp_of, round_for, sites_of}
-use Rattle.qc_front.specs.Names.{with_event}
+use Rattle.qc_front.specs.Names.{FrontMove, answer_of, answered, append_by, append_want, awaited, next_own, read_by}
+use Rattle.qc_front.specs.Names.{read_want, request_of, resp_of, round_for, sites_of, with_event}
 use Rattle.qc_front.proofs.Awaited.{asking_awaits}
 use Rattle.qc_front.proofs.CommandsKeep.{view_keeps}
 use Rattle.laws_turns.proofs.Asked.{InRound, in_joined, joined-ascends}
@@ -73,23 +70,24 @@ unfiltered test x (a ∷ xs) among = by (test a) (unfiltered test x xs) among wh
 wanted_in : (r : RoundState) (x : ℕ) → In x (wanted r) → In x (sites_of (asking_all r (wanted r)).asked)
 wanted_in r x among =
     unfiltered (λ (a : Asked). is_none a.standing) x (asking_all r (wanted r)).asked
-        (subst (In x) (sym (asking_awaits r)) (In-second x (awaited r) (wanted r) among))
+    (subst (In x) (sym (asking_awaits r)) (In-second x (awaited r) (wanted r) among))
 
 wanted_few : (r : RoundState) → length (wanted r) ≤ length (asking_all r (wanted r)).asked
 wanted_few r =
     let whole : length (awaited (asking_all r (wanted r))) ≡ length (awaited r) + length (wanted r) =
-            ap length (asking_awaits r) ∙ length-append (awaited r) (wanted r) in
+    ap length (asking_awaits r) ∙ length-append (awaited r) (wanted r) in
     let named : length (awaited (asking_all r (wanted r))) ≡ length (filter (λ (a : Asked). is_none a.standing) (asking_all r (wanted r)).asked) = length-map (filter (λ (a : Asked). is_none a.standing) (asking_all r (wanted r)).asked) (λ (a : Asked). a.site) in
     let less : length (filter (λ (a : Asked). is_none a.standing) (asking_all r (wanted r)).asked) ≤ length (asking_all r (wanted r)).asked = filter_less (λ (a : Asked). is_none a.standing) (asking_all r (wanted r)).asked in
     omega arith
 
 asked_grows : (old : List ℕ) (t : Transaction) (r : RoundState) → t.begun.asked ≡ old
     → (Ascends nat_cmp old → Ascends nat_cmp (fold with_site t.begun.asked (wanted r)))
-        × ((x : ℕ) → In x (fold with_site t.begun.asked (wanted r))
-          → In x old ⊎ In x (sites_of (asking_all r (wanted r)).asked))
-asked_grows old t r is =
-    (λ up. joined-ascends t.begun.asked (wanted r) (subst (Ascends nat_cmp) (sym is) up),
-    λ x among. by x (in_joined x t.begun.asked (wanted r) among)) where
+    × ((x : ℕ) → In x (fold with_site t.begun.asked (wanted r))
+    → In x old ⊎ In x (sites_of (asking_all r (wanted r)).asked))
+asked_grows old t r is = (
+  λ up. joined-ascends t.begun.asked (wanted r) (subst (Ascends nat_cmp) (sym is) up),
+  λ x among. by x (in_joined x t.begun.asked (wanted r) among),
+) where
   by : (x : ℕ) → In x t.begun.asked ⊎ In x (wanted r) → In x old ⊎ In x (sites_of (asking_all r (wanted r)).asked)
   by x (inl before) = inl (subst (In x) is before)
   by x (inr now) = inr (wanted_in r x now)
@@ -98,7 +96,7 @@ requests_few : (b : Begun) (want : Want) (r : RoundState)
     → length (map (request_of b want) (wanted r)) ≤ length (asking_all r (wanted r)).asked
 requests_few b want r =
     let same : length (map (request_of b want) (wanted r)) ≡ length (wanted r) =
-            length-map (wanted r) (request_of b want) in
+    length-map (wanted r) (request_of b want) in
     let few : length (wanted r) ≤ length (asking_all r (wanted r)).asked = wanted_few r in
     omega arith
 
@@ -110,8 +108,8 @@ module _ (decl : Declaration) (old : List ℕ) (front : Front) where
   append_by-asks t object inv event calls r verdicts.Met is = record {
     grows = same_asked old (with_event t object inv event (resp_of decl object event)) Idle
         (ap (λ (b : Begun). b.asked)
-            (view_keeps (record t { own = t.own ++ next_own t object event ∷ [] }) object
-              (option_map (λ (v : View). with_own v event) (slice_get t.views object))) ∙ is);
+        (view_keeps (record t { own = t.own ++ next_own t object event ∷ [] }) object
+        (option_map (λ (v : View). with_own v event) (slice_get t.views object))) ∙ is);
     short = inl (omega arith);
   }
   append_by-asks t object inv event calls r (verdicts.Closed epoch site) is =
@@ -126,7 +124,7 @@ module _ (decl : Declaration) (old : List ℕ) (front : Front) where
   answered-asks t object inv None is = record { grows = same_asked old t Idle is; short = inl (omega arith) }
   answered-asks t object inv (Some event) is =
       append_by-asks t object inv event [] (round_for decl front t (append_need_of decl t.begun.epoch object event))
-          (verdict (round_for decl front t (append_need_of decl t.begun.epoch object event))) is
+      (verdict (round_for decl front t (append_need_of decl t.begun.epoch object event))) is
 
   pub read_by-asks : (t : Transaction) (object inv : ℕ) (calls : List Call) (r : RoundState) (v : Verdict)
       → t.begun.asked ≡ old → AsksOn old (read_by decl front t object inv calls r v)

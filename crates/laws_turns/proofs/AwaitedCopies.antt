@@ -11,11 +11,10 @@ use Rattle.qc_msg.specs.declared.message.Envelope.{Envelope}
 use Rattle.qc_msg.specs.declared.message.Message.{Message}
 use Rattle.qc_msg.specs.declared.message.Message.TheVariants as messages
 use Rattle.qc_script.specs.declared.script.Script.{Script}
-use Rattle.qc_script.specs.Names.{Inbox, SentRequest, answers_by, comes, comes_at_once, comes_with}
-use Rattle.qc_script.specs.Names.{copies_at_once, count_of, everybody, goes}
-use Rattle.qc_script.specs.Names.{goes_with, has_request, is_request, is_up, one_more}
-use Rattle.qc_script.specs.Names.{request_answered, request_numbers}
-use Rattle.qc_script.specs.Names.{request_sent, with_copies, with_number, without_number, without_request}
+use Rattle.qc_script.specs.Names.{Inbox, SentRequest, answers_by, comes, comes_at_once, comes_with, copies_at_once}
+use Rattle.qc_script.specs.Names.{count_of, everybody, goes, goes_with, has_request, is_request, is_up, one_more}
+use Rattle.qc_script.specs.Names.{request_answered, request_numbers, request_sent, with_copies, with_number}
+use Rattle.qc_script.specs.Names.{without_number, without_request}
 use Rattle.qc_script.proofs.AllUp.{is_up-everybody}
 use Rattle.qc_script.proofs.Requests.{added-number, without-numbers}
 use Rattle.laws_turns.specs.Names.{HasAnswer, IsAnswerTo, IsAwaited}
@@ -91,9 +90,9 @@ awaited_answered n to i f copied is = at (has_request i.unanswered to) (comes_at
   where
     at : (among once same : Bool) → comes_at_once f ≡ once → (n == to) ≡ same → IsAwaited n i
         → IsAwaited n
-            (if among then record i
-              { unanswered = without_request i.unanswered to; lost = if once then i.lost else with_number i.lost to }
-              else i)
+        (if among then record i
+        { unanswered = without_request i.unanswered to; lost = if once then i.lost else with_number i.lost to }
+        else i)
     at false once same is_once is_same awaited = awaited
     at true true same is_once is_same (inl lost) = inl lost
     at true false same is_once is_same (inl lost) = inl (number_stays i.lost to n lost)
@@ -137,8 +136,8 @@ awaited_sent n number to i f is = at (comes_at_once f && is_up i.up to) is
   where
     at : (once : Bool) → IsAwaited n i
         → IsAwaited n
-          (if once then record i { unanswered = i.unanswered ++ record { number = number; to = to } ∷ [] } else record i
-            { lost = with_number i.lost number })
+        (if once then record i { unanswered = i.unanswered ++ record { number = number; to = to } ∷ [] } else record i
+        { lost = with_number i.lost number })
     at true (inl lost) = inl lost
     at true (inr (inl open_still)) =
         inr (inl (subst (In n) (sym (added-number i.unanswered (record { number = number; to = to })))
@@ -152,8 +151,8 @@ awaited_asked number to i f = at (comes_at_once f && is_up i.up to)
   where
     at : (once : Bool)
         → IsAwaited number
-          (if once then record i { unanswered = i.unanswered ++ record { number = number; to = to } ∷ [] } else record i
-            { lost = with_number i.lost number })
+        (if once then record i { unanswered = i.unanswered ++ record { number = number; to = to } ∷ [] } else record i
+        { lost = with_number i.lost number })
     at true =
         inr (inl (subst (In number) (sym (added-number i.unanswered (record { number = number; to = to })))
         (In-last number (request_numbers i.unanswered))))
@@ -173,13 +172,13 @@ module _ (script : Script) (a : ℕ) where
       → IsAwaited n (goes script.links a (comes script.links a i e) e)
   awaited_message n i e up is =
       awaited_if n (e.from == a) _ (comes script.links a i e)
-          (awaited_goes_with n (comes script.links a i e) e
-            (fate script.links (comes script.links a i e).cuts e.from e.to
-              (count_of (comes script.links a i e).to_each e.to + 1)) came) came
+      (awaited_goes_with n (comes script.links a i e) e
+      (fate script.links (comes script.links a i e).cuts e.from e.to
+      (count_of (comes script.links a i e).to_each e.to + 1)) came) came
     where
       came : IsAwaited n (comes script.links a i e)
       came = awaited_if n (e.to == a) _ i
           (subst (λ (t : Bool). IsAwaited n
-              (comes_with t i e (fate script.links i.cuts e.from e.to (count_of i.from_each e.from + 1))))
-              (sym (is_up-everybody i.up a up))
+          (comes_with t i e (fate script.links i.cuts e.from e.to (count_of i.from_each e.from + 1))))
+          (sym (is_up-everybody i.up a up))
           (awaited_comes_with n i e (fate script.links i.cuts e.from e.to (count_of i.from_each e.from + 1)) is)) is

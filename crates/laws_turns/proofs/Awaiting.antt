@@ -1,6 +1,6 @@
 -- A request that is awaited stays so, whatever comes: until its actor takes an answer to it, or that it is lost.
-use Rattle.std.proofs.Common.{◌≡◌, ℕ, ◌+◌, ◌-◌, ◌==◌, Bool, true, false, if◌then◌else◌, inl, inr}
-use Rattle.std.proofs.Common.{List, ◌∷◌, ◌++◌, drop, Option, Some, None, slice_get, refl, sym, subst}
+use Rattle.std.proofs.Common.{◌≡◌, ℕ, ◌+◌, ◌-◌, ◌==◌, Bool, true, false, if◌then◌else◌, inl, inr, List, ◌∷◌, ◌++◌, drop}
+use Rattle.std.proofs.Common.{Option, Some, None, slice_get, refl, sym, subst}
 use Rattle.std.specs.Option.{option_map_or}
 use Rattle.qc_list.specs.Names.{In}
 use Rattle.qc_link.specs.Names.{fate, with_cut, without_cut}
@@ -11,11 +11,9 @@ use Rattle.qc_msg.specs.declared.step.Step.{Step}
 use Rattle.qc_msg.specs.declared.step.Step.TheVariants as steps
 use Rattle.qc_script.specs.declared.script.PhaseLines.{PhaseLines}
 use Rattle.qc_script.specs.declared.script.Script.{Script}
-use Rattle.qc_script.specs.Names.{Inbox, acting, comes}
-use Rattle.qc_script.specs.Names.{command_called, commands_for, copy_taken, count_of, everybody, goes}
-use Rattle.qc_script.specs.Names.{goes_with, if_up, inbox_at, is_request, is_up, loss_taken, one_more}
-use Rattle.qc_script.specs.Names.{opened, opened_by, phase_begun, reply_told}
-use Rattle.qc_script.specs.Names.{request_sent}
+use Rattle.qc_script.specs.Names.{Inbox, acting, comes, command_called, commands_for, copy_taken, count_of, everybody}
+use Rattle.qc_script.specs.Names.{goes, goes_with, if_up, inbox_at, is_request, is_up, loss_taken, one_more, opened}
+use Rattle.qc_script.specs.Names.{opened_by, phase_begun, reply_told, request_sent}
 use Rattle.qc_script.proofs.AllUp.{wrote_up}
 use Rattle.laws_turns.specs.Names.{HasAnswer, IsAnswerTo, IsAwaited}
 use Rattle.laws_turns.proofs.AwaitedCopies.{answer_second, awaited_if, awaited_more, awaited_asked, awaited_message}
@@ -27,13 +25,13 @@ module _ (script : Script) (a : ℕ) where
   awaited_request i e mine request =
       let j : Inbox = comes script.links a i e in
       let f : Fate =
-              fate script.links (comes script.links a i e).cuts e.from e.to
-                (count_of (comes script.links a i e).to_each e.to + 1) in
+      fate script.links (comes script.links a i e).cuts e.from e.to
+      (count_of (comes script.links a i e).to_each e.to + 1) in
       subst (λ (t : Bool). IsAwaited e.number (if t then goes_with j e f else j)) (sym mine)
       (subst (λ (t : Bool). IsAwaited e.number
-          (if t then request_sent (record j { to_each = one_more j.to_each e.to }) e.number e.to f else record j
-            { to_each = one_more j.to_each e.to })) (sym request)
-          (awaited_asked e.number e.to (record j { to_each = one_more j.to_each e.to }) f))
+      (if t then request_sent (record j { to_each = one_more j.to_each e.to }) e.number e.to f else record j
+      { to_each = one_more j.to_each e.to })) (sym request)
+      (awaited_asked e.number e.to (record j { to_each = one_more j.to_each e.to }) f))
 
   -- phases and control lines
 
@@ -53,21 +51,19 @@ module _ (script : Script) (a : ℕ) where
   awaited_phase n i None is = is
   awaited_phase n i (Some p) is =
       awaited_opened n
-      (record i
-        {
-            opening = i.opening ++ i.late;
-            late = [];
-            controls = p.controls;
-            commands = i.commands ++ commands_for a p.commands
-          })
+      (record i {
+        opening = i.opening ++ i.late;
+        late = [];
+        controls = p.controls;
+        commands = i.commands ++ commands_for a p.commands;
+      })
       (awaited_more n i
-        (record i
-          {
-              opening = i.opening ++ i.late;
-              late = [];
-              controls = p.controls;
-              commands = i.commands ++ commands_for a p.commands
-            }) refl refl (λ has. has) is)
+      (record i {
+        opening = i.opening ++ i.late;
+        late = [];
+        controls = p.controls;
+        commands = i.commands ++ commands_for a p.commands;
+      }) refl refl (λ has. has) is)
 
   -- any step, but that the actor takes a message or that a request is lost, or that one falls
 
@@ -92,11 +88,11 @@ module _ (script : Script) (a : ℕ) where
   awaited_step n i b (steps.Cut x y) spares up is =
       awaited_opened n (record i { cuts = with_cut i.cuts x y; controls = drop 1 i.controls })
       (awaited_more n i (record i { cuts = with_cut i.cuts x y; controls = drop 1 i.controls }) refl refl (λ has. has)
-        is)
+      is)
   awaited_step n i b (steps.Heal x y) spares up is =
       awaited_opened n (record i { cuts = without_cut i.cuts x y; controls = drop 1 i.controls })
       (awaited_more n i (record i { cuts = without_cut i.cuts x y; controls = drop 1 i.controls }) refl refl
-        (λ has. has) is)
+      (λ has. has) is)
   awaited_step n i b (steps.Armed actor kind at) spares up is =
       awaited_opened n (record i { controls = drop 1 i.controls })
       (awaited_more n i (record i { controls = drop 1 i.controls }) refl refl (λ has. has) is)

@@ -1,7 +1,6 @@
 -- In each run each open request of a client is awaited: it is lost, or unanswered, or a copy of an answer is ready.
-use Rattle.std.proofs.Common.{◌≡◌, ℕ, ◌+◌, ◌-◌, ◌==◌, ◌⊎◌, Bool, true, false, if◌then◌else◌, inl, inr}
-use Rattle.std.proofs.Common.{List, ◌∷◌, ◌++◌, drop, length, Option, Some, None, refl, sym, ap, ◌∙◌, subst}
-use Rattle.std.proofs.Common.{eqb-true, eq-eqb}
+use Rattle.std.proofs.Common.{◌≡◌, ℕ, ◌+◌, ◌-◌, ◌==◌, ◌⊎◌, Bool, true, false, if◌then◌else◌, inl, inr, List, ◌∷◌, ◌++◌}
+use Rattle.std.proofs.Common.{drop, length, Option, Some, None, refl, sym, ap, ◌∙◌, subst, eqb-true, eq-eqb}
 use Rattle.std.specs.List.{fold}
 use Rattle.std.proofs.lemmas.List.Sums.{fold-append}
 use Rattle.qc_list.specs.Names.{In}
@@ -27,9 +26,8 @@ use Rattle.qc_msg.proofs.DeedsGrow.{deeds-other}
 use Rattle.qc_msg.proofs.Growth.{deeds-posted, deeds-taken}
 use Rattle.qc_script.specs.declared.script.Script.{Script}
 use Rattle.qc_script.proofs.AllUp.{Stays, step_up}
-use Rattle.qc_script.specs.Names.{Inbox, Runs, copy_taken, empty_inbox, everybody}
-use Rattle.qc_script.specs.Names.{inbox, inbox_at, loss_taken, phase_of, ready}
-use Rattle.qc_script.specs.Names.{ready_in, step_of_control}
+use Rattle.qc_script.specs.Names.{Inbox, Runs, copy_taken, empty_inbox, everybody, inbox, inbox_at, loss_taken}
+use Rattle.qc_script.specs.Names.{phase_of, ready, ready_in, step_of_control}
 use Rattle.qc_script.specs.Runs.{begins, takes, posts, phase, control}
 use Rattle.laws_turns.specs.Names.{IsAwaited, open_calls}
 use Rattle.laws_turns.proofs.Acted.{deeds-silent}
@@ -91,7 +89,7 @@ module _ (decl : Declaration) (script : Script) (a : ℕ) where
       record {
         up = step_up script a i a (steps.Sent n p.to p.message) tt are.up;
         calls = λ q member. at q ((sent_calls c n p.to p.message are.bound).calls q member);
-        bound = (sent_calls c n p.to p.message are.bound).bound
+        bound = (sent_calls c n p.to p.message are.bound).bound;
       }
     where
       at : (q : Call) → In q (open_calls c) ⊎ IsNewCall n p.message q
@@ -109,11 +107,11 @@ module _ (decl : Declaration) (script : Script) (a : ℕ) where
   own_sends : (m : ClientMove) (i : Inbox) (n : ℕ) (ps : List Posting) (reply : Option Reply) → (a == a) ≡ true
       → AreAwaited m.client i
       → AreAwaited (fold (client_does decl) m (sends_of n ps ++ tells_of reply)).client
-        (fold step_in i (by a (sents n ps ++ told reply)))
+      (fold step_in i (by a (sents n ps ++ told reply)))
   own_sends m i n [] reply mine are = own_tells m i reply are
   own_sends m i n (p ∷ ps) reply mine are =
       own_sends (client_does decl m (Sends n p.to p.message)) (inbox_at script a i a (steps.Sent n p.to p.message))
-          (n + 1) ps reply mine (own_request m.client i n p mine are)
+      (n + 1) ps reply mine (own_request m.client i n p mine are)
 
   own_turn : (m : ClientMove) (i : Inbox) (n : ℕ) (turn : Turn) → AreAwaited m.client i
       → AreAwaited (fold (client_does decl) m (turn_deeds n turn)).client (fold step_in i (by a (posted n turn)))
@@ -121,7 +119,7 @@ module _ (decl : Declaration) (script : Script) (a : ℕ) where
     where
       at : (w : Option Record)
           → AreAwaited (fold (client_does decl) m (writes_of w ++ (sends_of n turn.sends ++ tells_of turn.told))).client
-            (fold step_in i (by a (wrote w ++ (sents n turn.sends ++ told turn.told))))
+          (fold step_in i (by a (wrote w ++ (sents n turn.sends ++ told turn.told))))
       at None = own_sends m i n turn.sends turn.told (eq-eqb a a refl) are
       at (Some written) =
           own_sends m (inbox_at script a i a (steps.Wrote written)) n turn.sends turn.told (eq-eqb a a refl)
@@ -140,7 +138,7 @@ module _ (decl : Declaration) (script : Script) (a : ℕ) where
       record {
         up = step_up script a i a (step_of taken) (input_steady taken) are.up;
         calls = at taken rdy (takes_keeps decl c are.bound taken);
-        bound = (takes_keeps decl c are.bound taken).bound
+        bound = (takes_keeps decl c are.bound taken).bound;
       }
     where
       at : (g : Input) → ready_in decl a i ≡ Some g → Keeps c (λ n. IsNotFor n g) (client_takes decl c g) → (q : Call)
@@ -150,11 +148,11 @@ module _ (decl : Declaration) (script : Script) (a : ℕ) where
       at (inputs.Got e) r kept q member =
           subst (λ (t : Bool). IsAwaited q.number (if t then copy_taken i else i)) (sym mine)
           (awaited_got script a q.number i e (drop 1 i.copies) (ready_copy decl a i e r) (kept.calls q member).1
-              (are.calls q (kept.calls q member).0))
+          (are.calls q (kept.calls q member).0))
       at (inputs.Lost n) r kept q member =
           subst (λ (t : Bool). IsAwaited q.number (if t then loss_taken i else i)) (sym mine)
           (awaited_lost script a q.number n i (drop 1 i.lost) (ready_loss decl a i n r) (kept.calls q member).1
-              (are.calls q (kept.calls q member).0))
+          (are.calls q (kept.calls q member).0))
 
   other_take : (c : Client) (i : Inbox) (b : ℕ) (taken : Input) → (b == a) ≡ false → AreAwaited c i
       → AreAwaited c (inbox_at script a i b (step_of taken))
@@ -185,25 +183,25 @@ module _ (decl : Declaration) (script : Script) (a : ℕ) where
 
   client_more : (h k : List Entry) (more : List Deed) → deeds a [] (h ++ k) ≡ deeds a [] h ++ more
       → client_after decl (a - decl.sites) (deeds a [] (h ++ k))
-        ≡ fold (client_does decl) (client_after decl (a - decl.sites) (deeds a [] h)) more
+      ≡ fold (client_does decl) (client_after decl (a - decl.sites) (deeds a [] h)) more
   client_more h k more is =
       ap (λ (ds : List Deed). client_after decl (a - decl.sites) ds) is
       ∙ fold-append (client_does decl) (moved (new_client (a - decl.sites)) quiet) (deeds a [] h) more
 
   goes_on : (h k : List Entry) (more : List Deed) → deeds a [] (h ++ k) ≡ deeds a [] h ++ more
       → AreAwaited (fold (client_does decl) (client_after decl (a - decl.sites) (deeds a [] h)) more).client
-          (fold step_in (inbox script a h) k) → AreAwaited (client_of (h ++ k)) (inbox script a (h ++ k))
+      (fold step_in (inbox script a h) k) → AreAwaited (client_of (h ++ k)) (inbox script a (h ++ k))
   goes_on h k more is are =
       subst (λ (m : ClientMove). AreAwaited m.client (inbox script a (h ++ k))) (sym (client_more h k more is))
       (subst (λ (i : Inbox). AreAwaited (fold (client_does decl) (client_after decl (a - decl.sites) (deeds a [] h))
-          more).client i) (sym (inbox_more h k)) are)
+      more).client i) (sym (inbox_more h k)) are)
 
   stays_on : (h k : List Entry) → deeds a [] (h ++ k) ≡ deeds a [] h
       → AreAwaited (client_of h) (fold step_in (inbox script a h) k)
       → AreAwaited (client_of (h ++ k)) (inbox script a (h ++ k))
   stays_on h k is are =
       subst (λ (ds : List Deed). AreAwaited (client_after decl (a - decl.sites) ds).client (inbox script a (h ++ k)))
-          (sym is)
+      (sym is)
       (subst (λ (i : Inbox). AreAwaited (client_of h) i) (sym (inbox_more h k)) are)
 
   pub run_awaited : (h : List Entry) (open_inputs : List Bool) → Runs (IsLawful decl) decl script h open_inputs
@@ -213,19 +211,19 @@ module _ (decl : Declaration) (script : Script) (a : ℕ) where
     where
       at : (t : Bool) → (b == a) ≡ t → AreAwaited (client_of older) (inbox script a older)
           → AreAwaited (client_of (older ++ marked b (step_of taken) ∷ []))
-            (inbox script a (older ++ marked b (step_of taken) ∷ []))
+          (inbox script a (older ++ marked b (step_of taken) ∷ []))
       at true same are =
           let is : b ≡ a = eqb-true b a same in
           let sent : deeds b [] (older ++ marked b (step_of taken) ∷ []) ≡ deeds b [] older ++ Takes taken ∷ [] =
-                  deeds-taken b older taken
-                    (what_is_ready_was_sent (IsLawful decl) decl script older before run b taken rdy) in
+          deeds-taken b older taken
+          (what_is_ready_was_sent (IsLawful decl) decl script older before run b taken rdy) in
           subst (λ (k : ℕ). AreAwaited (client_of (older ++ marked k (step_of taken) ∷ []))
-              (inbox script a (older ++ marked k (step_of taken) ∷ []))) (sym is)
+          (inbox script a (older ++ marked k (step_of taken) ∷ []))) (sym is)
           (goes_on older (marked a (step_of taken) ∷ []) (Takes taken ∷ [])
-              (subst (λ (k : ℕ). deeds k [] (older ++ marked k (step_of taken) ∷ [])
-                ≡ deeds k [] older ++ Takes taken ∷ []) is sent)
+          (subst (λ (k : ℕ). deeds k [] (older ++ marked k (step_of taken) ∷ [])
+          ≡ deeds k [] older ++ Takes taken ∷ []) is sent)
           (own_take (client_of older) (inbox script a older) taken (eq-eqb a a refl)
-              (subst (λ (k : ℕ). ready decl script k older ≡ Some taken) is rdy) are))
+          (subst (λ (k : ℕ). ready decl script k older ≡ Some taken) is rdy) are))
       at false other are =
           stays_on older (marked b (step_of taken) ∷ []) (deeds-other b a [] older (step_of taken ∷ []) other)
           (other_take (client_of older) (inbox script a older) b taken other are)
@@ -233,14 +231,14 @@ module _ (decl : Declaration) (script : Script) (a : ℕ) where
     where
       at : (t : Bool) → (b == a) ≡ t → AreAwaited (client_of older) (inbox script a older)
           → AreAwaited (client_of (older ++ by b (posted (length (mail older)) turn)))
-            (inbox script a (older ++ by b (posted (length (mail older)) turn)))
+          (inbox script a (older ++ by b (posted (length (mail older)) turn)))
       at true same are =
           subst (λ (k : ℕ). AreAwaited (client_of (older ++ by k (posted (length (mail older)) turn)))
-              (inbox script a (older ++ by k (posted (length (mail older)) turn)))) (sym (eqb-true b a same))
+          (inbox script a (older ++ by k (posted (length (mail older)) turn)))) (sym (eqb-true b a same))
           (goes_on older (by a (posted (length (mail older)) turn)) (turn_deeds (length (mail older)) turn)
-              (deeds-posted a (length (mail older)) older turn)
+          (deeds-posted a (length (mail older)) older turn)
           (own_turn (client_after decl (a - decl.sites) (deeds a [] older)) (inbox script a older) (length (mail older))
-              turn are))
+          turn are))
       at false other are =
           stays_on older (by b (posted (length (mail older)) turn))
           (deeds-other b a [] older (posted (length (mail older)) turn) other)
@@ -248,17 +246,17 @@ module _ (decl : Declaration) (script : Script) (a : ℕ) where
   run_awaited h open_inputs (phase before older run none done quiet_all more) =
       stays_on older (marked (controller decl) (steps.Phase (phase_of older + 1)) ∷ []) (deeds-silent a (controller decl) older (steps.Phase (phase_of older + 1)) (phase_silent (phase_of older + 1)))
       (one_step (client_of older) (inbox script a older) (controller decl) (steps.Phase (phase_of older + 1)) tt tt
-          (run_awaited older before run))
+      (run_awaited older before run))
   run_awaited h open_inputs (control line lines step before older run at is) =
       stays_on older (marked (controller decl) step ∷ [])
-          (deeds-silent a (controller decl) older step (control_silent line step is))
+      (deeds-silent a (controller decl) older step (control_silent line step is))
       (control_step line step (client_of older) (inbox script a older) (controller decl) is
-          (run_awaited older before run))
+      (run_awaited older before run))
 
 -- so each open request of a client is awaited
 pub open_requests_awaited : (decl : Declaration) (script : Script) (a : ℕ) (h : List Entry) (open_inputs : List Bool)
     → Runs (IsLawful decl) decl script h open_inputs
     → (q : Call) → In q (open_calls (client_after decl (a - decl.sites) (deeds a [] h)).client)
-        → IsAwaited q.number (inbox script a h)
+    → IsAwaited q.number (inbox script a h)
 open_requests_awaited decl script a h open_inputs run q member =
     (run_awaited decl script a h open_inputs run).calls q member

@@ -1,6 +1,6 @@
 -- What a client was told of a transaction is what it keeps of it: how that stays, as it begins, goes on and ends.
-use Rattle.std.proofs.Common.{◌≡◌, ◌<◌, ℕ, ◌+◌, Bool, true, false, cond, ◌⊎◌, inl, inr}
-use Rattle.std.proofs.Common.{List, ◌∷◌, ◌++◌, Option, Some, None, refl, sym, ap, ◌∙◌, subst, arith}
+use Rattle.std.proofs.Common.{◌≡◌, ◌<◌, ℕ, ◌+◌, Bool, true, false, cond, ◌⊎◌, inl, inr, List, ◌∷◌, ◌++◌, Option, Some}
+use Rattle.std.proofs.Common.{None, refl, sym, ap, ◌∙◌, subst, arith}
 use Rattle.std.proofs.lemmas.List.{append-nil}
 use Rattle.qc_list.specs.Names.{In}
 use Rattle.qc_list.proofs.Members.{In-first, In-last, In-more, In-second}
@@ -63,10 +63,10 @@ module _ (clock : ℕ) (tx : TxId) (d : Dealing) (k : Book) (b : Begun) (is : k.
     is = here ∙ ap (λ (t : TxId). Some t) (sym same);
     ops =
         λ e. (let r : (d.ops ≡ b.ops) × (d.ends ≡ []) = own_ops (sym same ∙ e) in
-              (added (sym same ∙ e) ∙ ap (λ (l : List Op). l ++ op_of object inv resp ∷ []) r.0 ∙ sym ops, r.1));
+        (added (sym same ∙ e) ∙ ap (λ (l : List Op). l ++ op_of object inv resp ∷ []) r.0 ∙ sym ops, r.1));
     done =
         λ c among its. (let r : (d.ops ≡ c.ops) × In (replies.Committed c.stamp) d.ends = w.done c among its in
-                        (kept (λ e. not_past c among its e) ∙ r.0, r.1));
+        (kept (λ e. not_past c among its e) ∙ r.0, r.1));
     told = w.told;
     others = w.others;
     mine = w.mine;
@@ -94,13 +94,13 @@ module _ (clock : ℕ) (tx : TxId) (d : Dealing) (k : Book) (b : Begun) (is : k.
   in_ends reply r among =
       by (same_tx b.tx tx) refl
       (subst (λ (t : Bool). In r (d.ends ++ cond t (reply ∷ []) [])) (begun_test tx d b here) among) where
-    turned : b.tx ≡ tx → In r d.ends ⊎ (r ≡ reply) → In r d.ends ⊎ IsEnd reply r
-    turned e (inl old) = inl old
-    turned e (inr new) = inr (record { told = new; its = e })
+        turned : b.tx ≡ tx → In r d.ends ⊎ (r ≡ reply) → In r d.ends ⊎ IsEnd reply r
+        turned e (inl old) = inl old
+        turned e (inr new) = inr (record { told = new; its = e })
 
-    by : (t : Bool) → same_tx b.tx tx ≡ t → In r (d.ends ++ cond t (reply ∷ []) []) → In r d.ends ⊎ IsEnd reply r
-    by true e h = turned (same_tx_is b.tx tx e) (In-more r reply d.ends h)
-    by false e h = inl (subst (In r) (append-nil d.ends) h)
+        by : (t : Bool) → same_tx b.tx tx ≡ t → In r (d.ends ++ cond t (reply ∷ []) []) → In r d.ends ⊎ IsEnd reply r
+        by true e h = turned (same_tx_is b.tx tx e) (In-more r reply d.ends h)
+        by false e h = inl (subst (In r) (append-nil d.ends) h)
 
   kept_ends : (reply : Reply) → (b.tx ≡ tx → ⊥) → (d.ends ++ cond (is_begun tx d.begun) (reply ∷ []) []) ≡ d.ends
   kept_ends reply other =
@@ -117,7 +117,7 @@ module _ (clock : ℕ) (tx : TxId) (d : Dealing) (k : Book) (b : Begun) (is : k.
     ops = tt;
     done =
         λ c among its. (let r : (d.ops ≡ c.ops) × In (replies.Committed c.stamp) d.ends = w.done c among its in
-                        (r.0, more_ends reply (replies.Committed c.stamp) r.1));
+        (r.0, more_ends reply (replies.Committed c.stamp) r.1));
     told = λ stamp h. told stamp (in_ends reply (replies.Committed stamp) h);
     others = λ r h a c among its. others r a c among its (in_ends reply r h);
     mine = λ r h. mine r (in_ends reply r h);
@@ -159,19 +159,19 @@ module _ (clock : ℕ) (tx : TxId) (d : Dealing) (k : Book) (b : Begun) (is : k.
 
     done : (c : Commit) → c.tx ≡ tx → In c k.commits ⊎ (c ≡ x)
         → (d.ops ≡ c.ops)
-          × In (replies.Committed c.stamp) (d.ends ++ cond (is_begun tx d.begun) (replies.Committed x.stamp ∷ []) [])
+        × In (replies.Committed c.stamp) (d.ends ++ cond (is_begun tx d.begun) (replies.Committed x.stamp ∷ []) [])
     done c its (inl old) =
         (let r : (d.ops ≡ c.ops) × In (replies.Committed c.stamp) d.ends = w.done c old its in
-         (r.0, more_ends (replies.Committed x.stamp) (replies.Committed c.stamp) r.1))
+        (r.0, more_ends (replies.Committed x.stamp) (replies.Committed c.stamp) r.1))
     done c its (inr new) =
         let e : b.tx ≡ tx = sym its_tx ∙ sym (ap (λ (y : Commit). y.tx) new) ∙ its in (
           (own_ops e).0 ∙ sym its_ops ∙ sym (ap (λ (y : Commit). y.ops) new),
           subst (λ (y : Commit). In (replies.Committed y.stamp)
               (d.ends ++ cond (is_begun tx d.begun) (replies.Committed x.stamp ∷ []) [])) (sym new)
               (In-second (replies.Committed x.stamp) d.ends
-                  (cond (is_begun tx d.begun) (replies.Committed x.stamp ∷ []) [])
+              (cond (is_begun tx d.begun) (replies.Committed x.stamp ∷ []) [])
               (subst (λ (t : Bool). In (replies.Committed x.stamp) (cond t (replies.Committed x.stamp ∷ []) []))
-                  (sym (begun_test tx d b here ∙ tx_test b.tx tx e)) (inl refl))),
+              (sym (begun_test tx d b here ∙ tx_test b.tx tx e)) (inl refl))),
         )
 
     told : (stamp : Stamp)
@@ -180,11 +180,11 @@ module _ (clock : ℕ) (tx : TxId) (d : Dealing) (k : Book) (b : Begun) (is : k.
     told stamp (inl old) =
         let r : HasRecord k.commits tx stamp = w.told stamp old in
         record {
-              commit = r.commit;
-              listed = In-first r.commit k.commits (x ∷ []) r.listed;
-              named = r.named;
-              stamped = r.stamped
-            }
+          commit = r.commit;
+          listed = In-first r.commit k.commits (x ∷ []) r.listed;
+          named = r.named;
+          stamped = r.stamped;
+        }
     told stamp (inr new) =
         let same : replies.Committed stamp ≡ replies.Committed x.stamp = new.told in
         let e : stamp ≡ x.stamp = cc in
@@ -209,8 +209,8 @@ began_one clock tx d k b free book named none w = record {
   is = refl;
   ops = λ e. (let x : tx ≡ tx_at k (k.count + 1) = sym e ∙ named in
       let r : (d.ops ≡ []) × (d.ends ≡ []) =
-              w.new (sym (ap (λ (t : TxId). t.life) x)) (sym (ap (λ (t : TxId). t.client) x))
-                (let n : tx.number ≡ k.count + 1 = ap (λ (t : TxId). t.number) x in omega arith) in
+      w.new (sym (ap (λ (t : TxId). t.life) x)) (sym (ap (λ (t : TxId). t.client) x))
+      (let n : tx.number ≡ k.count + 1 = ap (λ (t : TxId). t.number) x in omega arith) in
       (r.0 ∙ sym none, r.1));
   done = w.done;
   told = w.told;

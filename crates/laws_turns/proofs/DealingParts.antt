@@ -1,6 +1,6 @@
 -- What a client keeps of its records and of one transaction.
-use Rattle.std.proofs.Common.{◌≡◌, ◌≤◌, ◌<◌, ℕ, zero, suc, get_or, length, inl, inr}
-use Rattle.std.proofs.Common.{List, ◌∷◌, Option, Some, None, option_map, refl, sym, ap, ◌∙◌, subst, arith}
+use Rattle.std.proofs.Common.{◌≡◌, ◌≤◌, ◌<◌, ℕ, zero, suc, get_or, length, inl, inr, List, ◌∷◌, Option, Some, None}
+use Rattle.std.proofs.Common.{option_map, refl, sym, ap, ◌∙◌, subst, arith}
 use Rattle.std.specs.List.{AllPairs}
 use Rattle.qc_list.specs.Names.{In}
 use Rattle.qc_stamp.specs.declared.stamp.Stamp.{Stamp}
@@ -94,11 +94,11 @@ as_asked tx d k c w =
       told = w.told;
       others = w.others;
       mine = w.mine;
-      new = w.new
+      new = w.new;
     } where
-  by : (o : Option Begun) → IfOps tx d o → IfOps tx (record d { asked = c }) o
-  by None h = tt
-  by (Some b) h = h
+      by : (o : Option Begun) → IfOps tx d o → IfOps tx (record d { asked = c }) o
+      by None h = tt
+      by (Some b) h = h
 
 -- the begun transaction with other fields than name and operations
 

@@ -1,6 +1,5 @@
 -- A client's inputs, and what it was told of a transaction then.
-use Rattle.std.proofs.Common.{◌≡◌, ℕ, ◌+◌, List, ◌∷◌, ◌++◌, fold, Option, Some}
-use Rattle.std.proofs.Common.{None, refl, sym, subst}
+use Rattle.std.proofs.Common.{◌≡◌, ℕ, ◌+◌, List, ◌∷◌, ◌++◌, fold, Option, Some, None, refl, sym, subst}
 use Rattle.std.specs.List.{AllByRecursion as Every}
 use Rattle.qc_stamp.specs.declared.stamp.TxId.{TxId}
 use Rattle.qc_decl.specs.declared.declaration.Declaration.{Declaration}
@@ -16,16 +15,15 @@ use Rattle.qc_msg.specs.declared.step.Input.{Input}
 use Rattle.qc_msg.specs.declared.step.Input.TheVariants as inputs
 use Rattle.qc_msg.specs.declared.turn.Posting.{Posting}
 use Rattle.qc_msg.specs.declared.turn.Turn.{Turn}
-use Rattle.qc_msg.specs.Names.{Deed, Falls, Rises, Sends, Takes, Tells, Writes}
-use Rattle.qc_msg.specs.Names.{sends_of, tells_of, turn_deeds, writes_of}
+use Rattle.qc_msg.specs.Names.{Deed, Falls, Rises, Sends, Takes, Tells, Writes, sends_of, tells_of, turn_deeds}
+use Rattle.qc_msg.specs.Names.{writes_of}
 use Rattle.qc_commit.specs.declared.desk.Voting.{Voting}
 use Rattle.qc_commit.specs.Conduct as desks
 use Rattle.qc_front.specs.declared.doing.Doing.{Doing}
 use Rattle.qc_front.specs.declared.doing.Doing.TheVariants.{Idle, Reading, Appending}
 use Rattle.qc_front.specs.Conduct as fronts
 use Rattle.qc_client.specs.declared.client.Client.{Client}
-use Rattle.qc_client.specs.Names.{ClientMove, IsReady}
-use Rattle.qc_client.specs.Names.{client_does, client_takes, sent_one}
+use Rattle.qc_client.specs.Names.{ClientMove, IsReady, client_does, client_takes, sent_one}
 use Rattle.laws_turns.specs.Names.{book_of}
 use Rattle.qc_promise.specs.Names.{Dealing, deal, deal_taken, deal_told}
 use Rattle.laws_turns.proofs.ClientsWithin.{IsPost}
@@ -67,22 +65,22 @@ sent-keeps : (k : ℕ) (tx : TxId) (told asked : Dealing) (c : Client) (number t
     → Keeps k tx told asked c → Keeps k tx told asked (sent_one c number to message)
 sent-keeps k tx told asked c number to (messages.Request other epoch life (Read object inv)) w =
     record {
-          own = w.own;
-          desk = w.desk;
-          dealing = w.dealing;
-          book = w.book;
-          asked_for = asked_with asked.asked c.front.doing number to w.asked_for;
-          hand = w.hand
-        }
+      own = w.own;
+      desk = w.desk;
+      dealing = w.dealing;
+      book = w.book;
+      asked_for = asked_with asked.asked c.front.doing number to w.asked_for;
+      hand = w.hand;
+    }
 sent-keeps k tx told asked c number to (messages.Request other epoch life (Append object view own)) w =
     record {
-          own = w.own;
-          desk = w.desk;
-          dealing = w.dealing;
-          book = w.book;
-          asked_for = asked_with asked.asked c.front.doing number to w.asked_for;
-          hand = w.hand
-        }
+      own = w.own;
+      desk = w.desk;
+      dealing = w.dealing;
+      book = w.book;
+      asked_for = asked_with asked.asked c.front.doing number to w.asked_for;
+      hand = w.hand;
+    }
 sent-keeps k tx told asked c number to (messages.Request other epoch life Prepare) w = by c.desk.voting w.hand where
   by : (o : Option Voting) → IsInHand o c.front.transaction
       → Keeps k tx told asked (record c { desk = desks.prepared_in c.desk o number to })
@@ -160,5 +158,5 @@ at_rest k tx d o c w =
       dealing = w.dealing;
       book = w.book;
       asked_for = subst (λ (a : Option Command). AskedFor a c.front.doing) (sym (told_same tx d o)) w.asked_for;
-      hand = w.hand
+      hand = w.hand;
     }

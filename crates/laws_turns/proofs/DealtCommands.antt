@@ -1,6 +1,6 @@
 -- A client's commands, and what it was told of a transaction then.
-use Rattle.std.proofs.Common.{◌≡◌, inl, inr, ℕ, ◌+◌, Bool, true, false, cond, List, ◌∷◌, ◌++◌, Option, Some}
-use Rattle.std.proofs.Common.{None, is_some, option_to_list, refl, sym, ap, ◌∙◌, subst}
+use Rattle.std.proofs.Common.{◌≡◌, inl, inr, ℕ, ◌+◌, Bool, true, false, cond, List, ◌∷◌, ◌++◌, Option, Some, None}
+use Rattle.std.proofs.Common.{is_some, option_to_list, refl, sym, ap, ◌∙◌, subst}
 use Rattle.std.proofs.lemmas.List.{append-nil}
 use Rattle.qc_stamp.specs.declared.stamp.TxId.{TxId}
 use Rattle.qc_entry.specs.declared.record.Commit.{Commit}
@@ -23,8 +23,8 @@ use Rattle.qc_front.specs.declared.transaction.Transaction.{Transaction}
 use Rattle.qc_front.specs.Conduct as fronts
 use Rattle.qc_front.specs.Names.{FrontMove, ended as front_ended}
 use Rattle.qc_client.specs.declared.client.Client.{Client}
-use Rattle.qc_client.specs.Names.{ClientMove, IsFree, answered, answered_by, by_desk, by_front, called}
-use Rattle.qc_client.specs.Names.{commits, heard, moved}
+use Rattle.qc_client.specs.Names.{ClientMove, IsFree, answered, answered_by, by_desk, by_front, called, commits, heard}
+use Rattle.qc_client.specs.Names.{moved}
 use Rattle.laws_turns.specs.Names.{begun_in, book_of, book_with}
 use Rattle.qc_promise.specs.Names.{Dealing, ended}
 use Rattle.laws_turns.proofs.BooksKept.{committed_book, free_book, later_book}
@@ -90,18 +90,18 @@ module _ (decl : Declaration) (k : ℕ) (tx : TxId) (d : Dealing) (c : Client) (
     keeps =
         subst (λ (o : Option Reply). Keeps k tx (told_deal tx d o) d
         (record {
-            front = cond (is_some o) (front_ended c.front m.desk.clock.value m.desk.epoch) c.front;
-            desk = m.desk
-          })) (sym v.told) (record {
-      own = w.own;
-      desk = v.client ∙ w.desk;
-      dealing = subst (λ (cs : List Commit). IsDealing tx d (book_with c.front cs)) (sym v.commits) w.dealing;
-      book =
-          subst (λ (cs : List Commit). IsBook m.desk.clock.value (book_with c.front cs)) (sym v.commits)
-          (later_book c.desk.clock.value m.desk.clock.value (book_of c) v.clock w.book);
-      asked_for = w.asked_for;
-      hand = in_hand m.desk.voting v.voting;
-    });
+          front = cond (is_some o) (front_ended c.front m.desk.clock.value m.desk.epoch) c.front;
+          desk = m.desk;
+        })) (sym v.told) (record {
+          own = w.own;
+          desk = v.client ∙ w.desk;
+          dealing = subst (λ (cs : List Commit). IsDealing tx d (book_with c.front cs)) (sym v.commits) w.dealing;
+          book =
+              subst (λ (cs : List Commit). IsBook m.desk.clock.value (book_with c.front cs)) (sym v.commits)
+              (later_book c.desk.clock.value m.desk.clock.value (book_of c) v.clock w.book);
+          asked_for = w.asked_for;
+          hand = in_hand m.desk.voting v.voting;
+        });
   } where
     in_hand : (o : Option Voting) → Holds o b → IsInHand o c.front.transaction
     in_hand None h = tt
@@ -111,51 +111,51 @@ module _ (decl : Declaration) (k : ℕ) (tx : TxId) (d : Dealing) (c : Client) (
     keeps =
         subst (λ (o : Option Reply). Keeps k tx (told_deal tx d o) d
         (record {
-            front = cond (is_some o) (front_ended c.front m.desk.clock.value m.desk.epoch) c.front;
-            desk = m.desk
-          })) (sym (ap (λ (t : Turn). t.told) r.turn)) (record {
-      own = w.own;
-      desk = r.client ∙ w.desk;
-      dealing =
-          subst (λ (cs : List Commit). IsDealing tx (ended tx d (replies.Committed r.stamp))
-          (book_with (front_ended c.front m.desk.clock.value m.desk.epoch) cs)) (sym r.commits)
-          (committed_one c.desk.clock.value tx d (book_of c) b is w.book w.dealing (commit_of r.stamp b) refl refl);
-      book =
-          subst (λ (cs : List Commit). IsBook m.desk.clock.value
-          (book_with (front_ended c.front m.desk.clock.value m.desk.epoch) cs)) (sym r.commits)
-          (subst (λ (n : ℕ). IsBook n
+          front = cond (is_some o) (front_ended c.front m.desk.clock.value m.desk.epoch) c.front;
+          desk = m.desk;
+        })) (sym (ap (λ (t : Turn). t.told) r.turn)) (record {
+          own = w.own;
+          desk = r.client ∙ w.desk;
+          dealing =
+              subst (λ (cs : List Commit). IsDealing tx (ended tx d (replies.Committed r.stamp))
+              (book_with (front_ended c.front m.desk.clock.value m.desk.epoch) cs)) (sym r.commits)
+              (committed_one c.desk.clock.value tx d (book_of c) b is w.book w.dealing (commit_of r.stamp b) refl refl);
+          book =
+              subst (λ (cs : List Commit). IsBook m.desk.clock.value
+              (book_with (front_ended c.front m.desk.clock.value m.desk.epoch) cs)) (sym r.commits)
+              (subst (λ (n : ℕ). IsBook n
               (book_with (front_ended c.front m.desk.clock.value m.desk.epoch)
-                (c.desk.commits ++ commit_of r.stamp b ∷ []))) (sym r.passed)
-          (committed_book c.desk.clock.value (book_of c) b (commit_of r.stamp b) is refl r.clock
+              (c.desk.commits ++ commit_of r.stamp b ∷ []))) (sym r.passed)
+              (committed_book c.desk.clock.value (book_of c) b (commit_of r.stamp b) is refl r.clock
               (r.stamped ∙ w.desk ∙ sym w.own) w.book));
-      asked_for = tt;
-      hand = subst (λ (o : Option Voting). IsInHand o None) (sym r.voting) tt;
-    });
+          asked_for = tt;
+          hand = subst (λ (o : Option Voting). IsInHand o None) (sym r.voting) tt;
+        });
   }
   desk-keeps b m is (inr (inr a)) = record {
     written = a.commits ∙ none_written m.turn.write (ap (λ (t : Turn). t.write) a.turn);
     keeps =
         subst (λ (o : Option Reply). Keeps k tx (told_deal tx d o) d
         (record {
-            front = cond (is_some o) (front_ended c.front m.desk.clock.value m.desk.epoch) c.front;
-            desk = m.desk
-          })) (sym (ap (λ (t : Turn). t.told) a.turn)) (record {
-      own = w.own;
-      desk = a.client ∙ w.desk;
-      dealing =
-          subst (λ (cs : List Commit). IsDealing tx (ended tx d (replies.Aborted a.why))
-          (book_with (front_ended c.front m.desk.clock.value m.desk.epoch) cs)) (sym a.commits)
-          (gave_up c.desk.clock.value tx d (book_of c) b is w.book w.dealing (replies.Aborted a.why)
+          front = cond (is_some o) (front_ended c.front m.desk.clock.value m.desk.epoch) c.front;
+          desk = m.desk;
+        })) (sym (ap (λ (t : Turn). t.told) a.turn)) (record {
+          own = w.own;
+          desk = a.client ∙ w.desk;
+          dealing =
+              subst (λ (cs : List Commit). IsDealing tx (ended tx d (replies.Aborted a.why))
+              (book_with (front_ended c.front m.desk.clock.value m.desk.epoch) cs)) (sym a.commits)
+              (gave_up c.desk.clock.value tx d (book_of c) b is w.book w.dealing (replies.Aborted a.why)
               (λ stamp e. (let never : ⊥ = cc in never)));
-      book =
-          subst (λ (cs : List Commit). IsBook m.desk.clock.value
-          (book_with (front_ended c.front m.desk.clock.value m.desk.epoch) cs)) (sym a.commits)
-          (later_book c.desk.clock.value m.desk.clock.value
+          book =
+              subst (λ (cs : List Commit). IsBook m.desk.clock.value
+              (book_with (front_ended c.front m.desk.clock.value m.desk.epoch) cs)) (sym a.commits)
+              (later_book c.desk.clock.value m.desk.clock.value
               (book_with (front_ended c.front m.desk.clock.value m.desk.epoch) c.desk.commits) a.clock
               (free_book c.desk.clock.value (book_of c) w.book));
-      asked_for = tt;
-      hand = subst (λ (o : Option Voting). IsInHand o None) (sym a.voting) tt;
-    });
+          asked_for = tt;
+          hand = subst (λ (o : Option Voting). IsInHand o None) (sym a.voting) tt;
+        });
   }
 
   -- a command, which is the last one, where nothing runs
@@ -164,7 +164,7 @@ module _ (decl : Declaration) (k : ℕ) (tx : TxId) (d : Dealing) (c : Client) (
   fronted command free asked =
       front-keeps (fronts.called decl c.front command) free.voting
       (called-after k tx c.desk.clock.value c.desk.commits d decl c.front w.own w.book w.dealing command
-          (subst (AskedFor d.asked) (sym free.doing) tt) asked)
+      (subst (AskedFor d.asked) (sym free.doing) tt) asked)
 
   committed : (o : Option Transaction) → c.front.transaction ≡ o → IsFree c → d.asked ≡ Some commands.Commit
       → After (commits decl c o)
@@ -172,8 +172,8 @@ module _ (decl : Declaration) (k : ℕ) (tx : TxId) (d : Dealing) (c : Client) (
   committed (Some t) is free asked = by t.begun.doomed where
     by : (dead : Bool)
         → After
-          (cond dead (by_front c (fronts.called decl c.front commands.Commit))
-            (by_desk c (desks.prepare decl c.desk t.begun c.front.clock.value)))
+        (cond dead (by_front c (fronts.called decl c.front commands.Commit))
+        (by_desk c (desks.prepare decl c.desk t.begun c.front.clock.value)))
     by true = fronted commands.Commit free asked
     by false =
         desk-keeps t.begun (desks.prepare decl c.desk t.begun c.front.clock.value) (ap begun_in is)
@@ -193,14 +193,14 @@ module _ (decl : Declaration) (k : ℕ) (tx : TxId) (d : Dealing) (c : Client) (
     by None is hand =
         front-keeps (fronts.takes decl c.front number answer) is
         (takes-after k tx c.desk.clock.value c.desk.commits d decl c.front number answer w.own w.book w.dealing
-            w.asked_for)
+        w.asked_for)
     by (Some v) is hand = desk-keeps v.begun (desks.vote c.desk number answer) hand (vote-it c.desk v number answer is)
 
   silent : (turn : Turn) → turn.told ≡ None → turn.write ≡ None → After (moved c turn)
   silent turn quiet unwritten =
       record {
         keeps = subst (λ (o : Option Reply). Keeps k tx (told_deal tx d o) d c) (sym quiet) w;
-        written = none_written turn.write unwritten
+        written = none_written turn.write unwritten;
       }
 
   pub hears-keep : (from number : ℕ) (message : Message) → After (heard decl c from number message)

@@ -1,6 +1,5 @@
 -- A front end's moves, and what a client was told of a transaction then.
-use Rattle.std.proofs.Common.{◌≡◌, ℕ, List, Option, Some, None}
-use Rattle.std.proofs.Common.{option_map, refl, sym, ap, ◌∙◌, subst}
+use Rattle.std.proofs.Common.{◌≡◌, ℕ, List, Option, Some, None, option_map, refl, sym, ap, ◌∙◌, subst}
 use Rattle.std.specs.Prelude.{slice_get}
 use Rattle.qc_stamp.specs.declared.stamp.TxId.{TxId}
 use Rattle.qc_entry.specs.declared.record.Commit.{Commit}
@@ -16,16 +15,14 @@ use Rattle.qc_front.specs.declared.doing.Doing.{Doing}
 use Rattle.qc_front.specs.declared.doing.Doing.TheVariants.{Idle, Reading, Appending}
 use Rattle.qc_front.specs.declared.front.Front.{Front}
 use Rattle.qc_front.specs.declared.transaction.Transaction.{Transaction}
-use Rattle.qc_front.specs.Names.{appended_with, appending_takes}
-use Rattle.qc_front.specs.Names.{learns, lived}
-use Rattle.qc_front.specs.Names.{read_with, reading_takes}
-use Rattle.qc_front.specs.Names.{standing_of, takes, takes_in}
+use Rattle.qc_front.specs.Names.{appended_with, appending_takes, learns, lived, read_with, reading_takes, standing_of}
+use Rattle.qc_front.specs.Names.{takes, takes_in}
 use Rattle.qc_front.proofs.CommandsKeep.{view_keeps}
 use Rattle.qc_front.proofs.Keeping.{appended_is}
 use Rattle.laws_turns.specs.Names.{Book, book_with}
 use Rattle.qc_promise.specs.Names.{Dealing}
 use Rattle.laws_turns.proofs.DealingParts.{IsBook, IsDealing}
-use Rattle.laws_turns.proofs.DealtOperations.{AskedFor, FrontAfter, IsLike, Stands, _}
+use Rattle.laws_turns.proofs.DealtOperations.{AskedFor, FrontAfter, IsLike, Stands}
 
 module _ (k : ℕ) (tx : TxId) (clock : ℕ) (records : List Commit) (d : Dealing) where
   -- what comes of a request
@@ -35,8 +32,8 @@ module _ (k : ℕ) (tx : TxId) (clock : ℕ) (records : List Commit) (d : Dealin
   read_like t site object None = record { tx = refl; ops = refl }
   read_like t site object (Some (answers.Granted life clock log)) =
       let same : (read_with t site object (Some (answers.Granted life clock log))).begun ≡ (lived t site life).begun =
-              view_keeps (lived t site life) object
-                (option_map (λ (v : View). with_log v log) (slice_get t.views object)) in
+      view_keeps (lived t site life) object
+      (option_map (λ (v : View). with_log v log) (slice_get t.views object)) in
       record { tx = ap (λ (x : Begun). x.tx) same; ops = ap (λ (x : Begun). x.ops) same }
   read_like t site object (Some (answers.Clash holder inv event)) = record { tx = refl; ops = refl }
   read_like t site object (Some (answers.Closed epoch)) = record { tx = refl; ops = refl }
@@ -82,33 +79,33 @@ module _ (k : ℕ) (tx : TxId) (clock : ℕ) (records : List Commit) (d : Dealin
       (answer : Option Answer) → front.transaction ≡ o → front.doing ≡ doing → front.client ≡ k
       → IsBook clock (book_with front records)
       → IsDealing tx d (book_with front records) → AskedFor d.asked doing
-          → FrontAfter k tx clock records d (takes_in decl front doing o number answer)
+      → FrontAfter k tx clock records d (takes_in decl front doing o number answer)
   takes_in-after decl front doing None number answer is does own book w asked =
       still decl front own book w quiet refl refl (subst (AskedFor d.asked) (sym does) asked)
   takes_in-after decl front Idle (Some t) number answer is does own book w asked =
       still decl front own book w quiet refl refl (subst (AskedFor d.asked) (sym does) asked)
   takes_in-after decl front (Reading object inv calls round) (Some t) number answer is does own book w asked =
       by (site_called calls number) where
-    by : (s : Option ℕ)
-        → FrontAfter k tx clock records d (reading_takes decl front t object inv calls round number answer s)
-    by None = still decl front own book w quiet refl refl (subst (AskedFor d.asked) (sym does) asked)
-    by (Some site) =
-        read_by-after decl (learns front answer) t.begun
+        by : (s : Option ℕ)
+            → FrontAfter k tx clock records d (reading_takes decl front t object inv calls round number answer s)
+        by None = still decl front own book w quiet refl refl (subst (AskedFor d.asked) (sym does) asked)
+        by (Some site) =
+            read_by-after decl (learns front answer) t.begun
             (learned front answer t.begun (stands decl front own book w t is)) (read_with t site object answer) object
             inv (without_call calls number) (note round site (standing_of answer))
             (verdict (note round site (standing_of answer)))
-        (read_like t site object answer) asked
+            (read_like t site object answer) asked
   takes_in-after decl front (Appending object inv event calls round) (Some t) number answer is does own book w asked =
       by (site_called calls number) where
-    by : (s : Option ℕ)
-        → FrontAfter k tx clock records d (appending_takes decl front t object inv event calls round number answer s)
-    by None = still decl front own book w quiet refl refl (subst (AskedFor d.asked) (sym does) asked)
-    by (Some site) =
-        append_by-after decl (learns front answer) t.begun
+        by : (s : Option ℕ)
+            → FrontAfter k tx clock records d (appending_takes decl front t object inv event calls round number answer s)
+        by None = still decl front own book w quiet refl refl (subst (AskedFor d.asked) (sym does) asked)
+        by (Some site) =
+            append_by-after decl (learns front answer) t.begun
             (learned front answer t.begun (stands decl front own book w t is)) (appended_with t site answer) object inv
             event (without_call calls number) (note round site (standing_of answer))
             (verdict (note round site (standing_of answer)))
-        (appended_like t site answer) asked
+            (appended_like t site answer) asked
 
   pub takes-after : (decl : Declaration) (front : Front) (number : ℕ) (answer : Option Answer) → front.client ≡ k
       → IsBook clock (book_with front records) → IsDealing tx d (book_with front records) → AskedFor d.asked front.doing

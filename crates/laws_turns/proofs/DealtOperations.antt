@@ -27,10 +27,9 @@ use Rattle.qc_front.specs.declared.doing.Doing.{Doing}
 use Rattle.qc_front.specs.declared.doing.Doing.TheVariants.{Idle, Reading, Appending}
 use Rattle.qc_front.specs.declared.front.Front.{Front}
 use Rattle.qc_front.specs.declared.transaction.Transaction.{Transaction}
-use Rattle.qc_front.specs.Names.{FrontMove, aborts, answer_of, answered, append_by}
-use Rattle.qc_front.specs.Names.{begins, called, commits, fresh, gives_up, moved, next_own, next_tx}
-use Rattle.qc_front.specs.Names.{op_of, performs, read_by, reads, resp_of, round_for}
-use Rattle.qc_front.specs.Names.{turned, with_event}
+use Rattle.qc_front.specs.Names.{FrontMove, aborts, answer_of, answered, append_by, begins, called, commits, fresh}
+use Rattle.qc_front.specs.Names.{gives_up, moved, next_own, next_tx, op_of, performs, read_by, reads, resp_of}
+use Rattle.qc_front.specs.Names.{round_for, turned, with_event}
 use Rattle.qc_front.proofs.CommandsKeep.{view_keeps}
 use Rattle.laws_turns.specs.Names.{begun_in, book_with}
 use Rattle.qc_promise.specs.Names.{Dealing, deal_told, dealt, ended}
@@ -87,7 +86,7 @@ module _ (k : ℕ) (tx : TxId) (clock : ℕ) (records : List Commit) (d : Dealin
   answers_do : (front : Front) (b : Begun) (t : Transaction) (object inv : ℕ) (resp : Option ℕ) (turn : Turn)
       → Stands front b → d.asked ≡ Some (commands.Do object inv) → t.begun.tx ≡ b.tx
       → t.begun.ops ≡ b.ops ++ op_of object inv resp ∷ [] → told_deal tx d turn.told ≡ dealt tx d resp
-          → turn.write ≡ None → FrontAfter k tx clock records d (moved (turned front (Some t) Idle) turn)
+      → turn.write ≡ None → FrontAfter k tx clock records d (moved (turned front (Some t) Idle) turn)
   answers_do front b t object inv resp turn s asked same ops told unwritten = record {
     own = s.own;
     write = unwritten;
@@ -100,11 +99,11 @@ module _ (k : ℕ) (tx : TxId) (clock : ℕ) (records : List Commit) (d : Dealin
   module _ (decl : Declaration) (front : Front) (b : Begun) (s : Stands front b) where
     event_begun : (t : Transaction) (object inv event resp : ℕ)
         → (with_event t object inv event resp).begun
-          ≡ record t.begun { ops = t.begun.ops ++ op_of object inv (Some resp) ∷ [] }
+        ≡ record t.begun { ops = t.begun.ops ++ op_of object inv (Some resp) ∷ [] }
     event_begun t object inv event resp =
         ap (λ (x : Begun). record x { ops = x.ops ++ op_of object inv (Some resp) ∷ [] })
-            (view_keeps (record t { own = t.own ++ next_own t object event ∷ [] }) object
-              (option_map (λ (v : View). with_own v event) (slice_get t.views object)))
+        (view_keeps (record t { own = t.own ++ next_own t object event ∷ [] }) object
+        (option_map (λ (v : View). with_own v event) (slice_get t.views object)))
 
     append_by-after : (t : Transaction) (object inv event : ℕ) (calls : List Call) (r : RoundState) (v : Verdict)
         → IsLike t b → d.asked ≡ Some (commands.Do object inv)
@@ -113,11 +112,11 @@ module _ (k : ℕ) (tx : TxId) (clock : ℕ) (records : List Commit) (d : Dealin
         goes front b _ _ _ s (record { tx = like.tx; ops = like.ops }) refl refl asked
     append_by-after t object inv event calls r verdicts.Met like asked =
         answers_do front b (with_event t object inv event (resp_of decl object event)) object inv
-            (Some (resp_of decl object event)) (telling (replies.Response (resp_of decl object event))) s asked
+        (Some (resp_of decl object event)) (telling (replies.Response (resp_of decl object event))) s asked
         (ap (λ (x : Begun). x.tx) (event_begun t object inv event (resp_of decl object event)) ∙ like.tx)
         (ap (λ (x : Begun). x.ops) (event_begun t object inv event (resp_of decl object event))
-            ∙ ap (λ (ops : List Op). ops ++ op_of object inv (Some (resp_of decl object event)) ∷ []) like.ops) refl
-            refl
+        ∙ ap (λ (ops : List Op). ops ++ op_of object inv (Some (resp_of decl object event)) ∷ []) like.ops) refl
+        refl
     append_by-after t object inv event calls r (verdicts.Closed epoch site) like asked =
         goes front b (record t { begun = record t.begun { doomed = true } }) Idle (telling (replies.Closed epoch site))
         s (record { tx = like.tx; ops = like.ops }) refl refl tt
@@ -133,10 +132,10 @@ module _ (k : ℕ) (tx : TxId) (clock : ℕ) (records : List Commit) (d : Dealin
         → FrontAfter k tx clock records d (answered decl front t object inv event)
     answered-after t object inv None like asked =
         answers_do front b _ object inv None (telling replies.Absent) s asked like.tx
-            (ap (λ (ops : List Op). ops ++ op_of object inv None ∷ []) like.ops) refl refl
+        (ap (λ (ops : List Op). ops ++ op_of object inv None ∷ []) like.ops) refl refl
     answered-after t object inv (Some event) like asked =
         append_by-after t object inv event [] (round_for decl front t (append_need_of decl t.begun.epoch object event))
-            (verdict (round_for decl front t (append_need_of decl t.begun.epoch object event))) like asked
+        (verdict (round_for decl front t (append_need_of decl t.begun.epoch object event))) like asked
 
     read_by-after : (t : Transaction) (object inv : ℕ) (calls : List Call) (r : RoundState) (v : Verdict) → IsLike t b
         → d.asked ≡ Some (commands.Do object inv)
@@ -163,7 +162,7 @@ module _ (k : ℕ) (tx : TxId) (clock : ℕ) (records : List Commit) (d : Dealin
           write = unwritten;
           dealing = subst (λ (e : Dealing). IsDealing tx e (book_with front records)) (sym neutral) w;
           book = book;
-          asked = asked
+          asked = asked;
         }
 
     stands : (t : Transaction) → front.transaction ≡ Some t → Stands front t.begun
@@ -190,14 +189,14 @@ module _ (k : ℕ) (tx : TxId) (clock : ℕ) (records : List Commit) (d : Dealin
     performs-after None object inv is rests asked = still (telling replies.NoTransaction) refl refl rests
     performs-after (Some t) object inv is rests asked =
         by t.begun.doomed (nat_le most_transaction_operations (length t.begun.ops)) where
-      by : (doomed long : Bool) → FrontAfter k tx clock records d
-          (cond doomed (moved front (telling replies.Doomed))
-            (cond long (moved front (telling replies.TooLong))
+          by : (doomed long : Bool) → FrontAfter k tx clock records d
+              (cond doomed (moved front (telling replies.Doomed))
+              (cond long (moved front (telling replies.TooLong))
               (reads decl front t object inv [] (round_for decl front t (read_need_of decl t.begun.epoch object inv)))))
-      by true long = still (telling replies.Doomed) refl refl rests
-      by false true = still (telling replies.TooLong) refl refl rests
-      by false false =
-          read_by-after decl front t.begun (stands t is) t object inv []
+          by true long = still (telling replies.Doomed) refl refl rests
+          by false true = still (telling replies.TooLong) refl refl rests
+          by false false =
+              read_by-after decl front t.begun (stands t is) t object inv []
               (round_for decl front t (read_need_of decl t.begun.epoch object inv))
               (verdict (round_for decl front t (read_need_of decl t.begun.epoch object inv))) (itself t) asked
 
@@ -220,7 +219,7 @@ module _ (k : ℕ) (tx : TxId) (clock : ℕ) (records : List Commit) (d : Dealin
     commits-after (Some t) is rests = by t.begun.doomed where
       by : (doomed : Bool)
           → FrontAfter k tx clock records d
-            (cond doomed (gives_up front t (replies.Aborted causes.Doomed)) (moved front quiet))
+          (cond doomed (gives_up front t (replies.Aborted causes.Doomed)) (moved front quiet))
       by true = gives-after t (replies.Aborted causes.Doomed) is refl (λ stamp e. (let never : ⊥ = cc in never))
       by false = still quiet refl refl rests
 

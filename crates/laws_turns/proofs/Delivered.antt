@@ -1,7 +1,6 @@
 -- Messages reach those whom they were sent to: what each event of a run adds to that.
-use Rattle.std.proofs.Common.{◌≡◌, ℕ, ◌+◌, ◌==◌, Bool, true, false, cond, List, ◌∷◌, ◌++◌, length}
-use Rattle.std.proofs.Common.{Option, Some, None, option_to_list, slice_get, refl, sym, ap, ◌∙◌, subst}
-use Rattle.std.proofs.Common.{append_assoc, eqb-true}
+use Rattle.std.proofs.Common.{◌≡◌, ℕ, ◌+◌, ◌==◌, Bool, true, false, cond, List, ◌∷◌, ◌++◌, length, Option, Some, None}
+use Rattle.std.proofs.Common.{option_to_list, slice_get, refl, sym, ap, ◌∙◌, subst, append_assoc, eqb-true}
 use Rattle.std.specs.List.{AllByRecursion as Every}
 use Rattle.std.proofs.lemmas.List.{append-nil}
 use Rattle.qc_core.proofs.Written.{IsAnswerTo, IsAnsweredTo, NoAnswer}
@@ -17,8 +16,7 @@ use Rattle.qc_msg.specs.declared.step.Step.TheVariants as steps
 use Rattle.qc_msg.specs.declared.turn.Posting.{Posting}
 use Rattle.qc_msg.specs.declared.turn.Turn.{Turn}
 use Rattle.qc_msg.specs.Names.{Answered, Deed, Entry, Falls, Rises, Sends, Takes, Tells, WasSentTo, Writes, answer_in}
-use Rattle.qc_msg.specs.Names.{by, deed_at, deeds, envelope_of, heard, heard_in, mail, marked}
-use Rattle.qc_msg.specs.Names.{posted_as, sends_as}
+use Rattle.qc_msg.specs.Names.{by, deed_at, deeds, envelope_of, heard, heard_in, mail, marked, posted_as, sends_as}
 use Rattle.qc_msg.proofs.GrownMail.{mail-append}
 use Rattle.qc_promise.specs.Names.{IsAnswerOf, IsMailStep, IsMailed, IsReceived, IsRequestOf, IsRequestTo}
 use Rattle.laws_turns.proofs.Places.{slice_get-more}
@@ -84,12 +82,12 @@ all_taken : (a : ℕ) (ms : List Envelope) (h : List Entry) → AreNumbered (ms 
 all_taken a ms [] numbered is = tt
 all_taken a ms (e ∷ h) numbered is =
     every-append (IsTaken a (ms ++ mail (e ∷ h))) (cond (e.actor == a) (deed_at ms e.step) [])
-        (deeds a (ms ++ option_to_list (envelope_of e)) h)
+    (deeds a (ms ++ option_to_list (envelope_of e)) h)
     (mine (e.actor == a) refl)
     (subst (λ (v : List Envelope). Every (IsTaken a v) (deeds a (ms ++ option_to_list (envelope_of e)) h))
-        (mail_cons ms (envelope_of e) (mail h))
+    (mail_cons ms (envelope_of e) (mail h))
     (all_taken a (ms ++ option_to_list (envelope_of e)) h
-        (subst AreNumbered (sym (mail_cons ms (envelope_of e) (mail h))) numbered) is.1))
+    (subst AreNumbered (sym (mail_cons ms (envelope_of e) (mail h))) numbered) is.1))
   where
     mine : (t : Bool) → (e.actor == a) ≡ t → Every (IsTaken a (ms ++ mail (e ∷ h))) (cond t (deed_at ms e.step) [])
     mine true same =
@@ -116,7 +114,7 @@ pub posts_delivered : (decl : Declaration) (h : List Entry) (a : ℕ) (before : 
     → Delivered decl (h ++ by a (posted_as t.append (length (mail h)) t))
 posts_delivered decl h a before g t numbered is are d =
     post_delivered decl h a t.append t
-        (answers_sent (mail h) a g (open_sent decl a h before g numbered d is) (sends_as t.append t) are) d
+    (answers_sent (mail h) a g (open_sent decl a h before g numbered d is) (sends_as t.append t) are) d
 
 -- a rise, and its post
 
@@ -125,10 +123,10 @@ pub rises_delivered : (decl : Declaration) (h : List Entry) (a : ℕ) (records :
     → Delivered decl (h ++ by a (steps.Rose records ∷ posted_as t.append (length (mail h)) t))
 rises_delivered decl h a records t none d =
     subst (Delivered decl)
-        (append_assoc h (marked a (steps.Rose records) ∷ []) (by a (posted_as t.append (length (mail h)) t)))
+    (append_assoc h (marked a (steps.Rose records) ∷ []) (by a (posted_as t.append (length (mail h)) t)))
     (subst (λ (n : ℕ). Delivered decl (rose ++ by a (posted_as t.append n t))) (ap length same)
     (post_delivered decl rose a t.append t (none_sent (mail rose) a (sends_as t.append t) none)
-        (step_delivered decl h a (steps.Rose records) same tt tt d)))
+    (step_delivered decl h a (steps.Rose records) same tt tt d)))
   where
     rose : List Entry
     rose = h ++ marked a (steps.Rose records) ∷ []

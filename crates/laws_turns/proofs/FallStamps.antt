@@ -34,9 +34,8 @@ use Rattle.qc_msg.specs.Names.{Deed, Falls, Rises, Sends, Takes, Tells, Writes, 
 use Rattle.qc_recover.specs.Clients.{Kept, keeps, nothing_kept}
 use Rattle.qc_site.specs.Names.{in_order, new_site}
 use Rattle.qc_entry.specs.declared.record.Prepared.{Prepared}
-use Rattle.laws_turns.proofs.StampsOwn.{AreStamped, IsOwnCommit, IsOwnWrite, Own, OwnMove}
+use Rattle.laws_turns.proofs.StampsOwn.{AreStamped, IsOwnCommit, IsOwnWrite, Own, OwnMove, unwritten}
 use Rattle.laws_turns.proofs.OwnStamps.{sent_own, takes_own}
-use Rattle.laws_turns.proofs.StampsOwn.{unwritten}
 use Rattle.laws_turns.proofs.Stamped.{IsAnswering, takes_answer}
 use Rattle.laws_turns.specs.Names.{GivesOwn, IsOwnRecord}
 

@@ -23,12 +23,10 @@ use Rattle.qc_front.specs.declared.doing.Doing.{Doing}
 use Rattle.qc_front.specs.declared.doing.Doing.TheVariants.{Idle, Reading, Appending}
 use Rattle.qc_front.specs.declared.front.Front.{Front}
 use Rattle.qc_front.specs.declared.transaction.Transaction.{Transaction}
-use Rattle.qc_front.specs.Names.{aborts, answer_of, answered, append_by}
-use Rattle.qc_front.specs.Names.{appended_with, appending_takes, commits, gives_up, learns}
-use Rattle.qc_front.specs.Names.{lived, moved, next_own, performs, read_by, read_with, reading_takes, reads, resp_of}
-use Rattle.qc_front.specs.Names.{round_for, standing_of, takes_in, with_event, with_view}
-use Rattle.laws_turns.specs.Names.{FrontWithin, LinesWithin}
-use Rattle.laws_turns.specs.Names.{TransactionWithin, ViewsWithin}
+use Rattle.qc_front.specs.Names.{aborts, answer_of, answered, append_by, appended_with, appending_takes, commits}
+use Rattle.qc_front.specs.Names.{gives_up, learns, lived, moved, next_own, performs, read_by, read_with, reading_takes}
+use Rattle.qc_front.specs.Names.{reads, resp_of, round_for, standing_of, takes_in, with_event, with_view}
+use Rattle.laws_turns.specs.Names.{FrontWithin, LinesWithin, TransactionWithin, ViewsWithin}
 use Rattle.laws_turns.proofs.DesksWithin.{CameWithin}
 use Rattle.laws_turns.proofs.Greater.{lines-le}
 
@@ -93,8 +91,8 @@ module _ (bound : ℕ) where
   event-within t object inv event resp w =
       let old : ViewWithin (slice_get t.views object) = old-within t.views object (slice_get t.views object) refl w in
       view-within (record t { own = t.own ++ next_own t object event ∷ [] }) object
-          (option_map (λ (v : View). with_own v event) (slice_get t.views object)) w
-          (owned (slice_get t.views object) event old)
+      (option_map (λ (v : View). with_own v event) (slice_get t.views object)) w
+      (owned (slice_get t.views object) event old)
 
   read-within : (t : Transaction) (site object : ℕ) (answer : Option Answer) → ViewsWithin bound t.views
       → CameWithin bound answer → ViewsWithin bound (read_with t site object answer).views
@@ -160,7 +158,7 @@ module _ (bound : ℕ) where
         record {
           clock = w.clock;
           count = w.count;
-          views = event-within t object inv event (resp_of decl object event) views
+          views = event-within t object inv event (resp_of decl object event) views;
         }
     append_by-within t object inv event calls r (verdicts.Closed epoch site) views =
         record { clock = w.clock; count = w.count; views = views }
@@ -174,7 +172,7 @@ module _ (bound : ℕ) where
     answered-within t object inv None views = record { clock = w.clock; count = w.count; views = views }
     answered-within t object inv (Some event) views =
         append_by-within t object inv event [] (round_for decl front t (append_need_of decl t.begun.epoch object event))
-            (verdict (round_for decl front t (append_need_of decl t.begun.epoch object event))) views
+        (verdict (round_for decl front t (append_need_of decl t.begun.epoch object event))) views
 
     read_by-within : (t : Transaction) (object inv : ℕ) (calls : List Call) (r : RoundState) (v : Verdict)
         → ViewsWithin bound t.views → FrontWithin bound (read_by decl front t object inv calls r v).front
@@ -194,12 +192,12 @@ module _ (bound : ℕ) where
     performs-within None object inv views = w
     performs-within (Some t) object inv views =
         by t.begun.doomed (nat_le most_transaction_operations (length t.begun.ops)) where
-      by : (doomed long : Bool) → FrontWithin bound (cond doomed (moved front (telling replies.Doomed)) (cond long (moved front (telling replies.TooLong)) (reads decl front t object inv [] (round_for decl front t (read_need_of decl t.begun.epoch object inv))))).front
-      by true long = w
-      by false true = w
-      by false false =
-          read_by-within t object inv [] (round_for decl front t (read_need_of decl t.begun.epoch object inv))
-          (verdict (round_for decl front t (read_need_of decl t.begun.epoch object inv))) views
+          by : (doomed long : Bool) → FrontWithin bound (cond doomed (moved front (telling replies.Doomed)) (cond long (moved front (telling replies.TooLong)) (reads decl front t object inv [] (round_for decl front t (read_need_of decl t.begun.epoch object inv))))).front
+          by true long = w
+          by false true = w
+          by false false =
+              read_by-within t object inv [] (round_for decl front t (read_need_of decl t.begun.epoch object inv))
+              (verdict (round_for decl front t (read_need_of decl t.begun.epoch object inv))) views
 
     commits-within : (t : Option Transaction) → FrontWithin bound (commits front t).front
     commits-within None = w
@@ -220,20 +218,20 @@ module _ (bound : ℕ) where
   takes_in-within decl front Idle (Some t) number answer w views here = w
   takes_in-within decl front (Reading object inv calls round) (Some t) number answer w views here =
       by (site_called calls number) where
-    by : (o : Option ℕ) → FrontWithin bound (reading_takes decl front t object inv calls round number answer o).front
-    by None = w
-    by (Some site) =
-        read_by-within decl (learns front answer) (learned-within front answer w here) (read_with t site object answer)
+        by : (o : Option ℕ) → FrontWithin bound (reading_takes decl front t object inv calls round number answer o).front
+        by None = w
+        by (Some site) =
+            read_by-within decl (learns front answer) (learned-within front answer w here) (read_with t site object answer)
             object inv (without_call calls number) (note round site (standing_of answer))
             (verdict (note round site (standing_of answer)))
-        (read-within t site object answer views here)
+            (read-within t site object answer views here)
   takes_in-within decl front (Appending object inv event calls round) (Some t) number answer w views here =
       by (site_called calls number) where
-    by : (o : Option ℕ)
-        → FrontWithin bound (appending_takes decl front t object inv event calls round number answer o).front
-    by None = w
-    by (Some site) =
-        append_by-within decl (learns front answer) (learned-within front answer w here) (appended_with t site answer)
+        by : (o : Option ℕ)
+            → FrontWithin bound (appending_takes decl front t object inv event calls round number answer o).front
+        by None = w
+        by (Some site) =
+            append_by-within decl (learns front answer) (learned-within front answer w here) (appended_with t site answer)
             object inv event (without_call calls number) (note round site (standing_of answer))
             (verdict (note round site (standing_of answer)))
-        (appended_within t site answer views)
+            (appended_within t site answer views)

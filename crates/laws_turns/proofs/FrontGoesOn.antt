@@ -1,6 +1,6 @@
 -- A front end's move by which a transaction goes on under its name.
-use Rattle.std.proofs.Common.{◌≡◌, ℕ, ◌+◌, ◌⊎◌, inl, List, ◌∷◌, ◌++◌, map}
-use Rattle.std.proofs.Common.{Option, Some, None, option_map, refl, sym, ap, ◌∙◌}
+use Rattle.std.proofs.Common.{◌≡◌, ℕ, ◌+◌, ◌⊎◌, inl, List, ◌∷◌, ◌++◌, map, Option, Some, None, option_map, refl, sym}
+use Rattle.std.proofs.Common.{ap, ◌∙◌}
 use Rattle.std.specs.Prelude.{slice_get}
 use Rattle.std.specs.List.{AllByRecursion as Every}
 use Rattle.qc_stamp.specs.declared.stamp.TxId.{TxId}
@@ -28,10 +28,8 @@ use Rattle.qc_front.specs.declared.doing.Doing.{Doing}
 use Rattle.qc_front.specs.declared.doing.Doing.TheVariants.{Idle, Reading, Appending}
 use Rattle.qc_front.specs.declared.front.Front.{Front}
 use Rattle.qc_front.specs.declared.transaction.Transaction.{Transaction}
-use Rattle.qc_front.specs.Names.{FrontMove, aborts, answer_of, answered, append_by, append_want}
-use Rattle.qc_front.specs.Names.{doomed, moved}
-use Rattle.qc_front.specs.Names.{next_own, next_tx, op_of, read_by, read_want}
-use Rattle.qc_front.specs.Names.{request_of, resp_of, round_for, turned}
+use Rattle.qc_front.specs.Names.{FrontMove, aborts, answer_of, answered, append_by, append_want, doomed, moved}
+use Rattle.qc_front.specs.Names.{next_own, next_tx, op_of, read_by, read_want, request_of, resp_of, round_for, turned}
 use Rattle.qc_front.specs.Names.{with_asked, with_event, with_op}
 use Rattle.qc_front.proofs.CommandsKeep.{view_keeps}
 use Rattle.laws_turns.specs.Names.{begun_in}
@@ -134,15 +132,15 @@ module _ (decl : Declaration) (front next : Front) (counts : HasSameCounts front
       → name_in front ≡ Some t.begun.tx → FrontKind front (append_by decl next t object inv event calls r v)
   append_by-kind t object inv event calls r verdicts.Waiting name =
       goes (with_asked t (wanted r)) (Appending object inv event calls (asking_all r (wanted r)))
-          (sending (map (request_of t.begun (append_want decl t object event)) (wanted r))) name refl
-          (requests_for (name_in front) t.begun (append_want decl t object event) (wanted r) name) tt
+      (sending (map (request_of t.begun (append_want decl t object event)) (wanted r))) name refl
+      (requests_for (name_in front) t.begun (append_want decl t object event) (wanted r) name) tt
   append_by-kind t object inv event calls r verdicts.Met name =
       goes (with_event t object inv event (resp_of decl object event)) Idle
-          (telling (replies.Response (resp_of decl object event)))
+      (telling (replies.Response (resp_of decl object event)))
       (name
-          ∙ ap (λ (b : Begun). Some b.tx)
-            (sym (view_keeps (record t { own = t.own ++ next_own t object event ∷ [] }) object
-              (option_map (λ (v : View). with_own v event) (slice_get t.views object))))) refl tt tt
+      ∙ ap (λ (b : Begun). Some b.tx)
+      (sym (view_keeps (record t { own = t.own ++ next_own t object event ∷ [] }) object
+      (option_map (λ (v : View). with_own v event) (slice_get t.views object))))) refl tt tt
   append_by-kind t object inv event calls r (verdicts.Closed epoch site) name =
       goes (doomed t) Idle (telling (replies.Closed epoch site)) name refl tt tt
   append_by-kind t object inv event calls r (verdicts.Clash other site) name =
@@ -156,14 +154,14 @@ module _ (decl : Declaration) (front next : Front) (counts : HasSameCounts front
       goes (with_op t (op_of object inv None)) Idle (telling replies.Absent) name refl tt tt
   answered-kind t object inv (Some event) name =
       append_by-kind t object inv event [] (round_for decl next t (append_need_of decl t.begun.epoch object event))
-          (verdict (round_for decl next t (append_need_of decl t.begun.epoch object event))) name
+      (verdict (round_for decl next t (append_need_of decl t.begun.epoch object event))) name
 
   pub read_by-kind : (t : Transaction) (object inv : ℕ) (calls : List Call) (r : RoundState) (v : Verdict)
       → name_in front ≡ Some t.begun.tx → FrontKind front (read_by decl next t object inv calls r v)
   read_by-kind t object inv calls r verdicts.Waiting name =
       goes (with_asked t (wanted r)) (Reading object inv calls (asking_all r (wanted r)))
-          (sending (map (request_of t.begun (read_want object inv)) (wanted r))) name refl
-          (requests_for (name_in front) t.begun (read_want object inv) (wanted r) name) tt
+      (sending (map (request_of t.begun (read_want object inv)) (wanted r))) name refl
+      (requests_for (name_in front) t.begun (read_want object inv) (wanted r) name) tt
   read_by-kind t object inv calls r verdicts.Met name = answered-kind t object inv (answer_of decl t object inv) name
   read_by-kind t object inv calls r (verdicts.Closed epoch site) name =
       goes t Idle (telling (replies.Closed epoch site)) name refl tt tt

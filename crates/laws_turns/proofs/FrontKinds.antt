@@ -1,6 +1,6 @@
 -- What a front end's move does with its transaction: that goes on under its name, one begins, or it is given up.
-use Rattle.std.proofs.Common.{◌≡◌, ℕ, nat_le, Bool, true, false, cond, inl, inr, List}
-use Rattle.std.proofs.Common.{length, Option, Some, None, option_map, refl, sym, ap, ◌∙◌, subst}
+use Rattle.std.proofs.Common.{◌≡◌, ℕ, nat_le, Bool, true, false, cond, inl, inr, List, length, Option, Some, None}
+use Rattle.std.proofs.Common.{option_map, refl, sym, ap, ◌∙◌, subst}
 use Rattle.std.specs.Prelude.{slice_get}
 use Rattle.std.specs.List.{AllByRecursion as Every}
 use Rattle.qc_stamp.specs.declared.stamp.TxId.{TxId}
@@ -25,10 +25,9 @@ use Rattle.qc_front.specs.declared.doing.Doing.{Doing}
 use Rattle.qc_front.specs.declared.doing.Doing.TheVariants.{Idle, Reading, Appending}
 use Rattle.qc_front.specs.declared.front.Front.{Front}
 use Rattle.qc_front.specs.declared.transaction.Transaction.{Transaction}
-use Rattle.qc_front.specs.Names.{aborts, appended_with}
-use Rattle.qc_front.specs.Names.{appending_takes, begins, called, commits, doomed, gives_up, learns, lived, moved}
-use Rattle.qc_front.specs.Names.{performs, read_with, reading_takes}
-use Rattle.qc_front.specs.Names.{reads, round_for, standing_of, takes, takes_in}
+use Rattle.qc_front.specs.Names.{aborts, appended_with, appending_takes, begins, called, commits, doomed, gives_up}
+use Rattle.qc_front.specs.Names.{learns, lived, moved, performs, read_with, reading_takes, reads, round_for}
+use Rattle.qc_front.specs.Names.{standing_of, takes, takes_in}
 use Rattle.qc_front.proofs.CommandsKeep.{view_keeps}
 use Rattle.qc_front.proofs.Keeping.{appended_is}
 use Rattle.laws_turns.specs.Names.{begun_in}
@@ -64,7 +63,7 @@ module _ (decl : Declaration) (front : Front) where
         write = refl;
         sends = refl;
         told = refl;
-        ended = refl
+        ended = refl;
       }))
 
   named : (t : Transaction) → front.transaction ≡ Some t → name_in front ≡ Some t.begun.tx
@@ -75,15 +74,15 @@ module _ (decl : Declaration) (front : Front) where
   performs-kind None object inv is = still (telling replies.NoTransaction) refl refl tt
   performs-kind (Some t) object inv is =
       by t.begun.doomed (nat_le most_transaction_operations (length t.begun.ops)) where
-    by : (doomed long : Bool)
-        → FrontKind front
-          (cond doomed (moved front (telling replies.Doomed))
+        by : (doomed long : Bool)
+            → FrontKind front
+            (cond doomed (moved front (telling replies.Doomed))
             (cond long (moved front (telling replies.TooLong))
-              (reads decl front t object inv [] (round_for decl front t (read_need_of decl t.begun.epoch object inv)))))
-    by true long = still (telling replies.Doomed) refl refl tt
-    by false true = still (telling replies.TooLong) refl refl tt
-    by false false =
-        read_by-kind decl front front (same_counts front) t object inv []
+            (reads decl front t object inv [] (round_for decl front t (read_need_of decl t.begun.epoch object inv)))))
+        by true long = still (telling replies.Doomed) refl refl tt
+        by false true = still (telling replies.TooLong) refl refl tt
+        by false false =
+            read_by-kind decl front front (same_counts front) t object inv []
             (round_for decl front t (read_need_of decl t.begun.epoch object inv))
             (verdict (round_for decl front t (read_need_of decl t.begun.epoch object inv))) (named t is)
 
@@ -96,7 +95,7 @@ module _ (decl : Declaration) (front : Front) where
         life = refl;
         count = refl;
         named = refl;
-        turn = refl
+        turn = refl;
       }))
 
   commits-kind : (o : Option Transaction) → front.transaction ≡ o → FrontKind front (commits front o)
@@ -158,16 +157,16 @@ module _ (decl : Declaration) (front : Front) where
     by None = still quiet refl refl tt
     by (Some site) =
         read_by-kind decl front (learns front answer) (learned answer) (read_with t site object answer) object inv
-            (without_call calls number) (note round site (standing_of answer))
-            (verdict (note round site (standing_of answer)))
+        (without_call calls number) (note round site (standing_of answer))
+        (verdict (note round site (standing_of answer)))
         (named t is ∙ ap (λ (x : TxId). Some x) (sym (read_named t site object answer)))
   takes_in-kind (Appending object inv event calls round) (Some t) number answer is = by (site_called calls number) where
     by : (s : Option ℕ) → FrontKind front (appending_takes decl front t object inv event calls round number answer s)
     by None = still quiet refl refl tt
     by (Some site) =
         append_by-kind decl front (learns front answer) (learned answer) (appended_with t site answer) object inv event
-            (without_call calls number) (note round site (standing_of answer))
-            (verdict (note round site (standing_of answer)))
+        (without_call calls number) (note round site (standing_of answer))
+        (verdict (note round site (standing_of answer)))
         (named t is ∙ ap (λ (x : TxId). Some x) (sym (ap (λ (u : Transaction). u.begun.tx) (appended_is t site answer))))
 
   pub takes-kind : (number : ℕ) (answer : Option Answer) → FrontKind front (takes decl front number answer)

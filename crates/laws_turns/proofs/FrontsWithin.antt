@@ -1,6 +1,5 @@
 -- What a front end becomes and sends stays within a bound that what it takes keeps to, and one more where it begins.
-use Rattle.std.proofs.Common.{◌≡◌, ℕ, ◌+◌, ◌≤◌}
-use Rattle.std.proofs.Common.{length, Option, Some, None, refl, sym, subst, arith}
+use Rattle.std.proofs.Common.{◌≡◌, ℕ, ◌+◌, ◌≤◌, length, Option, Some, None, refl, sym, subst, arith}
 use Rattle.std.specs.Prelude.{slice_get}
 use Rattle.std.specs.Option.{option_map_or}
 use Rattle.qc_list.proofs.Members.{every-from_In}
@@ -18,14 +17,12 @@ use Rattle.qc_front.specs.declared.doing.Doing.{Doing}
 use Rattle.qc_front.specs.declared.doing.Doing.TheVariants.{Idle, Reading, Appending}
 use Rattle.qc_front.specs.declared.front.Front.{Front}
 use Rattle.qc_front.specs.declared.transaction.Transaction.{Transaction}
-use Rattle.qc_front.specs.Names.{AreSent, FrontMove, IsFor, IsSent}
-use Rattle.qc_front.specs.Names.{begins, called, ended}
-use Rattle.qc_front.specs.Names.{takes, view_log}
+use Rattle.qc_front.specs.Names.{AreSent, FrontMove, IsFor, IsSent, begins, called, ended, takes, view_log}
 use Rattle.qc_front.proofs.Sending.{called_sent, takes_sent}
 use Rattle.laws_turns.specs.Names.{FrontWithin, LinesWithin, MessageWithin, OutcomeWithin, SendsWithin}
 use Rattle.laws_turns.specs.Names.{TransactionWithin, ViewsWithin, WantWithin}
 use Rattle.laws_turns.proofs.DesksWithin.{CameWithin}
-use Rattle.laws_turns.proofs.FrontBounds.{front-le, no_lines, old-within, granted-clock, _, takes_in-within}
+use Rattle.laws_turns.proofs.FrontBounds.{front-le, no_lines, old-within, granted-clock, takes_in-within}
 
 module _ (bound : ℕ) where
   -- another view of an object
@@ -38,9 +35,9 @@ module _ (bound : ℕ) where
   view_log-within : (t : Transaction) (object : ℕ) → ViewsWithin bound t.views → LinesWithin bound (view_log t object)
   view_log-within t object w =
       by (slice_get t.views object) (old-within bound t.views object (slice_get t.views object) refl w) where
-    by : (o : Option View) → ViewWithin o → LinesWithin bound (option_map_or (λ (v : View). v.log) o [])
-    by None here = tt
-    by (Some v) here = here
+        by : (o : Option View) → ViewWithin o → LinesWithin bound (option_map_or (λ (v : View). v.log) o [])
+        by None here = tt
+        by (Some v) here = here
 
   for-within : (decl : Declaration) (t : Transaction) (doing : Doing) (want : Want) → ViewsWithin bound t.views
       → IsFor decl t doing want → WantWithin bound want
@@ -54,18 +51,18 @@ module _ (bound : ℕ) where
   sent-within decl before move w sent =
       every-from_In (λ (p : Posting). MessageWithin bound p.message) move.turn.sends
       (λ p among. one p.to p.message (sent p among)) where
-    asks : (to : ℕ) (want : Want) → (t : Transaction) → move.front.transaction ≡ Some t
-        → IsFor decl t move.front.doing want → WantWithin bound want
-    asks to want t begun is = for-within decl t move.front.doing want (subst (TransactionWithin bound) begun w) is
+        asks : (to : ℕ) (want : Want) → (t : Transaction) → move.front.transaction ≡ Some t
+            → IsFor decl t move.front.doing want → WantWithin bound want
+        asks to want t begun is = for-within decl t move.front.doing want (subst (TransactionWithin bound) begun w) is
 
-    one : (to : ℕ) (message : Message) → IsSent decl before move.front to message → MessageWithin bound message
-    one to (messages.Request tx epoch life want) is = asks to want is.t is.begun is.wants
-    one to (messages.Answer number answer) never = absurd never
-    one to (messages.Decision tx verdict) is = subst (OutcomeWithin bound) (sym is.aborted) tt
-    one to (messages.Inquiry tx) never = absurd never
-    one to (messages.Ask tx) never = absurd never
-    one to (messages.Close epoch) never = absurd never
-    one to (messages.Install epoch clock log) never = absurd never
+        one : (to : ℕ) (message : Message) → IsSent decl before move.front to message → MessageWithin bound message
+        one to (messages.Request tx epoch life want) is = asks to want is.t is.begun is.wants
+        one to (messages.Answer number answer) never = absurd never
+        one to (messages.Decision tx verdict) is = subst (OutcomeWithin bound) (sym is.aborted) tt
+        one to (messages.Inquiry tx) never = absurd never
+        one to (messages.Ask tx) never = absurd never
+        one to (messages.Close epoch) never = absurd never
+        one to (messages.Install epoch clock log) never = absurd never
 
 -- a move
 
@@ -79,10 +76,10 @@ begins-within bound decl front (Some t) w = front-le bound (bound + 1) front (om
 begins-within bound decl front None w =
     let more : FrontWithin (bound + 1) front = front-le bound (bound + 1) front (omega arith) w in
     record {
-          clock = more.clock;
-          count = (let n : front.count ≤ bound = w.count in omega arith);
-          views = no_lines (bound + 1) (length decl.objects)
-        }
+      clock = more.clock;
+      count = (let n : front.count ≤ bound = w.count in omega arith);
+      views = no_lines (bound + 1) (length decl.objects);
+    }
 
 called-within : (bound : ℕ) (decl : Declaration) (front : Front) (command : Command) → FrontWithin bound front
     → FrontWithin (bound + 1) (called decl front command).front
@@ -101,21 +98,21 @@ pub called-goes : (bound : ℕ) (decl : Declaration) (front : Front) (command : 
 called-goes bound decl front command w =
     let next : FrontWithin (bound + 1) (called decl front command).front = called-within bound decl front command w in
     record {
-          front = next;
-          sends = sent-within (bound + 1) decl front (called decl front command) next.views
-              (called_sent decl front command)
-        }
+      front = next;
+      sends = sent-within (bound + 1) decl front (called decl front command) next.views
+          (called_sent decl front command);
+    }
 
 pub takes-goes : (bound : ℕ) (decl : Declaration) (front : Front) (number : ℕ) (answer : Option Answer)
     → FrontWithin bound front → CameWithin bound answer → FrontGoes bound (takes decl front number answer)
 takes-goes bound decl front number answer w here =
     let next : FrontWithin bound (takes decl front number answer).front =
-            takes_in-within bound decl front front.doing front.transaction number answer w w.views here in
+    takes_in-within bound decl front front.doing front.transaction number answer w w.views here in
     record {
-          front = next;
-          sends = sent-within bound decl front (takes decl front number answer) next.views
-              (takes_sent decl front number answer)
-        }
+      front = next;
+      sends = sent-within bound decl front (takes decl front number answer) next.views
+          (takes_sent decl front number answer);
+    }
 
 pub ended_within : (bound : ℕ) (front : Front) (clock epoch : ℕ) → FrontWithin bound front → clock ≤ bound
     → FrontWithin bound (ended front clock epoch)

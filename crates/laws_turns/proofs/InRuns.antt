@@ -35,8 +35,7 @@ use Rattle.laws_turns.proofs.Events.{Events, IsControl}
 use Rattle.laws_turns.proofs.Events as events
 use Rattle.laws_turns.proofs.Bounding.{lawful_turn, turn-posts}
 use Rattle.laws_turns.proofs.DealtCommands.{IsAfter, Keeps, commits_of}
-use Rattle.laws_turns.proofs.DealtClients.{at_rest, input-keeps, posts-keep, taken-keeps}
-use Rattle.laws_turns.proofs.DealtClients.{turn_told}
+use Rattle.laws_turns.proofs.DealtClients.{at_rest, input-keeps, posts-keep, taken-keeps, turn_told}
 use Rattle.laws_turns.proofs.DealtOperations.{told_deal}
 use Rattle.laws_turns.proofs.WrittenDeeds.{desk_posts, written-more, written-turn}
 

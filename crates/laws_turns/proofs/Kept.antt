@@ -1,7 +1,7 @@
 -- In each run of an accepted declaration whose script names declared objects, an unanswered request is at its site: a
 -- copy of it is ready there, or it is the site's open input.
-use Rattle.std.proofs.Common.{◌≡◌, ℕ, ◌+◌, ◌==◌, Bool, true, false, if◌then◌else◌, List}
-use Rattle.std.proofs.Common.{◌∷◌, ◌++◌, Option, Some, None, refl, subst, eq-eqb}
+use Rattle.std.proofs.Common.{◌≡◌, ℕ, ◌+◌, ◌==◌, Bool, true, false, if◌then◌else◌, List, ◌∷◌, ◌++◌, Option, Some, None}
+use Rattle.std.proofs.Common.{refl, subst, eq-eqb}
 use Rattle.std.specs.List.{fold}
 use Rattle.std.proofs.lemmas.List.Sums.{fold-append}
 use Rattle.qc_list.specs.Names.{In}
@@ -14,11 +14,9 @@ use Rattle.qc_msg.specs.declared.turn.Posting.{Posting}
 use Rattle.qc_msg.specs.declared.turn.Turn.{Turn}
 use Rattle.qc_msg.specs.Names.{Entry, by, posted, sents, told, wrote}
 use Rattle.qc_script.specs.declared.script.Script.{Script}
-use Rattle.qc_script.specs.Names.{Inbox, empty_inbox, everybody, inbox, inbox_at}
-use Rattle.qc_script.specs.Names.{reply_told, request_numbers}
+use Rattle.qc_script.specs.Names.{Inbox, empty_inbox, everybody, inbox, inbox_at, reply_told, request_numbers}
 use Rattle.qc_script.proofs.AllUp.{wrote_up}
 use Rattle.laws_turns.proofs.Answering.{answer_ends, others_fewer}
-use Rattle.laws_turns.proofs.StepsKeep.{_}
 
 -- another's turn leaves no more unanswered, and a site's answer ends the wait
 
@@ -42,7 +40,7 @@ module _ (script : Script) (a b : ℕ) (other : (b == a) ≡ false) where
   sents_fewer i n [] reply k member = told_fewer i reply k member
   sents_fewer i n (p ∷ ps) reply k member =
       others_fewer script a i (record { number = n; from = b; to = p.to; message = p.message }) other k
-          (sents_fewer (inbox_at script a i b (steps.Sent n p.to p.message)) (n + 1) ps reply k member)
+      (sents_fewer (inbox_at script a i b (steps.Sent n p.to p.message)) (n + 1) ps reply k member)
 
   -- a turn whose first message answers the request
   pub turn_ends : (h : List Entry) (n : ℕ) (turn : Turn) (k : ℕ) (x : Answer) (rest : List Posting)
@@ -50,23 +48,23 @@ module _ (script : Script) (a b : ℕ) (other : (b == a) ≡ false) where
       → In k (request_numbers (inbox script a (h ++ by b (posted n turn))).unanswered) → ⊥
   turn_ends h n turn k x rest is up member =
       on turn.write turn.sends is
-          (subst (λ (i : Inbox). In k (request_numbers i.unanswered))
-            (fold-append step_on empty_inbox h (by b (posted n turn))) member)
+      (subst (λ (i : Inbox). In k (request_numbers i.unanswered))
+      (fold-append step_on empty_inbox h (by b (posted n turn))) member)
     where
       first : In k
           (request_numbers (fold step_on (inbox script a h)
-            (by b (sents n (record { to = a; message = messages.Answer k x } ∷ rest) ++ told turn.told))).unanswered)
+          (by b (sents n (record { to = a; message = messages.Answer k x } ∷ rest) ++ told turn.told))).unanswered)
           → ⊥
       first there =
           answer_ends script a (inbox script a h)
-              (record { number = n; from = b; to = a; message = messages.Answer k x }) k x refl (eq-eqb a a refl) other
+          (record { number = n; from = b; to = a; message = messages.Answer k x }) k x refl (eq-eqb a a refl) other
           (sents_fewer (inbox_at script a (inbox script a h) b (steps.Sent n a (messages.Answer k x))) (n + 1) rest
-              turn.told k there)
+          turn.told k there)
 
       on : (w : Option Record) (ps : List Posting) → ps ≡ record { to = a; message = messages.Answer k x } ∷ rest
           → In k
-            (request_numbers
-              (fold step_on (inbox script a h) (by b (wrote w ++ (sents n ps ++ told turn.told)))).unanswered) → ⊥
+          (request_numbers
+          (fold step_on (inbox script a h) (by b (wrote w ++ (sents n ps ++ told turn.told)))).unanswered) → ⊥
       on None ps same there =
           first (subst (λ (qs : List Posting). In k
           (request_numbers (fold step_on (inbox script a h) (by b (sents n qs ++ told turn.told))).unanswered)) same
@@ -74,5 +72,5 @@ module _ (script : Script) (a b : ℕ) (other : (b == a) ≡ false) where
       on (Some written) ps same there =
           first (subst (λ (qs : List Posting). In k (request_numbers (fold step_on (inbox script a h) (by b (sents n qs ++ told turn.told))).unanswered)) same
           (subst (λ (i : Inbox). In k
-              (request_numbers (fold step_on i (by b (sents n ps ++ told turn.told))).unanswered))
-              (wrote_up a (inbox script a h) b up) there))
+          (request_numbers (fold step_on i (by b (sents n ps ++ told turn.told))).unanswered))
+          (wrote_up a (inbox script a h) b up) there))

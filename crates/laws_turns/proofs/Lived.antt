@@ -1,5 +1,7 @@
 -- Each actor of a run with falls takes inputs and posts turns, falls and rises.
-use Rattle.std.proofs.Common.{◌≡◌, ℕ, zero, suc, ◌+◌, ◌<◌, ◌≤◌, ◌==◌, not, Bool, true, false, List, [], ◌∷◌, ◌++◌, length, Some, None, slice_get, refl, sym, ap, ◌∙◌, subst, arith, eqb-true, length-append, append_assoc, zero-le}
+use Rattle.std.proofs.Common.{◌≡◌, ℕ, zero, suc, ◌+◌, ◌<◌, ◌≤◌, ◌==◌, not, Bool, true, false, List, [], ◌∷◌, ◌++◌}
+use Rattle.std.proofs.Common.{length, Some, None, slice_get, refl, sym, ap, ◌∙◌, subst, arith, eqb-true, length-append}
+use Rattle.std.proofs.Common.{append_assoc, zero-le}
 use Rattle.std.proofs.lemmas.List.{append-nil}
 use Rattle.qc_core.specs.Names.{IsLawfulWithFalls, Lives, MayReach, is_up}
 use Rattle.qc_core.specs.Lives as lives
@@ -39,9 +41,13 @@ use Rattle.laws_turns.proofs.Downs.{tells, up_is}
 
 pub line_silent : (line : Control) (step : Step) → controller_step line ≡ Some step → IsSilent step
 line_silent (controls.Phase k) step is = absurd (let never : ⊥ = cc in never)
-line_silent (controls.Cut a b) step is = subst IsSilent (let same : steps.Cut a b ≡ step = cc in same) (record { sends = λ a. refl; deeds = λ ms. refl })
-line_silent (controls.Heal a b) step is = subst IsSilent (let same : steps.Heal a b ≡ step = cc in same) (record { sends = λ a. refl; deeds = λ ms. refl })
-line_silent (controls.Armed actor kind at) step is = subst IsSilent (let same : steps.Armed actor kind at ≡ step = cc in same) (record { sends = λ a. refl; deeds = λ ms. refl })
+line_silent (controls.Cut a b) step is =
+    subst IsSilent (let same : steps.Cut a b ≡ step = cc in same) (record { sends = λ a. refl; deeds = λ ms. refl })
+line_silent (controls.Heal a b) step is =
+    subst IsSilent (let same : steps.Heal a b ≡ step = cc in same) (record { sends = λ a. refl; deeds = λ ms. refl })
+line_silent (controls.Armed actor kind at) step is =
+    subst IsSilent (let same : steps.Armed actor kind at ≡ step = cc in same)
+    (record { sends = λ a. refl; deeds = λ ms. refl })
 line_silent (controls.Crash a) step is = absurd (let never : ⊥ = cc in never)
 line_silent (controls.Restart a) step is = absurd (let never : ⊥ = cc in never)
 
@@ -55,11 +61,17 @@ place_within (b ∷ bs) (suc a) t is = let further : a < length bs = place_withi
 
 -- an actor's fall, and its rise
 
-pub deeds-fall : (a : ℕ) (h : List Entry) (cause : Fall) → deeds a [] (h ++ marked a (steps.Fell cause None) ∷ []) ≡ deeds a [] h ++ Falls cause None ∷ []
-deeds-fall a h cause = deeds-append a [] h (by a (fell cause None)) ∙ ap (λ (ds : List Deed). deeds a [] h ++ ds) (deeds-fell a (mail h) cause None)
+pub deeds-fall : (a : ℕ) (h : List Entry) (cause : Fall)
+    → deeds a [] (h ++ marked a (steps.Fell cause None) ∷ []) ≡ deeds a [] h ++ Falls cause None ∷ []
+deeds-fall a h cause =
+    deeds-append a [] h (by a (fell cause None))
+    ∙ ap (λ (ds : List Deed). deeds a [] h ++ ds) (deeds-fell a (mail h) cause None)
 
-pub deeds-rise : (a : ℕ) (h : List Entry) (records : List Record) → deeds a [] (h ++ marked a (steps.Rose records) ∷ []) ≡ deeds a [] h ++ Rises records ∷ []
-deeds-rise a h records = deeds-append a [] h (by a (steps.Rose records ∷ [])) ∙ ap (λ (ds : List Deed). deeds a [] h ++ ds) (deeds-rose a (mail h) records)
+pub deeds-rise : (a : ℕ) (h : List Entry) (records : List Record)
+    → deeds a [] (h ++ marked a (steps.Rose records) ∷ []) ≡ deeds a [] h ++ Rises records ∷ []
+deeds-rise a h records =
+    deeds-append a [] h (by a (steps.Rose records ∷ []))
+    ∙ ap (λ (ds : List Deed). deeds a [] h ++ ds) (deeds-rose a (mail h) records)
 
 up_of : (ds : List Deed) (u : Bool) → u ≡ not (is_down ds) → is_up ds ≡ u
 up_of ds u is = up_is ds ∙ sym is
@@ -67,7 +79,8 @@ up_of ds u is = up_is ds ∙ sym is
 module _ (decl : Declaration) (script : Script) where
   -- one event
 
-  lives_on : (a : ℕ) (t : Bool) (h k : List Entry) → deeds a [] k ≡ deeds a [] h → length (mail h) ≤ length (mail k) → LivesIn decl a h t → LivesIn decl a k t
+  lives_on : (a : ℕ) (t : Bool) (h k : List Entry) → deeds a [] k ≡ deeds a [] h → length (mail h) ≤ length (mail k)
+      → LivesIn decl a h t → LivesIn decl a k t
   lives_on a t h k same more r = record {
     above = r.above;
     lives = subst (λ (ds : List Deed). Lives decl a ds t r.above) (sym same) r.lives;
@@ -75,30 +88,48 @@ module _ (decl : Declaration) (script : Script) where
   }
 
   mail_grows : (h k : List Entry) → length (mail h) ≤ length (mail (h ++ k))
-  mail_grows h k = let whole : length (mail (h ++ k)) ≡ length (mail h) + length (mail k) = ap length (mail-append h k) ∙ length-append (mail h) (mail k) in omega arith
+  mail_grows h k =
+      let whole : length (mail (h ++ k)) ≡ length (mail h) + length (mail k) =
+      ap length (mail-append h k) ∙ length-append (mail h) (mail k) in
+      omega arith
 
-  lives_takes : (a : ℕ) (given : Input) (h : List Entry) → WasSentTo a (mail h) given → ready decl script a h ≡ Some given → MayReach (is_up (deeds a [] h)) given → LivesIn decl a h false
+  lives_takes : (a : ℕ) (given : Input) (h : List Entry) → WasSentTo a (mail h) given
+      → ready decl script a h ≡ Some given → MayReach (is_up (deeds a [] h)) given → LivesIn decl a h false
       → LivesIn decl a (h ++ marked a (step_of given) ∷ []) true
   lives_takes a given h sent rdy reach r = record {
     above = r.above;
-    lives = subst (λ (ds : List Deed). Lives decl a ds true r.above) (sym (deeds-taken a h given sent)) (lives.takes (deeds a [] h) given r.above r.lives (may_take decl script a h given rdy) reach);
-    within = (let old : r.above ≤ length (mail h) = r.within in let same : length (mail (h ++ marked a (step_of given) ∷ [])) ≡ length (mail h) = ap length (mail-taken h a given) in omega arith);
+    lives =
+        subst (λ (ds : List Deed). Lives decl a ds true r.above) (sym (deeds-taken a h given sent))
+        (lives.takes (deeds a [] h) given r.above r.lives (may_take decl script a h given rdy) reach);
+    within =
+        (let old : r.above ≤ length (mail h) = r.within in
+        let same : length (mail (h ++ marked a (step_of given) ∷ [])) ≡ length (mail h) =
+        ap length (mail-taken h a given) in
+        omega arith);
   }
 
-  mail_posted : (a n : ℕ) (turn : Turn) (h : List Entry) → length (mail (h ++ by a (posted_as turn.append n turn))) ≡ length (mail h) + length (sends_as turn.append turn)
+  mail_posted : (a n : ℕ) (turn : Turn) (h : List Entry)
+      → length (mail (h ++ by a (posted_as turn.append n turn))) ≡ length (mail h) + length (sends_as turn.append turn)
   mail_posted a n turn h =
-      ap length (mail-append h (by a (posted_as turn.append n turn))) ∙ length-append (mail h) (mail (by a (posted_as turn.append n turn)))
-      ∙ ap (λ (k : ℕ). length (mail h) + k) (ap length (mail-posted_as turn.append a n turn) ∙ length-envelopes a n (sends_as turn.append turn))
+      ap length (mail-append h (by a (posted_as turn.append n turn)))
+      ∙ length-append (mail h) (mail (by a (posted_as turn.append n turn)))
+      ∙ ap (λ (k : ℕ). length (mail h) + k)
+      (ap length (mail-posted_as turn.append a n turn) ∙ length-envelopes a n (sends_as turn.append turn))
 
-  lives_posts : (a : ℕ) (turn : Turn) (h : List Entry) → IsLawfulWithFalls decl a (deeds a [] h) turn → LivesIn decl a h true → LivesIn decl a (h ++ by a (posted_as turn.append (length (mail h)) turn)) false
+  lives_posts : (a : ℕ) (turn : Turn) (h : List Entry) → IsLawfulWithFalls decl a (deeds a [] h) turn
+      → LivesIn decl a h true → LivesIn decl a (h ++ by a (posted_as turn.append (length (mail h)) turn)) false
   lives_posts a turn h law r = record {
     above = length (mail h) + length (sends_as turn.append turn);
-    lives = subst (λ (ds : List Deed). Lives decl a ds false (length (mail h) + length (sends_as turn.append turn))) (sym (deeds-posted_as turn.append a (length (mail h)) h turn))
+    lives =
+        subst (λ (ds : List Deed). Lives decl a ds false (length (mail h) + length (sends_as turn.append turn)))
+        (sym (deeds-posted_as turn.append a (length (mail h)) h turn))
         (lives.posts (deeds a [] h) turn r.above (length (mail h)) r.lives r.within law);
     within = (let same : length (mail (h ++ by a (posted_as turn.append (length (mail h)) turn))) ≡ length (mail h) + length (sends_as turn.append turn) = mail_posted a (length (mail h)) turn h in omega arith);
   }
 
-  lives_falls : (a : ℕ) (cause : Fall) (h : List Entry) → ((n : ℕ) → Lives decl a (deeds a [] h) false n → Lives decl a (deeds a [] h ++ Falls cause None ∷ []) false n) → LivesIn decl a h false
+  lives_falls : (a : ℕ) (cause : Fall) (h : List Entry)
+      → ((n : ℕ) → Lives decl a (deeds a [] h) false n → Lives decl a (deeds a [] h ++ Falls cause None ∷ []) false n)
+      → LivesIn decl a h false
       → LivesIn decl a (h ++ marked a (steps.Fell cause None) ∷ []) false
   lives_falls a cause h go r = record {
     above = r.above;

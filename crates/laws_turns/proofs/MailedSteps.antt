@@ -1,7 +1,6 @@
 -- Each event adds to what was sent: each answer among messages goes to who asked for it, from who was asked.
-use Rattle.std.proofs.Common.{◌≡◌, ℕ, zero, suc, ◌+◌, true, List, ◌∷◌, ◌++◌, length}
-use Rattle.std.proofs.Common.{Option, Some, None, inl, inr, option_to_list, slice_get, refl, sym, ap, ◌∙◌, subst, arith}
-use Rattle.std.proofs.Common.{append_assoc, length-append}
+use Rattle.std.proofs.Common.{◌≡◌, ℕ, zero, suc, ◌+◌, true, List, ◌∷◌, ◌++◌, length, Option, Some, None, inl, inr}
+use Rattle.std.proofs.Common.{option_to_list, slice_get, refl, sym, ap, ◌∙◌, subst, arith, append_assoc, length-append}
 use Rattle.std.specs.List.{AllByRecursion as Every, cons_option}
 use Rattle.std.proofs.lemmas.List.{append-nil}
 use Rattle.qc_decl.specs.declared.declaration.Declaration.{Declaration}
@@ -20,8 +19,7 @@ use Rattle.qc_msg.specs.declared.turn.Appended.{Appended}
 use Rattle.qc_msg.specs.declared.turn.Appended.TheVariants.{Done, Failed, Stopped}
 use Rattle.qc_msg.specs.declared.turn.Posting.{Posting}
 use Rattle.qc_msg.specs.declared.turn.Turn.{Turn}
-use Rattle.qc_msg.specs.Names.{Answered, Entry, WasSentTo, answer_in}
-use Rattle.qc_msg.specs.Names.{by, envelope_of, envelopes, fell, mail, marked}
+use Rattle.qc_msg.specs.Names.{Answered, Entry, WasSentTo, answer_in, by, envelope_of, envelopes, fell, mail, marked}
 use Rattle.qc_msg.specs.Names.{posted_as, sends_as, sents, step_of, told, wrote}
 use Rattle.qc_msg.proofs.GrownMail.{mail-append, mail-taken}
 use Rattle.qc_msg.proofs.Growth.{mail-posted_as}
@@ -43,9 +41,10 @@ found_more ms more n P never is = by (slice_get ms n) refl is
 answer_more : (ms more : List Envelope) (from to : ℕ) (o : Option Answered) → IsAnswerOf ms from to o
     → IsAnswerOf (ms ++ more) from to o
 answer_more ms more from to None is = tt
-answer_more ms more from to (Some a) is =
-    (found_more ms more a.to (IsRequestOf to) (λ never. never) is.0,
-    found_more ms more a.to (IsRequestTo from) (λ never. never) is.1)
+answer_more ms more from to (Some a) is = (
+  found_more ms more a.to (IsRequestOf to) (λ never. never) is.0,
+  found_more ms more a.to (IsRequestTo from) (λ never. never) is.1,
+)
 
 -- each answer among messages goes to who asked for it, from who was asked
 
@@ -69,10 +68,11 @@ mail_cons ms (Some e) es = append_assoc ms (e ∷ []) es
 
 mailed_more : (ms : List Envelope) (h k : List Entry) → IsMailed ms h → IsMailed (ms ++ mail h) k → IsMailed ms (h ++ k)
 mailed_more ms [] k first second = subst (λ (v : List Envelope). IsMailed v k) (append-nil ms) second
-mailed_more ms (e ∷ h) k first second =
-    (first.0,
-        mailed_more (ms ++ option_to_list (envelope_of e)) h k first.1
-          (subst (λ (v : List Envelope). IsMailed v k) (sym (mail_cons ms (envelope_of e) (mail h))) second))
+mailed_more ms (e ∷ h) k first second = (
+  first.0,
+  mailed_more (ms ++ option_to_list (envelope_of e)) h k first.1
+      (subst (λ (v : List Envelope). IsMailed v k) (sym (mail_cons ms (envelope_of e) (mail h))) second),
+)
 
 -- one step that sends nothing
 
@@ -111,17 +111,18 @@ own_request : (ms : List Envelope) (a n : ℕ) → AreNumbered ms → IsOwnReque
 own_request ms a n numbered own =
     let at : (k : ℕ) × (slice_get ms k ≡ Some own.envelope) = place_of own.envelope ms own.member in
     let here : slice_get ms n ≡ Some own.envelope =
-            ap (λ (k : ℕ). slice_get ms k) (sym own.number_is ∙ numbered at.0 own.envelope at.1) ∙ at.1 in
+    ap (λ (k : ℕ). slice_get ms k) (sym own.number_is ∙ numbered at.0 own.envelope at.1) ∙ at.1 in
     subst (IsRequestOf a) (sym here) (own.from_is, asks_is own.envelope.message own.asks)
 
 input_mailed : (h : List Entry) (a : ℕ) (g : Input) → AreNumbered (mail h) → AreAskedFor (mail h)
     → WasSentTo a (mail h) g → IsOwnLoss (mail h) a g → IsMailStep (mail h) a (step_of g)
 input_mailed h a (inputs.Called command) numbered asked sent own = tt
 input_mailed h a (inputs.Got e) numbered asked sent own =
-    subst (IsReceived (mail h) a) (sym sent.0)
-    (sent.1,
-        subst (λ (to : ℕ). IsAnswerOf (mail h) e.from to (answer_in e.message)) sent.1
-          (every-at (IsAskedFor (mail h)) (mail h) e.number e asked sent.0))
+    subst (IsReceived (mail h) a) (sym sent.0) (
+      sent.1,
+      subst (λ (to : ℕ). IsAnswerOf (mail h) e.from to (answer_in e.message)) sent.1
+          (every-at (IsAskedFor (mail h)) (mail h) e.number e asked sent.0),
+    )
 input_mailed h a (inputs.Lost n) numbered asked sent own = own_request (mail h) a n numbered own
 
 pub takes_delivered : (decl : Declaration) (h : List Entry) (a : ℕ) (g : Input) → AreNumbered (mail h)
@@ -140,8 +141,8 @@ sents_mailed a ms n (p ∷ ps) rest is after = (
   is,
   sents_mailed a (ms ++ record { number = n; from = a; to = p.to; message = p.message } ∷ []) (n + 1) ps rest
       (let long : length (ms ++ record { number = n; from = a; to = p.to; message = p.message } ∷ []) ≡ length ms + 1 =
-               length-append ms (record { number = n; from = a; to = p.to; message = p.message } ∷ []) in
-       omega arith) after,
+      length-append ms (record { number = n; from = a; to = p.to; message = p.message } ∷ []) in
+      omega arith) after,
 )
 
 told_mailed : (a : ℕ) (reply : Option Reply) (rest : List Step) → ((xs : List Envelope) → IsMailed xs (by a rest))
@@ -162,10 +163,11 @@ post_mailed a ms Done t = by_write t.write
   where
     by_write : (w : Option Record) → IsMailed ms (by a (wrote w ++ (sents (length ms) t.sends ++ told t.told)))
     by_write None = sents_mailed a ms (length ms) t.sends (told t.told) refl (all_told a t.told)
-    by_write (Some written) =
-        (tt,
-        sents_mailed a (ms ++ []) (length ms) t.sends (told t.told) (ap length (sym (append-nil ms)))
-          (all_told a t.told))
+    by_write (Some written) = (
+      tt,
+      sents_mailed a (ms ++ []) (length ms) t.sends (told t.told) (ap length (sym (append-nil ms)))
+          (all_told a t.told),
+    )
 post_mailed a ms Failed t =
     sents_mailed a ms (length ms) t.failed_sends (told t.failed_told ++ fell _ t.write) refl
     (told_mailed a t.failed_told (fell _ t.write) (λ xs. (tt, tt)))
@@ -183,7 +185,7 @@ more_asked : (ms more : List Envelope) → AreAskedFor ms → Every (IsAskedFor 
 more_asked ms more are new =
     every-append (IsAskedFor (ms ++ more)) ms more
     (every-weaker (IsAskedFor ms) (IsAskedFor (ms ++ more))
-      (λ e is. answer_more ms more e.from e.to (answer_in e.message) is) ms are) new
+    (λ e is. answer_more ms more e.from e.to (answer_in e.message) is) ms are) new
 
 abbrev pub AreAnswersAt : List Envelope → ℕ → List Posting → Type 0
 AreAnswersAt ms a ps = Every (λ (p : Posting). IsAnswerOf ms a p.to (answer_in p.message)) ps
@@ -196,10 +198,10 @@ post_delivered decl h a end t are d = record {
   asked =
       subst AreAskedFor
       (sym (mail-append h (by a (posted_as end (length (mail h)) t))
-        ∙ ap (λ (v : List Envelope). mail h ++ v) (mail-posted_as end a (length (mail h)) t)))
+      ∙ ap (λ (v : List Envelope). mail h ++ v) (mail-posted_as end a (length (mail h)) t)))
       (more_asked (mail h) (envelopes a (length (mail h)) (sends_as end t)) d.asked
-          (posts_asked (mail h) (envelopes a (length (mail h)) (sends_as end t)) a (length (mail h)) (sends_as end t)
-            are));
+      (posts_asked (mail h) (envelopes a (length (mail h)) (sends_as end t)) a (length (mail h)) (sends_as end t)
+      are));
   called =
       every-append (IsCalled decl) h (by a (posted_as end (length (mail h)) t)) d.called
       (post_called decl a (length (mail h)) end t);

@@ -1,7 +1,6 @@
 -- In a run with falls nobody but sites and clients does anything: others only fall.
 use Rattle.std.proofs.Common.{◌≡◌, ℕ, ◌<◌, ◌≤◌, ◌==◌, ◌+◌, nat_le, nat_lt, Bool, true, false, if◌then◌else◌, List, []}
-use Rattle.std.proofs.Common.{◌∷◌, ◌++◌, length, Some, None, slice_get}
-use Rattle.std.proofs.Common.{refl, sym, subst, arith, eqb-true, ltb-true}
+use Rattle.std.proofs.Common.{◌∷◌, ◌++◌, length, Some, None, slice_get, refl, sym, subst, arith, eqb-true, ltb-true}
 use Rattle.std.specs.List.{AllByRecursion as Every}
 use Rattle.std.proofs.lemmas.Bool.{and_parts}
 use Rattle.qc_core.specs.Names.{IsLawfulWithFalls, actor_after, with_record}

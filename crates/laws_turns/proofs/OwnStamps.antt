@@ -1,6 +1,5 @@
 -- A client's Decisions Committed name stamps of its own: it tells of its own transactions alone, by its own records.
-use Rattle.std.proofs.Common.{◌≡◌, ℕ, List, ◌∷◌, Option, Some}
-use Rattle.std.proofs.Common.{None, refl, ap, ◌∙◌, subst}
+use Rattle.std.proofs.Common.{◌≡◌, ℕ, List, ◌∷◌, Option, Some, None, refl, ap, ◌∙◌, subst}
 use Rattle.std.specs.List.{fold}
 use Rattle.qc_decl.specs.declared.declaration.Declaration.{Declaration}
 use Rattle.qc_stamp.specs.declared.stamp.TxId.{TxId}
@@ -23,8 +22,7 @@ use Rattle.qc_front.specs.declared.transaction.Transaction.{Transaction}
 use Rattle.qc_front.specs.Conduct as fronts
 use Rattle.qc_client.specs.declared.client.Client.{Client}
 use Rattle.qc_client.specs.Names.{ClientMove, answered, answered_by, by_desk, by_front, called, client_after}
-use Rattle.qc_client.specs.Names.{client_does, client_takes, commits, heard, moved, new_client}
-use Rattle.qc_client.specs.Names.{requested, sent_one}
+use Rattle.qc_client.specs.Names.{client_does, client_takes, commits, heard, moved, new_client, requested, sent_one}
 use Rattle.laws_turns.proofs.OwnFronts.{IsOwnTransaction}
 use Rattle.laws_turns.proofs.StampsOwn.{AreStamped, unwritten, Own, OwnMove, by_two, front_called, front_takes}
 use Rattle.laws_turns.proofs.StampsOwn.{desk_own, outcome_own}
@@ -36,11 +34,11 @@ commits_own : (decl : Declaration) (k : ℕ) (c : Client) (o : Option Transactio
 commits_own decl k c None is own = front_called decl k c commands.Commit own
 commits_own decl k c (Some t) is own =
     by_two (OwnMove k) t.begun.doomed (by_front c (fronts.called decl c.front commands.Commit))
-        (by_desk c (desks.prepare decl c.desk t.begun c.front.clock.value))
+    (by_desk c (desks.prepare decl c.desk t.begun c.front.clock.value))
     (front_called decl k c commands.Commit own)
     (desk_own k c (Some t.begun.tx) (desks.prepare decl c.desk t.begun c.front.clock.value) own
-        (λ tx same. ap (λ (x : TxId). x.client) (let it : tx ≡ t.begun.tx = cc in it)
-          ∙ subst (IsOwnTransaction k) is own.front.begun) (prepare-moves decl c.desk t.begun c.front.clock.value))
+    (λ tx same. ap (λ (x : TxId). x.client) (let it : tx ≡ t.begun.tx = cc in it)
+    ∙ subst (IsOwnTransaction k) is own.front.begun) (prepare-moves decl c.desk t.begun c.front.clock.value))
 
 called_own : (decl : Declaration) (k : ℕ) (c : Client) (command : Command) → Own k c → OwnMove k (called decl c command)
 called_own decl k c commands.Begin own = front_called decl k c commands.Begin own
@@ -93,7 +91,7 @@ prepared_own k c number site own = by c.desk.voting refl
           front = own.front;
           desk = own.desk;
           commits = own.commits;
-          hand = λ tx same. own.hand tx (ap tx_of is ∙ same)
+          hand = λ tx same. own.hand tx (ap tx_of is ∙ same);
         }
 
 pub sent_own : (k : ℕ) (c : Client) (number to : ℕ) (m : Message) → Own k c → Own k (sent_one c number to m)
@@ -105,14 +103,14 @@ sent_own k c number to (messages.Request tx epoch life want) own = by want
           front = record { client = own.front.client; begun = own.front.begun };
           desk = own.desk;
           commits = own.commits;
-          hand = own.hand
+          hand = own.hand;
         }
     by (Append object view lines) =
         record {
           front = record { client = own.front.client; begun = own.front.begun };
           desk = own.desk;
           commits = own.commits;
-          hand = own.hand
+          hand = own.hand;
         }
     by Prepare = prepared_own k c number to own
 sent_own k c number to (messages.Answer number_asked answer) own = own
@@ -145,7 +143,7 @@ client_stamped decl k ds =
             front = record { client = refl; begun = tt };
             desk = refl;
             commits = tt;
-            hand = λ tx none. absurd (let never : ⊥ = cc in never)
+            hand = λ tx none. absurd (let never : ⊥ = cc in never);
           };
       sends = tt;
       writes = unwritten None refl;

@@ -1,7 +1,6 @@
 -- What a phase asks of an actor, and what is left of it, step by step.
-use Rattle.std.proofs.Common.{◌≡◌, ℕ, ◌+◌, ◌-◌, ◌==◌, ◌&&◌, Bool, true, false}
-use Rattle.std.proofs.Common.{if◌then◌else◌, List, ◌∷◌, ◌++◌, drop, Option, Some, None}
-use Rattle.std.proofs.Common.{refl, sym, ap, ◌∙◌, subst}
+use Rattle.std.proofs.Common.{◌≡◌, ℕ, ◌+◌, ◌-◌, ◌==◌, ◌&&◌, Bool, true, false, if◌then◌else◌, List, ◌∷◌, ◌++◌, drop}
+use Rattle.std.proofs.Common.{Option, Some, None, refl, sym, ap, ◌∙◌, subst}
 use Rattle.std.specs.List.{filter_map, fold}
 use Rattle.std.specs.Option.{option_map_or}
 use Rattle.std.proofs.lemmas.List.{append-nil}
@@ -22,16 +21,15 @@ use Rattle.qc_msg.specs.declared.step.Step.{Step}
 use Rattle.qc_msg.specs.declared.step.Step.TheVariants as steps
 use Rattle.qc_msg.specs.declared.turn.Posting.{Posting}
 use Rattle.qc_msg.specs.declared.turn.Turn.{Turn}
-use Rattle.qc_msg.specs.Names.{Entry, by, marked, posted, sends_of, sents, step_of, tells_of}
-use Rattle.qc_msg.specs.Names.{told, turn_deeds, writes_of, wrote}
+use Rattle.qc_msg.specs.Names.{Entry, by, marked, posted, sends_of, sents, step_of, tells_of, told, turn_deeds}
+use Rattle.qc_msg.specs.Names.{writes_of, wrote}
 use Rattle.qc_script.specs.declared.script.PhaseLines.{PhaseLines}
 use Rattle.qc_script.specs.declared.script.Script.{Script}
 use Rattle.std.specs.Prelude.{set}
-use Rattle.qc_script.specs.Names.{Inbox, acting, answers_by, comes, comes_at_once}
-use Rattle.qc_script.specs.Names.{commands_for, count_of, empty_inbox}
-use Rattle.qc_script.specs.Names.{goes, goes_with, has_request, inbox, inbox_at, is_request}
-use Rattle.qc_script.specs.Names.{is_up, opened, opened_by, phase_at, phase_begun, phase_of}
-use Rattle.qc_script.specs.Names.{reply_told, step_of_control, with_copies, wrote_record}
+use Rattle.qc_script.specs.Names.{Inbox, acting, answers_by, comes, comes_at_once, commands_for, count_of, empty_inbox}
+use Rattle.qc_script.specs.Names.{goes, goes_with, has_request, inbox, inbox_at, is_request, is_up, opened, opened_by}
+use Rattle.qc_script.specs.Names.{phase_at, phase_begun, phase_of, reply_told, step_of_control, with_copies}
+use Rattle.qc_script.specs.Names.{wrote_record}
 use Rattle.laws_turns.specs.Names.{call_in}
 
 -- the commands that are left, step by step
@@ -71,16 +69,16 @@ left_sent : (script : Script) (a : ℕ) (i : Inbox) (e : Envelope)
     → (goes script.links a (comes script.links a i e) e).commands ≡ i.commands
 left_sent script a i e =
     left_if (e.from == a) _ (comes script.links a i e) i.commands
-        (left_goes (comes script.links a i e) e
-          (fate script.links (comes script.links a i e).cuts e.from e.to
-            (count_of (comes script.links a i e).to_each e.to + 1)) ∙ came) came
+    (left_goes (comes script.links a i e) e
+    (fate script.links (comes script.links a i e).cuts e.from e.to
+    (count_of (comes script.links a i e).to_each e.to + 1)) ∙ came) came
   where
     came : (comes script.links a i e).commands ≡ i.commands
     came =
         left_if (e.to == a) _ i i.commands
         (left_answers (with_copies (is_up i.up a) i e
-          (fate script.links i.cuts e.from e.to (count_of i.from_each e.from + 1))) e.message
-          (fate script.links i.cuts e.from e.to (count_of i.from_each e.from + 1))) refl
+        (fate script.links i.cuts e.from e.to (count_of i.from_each e.from + 1))) e.message
+        (fate script.links i.cuts e.from e.to (count_of i.from_each e.from + 1))) refl
 
 -- what a phase asks of an actor
 abbrev pub asked_in : ℕ → Option PhaseLines → List Command
@@ -91,13 +89,12 @@ pub left_phase : (a : ℕ) (i : Inbox) (o : Option PhaseLines)
 left_phase a i None = sym (append-nil i.commands)
 left_phase a i (Some p) =
     left_opened a
-    (record i
-      {
-          opening = i.opening ++ i.late;
-          late = [];
-          controls = p.controls;
-          commands = i.commands ++ commands_for a p.commands
-        })
+    (record i {
+      opening = i.opening ++ i.late;
+      late = [];
+      controls = p.controls;
+      commands = i.commands ++ commands_for a p.commands;
+    })
 
 module _ (script : Script) (a : ℕ) where
   abbrev left : List Entry → List Command
@@ -113,7 +110,7 @@ module _ (script : Script) (a : ℕ) where
 
   left_told : (i : Inbox) (b : ℕ) (reply : Option Reply)
       → (fold (λ (i : Inbox) (e : Entry). inbox_at script a i e.actor e.step) i (by b (told reply))).commands
-        ≡ i.commands
+      ≡ i.commands
   left_told i b None = refl
   left_told i b (Some reply) = left_if (b == a) (reply_told i) i i.commands refl refl
 
@@ -121,16 +118,16 @@ module _ (script : Script) (a : ℕ) where
   left_sents i b n [] reply = left_told i b reply
   left_sents i b n (p ∷ ps) reply =
       left_sents (inbox_at script a i b (steps.Sent n p.to p.message)) b (n + 1) ps reply
-          ∙ left_sent script a i (record { number = n; from = b; to = p.to; message = p.message })
+      ∙ left_sent script a i (record { number = n; from = b; to = p.to; message = p.message })
 
   left_turn : (i : Inbox) (b n : ℕ) (turn : Turn)
       → (fold (λ (i : Inbox) (e : Entry). inbox_at script a i e.actor e.step) i (by b (posted n turn))).commands
-        ≡ i.commands
+      ≡ i.commands
   left_turn i b n turn = at turn.write
     where
       at : (w : Option Record)
           → (fold (λ (i : Inbox) (e : Entry). inbox_at script a i e.actor e.step) i
-            (by b (wrote w ++ (sents n turn.sends ++ told turn.told)))).commands ≡ i.commands
+          (by b (wrote w ++ (sents n turn.sends ++ told turn.told)))).commands ≡ i.commands
       at None = left_sents i b n turn.sends turn.told
       at (Some written) = left_sents (wrote_record a i b) b n turn.sends turn.told ∙ left_wrote a i b
 
@@ -146,15 +143,15 @@ module _ (script : Script) (a : ℕ) where
   left_control (controls.Cut x y) step h b is =
       subst (λ (s : Step). left (h ++ marked b s ∷ []) ≡ left h) (let same : steps.Cut x y ≡ step = cc in same)
       (left_more h b (steps.Cut x y)
-          ∙ left_opened a
-            (record (inbox script a h)
-              { cuts = with_cut (inbox script a h).cuts x y; controls = drop 1 (inbox script a h).controls }))
+      ∙ left_opened a
+      (record (inbox script a h)
+      { cuts = with_cut (inbox script a h).cuts x y; controls = drop 1 (inbox script a h).controls }))
   left_control (controls.Heal x y) step h b is =
       subst (λ (s : Step). left (h ++ marked b s ∷ []) ≡ left h) (let same : steps.Heal x y ≡ step = cc in same)
       (left_more h b (steps.Heal x y)
-          ∙ left_opened a
-            (record (inbox script a h)
-              { cuts = without_cut (inbox script a h).cuts x y; controls = drop 1 (inbox script a h).controls }))
+      ∙ left_opened a
+      (record (inbox script a h)
+      { cuts = without_cut (inbox script a h).cuts x y; controls = drop 1 (inbox script a h).controls }))
   left_control (controls.Armed actor kind at) step h b is = absurd (let never : ⊥ = cc in never)
   left_control (controls.Crash x) step h b is = absurd (let never : ⊥ = cc in never)
   left_control (controls.Restart x) step h b is = absurd (let never : ⊥ = cc in never)
@@ -180,7 +177,7 @@ phase_turn k a n turn = at turn.write
   where
     at : (w : Option Record)
         → fold (λ (n : ℕ) (e : Entry). phase_at n e.step) k (by a (wrote w ++ (sents n turn.sends ++ told turn.told)))
-          ≡ k
+        ≡ k
     at None = phase_sents k a n turn.sends turn.told
     at (Some written) = phase_sents k a n turn.sends turn.told
 

@@ -1,8 +1,7 @@
 -- In each run of an accepted declaration whose script names declared objects, each request goes from a client to a site,
 -- and names what is declared.
-use Rattle.std.proofs.Common.{◌≡◌, ℕ, ◌+◌, ◌-◌, ◌<◌, ◌≤◌, Bool, true, false}
-use Rattle.std.proofs.Common.{if◌then◌else◌, List, ◌∷◌, ◌++◌, length, Some, None}
-use Rattle.std.proofs.Common.{refl, sym, ap, ◌∙◌, subst, arith}
+use Rattle.std.proofs.Common.{◌≡◌, ℕ, ◌+◌, ◌-◌, ◌<◌, ◌≤◌, Bool, true, false, if◌then◌else◌, List, ◌∷◌, ◌++◌, length}
+use Rattle.std.proofs.Common.{Some, None, refl, sym, ap, ◌∙◌, subst, arith}
 use Rattle.std.specs.List.{AllByRecursion as Every}
 use Rattle.qc_core.specs.Names.{IsLawful}
 use Rattle.qc_decl.specs.declared.declaration.Declaration.{Declaration}
@@ -15,8 +14,7 @@ use Rattle.qc_msg.specs.declared.message.Message.TheVariants as messages
 use Rattle.qc_msg.specs.declared.step.Step.TheVariants as steps
 use Rattle.qc_msg.specs.declared.turn.Posting.{Posting}
 use Rattle.qc_msg.specs.declared.turn.Turn.{Turn}
-use Rattle.qc_msg.specs.Names.{Deed, Entry, by, deeds, envelopes}
-use Rattle.qc_msg.specs.Names.{mail, posted}
+use Rattle.qc_msg.specs.Names.{Deed, Entry, by, deeds, envelopes, mail, posted}
 use Rattle.qc_msg.proofs.GrownMail.{mail-append, mail-posted, mail-taken}
 use Rattle.qc_client.specs.Names.{client_after}
 use Rattle.qc_script.specs.Names.{Runs, phase_of}
@@ -59,11 +57,11 @@ lawful_mail decl accepted a n ds turn are law = at (is_site decl a) (is_client d
         let low : a < administrator decl = client_below decl a is in
         subst (λ (t : Turn). IsMailProper decl (envelopes a n t.sends)) (sym same)
         (client_mail decl a n (client_after decl (a - decl.sites) ds).turn.sends past
-            (client_proper decl accepted a (a - decl.sites) (omega arith) ds are))
+        (client_proper decl accepted a (a - decl.sites) (omega arith) ds are))
 
     at : (s c : Bool) → is_client decl a ≡ c
         → (if s then Some (site_after decl a ds).turn else
-          (if c then Some (client_after decl (a - decl.sites) ds).turn else None)) ≡ Some turn
+        (if c then Some (client_after decl (a - decl.sites) ds).turn else None)) ≡ Some turn
         → IsMailProper decl (envelopes a n turn.sends)
     at true c is law_is =
         subst (λ (t : Turn). IsMailProper decl (envelopes a n t.sends))
@@ -79,17 +77,17 @@ run_proper decl script accepted asks h open_inputs (takes a taken before older r
     subst (IsMailProper decl) (sym (mail-taken older a taken)) (run_proper decl script accepted asks older before run)
 run_proper decl script accepted asks h open_inputs (posts a turn before older run taken law) =
     subst (IsMailProper decl)
-        (sym (mail-append older (by a (posted (length (mail older)) turn))
-          ∙ ap (λ (v : List Envelope). mail older ++ v) (mail-posted a (length (mail older)) turn)))
+    (sym (mail-append older (by a (posted (length (mail older)) turn))
+    ∙ ap (λ (v : List Envelope). mail older ++ v) (mail-posted a (length (mail older)) turn)))
     (both_all (λ (e : Envelope). IsProperFrom decl e.from e.to e.message) (mail older)
-        (envelopes a (length (mail older)) turn.sends) (run_proper decl script accepted asks older before run)
+    (envelopes a (length (mail older)) turn.sends) (run_proper decl script accepted asks older before run)
     (lawful_mail decl accepted a (length (mail older)) (deeds a [] older) turn
-        (run_askable decl script a older before asks run) law))
+    (run_askable decl script a older before asks run) law))
 run_proper decl script accepted asks h open_inputs (phase before older run none done quiet_all more) =
     subst (IsMailProper decl)
-        (sym
-          (mail-silent older (controller decl) (steps.Phase (phase_of older + 1)) (phase_silent (phase_of older + 1))))
-        (run_proper decl script accepted asks older before run)
+    (sym
+    (mail-silent older (controller decl) (steps.Phase (phase_of older + 1)) (phase_silent (phase_of older + 1))))
+    (run_proper decl script accepted asks older before run)
 run_proper decl script accepted asks h open_inputs (control line lines step before older run left is) =
     subst (IsMailProper decl) (sym (mail-silent older (controller decl) step (control_silent line step is)))
-        (run_proper decl script accepted asks older before run)
+    (run_proper decl script accepted asks older before run)

@@ -1,5 +1,7 @@
 -- In each run of an accepted declaration whose script names declared objects, an unanswered request is at its site.
-use Rattle.std.proofs.Common.{◌≡◌, ℕ, ◌+◌, ◌-◌, ◌<◌, ◌≤◌, ◌==◌, ◌⊎◌, Bool, true, false, if◌then◌else◌, inl, inr, List, [], ◌∷◌, ◌++◌, drop, length, Some, slice_get, refl, sym, ap, ◌∙◌, subst, arith, eqb-true, eq-eqb}
+use Rattle.std.proofs.Common.{◌≡◌, ℕ, ◌+◌, ◌-◌, ◌<◌, ◌≤◌, ◌==◌, ◌⊎◌, Bool, true, false, if◌then◌else◌, inl, inr, List}
+use Rattle.std.proofs.Common.{[], ◌∷◌, ◌++◌, drop, length, Some, slice_get, refl, sym, ap, ◌∙◌, subst, arith, eqb-true}
+use Rattle.std.proofs.Common.{eq-eqb}
 use Rattle.std.specs.Prelude.{slice_set}
 use Rattle.std.specs.List.{AllByRecursion as Every}
 use Rattle.std.proofs.lemmas.Bool.{lt-ltb}
@@ -49,11 +51,14 @@ pub record IsDeclared (decl : Declaration) (e : Envelope) : Type 0 where
   pub past : decl.sites ≤ e.from
   pub replies : (s : SiteState) → IsReply e.from e.number (site_at decl s e.from e.number e.message)
 
-declared_request : (decl : Declaration) (e : Envelope) (m : Message) → e.message ≡ m → is_request m ≡ true → IsProperFrom decl e.from e.to m → IsDeclared decl e
+declared_request : (decl : Declaration) (e : Envelope) (m : Message) → e.message ≡ m → is_request m ≡ true
+    → IsProperFrom decl e.from e.to m → IsDeclared decl e
 declared_request decl e (messages.Request tx epoch life want) is request p = record {
   site = p.1.0;
   past = p.0;
-  replies = λ s. subst (λ (m : Message). IsReply e.from e.number (site_at decl s e.from e.number m)) (sym is) (request_reply decl s e.from e.number tx epoch life want p.1.1);
+  replies =
+      λ s. subst (λ (m : Message). IsReply e.from e.number (site_at decl s e.from e.number m)) (sym is)
+      (request_reply decl s e.from e.number tx epoch life want p.1.1);
 }
 declared_request decl e (messages.Answer to answer) is request p = absurd (let never : ⊥ = cc in never)
 declared_request decl e (messages.Decision tx verdict) is request p = absurd (let never : ⊥ = cc in never)
@@ -62,19 +67,24 @@ declared_request decl e (messages.Ask tx) is request p = absurd p
 declared_request decl e (messages.Close epoch) is request p = absurd p
 declared_request decl e (messages.Install epoch clock log) is request p = absurd p
 
-site_turn : (decl : Declaration) (b : ℕ) (before : List Deed) (e : Envelope) → site_after decl b (before ++ Takes (inputs.Got e) ∷ []) ≡ site_at decl (passed (site_after decl b before).site e.message) e.from e.number e.message
+site_turn : (decl : Declaration) (b : ℕ) (before : List Deed) (e : Envelope)
+    → site_after decl b (before ++ Takes (inputs.Got e) ∷ [])
+    ≡ site_at decl (passed (site_after decl b before).site e.message) e.from e.number e.message
 site_turn decl b before e = fold-append (site_does decl) (moved (new_site b) quiet) before (Takes (inputs.Got e) ∷ [])
 
 second_all : {A : Type 0} (P : A → Type 0) (xs ys : List A) → Every P (xs ++ ys) → Every P ys
 second_all P [] ys all = all
 second_all P (x ∷ xs) ys all = second_all P xs ys all.1
 
-module _ (decl : Declaration) (script : Script) (accepted : IsAccepted decl) (asks : AsksDeclared decl script) (a : ℕ) (a_low : a < most_actors) where
+module _ (decl : Declaration) (script : Script) (accepted : IsAccepted decl) (asks : AsksDeclared decl script) (a : ℕ)
+    (a_low : a < most_actors) where
   abbrev IsKept : List Entry → List Bool → Type 0
   IsKept h open_inputs = AreSomewhere script (IsTaken h open_inputs) h a
 
-  inbox_then : (s : ℕ) (h : List Entry) (b : ℕ) (step : Step) → inbox script s (h ++ marked b step ∷ []) ≡ inbox_at script s (inbox script s h) b step
-  inbox_then s h b step = fold-append (λ (i : Inbox) (e : Entry). inbox_at script s i e.actor e.step) empty_inbox h (marked b step ∷ [])
+  inbox_then : (s : ℕ) (h : List Entry) (b : ℕ) (step : Step)
+      → inbox script s (h ++ marked b step ∷ []) ≡ inbox_at script s (inbox script s h) b step
+  inbox_then s h b step =
+      fold-append (λ (i : Inbox) (e : Entry). inbox_at script s i e.actor e.step) empty_inbox h (marked b step ∷ [])
 
   -- where else it may be, as that becomes another
   moved_to : (X Y : Envelope → Type 0) (h : List Entry) → ((n : ℕ) (r : IsSomewhere script X h a n) → In n (request_numbers (inbox script a h).unanswered) → X r.envelope → Y r.envelope) → AreSomewhere script X h a → AreSomewhere script Y h a

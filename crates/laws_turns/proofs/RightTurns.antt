@@ -1,6 +1,6 @@
 -- A client's turn: its deeds are right for each transaction, and leave its status so.
-use Rattle.std.proofs.Common.{◌≡◌, ℕ, ◌+◌, ◌⊎◌, inl, inr, Bool, true, false, cond, List, ◌∷◌, ◌++◌, fold, map}
-use Rattle.std.proofs.Common.{Some, None, refl, sym, ap, ◌∙◌, subst, arith}
+use Rattle.std.proofs.Common.{◌≡◌, ℕ, ◌+◌, ◌⊎◌, inl, inr, Bool, true, false, cond, List, ◌∷◌, ◌++◌, fold, map, Some}
+use Rattle.std.proofs.Common.{None, refl, sym, ap, ◌∙◌, subst, arith}
 use Rattle.qc_stamp.specs.declared.stamp.Stamp.{Stamp}
 use Rattle.qc_stamp.specs.declared.stamp.TxId.{TxId}
 use Rattle.qc_stamp.specs.Names.{same_tx}
@@ -83,7 +83,7 @@ module _ (tx x : TxId) (reply : Reply) (abort : IsAbort reply) where
     by : (t : Bool)
         → ((v : Status) → fold (status_at tx) v (sends_of (n + 1) (aborts_of x sites) ++ Tells reply ∷ []) ≡ given_up v)
         → fold (status_at tx) (cond t (given_up s) s) (sends_of (n + 1) (aborts_of x sites) ++ Tells reply ∷ [])
-            ≡ given_up s
+        ≡ given_up s
     by true rest = rest (given_up s) ∙ given_twice s
     by false rest = rest s
 
@@ -97,7 +97,7 @@ module _ (tx x : TxId) (reply : Reply) (abort : IsAbort reply) where
   aborts_right s n (site ∷ sites) live = (live, by (same_tx x tx) live (λ v. aborts_right v (n + 1) sites)) where
     by : (t : Bool) → (t ≡ true → (s ≡ Begun) ⊎ (s ≡ Dead))
         → ((v : Status) → (same_tx x tx ≡ true → (v ≡ Begun) ⊎ (v ≡ Dead))
-          → AreRightFrom tx v (sends_of (n + 1) (aborts_of x sites) ++ Tells reply ∷ []))
+        → AreRightFrom tx v (sends_of (n + 1) (aborts_of x sites) ++ Tells reply ∷ []))
         → AreRightFrom tx (cond t (given_up s) s) (sends_of (n + 1) (aborts_of x sites) ++ Tells reply ∷ [])
     by true now rest = rest (given_up s) (λ is. inr (dies s (now refl)))
     by false now rest = rest s live
@@ -105,19 +105,19 @@ module _ (tx x : TxId) (reply : Reply) (abort : IsAbort reply) where
 pub gives_right : (tx : TxId) (s : Status) (turn : Turn) (p : Page) (b : BegunTransaction) (reply : Reply)
     → IsStatus tx s p → p.name ≡ Some b.tx → IsAbort reply → turn.write ≡ None
     → turn.sends ≡ map (λ site. record { to = site; message = messages.Decision b.tx outcomes.Aborted }) b.asked
-        → turn.told ≡ Some reply → TurnRight tx s turn (record p { name = None })
+    → turn.told ≡ Some reply → TurnRight tx s turn (record p { name = None })
 gives_right tx s turn p b reply w named abort unwritten sends told = record {
   asks = subst NoInquiries (sym sends) (verdicts_ask b.tx outcomes.Aborted b.asked);
   right =
       λ n. subst (AreRightFrom tx s)
       (sym (turn_is turn None (aborts_of b.tx b.asked) (Some reply) n unwritten sends told))
       (aborts_right tx b.tx reply abort s n b.asked
-          (λ is. inl (w.begun (named ∙ ap (λ (t : TxId). Some t) (same_tx_is b.tx tx is)))));
+      (λ is. inl (w.begun (named ∙ ap (λ (t : TxId). Some t) (same_tx_is b.tx tx is)))));
   status =
       λ n. subst (λ (ds : List Deed). IsStatus tx (fold (status_at tx) s ds) (record p { name = None }))
       (sym (turn_is turn None (aborts_of b.tx b.asked) (Some reply) n unwritten sends told))
       (subst (λ (v : Status). IsStatus tx v (record p { name = None }))
-          (sym (aborts_same tx b.tx reply abort s n b.asked)) (gave_up tx s p w));
+      (sym (aborts_same tx b.tx reply abort s n b.asked)) (gave_up tx s p w));
 }
 
 -- one begins
@@ -138,7 +138,7 @@ begins_right tx s turn p x w free named unwritten unsent told = record {
   fresh same =
       let e : tx ≡ record { client = p.client; life = p.life; number = p.count + 1 } = sym same ∙ named in
       w.unborn (sym (ap (λ (t : TxId). t.life) e)) (sym (ap (λ (t : TxId). t.client) e))
-          (let n : tx.number ≡ p.count + 1 = ap (λ (t : TxId). t.number) e in omega arith)
+      (let n : tx.number ≡ p.count + 1 = ap (λ (t : TxId). t.number) e in omega arith)
 
 -- it commits: its record is written, and then that is told
 
@@ -160,26 +160,27 @@ module _ (tx x : TxId) (stamp : Stamp) where
 pub commits_right : (tx : TxId) (s : Status) (turn : Turn) (p : Page) (c : Commit) (sites : List ℕ) → IsStatus tx s p
     → p.name ≡ Some c.tx → turn.write ≡ Some (records.Commit c)
     → turn.sends
-        ≡ map (λ site. record { to = site; message = messages.Decision c.tx (outcomes.Committed c.stamp) }) sites
-        → turn.told ≡ Some (replies.Committed c.stamp)
+    ≡ map (λ site. record { to = site; message = messages.Decision c.tx (outcomes.Committed c.stamp) }) sites
+    → turn.told ≡ Some (replies.Committed c.stamp)
     → TurnRight tx s turn (record p { commits = p.commits ++ c ∷ []; name = None })
 commits_right tx s turn p c sites w named write sends told = record {
   asks = subst NoInquiries (sym sends) (verdicts_ask c.tx (outcomes.Committed c.stamp) sites);
   right =
       λ n. subst (AreRightFrom tx s)
       (sym (turn_is turn (Some (records.Commit c)) (commits_of c.tx c.stamp sites) (Some (replies.Committed c.stamp)) n
-        write sends told))
-      ((λ is. w.begun (named ∙ ap (λ (t : TxId). Some t) (same_tx_is c.tx tx is))),
-          told_right tx c.tx c.stamp (cond (same_tx c.tx tx) (Committed c.stamp) s) n sites
-            (λ is. ap (λ (t : Bool). cond t (Committed c.stamp) s) is));
+      write sends told)) (
+        (λ is. w.begun (named ∙ ap (λ (t : TxId). Some t) (same_tx_is c.tx tx is))),
+        told_right tx c.tx c.stamp (cond (same_tx c.tx tx) (Committed c.stamp) s) n sites
+            (λ is. ap (λ (t : Bool). cond t (Committed c.stamp) s) is),
+      );
   status =
       λ n. subst (λ (ds : List Deed). IsStatus tx (fold (status_at tx) s ds)
       (record p { commits = p.commits ++ c ∷ []; name = None }))
       (sym (turn_is turn (Some (records.Commit c)) (commits_of c.tx c.stamp sites) (Some (replies.Committed c.stamp)) n
-        write sends told))
+      write sends told))
       (subst (λ (v : Status). IsStatus tx v (record p { commits = p.commits ++ c ∷ []; name = None }))
-          (sym (told_same tx c.tx c.stamp (cond (same_tx c.tx tx) (Committed c.stamp) s) n sites))
-          (commits_one tx s p c named w));
+      (sym (told_same tx c.tx c.stamp (cond (same_tx c.tx tx) (Committed c.stamp) s) n sites))
+      (commits_one tx s p c named w));
 }
 
 -- a question is answered by how the transaction stands
@@ -212,10 +213,10 @@ verdict_right tx s turn p x to verdict w unwritten sends told is = record {
   right =
       λ n. subst (AreRightFrom tx s)
       (sym (turn_is turn None (record { to = to; message = messages.Decision x verdict } ∷ []) None n unwritten sends
-        told)) ((λ same. exact_right s verdict (is same)), tt);
+      told)) ((λ same. exact_right s verdict (is same)), tt);
   status =
       λ n. subst (λ (ds : List Deed). IsStatus tx (fold (status_at tx) s ds) p)
       (sym (turn_is turn None (record { to = to; message = messages.Decision x verdict } ∷ []) None n unwritten sends
-        told))
+      told))
       (subst (λ (v : Status). IsStatus tx v p) (sym (verdict_same tx s x n to verdict is)) w);
 }

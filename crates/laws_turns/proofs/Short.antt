@@ -27,9 +27,8 @@ use Rattle.qc_client.specs.Names.{client_does, client_takes, commits, heard, mov
 use Rattle.qc_core.specs.Names.{Acts, posts, starts, takes}
 use Rattle.qc_site.specs.Names.{SiteMove, SiteState, moved as site_moved, new_site, passed, site_after, site_at}
 use Rattle.qc_site.specs.Names.{site_does, site_takes}
-use Rattle.qc_site.proofs.RequestCases.{append_cases, close_cases, join_cases, prepare_cases, read_cases}
+use Rattle.qc_site.proofs.RequestCases.{append_cases, close_cases, join_cases, prepare_cases, read_cases, request_cases}
 use Rattle.qc_site.proofs.Cases.{install_cases}
-use Rattle.qc_site.proofs.RequestCases.{request_cases}
 use Rattle.laws_turns.specs.Names.{AskedSites, AsksSites, VotedSites}
 use Rattle.laws_turns.proofs.AskedMoves.{IsShort, called-short, takes_short}
 use Rattle.laws_turns.proofs.Bounding.{turn-posts}

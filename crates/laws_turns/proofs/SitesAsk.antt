@@ -28,9 +28,8 @@ use Rattle.qc_msg.specs.declared.turn.Posting.{Posting}
 use Rattle.qc_msg.specs.Names.{quiet}
 use Rattle.qc_site.specs.Names.{SiteMove, SiteState, answers, clashing, grants, holds, moved, passed, promise_of}
 use Rattle.qc_site.specs.Names.{relation_at, site_at, site_takes, without_prepared}
-use Rattle.qc_site.proofs.RequestCases.{append_cases, close_cases, join_cases, prepare_cases, read_cases}
+use Rattle.qc_site.proofs.RequestCases.{append_cases, close_cases, join_cases, prepare_cases, read_cases, request_cases}
 use Rattle.qc_site.proofs.Cases.{install_cases}
-use Rattle.qc_site.proofs.RequestCases.{request_cases}
 
 -- of what a message says, where B holds of transactions: a request is for such a one, a question about such a one goes
 -- to its client

@@ -1,7 +1,7 @@
 -- A client that is asked what the script asks has a sound front end and desk.
-use Rattle.std.proofs.Common.{◌≡◌, ℕ, zero, suc, ◌+◌, ◌-◌, ◌%◌, ◌<◌, ◌==◌, ◌&&◌, Bool, true, false}
-use Rattle.std.proofs.Common.{cond, if◌then◌else◌, List, ◌∷◌, ◌++◌, map, length, take, Option, Some, None, is_some}
-use Rattle.std.proofs.Common.{refl, sym, subst, arith, eqb-true}
+use Rattle.std.proofs.Common.{◌≡◌, ℕ, zero, suc, ◌+◌, ◌-◌, ◌%◌, ◌<◌, ◌==◌, ◌&&◌, Bool, true, false, cond, if◌then◌else◌}
+use Rattle.std.proofs.Common.{List, ◌∷◌, ◌++◌, map, length, take, Option, Some, None, is_some, refl, sym, subst, arith}
+use Rattle.std.proofs.Common.{eqb-true}
 use Rattle.std.specs.List.{AllByRecursion as Every, filter, filter_map, fold}
 use Rattle.std.proofs.lemmas.Bool.{lt-ltb}
 use Rattle.qc_core.specs.Names.{IsLawful}
@@ -19,8 +19,8 @@ use Rattle.qc_msg.specs.declared.step.Command.{Command}
 use Rattle.qc_msg.specs.declared.step.Command.TheVariants as commands
 use Rattle.qc_msg.specs.declared.step.Input.{Input}
 use Rattle.qc_msg.specs.declared.step.Input.TheVariants as inputs
-use Rattle.qc_msg.specs.Names.{Deed, Entry, Falls, Rises, Sends, Takes, Tells, Writes, deeds}
-use Rattle.qc_msg.specs.Names.{has_granted, quiet, site_called}
+use Rattle.qc_msg.specs.Names.{Deed, Entry, Falls, Rises, Sends, Takes, Tells, Writes, deeds, has_granted, quiet}
+use Rattle.qc_msg.specs.Names.{site_called}
 use Rattle.qc_plan.specs.Names.{cyclic}
 use Rattle.qc_commit.specs.declared.desk.Desk.{Desk}
 use Rattle.qc_commit.specs.declared.desk.Voting.{Voting}
@@ -45,8 +45,7 @@ use Rattle.laws_turns.proofs.DeclaredSites.{AreSites, sites_cyclic, sites_filter
 use Rattle.laws_turns.proofs.Mailed.{both_all}
 use Rattle.laws_turns.proofs.OwnFronts.{OwnFront}
 use Rattle.laws_turns.proofs.OwnFronts as own_fronts
-use Rattle.laws_turns.proofs.Rounds.{AreProper, IsGood, IsSited, called_good, decisions_proper, of_either}
-use Rattle.laws_turns.proofs.Rounds.{takes_good}
+use Rattle.laws_turns.proofs.Rounds.{AreProper, IsGood, IsSited, called_good, decisions_proper, of_either, takes_good}
 
 -- what a client is asked is what the script asks
 
@@ -57,9 +56,9 @@ asked_line decl a (l ∷ lines) all = at (l.actor == a) refl (asked_line decl a 
   where
     at : (t : Bool) → (l.actor == a) ≡ t → Every (IsAskable decl a) (commands_for a lines)
         → Every (IsAskable decl a)
-          (map (λ (x : CommandLine). x.command)
-            (cond t (l ∷ filter (λ (x : CommandLine). x.actor == a) lines)
-              (filter (λ (x : CommandLine). x.actor == a) lines)))
+        (map (λ (x : CommandLine). x.command)
+        (cond t (l ∷ filter (λ (x : CommandLine). x.actor == a) lines)
+        (filter (λ (x : CommandLine). x.actor == a) lines)))
     at true same rest = (subst (λ (k : ℕ). IsAskable decl k l.command) (eqb-true l.actor a same) all.0, rest)
     at false other rest = rest
 
@@ -108,7 +107,7 @@ pub run_askable : (decl : Declaration) (script : Script) (a : ℕ) (h : List Ent
 run_askable decl script a h open_inputs asks run =
     askable_deeds decl a (deeds a [] h) (front_part (IsAskable decl a) (calls_of a h) (inbox script a h).commands
     (subst (Every (IsAskable decl a)) (sym (run_asked decl script a h open_inputs run))
-        (asked_phases decl a script.phases (phase_of h) asks)))
+    (asked_phases decl a script.phases (phase_of h) asks)))
 
 -- a client
 
@@ -145,31 +144,32 @@ module _ (decl : Declaration) (accepted : IsAccepted decl) (a k : ℕ) (within :
     where
       at : (t : Bool)
           → Sound decl k
-            (record { front = if t then ended c.front m.desk.clock.value m.desk.epoch else c.front; desk = m.desk })
+          (record { front = if t then ended c.front m.desk.clock.value m.desk.epoch else c.front; desk = m.desk })
       at true = record { front = record { client = s.front.client; begun = tt }; sited = tt }
       at false = record { front = s.front; sited = s.sited }
 
   prepares_proper : (b : Begun) (sites : List ℕ) → b.tx.client ≡ k → AreSites decl sites
       → AreProper decl (map (prepares b) sites)
   prepares_proper b [] own all = tt
-  prepares_proper b (s ∷ sites) own all =
-      ((all.0, (λ i. lt-ltb b.tx.client decl.clients (subst (λ (n : ℕ). n < decl.clients) (sym own) within) i && true)),
-      prepares_proper b sites own all.1)
+  prepares_proper b (s ∷ sites) own all = (
+    (all.0, (λ i. lt-ltb b.tx.client decl.clients (subst (λ (n : ℕ). n < decl.clients) (sym own) within) i && true)),
+    prepares_proper b sites own all.1,
+  )
 
   participants_sites : (client : ℕ) (b : Begun) → AreSites decl (participants decl client b)
   participants_sites client b =
       let some : 0 < decl.sites = accepted.has_site in
       sites_filter decl (has_granted b.lives) (cyclic decl.sites (first_site decl client))
       (sites_cyclic decl decl.sites (first_site decl client) (omega arith)
-          (let low : client % decl.sites < decl.sites = omega arith in omega arith))
+      (let low : client % decl.sites < decl.sites = omega arith in omega arith))
 
   prepare_proper : (desk : Desk) (b : Begun) (clock : ℕ) → b.tx.client ≡ k
       → AreProper decl (desks.prepare decl desk b clock).turn.sends
   prepare_proper desk b clock own =
       of_either (λ (m : DeskMove). AreProper decl m.turn.sends) (length (participants decl desk.client b) == 0)
-          (desks.decides (desks.passed desk clock) b) _
+      (desks.decides (desks.passed desk clock) b) _
       (decisions_proper decl b (outcomes.Committed (desks.next_stamp (desks.passed desk clock))))
-          (prepares_proper b (participants decl desk.client b) own (participants_sites desk.client b))
+      (prepares_proper b (participants decl desk.client b) own (participants_sites desk.client b))
 
   counted_proper : (desk : Desk) (b : Begun) (o : Option AbortCause)
       → AreProper decl (desks.counted_out desk b o).turn.sends
@@ -181,11 +181,11 @@ module _ (decl : Declaration) (accepted : IsAccepted decl) (a k : ℕ) (within :
   votes_proper desk v number answer None = tt
   votes_proper desk v number answer (Some site) =
       of_either (λ (m : DeskMove). AreProper decl m.turn.sends)
-          (are_cast (cast v.ballots site (vote_of v.begun site answer)))
-          (desks.counted_out (desks.learns desk answer) v.begun
-            (first_against (cast v.ballots site (vote_of v.begun site answer)))) _
+      (are_cast (cast v.ballots site (vote_of v.begun site answer)))
+      (desks.counted_out (desks.learns desk answer) v.begun
+      (first_against (cast v.ballots site (vote_of v.begun site answer)))) _
       (counted_proper (desks.learns desk answer) v.begun
-          (first_against (cast v.ballots site (vote_of v.begun site answer)))) tt
+      (first_against (cast v.ballots site (vote_of v.begun site answer)))) tt
 
   vote_proper : (desk : Desk) (o : Option Voting) (number : ℕ) (answer : Option Answer)
       → AreProper decl (desks.votes_in desk o number answer).turn.sends
@@ -199,9 +199,9 @@ module _ (decl : Declaration) (accepted : IsAccepted decl) (a k : ℕ) (within :
   commits_sound c None is s = called_front c commands.Commit tt s
   commits_sound c (Some t) is s =
       of_either (SoundMove decl k) t.begun.doomed (by_front c (fronts.called decl c.front commands.Commit))
-          (by_desk c (desks.prepare decl c.desk t.begun c.front.clock.value)) (called_front c commands.Commit tt s)
+      (by_desk c (desks.prepare decl c.desk t.begun c.front.clock.value)) (called_front c commands.Commit tt s)
       (desk_sound c (desks.prepare decl c.desk t.begun c.front.clock.value) s
-          (prepare_proper c.desk t.begun c.front.clock.value (subst (own_fronts.IsOwnTransaction k) is s.front.begun)))
+      (prepare_proper c.desk t.begun c.front.clock.value (subst (own_fronts.IsOwnTransaction k) is s.front.begun)))
 
   called_sound : (c : Client) (command : Command) → IsAskable decl a command → Sound decl k c
       → SoundMove decl k (called decl c command)
@@ -248,12 +248,12 @@ module _ (decl : Declaration) (accepted : IsAccepted decl) (a k : ℕ) (within :
       at (Read object inv) =
           record {
             front = record { client = s.front.client; begun = s.front.begun };
-            sited = asked_sited c.front.doing number to s.sited
+            sited = asked_sited c.front.doing number to s.sited;
           }
       at (Append object view own) =
           record {
             front = record { client = s.front.client; begun = s.front.begun };
-            sited = asked_sited c.front.doing number to s.sited
+            sited = asked_sited c.front.doing number to s.sited;
           }
       at Prepare = record { front = s.front; sited = s.sited }
   sent_sound c number to (messages.Answer number_asked answer) s = s

@@ -1,6 +1,6 @@
 -- A client's records name stamps of their transactions' own clients; so does what a front end and a desk do.
-use Rattle.std.proofs.Common.{◌≡◌, ℕ, ◌==◌, ◌&&◌, Bool, true, false, if◌then◌else◌, List, ◌∷◌, map, Option, Some}
-use Rattle.std.proofs.Common.{None, is_some, inl, inr, refl, sym, ap, ◌∙◌, subst, eqb-true}
+use Rattle.std.proofs.Common.{◌≡◌, ℕ, ◌==◌, ◌&&◌, Bool, true, false, if◌then◌else◌, List, ◌∷◌, map, Option, Some, None}
+use Rattle.std.proofs.Common.{is_some, inl, inr, refl, sym, ap, ◌∙◌, subst, eqb-true}
 use Rattle.std.specs.List.{AllByRecursion as Every}
 use Rattle.qc_list.proofs.Members.{every-append, every-weaker}
 use Rattle.qc_core.specs.Names.{IsOwnStamp, IsStamped}
@@ -30,9 +30,7 @@ use Rattle.qc_front.specs.Conduct as fronts
 use Rattle.qc_front.proofs.Unwritten as calm
 use Rattle.qc_front.specs.Names.{FrontMove, ended}
 use Rattle.qc_client.specs.declared.client.Client.{Client}
-use Rattle.qc_client.specs.Names.{ClientMove, by_desk, by_front, called}
-use Rattle.qc_client.specs.Names.{commits, is_begun, outcome_by}
-use Rattle.qc_client.specs.Names.{outcome_of}
+use Rattle.qc_client.specs.Names.{ClientMove, by_desk, by_front, called, commits, is_begun, outcome_by, outcome_of}
 use Rattle.laws_turns.proofs.OwnFronts.{OwnFront}
 use Rattle.laws_turns.proofs.OwnFronts as own_fronts
 
@@ -135,8 +133,8 @@ desk_own k c hand m own held (inr (inl r)) =
       own =
           desk_front k c m.desk (is_some m.turn.told) own (r.client ∙ own.desk)
           (subst (Every IsOwnCommit) (sym r.commits)
-            (every-append IsOwnCommit c.desk.commits (commit_of r.stamp r.begun ∷ []) own.commits
-              (stamp_is ∙ sym tx_is, tt))) (no_hand k m.desk r.voting);
+          (every-append IsOwnCommit c.desk.commits (commit_of r.stamp r.begun ∷ []) own.commits
+          (stamp_is ∙ sym tx_is, tt))) (no_hand k m.desk r.voting);
       sends =
           subst (λ (t : Turn). AreStamped t.sends) (sym r.turn)
           (decisions_stamped r.begun (Committed r.stamp) (stamp_is ∙ sym tx_is));

@@ -1,6 +1,6 @@
 -- Over all that a client does by turns, each deed is right for each transaction.
-use Rattle.std.proofs.Common.{◌≡◌, ℕ, ◌+◌, ◌-◌, Bool, true, false, List, ◌∷◌, ◌++◌, fold}
-use Rattle.std.proofs.Common.{Option, Some, None, refl, sym, ap, ◌∙◌, subst}
+use Rattle.std.proofs.Common.{◌≡◌, ℕ, ◌+◌, ◌-◌, Bool, true, false, List, ◌∷◌, ◌++◌, fold, Option, Some, None, refl, sym}
+use Rattle.std.proofs.Common.{ap, ◌∙◌, subst}
 use Rattle.std.specs.List.{AllByRecursion as Every}
 use Rattle.std.proofs.lemmas.List.Sums.{fold-append}
 use Rattle.qc_stamp.specs.declared.stamp.TxId.{TxId}
@@ -15,8 +15,7 @@ use Rattle.qc_msg.specs.Names.{Deed, Falls, Rises, Sends, Takes, Tells, Writes, 
 use Rattle.qc_commit.specs.declared.desk.Voting.{Voting}
 use Rattle.qc_commit.specs.Conduct as desks
 use Rattle.qc_client.specs.declared.client.Client.{Client}
-use Rattle.qc_client.specs.Names.{ClientMove, client_after}
-use Rattle.qc_client.specs.Names.{client_does, client_takes, commits, moved, new_client}
+use Rattle.qc_client.specs.Names.{ClientMove, client_after, client_does, client_takes, commits, moved, new_client}
 use Rattle.qc_client.specs.Names.{sent_one}
 use Rattle.qc_core.specs.Names.{Acts, posts, starts, takes}
 use Rattle.laws_turns.specs.Names.{written_in}
@@ -88,9 +87,9 @@ module _ (decl : Declaration) (accepted : IsAccepted decl) (a : ℕ) (no_site : 
   status_acts ds b n (takes before g m done may) known =
       let old : Rests before = status_acts before false m done (known-first tx Unborn before (Takes g ∷ []) known) in
       let kept : IsResting decl accepted a no_site named tx before =
-              deals_acts decl accepted a no_site named tx before false m done in
+      deals_acts decl accepted a no_site named tx before false m done in
       let same : status (before ++ Takes g ∷ []) tx ≡ status before tx =
-              fold-append (status_at tx) Unborn before (Takes g ∷ []) in
+      fold-append (status_at tx) Unborn before (Takes g ∷ []) in
       let move : client_after decl (a - decl.sites) (before ++ Takes g ∷ []) ≡ client_takes decl (client_after decl (a - decl.sites) before).client g = fold-append (client_does decl) (moved (new_client (a - decl.sites)) quiet) before (Takes g ∷ []) in
       let here : IsKnown tx (status before tx) g = (known-second tx Unborn before (Takes g ∷ []) known).0 in
       record {
@@ -108,18 +107,18 @@ module _ (decl : Declaration) (accepted : IsAccepted decl) (a : ℕ) (no_site : 
             (page_of (client_after decl (a - decl.sites) (before ++ Takes g ∷ [])).client)) (sym same)
             (subst (λ (x : ClientMove). TurnRight tx (status before tx) x.turn (page_of x.client)) (sym move)
             (input_right decl tx (status before tx) (client_after decl (a - decl.sites) before).client old.status
-                kept.keeps.hand g here));
+            kept.keeps.hand g here));
       }
   status_acts ds b n (posts before turn m first done above lawful) known =
       let old : Turns before =
-              status_acts before true m done (known-first tx Unborn before (turn_deeds first turn) known) in
+      status_acts before true m done (known-first tx Unborn before (turn_deeds first turn) known) in
       let its : (client_after decl (a - decl.sites) before).turn ≡ turn =
-              sym (lawful_turn (λ (t : Turn). t ≡ (client_after decl (a - decl.sites) before).turn) decl a before turn
-                lawful (λ is. absurd (let no : ⊥ = cc in no)) (λ is named. refl)) in
+      sym (lawful_turn (λ (t : Turn). t ≡ (client_after decl (a - decl.sites) before).turn) decl a before turn
+      lawful (λ is. absurd (let no : ⊥ = cc in no)) (λ is named. refl)) in
       let same : status (before ++ turn_deeds first turn) tx ≡ fold (status_at tx) (status before tx) (turn_deeds first turn) = fold-append (status_at tx) Unborn before (turn_deeds first turn) in
       let page : page_of (client_after decl (a - decl.sites) (before ++ turn_deeds first turn)).client ≡ page_of (client_after decl (a - decl.sites) before).client =
       ap (λ (x : ClientMove). page_of x.client)
-          (fold-append (client_does decl) (moved (new_client (a - decl.sites)) quiet) before (turn_deeds first turn))
+      (fold-append (client_does decl) (moved (new_client (a - decl.sites)) quiet) before (turn_deeds first turn))
       ∙ page_posts decl (client_after decl (a - decl.sites) before) (turn_deeds first turn) (turn-posts first turn) in
       record {
         right =
@@ -127,23 +126,23 @@ module _ (decl : Declaration) (accepted : IsAccepted decl) (a : ℕ) (no_site : 
             (subst (λ (t : Turn). AreRightFrom tx (status before tx) (turn_deeds first t)) its (old.turn.right first));
         status = subst (λ (p : Page). IsStatus tx (status (before ++ turn_deeds first turn) tx) p) (sym page)
             (subst (λ (s : Status). IsStatus tx s (page_of (client_after decl (a - decl.sites) before).client))
-                (sym same)
+            (sym same)
             (subst (λ (t : Turn). IsStatus tx (fold (status_at tx) (status before tx) (turn_deeds first t))
-                (page_of (client_after decl (a - decl.sites) before).client)) its (old.turn.status first)));
+            (page_of (client_after decl (a - decl.sites) before).client)) its (old.turn.status first)));
       }
 
   pub pages : (ds : List Deed) (b : Bool) (n : ℕ) → Acts decl a ds b n → KnownFrom tx Unborn ds → HasPage ds
   pages ds b n done known =
       by b (status_acts ds b n done known) (deals_acts decl accepted a no_site named tx ds b n done) where
-    by : (b : Bool) → StatusBy ds b → KeptBy decl accepted a no_site named tx ds b → HasPage ds
-    by true turns taken = turns.page
-    by false rests resting =
-        record {
-          page = page_of (client_after decl (a - decl.sites) ds).client;
-          is = rests.status;
-          commits = resting.written;
-          client = resting.keeps.own
-        }
+        by : (b : Bool) → StatusBy ds b → KeptBy decl accepted a no_site named tx ds b → HasPage ds
+        by true turns taken = turns.page
+        by false rests resting =
+            record {
+              page = page_of (client_after decl (a - decl.sites) ds).client;
+              is = rests.status;
+              commits = resting.written;
+              client = resting.keeps.own;
+            }
 
   pub rights : (ds : List Deed) (b : Bool) (n : ℕ) → Acts decl a ds b n → KnownFrom tx Unborn ds → AreRight tx ds
   rights ds b n done known = by b (status_acts ds b n done known) where

@@ -1,6 +1,6 @@
 -- What an input of a client does to the status of its transaction: each deed is right.
-use Rattle.std.proofs.Common.{◌≡◌, ◌≢◌, ℕ, ◌+◌, ◌-◌, inl, inr, Bool, true, false, cond, List, ◌∷◌}
-use Rattle.std.proofs.Common.{Option, Some, None, is_some, refl, sym, ap, subst}
+use Rattle.std.proofs.Common.{◌≡◌, ◌≢◌, ℕ, ◌+◌, ◌-◌, inl, inr, Bool, true, false, cond, List, ◌∷◌, Option, Some, None}
+use Rattle.std.proofs.Common.{is_some, refl, sym, ap, subst}
 use Rattle.std.specs.List.{AllByRecursion as Every}
 use Rattle.qc_list.specs.Names.{In}
 use Rattle.qc_stamp.specs.declared.stamp.TxId.{TxId}
@@ -28,9 +28,8 @@ use Rattle.qc_front.specs.declared.transaction.Transaction.{Transaction}
 use Rattle.qc_front.specs.Conduct as fronts
 use Rattle.qc_front.specs.Names.{FrontMove, ended, next_tx}
 use Rattle.qc_client.specs.declared.client.Client.{Client}
-use Rattle.qc_client.specs.Names.{ClientMove, answered, answered_by, by_desk, by_front, called}
-use Rattle.qc_client.specs.Names.{client_takes, commits, heard, is_begun, moved, outcome_by}
-use Rattle.qc_client.specs.Names.{outcome_of}
+use Rattle.qc_client.specs.Names.{ClientMove, answered, answered_by, by_desk, by_front, called, client_takes, commits}
+use Rattle.qc_client.specs.Names.{heard, is_begun, moved, outcome_by, outcome_of}
 use Rattle.qc_core.specs.Names.{takes}
 use Rattle.laws_turns.specs.Names.{begun_in}
 use Rattle.qc_promise.specs.Names.{Begun, Committed, Dead, Status, Unborn, status}
@@ -51,7 +50,7 @@ page_of c =
       life = c.front.life;
       count = c.front.count;
       commits = c.desk.commits;
-      name = name_in c.front
+      name = name_in c.front;
     }
 
 -- what a record of a transaction tells
@@ -73,8 +72,8 @@ none_in (c ∷ cs) tx r is among its = by (same_tx c.tx tx) refl is among (none_
   by true same now member rest = let no : ⊥ = cc in no
   by false other now (inl first) rest =
       let yes : same_tx c.tx tx ≡ true =
-              subst (λ (x : Commit). same_tx x.tx tx ≡ true) first
-                (subst (λ (t : TxId). same_tx r.tx t ≡ true) its (same_tx_itself r.tx)) in
+      subst (λ (x : Commit). same_tx x.tx tx ≡ true) first
+      (subst (λ (t : TxId). same_tx r.tx t ≡ true) its (same_tx_itself r.tx)) in
       let no : ⊥ = cc in no
   by false other now (inr later) rest = rest now later its
 
@@ -86,45 +85,44 @@ module _ (decl : Declaration) (tx : TxId) (s : Status) (c : Client) (w : IsStatu
   silent : (turn : Turn) → turn.write ≡ None → turn.sends ≡ [] → turn.told ≡ None → Right (moved c turn)
   silent turn unwritten unsent untold =
       goes_right tx s turn (page_of c) w unwritten
-          (subst (λ (ps : List Posting). Every (λ (q : Posting). IsRequestFor (name_in c.front) q.message) ps)
-            (sym unsent) tt) (subst (ToldNeutral (name_in c.front)) (sym untold) tt)
+      (subst (λ (ps : List Posting). Every (λ (q : Posting). IsRequestFor (name_in c.front) q.message) ps)
+      (sym unsent) tt) (subst (ToldNeutral (name_in c.front)) (sym untold) tt)
 
   front_right : (m : FrontMove) → FrontKind c.front m → Right (by_front c m)
   front_right m (inl g) =
       subst (TurnRight tx s m.turn) same (goes_right tx s m.turn (page_of c) w g.write g.sends g.told) where
-    same : page_of c ≡ page_of (by_front c m).client
-    same =
-        λ i. record {
-          client = sym g.counts.client i;
-          life = sym g.counts.life i;
-          count = sym g.counts.count i;
-          commits = c.desk.commits;
-          name = sym g.named i
-        }
+        same : page_of c ≡ page_of (by_front c m).client
+        same =
+            λ i. record {
+              client = sym g.counts.client i;
+              life = sym g.counts.life i;
+              count = sym g.counts.count i;
+              commits = c.desk.commits;
+              name = sym g.named i;
+            }
   front_right m (inr (inl b)) =
       subst (TurnRight tx s m.turn) same
       (begins_right tx s m.turn (page_of c) (next_tx c.front) w b.free refl (ap (λ (t : Turn). t.write) b.turn)
-          (ap (λ (t : Turn). t.sends) b.turn) (ap (λ (t : Turn). t.told) b.turn))
+      (ap (λ (t : Turn). t.sends) b.turn) (ap (λ (t : Turn). t.told) b.turn))
     where
-      same : record
-          {
-              client = c.front.client;
-              life = c.front.life;
-              count = c.front.count + 1;
-              commits = c.desk.commits;
-              name = Some (next_tx c.front)
-            } ≡ page_of (by_front c m).client
+      same : record {
+        client = c.front.client;
+        life = c.front.life;
+        count = c.front.count + 1;
+        commits = c.desk.commits;
+        name = Some (next_tx c.front);
+      } ≡ page_of (by_front c m).client
       same =
           λ i. record {
             client = sym b.client i;
             life = sym b.life i;
             count = sym b.count i;
             commits = c.desk.commits;
-            name = sym b.named i
+            name = sym b.named i;
           }
   front_right m (inr (inr g)) =
       subst (TurnRight tx s m.turn) same
-          (gives_right tx s m.turn (page_of c) g.begun g.reply w (ap begun_tx g.is) g.aborts g.write g.sends g.told)
+      (gives_right tx s m.turn (page_of c) g.begun g.reply w (ap begun_tx g.is) g.aborts g.write g.sends g.told)
     where
       same : record
           { client = c.front.client; life = c.front.life; count = c.front.count; commits = c.desk.commits; name = None }
@@ -135,51 +133,51 @@ module _ (decl : Declaration) (tx : TxId) (s : Status) (c : Client) (w : IsStatu
             life = sym g.counts.life i;
             count = sym g.counts.count i;
             commits = c.desk.commits;
-            name = sym g.ended i
+            name = sym g.ended i;
           }
 
   desk_right : (b : BegunTransaction) (m : DeskMove) → begun_in c.front.transaction ≡ Some b → IsHandMove c.desk b m
       → Right (by_desk c m)
   desk_right b m is (inl v) =
       subst (λ (o : Option Reply). TurnRight tx s m.turn
-          (page_of (record {
-              front = cond (is_some o) (ended c.front m.desk.clock.value m.desk.epoch) c.front;
-              desk = m.desk
-            }))) (sym v.told)
+      (page_of (record {
+        front = cond (is_some o) (ended c.front m.desk.clock.value m.desk.epoch) c.front;
+        desk = m.desk;
+      }))) (sym v.told)
       (subst (λ (cs : List Commit). TurnRight tx s m.turn
-          (record {
-              client = c.front.client;
-              life = c.front.life;
-              count = c.front.count;
-              commits = cs;
-              name = name_in c.front
-            })) (sym v.commits)
+      (record {
+        client = c.front.client;
+        life = c.front.life;
+        count = c.front.count;
+        commits = cs;
+        name = name_in c.front;
+      })) (sym v.commits)
       (goes_right tx s m.turn (page_of c) w v.write
       (subst (λ (n : Option TxId). Every (λ (q : Posting). IsRequestFor n q.message) m.turn.sends)
-          (sym (ap begun_tx is)) v.sends)
+      (sym (ap begun_tx is)) v.sends)
       (subst (ToldNeutral (name_in c.front)) (sym v.told) tt)))
   desk_right b m is (inr (inl r)) =
       subst (λ (o : Option Reply). TurnRight tx s m.turn
-          (page_of (record {
-              front = cond (is_some o) (ended c.front m.desk.clock.value m.desk.epoch) c.front;
-              desk = m.desk
-            }))) (sym (ap (λ (t : Turn). t.told) r.turn))
+      (page_of (record {
+        front = cond (is_some o) (ended c.front m.desk.clock.value m.desk.epoch) c.front;
+        desk = m.desk;
+      }))) (sym (ap (λ (t : Turn). t.told) r.turn))
       (subst (λ (cs : List Commit). TurnRight tx s m.turn
-          (record { client = c.front.client; life = c.front.life; count = c.front.count; commits = cs; name = None }))
-          (sym r.commits)
+      (record { client = c.front.client; life = c.front.life; count = c.front.count; commits = cs; name = None }))
+      (sym r.commits)
       (commits_right tx s m.turn (page_of c) (commit_of r.stamp b) b.asked w (ap begun_tx is)
-          (ap (λ (t : Turn). t.write) r.turn) (ap (λ (t : Turn). t.sends) r.turn) (ap (λ (t : Turn). t.told) r.turn)))
+      (ap (λ (t : Turn). t.write) r.turn) (ap (λ (t : Turn). t.sends) r.turn) (ap (λ (t : Turn). t.told) r.turn)))
   desk_right b m is (inr (inr a)) =
       subst (λ (o : Option Reply). TurnRight tx s m.turn
-          (page_of (record {
-              front = cond (is_some o) (ended c.front m.desk.clock.value m.desk.epoch) c.front;
-              desk = m.desk
-            }))) (sym (ap (λ (t : Turn). t.told) a.turn))
+      (page_of (record {
+        front = cond (is_some o) (ended c.front m.desk.clock.value m.desk.epoch) c.front;
+        desk = m.desk;
+      }))) (sym (ap (λ (t : Turn). t.told) a.turn))
       (subst (λ (cs : List Commit). TurnRight tx s m.turn
-          (record { client = c.front.client; life = c.front.life; count = c.front.count; commits = cs; name = None }))
-          (sym a.commits)
+      (record { client = c.front.client; life = c.front.life; count = c.front.count; commits = cs; name = None }))
+      (sym a.commits)
       (gives_right tx s m.turn (page_of c) b (replies.Aborted a.why) w (ap begun_tx is) tt
-          (ap (λ (t : Turn). t.write) a.turn) (ap (λ (t : Turn). t.sends) a.turn) (ap (λ (t : Turn). t.told) a.turn)))
+      (ap (λ (t : Turn). t.write) a.turn) (ap (λ (t : Turn). t.sends) a.turn) (ap (λ (t : Turn). t.told) a.turn)))
 
   fronted : (command : Command) → Right (by_front c (fronts.called decl c.front command))
   fronted command = front_right (fronts.called decl c.front command) (called-kind decl c.front command)
@@ -189,8 +187,8 @@ module _ (decl : Declaration) (tx : TxId) (s : Status) (c : Client) (w : IsStatu
   committing (Some t) is = by t.begun.doomed where
     by : (dead : Bool)
         → Right
-          (cond dead (by_front c (fronts.called decl c.front commands.Commit))
-            (by_desk c (desks.prepare decl c.desk t.begun c.front.clock.value)))
+        (cond dead (by_front c (fronts.called decl c.front commands.Commit))
+        (by_desk c (desks.prepare decl c.desk t.begun c.front.clock.value)))
     by true = fronted commands.Commit
     by false =
         desk_right t.begun (desks.prepare decl c.desk t.begun c.front.clock.value) (ap begun_in is)
@@ -227,10 +225,10 @@ module _ (decl : Declaration) (tx : TxId) (s : Status) (c : Client) (w : IsStatu
     dead Unborn is none free = absurd (born is)
     dead Begun is none free =
         absurd (let yes : is_begun tx c.front.transaction ≡ true = begun_named c.front.transaction (w.is_begun is) in
-                let no : ⊥ = cc in no)
+        let no : ⊥ = cc in no)
     dead (Committed stamp) is none free =
         absurd (let r : HasRecord c.desk.commits tx stamp = w.is_committed stamp is in
-                none_in c.desk.commits tx r.commit none r.listed r.named)
+        none_in c.desk.commits tx r.commit none r.listed r.named)
     dead Dead is none free = is
 
     by : (o : Option Commit) → record_of c.desk.commits tx ≡ o → (b : Bool) → is_begun tx c.front.transaction ≡ b
@@ -244,9 +242,9 @@ module _ (decl : Declaration) (tx : TxId) (s : Status) (c : Client) (w : IsStatu
       → Right (heard decl c from number (messages.Inquiry x))
   asked_right from number x known =
       verdict_right tx s (heard decl c from number (messages.Inquiry x)).turn (page_of c) x from (outcome_of c x) w refl
-          refl refl
+      refl refl
       (λ same. let e : x
-          ≡ tx = same_tx_is x tx same in subst (λ (t : TxId). IsExact s (outcome_of c t)) (sym e) (exact (known same)))
+      ≡ tx = same_tx_is x tx same in subst (λ (t : TxId). IsExact s (outcome_of c t)) (sym e) (exact (known same)))
 
   answers_right : (from number : ℕ) (x : TxId) → Right (heard decl c from number (messages.Ask x))
   answers_right from number x = record { asks = (tt, tt); right = λ n. (tt, tt); status = λ n. w }

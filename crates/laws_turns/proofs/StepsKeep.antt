@@ -1,6 +1,6 @@
 -- Each step of a turn leaves the unanswered requests somewhere, and adds some.
-use Rattle.std.proofs.Common.{◌≡◌, ℕ, ◌+◌, ◌<◌, ◌≤◌, ◌==◌, ◌⊎◌, Bool, true, false, if◌then◌else◌, inl, inr, List}
-use Rattle.std.proofs.Common.{◌∷◌, ◌++◌, Option, Some, None, refl, sym, ap, ◌∙◌, subst, arith, eqb-true, eq-eqb}
+use Rattle.std.proofs.Common.{◌≡◌, ℕ, ◌+◌, ◌<◌, ◌≤◌, ◌==◌, ◌⊎◌, Bool, true, false, if◌then◌else◌, inl, inr, List, ◌∷◌}
+use Rattle.std.proofs.Common.{◌++◌, Option, Some, None, refl, sym, ap, ◌∙◌, subst, arith, eqb-true, eq-eqb}
 use Rattle.std.proofs.Common.{append_assoc}
 use Rattle.std.proofs.lemmas.List.Sums.{fold-append}
 use Rattle.std.proofs.lemmas.List.{append-nil}
@@ -24,8 +24,7 @@ use Rattle.qc_script.specs.Names.{Inbox, SentRequest, comes_at_once, empty_inbox
 use Rattle.qc_script.specs.Names.{is_request, reply_told, request_numbers}
 use Rattle.qc_script.proofs.AllUp.{Stays, step_up, wrote_up}
 use Rattle.qc_script.proofs.Inboxes.{one_fate}
-use Rattle.laws_turns.proofs.Answering.{copies_stay, copy_made, others_fewer, own_fate, own_new}
-use Rattle.laws_turns.proofs.Answering.{silent_fewer}
+use Rattle.laws_turns.proofs.Answering.{copies_stay, copy_made, others_fewer, own_fate, own_new, silent_fewer}
 use Rattle.laws_turns.proofs.SiteReplies.{IsMailProper, IsProperFrom}
 use Rattle.qc_link.specs.Names.{most_actors}
 
@@ -62,22 +61,22 @@ module _ (script : Script) (X : Envelope → Type 0) (a : ℕ) where
   pub somewhere_still : (h : List Entry) (b : ℕ) (step : Step)
       → (inbox_at script a (inbox script a h) b step).unanswered ≡ (inbox script a h).unanswered
       → ((s : ℕ) (x : Envelope) → In x (inbox script s h).copies
-          → In x (inbox_at script s (inbox script s h) b step).copies)
-          → ((x : Envelope) → In x (mail h) → In x (mail (h ++ marked b step ∷ [])))
+      → In x (inbox_at script s (inbox script s h) b step).copies)
+      → ((x : Envelope) → In x (mail h) → In x (mail (h ++ marked b step ∷ [])))
       → AreSomewhere script X h a → AreSomewhere script X (h ++ marked b step ∷ []) a
   somewhere_still h b step same copies mails are n member =
       let r : IsSomewhere script X h a n =
-              are n
-                (subst (λ (rs : List SentRequest). In n (request_numbers rs)) same
-                  (subst (λ (i : Inbox). In n (request_numbers i.unanswered)) (inbox_one a h b step) member)) in
+      are n
+      (subst (λ (rs : List SentRequest). In n (request_numbers rs)) same
+      (subst (λ (i : Inbox). In n (request_numbers i.unanswered)) (inbox_one a h b step) member)) in
       record {
-            envelope = r.envelope;
-            number = r.number;
-            from = r.from;
-            request = r.request;
-            proper = mails r.envelope r.proper;
-            place = at r.envelope r.place
-          }
+        envelope = r.envelope;
+        number = r.number;
+        from = r.from;
+        request = r.request;
+        proper = mails r.envelope r.proper;
+        place = at r.envelope r.place;
+      }
     where
       at : (x : Envelope) → In x (inbox script x.to h).copies ⊎ X x
           → In x (inbox script x.to (h ++ marked b step ∷ [])).copies ⊎ X x
@@ -91,13 +90,13 @@ module _ (script : Script) (X : Envelope → Type 0) (a : ℕ) where
   -- a message of another, or one that asks nothing
   sent_still : (h : List Entry) (b n to : ℕ) (m : Message)
       → ((k : ℕ) → In k (request_numbers (inbox_at script a (inbox script a h) b (steps.Sent n to m)).unanswered)
-        → In k (request_numbers (inbox script a h).unanswered))
+      → In k (request_numbers (inbox script a h).unanswered))
       → AreSomewhere script X h a → AreSomewhere script X (h ++ marked b (steps.Sent n to m) ∷ []) a
   sent_still h b n to m fewer are k member =
       moved_on h b n to m k
       (are k
-        (fewer k
-          (subst (λ (i : Inbox). In k (request_numbers i.unanswered)) (inbox_one a h b (steps.Sent n to m)) member)))
+      (fewer k
+      (subst (λ (i : Inbox). In k (request_numbers i.unanswered)) (inbox_one a h b (steps.Sent n to m)) member)))
     where
       moved_on : (h : List Entry) (b n to : ℕ) (m : Message) (k : ℕ) → IsSomewhere script X h a k
           → IsSomewhere script X (h ++ marked b (steps.Sent n to m) ∷ []) a k
@@ -108,16 +107,16 @@ module _ (script : Script) (X : Envelope → Type 0) (a : ℕ) where
             from = r.from;
             request = r.request;
             proper = mail_first h (marked b (steps.Sent n to m) ∷ []) r.envelope r.proper;
-            place = at r.place
+            place = at r.place;
           }
         where
           at : In r.envelope (inbox script r.envelope.to h).copies ⊎ X r.envelope
               → In r.envelope (inbox script r.envelope.to (h ++ marked b (steps.Sent n to m) ∷ [])).copies
-                ⊎ X r.envelope
+              ⊎ X r.envelope
           at (inl there) =
               inl (subst (λ (i : Inbox). In r.envelope i.copies) (sym (inbox_one r.envelope.to h b (steps.Sent n to m)))
               (copies_stay script r.envelope.to (inbox script r.envelope.to h)
-                (record { number = n; from = b; to = to; message = m }) r.envelope there))
+              (record { number = n; from = b; to = to; message = m }) r.envelope there))
           at (inr taken) = inr taken
 
   -- a request of the actor's own
@@ -126,7 +125,7 @@ module _ (script : Script) (X : Envelope → Type 0) (a : ℕ) where
       → AreSomewhere script X (h ++ marked a (steps.Sent n to m) ∷ []) a
   sent_new h n to m up a_low to_low away request are k member =
       at (own_new script a (inbox script a h) e away (eq-eqb a a refl) k
-          (subst (λ (i : Inbox). In k (request_numbers i.unanswered)) (inbox_one a h a (steps.Sent n to m)) member))
+      (subst (λ (i : Inbox). In k (request_numbers i.unanswered)) (inbox_one a h a (steps.Sent n to m)) member))
     where
       e : Envelope
       e = record { number = n; from = a; to = to; message = m }
@@ -142,9 +141,9 @@ module _ (script : Script) (X : Envelope → Type 0) (a : ℕ) where
 
       at : In k (request_numbers (inbox script a h).unanswered)
           ⊎ ((k ≡ n)
-            × ((is_request m ≡ true)
-              × (comes_at_once (own_fate script a (inbox script a h)
-                (record { number = n; from = a; to = to; message = m })) ≡ true)))
+          × ((is_request m ≡ true)
+          × (comes_at_once (own_fate script a (inbox script a h)
+          (record { number = n; from = a; to = to; message = m })) ≡ true)))
           → IsSomewhere script X (h ++ marked a (steps.Sent n to m) ∷ []) a k
       at (inl old) = older (are k old)
         where
@@ -156,17 +155,17 @@ module _ (script : Script) (X : Envelope → Type 0) (a : ℕ) where
                 from = r.from;
                 request = r.request;
                 proper = mail_first h (marked a (steps.Sent n to m) ∷ []) r.envelope r.proper;
-                place = spot r.place
+                place = spot r.place;
               }
             where
               spot : In r.envelope (inbox script r.envelope.to h).copies ⊎ X r.envelope
                   → In r.envelope (inbox script r.envelope.to (h ++ marked a (steps.Sent n to m) ∷ [])).copies
-                    ⊎ X r.envelope
+                  ⊎ X r.envelope
               spot (inl there) =
                   inl (subst (λ (i : Inbox). In r.envelope i.copies)
                   (sym (inbox_one r.envelope.to h a (steps.Sent n to m)))
                   (copies_stay script r.envelope.to (inbox script r.envelope.to h)
-                    (record { number = n; from = a; to = to; message = m }) r.envelope there))
+                  (record { number = n; from = a; to = to; message = m }) r.envelope there))
               spot (inr taken) = inr taken
       at (inr new) = record {
         envelope = e;
@@ -178,7 +177,7 @@ module _ (script : Script) (X : Envelope → Type 0) (a : ℕ) where
             (In-second e (mail h) (e ∷ []) (inl refl));
         place = inl (subst (λ (i : Inbox). In e i.copies) (sym (inbox_one to h a (steps.Sent n to m)))
             (copy_made script to (inbox script to h) e (up to) (eq-eqb to to refl) back
-                (ap comes_at_once (one_fate script to a h to_low a_low) ∙ new.1.1)));
+            (ap comes_at_once (one_fate script to a h to_low a_low) ∙ new.1.1)));
       }
 
   -- a turn
@@ -226,7 +225,7 @@ module _ (script : Script) (X : Envelope → Type 0) (a : ℕ) where
     told_somewhere h b None are = subst (λ (k : List Entry). AreSomewhere script X k a) (sym (append-nil h)) are
     told_somewhere h b (Some reply) are =
         somewhere_still h b (steps.Told reply) (on (b == a)) (λ s x member. stay s x (b == s) member)
-            (λ x member. mail_first h (marked b (steps.Told reply) ∷ []) x member) are
+        (λ x member. mail_first h (marked b (steps.Told reply) ∷ []) x member) are
       where
         on : (t : Bool)
             → (if t then reply_told (inbox script a h) else inbox script a h).unanswered ≡ (inbox script a h).unanswered
@@ -244,9 +243,9 @@ module _ (script : Script) (X : Envelope → Type 0) (a : ℕ) where
     sents_somewhere h b n [] reply up proper are = told_somewhere h b reply are
     sents_somewhere h b n (p ∷ ps) reply up proper are =
         subst (λ (k : List Entry). AreSomewhere script X k a)
-            (append_assoc h (marked b (steps.Sent n p.to p.message) ∷ []) (by b (sents (n + 1) ps ++ told reply)))
+        (append_assoc h (marked b (steps.Sent n p.to p.message) ∷ []) (by b (sents (n + 1) ps ++ told reply)))
         (sents_somewhere (h ++ marked b (steps.Sent n p.to p.message) ∷ []) b (n + 1) ps reply
-            (up_on h b (steps.Sent n p.to p.message) tt up) proper.1 (one_sent h b n p.to p.message up proper.0 are))
+        (up_on h b (steps.Sent n p.to p.message) tt up) proper.1 (one_sent h b n p.to p.message up proper.0 are))
 
     pub turn_somewhere : (h : List Entry) (b n : ℕ) (turn : Turn) → AllUp h
         → IsMailProper decl (envelopes b n turn.sends) → AreSomewhere script X h a
@@ -258,10 +257,10 @@ module _ (script : Script) (X : Envelope → Type 0) (a : ℕ) where
         on None = sents_somewhere h b n turn.sends turn.told up proper are
         on (Some written) =
             subst (λ (k : List Entry). AreSomewhere script X k a)
-                (append_assoc h (marked b (steps.Wrote written) ∷ []) (by b (sents n turn.sends ++ told turn.told)))
+            (append_assoc h (marked b (steps.Wrote written) ∷ []) (by b (sents n turn.sends ++ told turn.told)))
             (sents_somewhere (h ++ marked b (steps.Wrote written) ∷ []) b n turn.sends turn.told
-                (up_on h b (steps.Wrote written) tt up) proper
+            (up_on h b (steps.Wrote written) tt up) proper
             (somewhere_still h b (steps.Wrote written)
-                (ap (λ (i : Inbox). i.unanswered) (wrote_up a (inbox script a h) b (up a)))
-                (λ s x member. subst (λ (i : Inbox). In x i.copies) (sym (wrote_up s (inbox script s h) b (up s)))
-                  member) (λ x member. mail_first h (marked b (steps.Wrote written) ∷ []) x member) are))
+            (ap (λ (i : Inbox). i.unanswered) (wrote_up a (inbox script a h) b (up a)))
+            (λ s x member. subst (λ (i : Inbox). In x i.copies) (sym (wrote_up s (inbox script s h) b (up s)))
+            member) (λ x member. mail_first h (marked b (steps.Wrote written) ∷ []) x member) are))

@@ -1,6 +1,6 @@
 -- A client waits only where a command runs, and tells a reply only there.
-use Rattle.std.proofs.Common.{◌≡◌, ℕ, ◌+◌, ◌-◌, ◌&&◌, not, Bool, true, false, List, ◌∷◌, ◌++◌}
-use Rattle.std.proofs.Common.{Option, Some, None, is_some, refl, sym, ap, ◌∙◌}
+use Rattle.std.proofs.Common.{◌≡◌, ℕ, ◌+◌, ◌-◌, ◌&&◌, not, Bool, true, false, List, ◌∷◌, ◌++◌, Option, Some, None}
+use Rattle.std.proofs.Common.{is_some, refl, sym, ap, ◌∙◌}
 use Rattle.std.specs.List.{fold}
 use Rattle.std.proofs.lemmas.List.Sums.{fold-append}
 use Rattle.qc_core.specs.Names.{MayTake, is_running, runs_at, runs_given}
@@ -13,8 +13,7 @@ use Rattle.qc_msg.specs.declared.step.Input.{Input}
 use Rattle.qc_msg.specs.declared.step.Input.TheVariants as inputs
 use Rattle.qc_msg.specs.declared.turn.Posting.{Posting}
 use Rattle.qc_msg.specs.declared.turn.Turn.{Turn}
-use Rattle.qc_msg.specs.Names.{Deed, Sends, Takes, quiet, sends_of, tells_of, turn_deeds}
-use Rattle.qc_msg.specs.Names.{writes_of}
+use Rattle.qc_msg.specs.Names.{Deed, Sends, Takes, quiet, sends_of, tells_of, turn_deeds, writes_of}
 use Rattle.qc_client.specs.Names.{ClientMove, client_after, client_does, client_takes, moved, new_client}
 use Rattle.laws_turns.specs.Names.{is_waiting}
 use Rattle.laws_turns.proofs.Waiting.{Ends, IsNoCall, Rests, called_ends, epoch_rests, sent_waits, takes_ends}
@@ -61,7 +60,7 @@ turn_waits decl m n turn = by turn.write
   where
     by : (w : Option Record)
         → is_waiting (fold (client_does decl) m (writes_of w ++ (sends_of n turn.sends ++ tells_of turn.told))).client
-          ≡ is_waiting m.client
+        ≡ is_waiting m.client
     by None = sends_wait decl m n turn.sends turn.told
     by (Some written) = sends_wait decl m n turn.sends turn.told
 
@@ -69,8 +68,8 @@ pub after_posted : (decl : Declaration) (k : ℕ) (ds : List Deed) (n : ℕ) (tu
     → is_waiting (client_after decl k (ds ++ turn_deeds n turn)).client ≡ is_waiting (client_after decl k ds).client
 after_posted decl k ds n turn =
     ap (λ (m : ClientMove). is_waiting m.client)
-        (fold-append (client_does decl) (moved (new_client k) quiet) ds (turn_deeds n turn))
-        ∙ turn_waits decl (client_after decl k ds) n turn
+    (fold-append (client_does decl) (moved (new_client k) quiet) ds (turn_deeds n turn))
+    ∙ turn_waits decl (client_after decl k ds) n turn
 
 -- a client waits only where a command runs, and tells a reply only there
 
@@ -83,7 +82,7 @@ never_told m r rests =
     record {
       tells = λ told. absurd
           (let none : is_some m.turn.told ≡ false = ap is_some rests.told in let never : ⊥ = cc in never);
-      waits = λ is. rests.still
+      waits = λ is. rests.still;
     }
 
 ended_waits : (told waits : Bool) → told ≡ not waits → (true && not told) ≡ false → waits ≡ false

@@ -1,6 +1,5 @@
 -- A turn by which a transaction goes on: its deeds are right, and leave its status.
-use Rattle.std.proofs.Common.{◌≡◌, ℕ, ◌+◌, List, ◌∷◌, ◌++◌, fold, map}
-use Rattle.std.proofs.Common.{Option, Some, None, refl, sym, ap, ◌∙◌, subst}
+use Rattle.std.proofs.Common.{◌≡◌, ℕ, ◌+◌, List, ◌∷◌, ◌++◌, fold, map, Option, Some, None, refl, sym, ap, ◌∙◌, subst}
 use Rattle.std.specs.List.{AllByRecursion as Every}
 use Rattle.qc_list.proofs.Members.{every-weaker}
 use Rattle.qc_stamp.specs.declared.stamp.TxId.{TxId}
@@ -14,8 +13,7 @@ use Rattle.qc_msg.specs.declared.reply.Reply.TheVariants as replies
 use Rattle.qc_msg.specs.declared.turn.Posting.{Posting}
 use Rattle.qc_msg.specs.declared.turn.Turn.{Turn}
 use Rattle.qc_msg.specs.Names.{Deed, Sends, Tells, sends_of, tells_of, turn_deeds, writes_of}
-use Rattle.qc_promise.specs.Names.{AreRightFrom, Begun, Committed, Status}
-use Rattle.qc_promise.specs.Names.{status_at, status_told}
+use Rattle.qc_promise.specs.Names.{AreRightFrom, Begun, Committed, Status, status_at, status_told}
 use Rattle.laws_turns.proofs.FrontGoesOn.{IsRequestFor, ToldNeutral}
 use Rattle.laws_turns.proofs.Statuses.{IsStatus, Page}
 
@@ -40,7 +38,7 @@ request_asks name (messages.Install epoch clock log) never = absurd never
 
 pub verdicts_ask : (x : TxId) (v : Outcome) (sites : List ℕ)
     → Every (λ (q : Posting). IsNoInquiry q.message)
-      (map (λ site. record { to = site; message = messages.Decision x v }) sites)
+    (map (λ site. record { to = site; message = messages.Decision x v }) sites)
 verdicts_ask x v [] = tt
 verdicts_ask x v (site ∷ sites) = (tt, verdicts_ask x v sites)
 

@@ -53,7 +53,8 @@ written-turn ds n turn = written-append ds (turn_deeds n turn)
       talk n [] (Some reply) = refl
       talk n (p ∷ ps) told = talk (n + 1) ps told
 
-      by : (w : Option Record) → written_in (writes_of w ++ (sends_of n turn.sends ++ tells_of turn.told)) ≡ commits_of w
+      by : (w : Option Record)
+          → written_in (writes_of w ++ (sends_of n turn.sends ++ tells_of turn.told)) ≡ commits_of w
       by None = talk n turn.sends turn.told
       by (Some written) = cons_is (commit_of written) (written_in (sends_of n turn.sends ++ tells_of turn.told))
           ∙ ap (λ (cs : List Commit). option_to_list (commit_of written) ++ cs) (talk n turn.sends turn.told)
@@ -190,14 +191,16 @@ listed_written decl ms [] c up among = absurd among
 listed_written decl ms (e ∷ h) c up among =
     by (in_either c (commits_by decl e) (records decl h) among)
     (listed_written decl (ms ++ option_to_list (envelope_of e)) h c (rest_all_up ms e h up)) where
-      here : (t : Bool) → is_client decl e.actor ≡ t → In c (cond t (commits_in e.step) []) → IsWritten decl ms (e ∷ h) c
+      here : (t : Bool) → is_client decl e.actor ≡ t → In c (cond t (commits_in e.step) [])
+          → IsWritten decl ms (e ∷ h) c
       here true is own = record {
         actor = e.actor;
         named = is;
         wrote = subst (In c) (sym (own_step e.actor ms e h))
             (In-first c (cond (e.actor == e.actor) (option_to_list (commit_in e.step)) [])
             (written_in (deeds e.actor (ms ++ option_to_list (envelope_of e)) h))
-            (subst (λ (t : Bool). In c (cond t (option_to_list (commit_in e.step)) [])) (sym (eq-eqb e.actor e.actor refl))
+            (subst (λ (t : Bool). In c (cond t (option_to_list (commit_in e.step)) []))
+            (sym (eq-eqb e.actor e.actor refl))
             (subst (In c) (entry_commits ms e h up) own)));
       }
       here false is never = absurd never

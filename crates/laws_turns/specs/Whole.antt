@@ -1,6 +1,6 @@
 -- A whole run: all that the script asks was done, and nothing is left to do.
-use Rattle.std.specs.Prelude.{◌≡◌, ℕ, ◌<◌, true, false, List, Option, Some, None, flat_map, filter_map, length}
-use Rattle.std.specs.Prelude.{[], replicate, take}
+use Rattle.std.specs.Prelude.{◌≡◌, ℕ, ◌<◌, true, false, List, Option, Some, None, flat_map, filter_map, length, []}
+use Rattle.std.specs.Prelude.{replicate, take}
 use Rattle.qc_core.specs.Names.{IsLawful}
 use Rattle.qc_decl.specs.declared.declaration.Declaration.{Declaration}
 use Rattle.qc_decl.specs.Names.{actors, is_client}

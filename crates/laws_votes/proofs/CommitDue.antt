@@ -1,8 +1,8 @@
 -- A commit record is due where each participant of the begun transaction was asked for its promise, in the life of its
 -- first grant that counted, and has voted for it.
-use Rattle.std.proofs.Common.{◌≡◌, ◌≢◌, ◌<◌, ◌≤◌, ◌+◌, zero, suc, ◌-◌, ℕ, nat_lt, Bool, true, false, cond}
-use Rattle.std.proofs.Common.{List, ◌∷◌, inl, inr, length, filter, Option, Some, None, refl}
-use Rattle.std.proofs.Common.{sym, ap, ◌∙◌, subst, arith, ltb-true, ltb-false}
+use Rattle.std.proofs.Common.{◌≡◌, ◌≢◌, ◌<◌, ◌≤◌, ◌+◌, zero, suc, ◌-◌, ℕ, nat_lt, Bool, true, false, cond, List, ◌∷◌}
+use Rattle.std.proofs.Common.{inl, inr, length, filter, Option, Some, None, refl, sym, ap, ◌∙◌, subst, arith, ltb-true}
+use Rattle.std.proofs.Common.{ltb-false}
 use Rattle.std.specs.List.{find, range_with_len}
 use Rattle.qc_decl.specs.Names.{first_site}
 use Rattle.qc_decl.specs.declared.declaration.Declaration.{Declaration}
@@ -25,14 +25,13 @@ use Rattle.laws_refinement.proofs.SiteNets.{place}
 use Rattle.laws_guarantees.proofs.Accounts.{told_requests}
 use Rattle.theory_onecopy.proofs.Lists.{Mapped, map_in}
 use Rattle.qc_plan.specs.Names.{cyclic}
-use Rattle.qc_promise.specs.Names.{Account, ClientRequest, Current, account_heard, account_taken}
-use Rattle.qc_promise.specs.Names.{counted, counted_for, granted, is_open, is_prepare}
-use Rattle.qc_promise.specs.Names.{participants, promised, taken_for, told_by}
+use Rattle.qc_promise.specs.Names.{Account, ClientRequest, Current, account_heard, account_taken, counted, counted_for}
+use Rattle.qc_promise.specs.Names.{granted, is_open, is_prepare, participants, promised, taken_for, told_by}
 use Rattle.laws_votes.proofs.VotesFor.{IsVotedFor, in_taken, KeepsVotes, same_votes}
 
 told_votes : (d : Account) (q : ClientRequest) (answer : Option Answer) → q.want ≡ Prepare
     → ((told_by d q answer).current ≡ d.current) × ((told_by d q answer).command ≡ d.command)
-      × ((told_by d q answer).client ≡ d.client) × ((told_by d q answer).requests ≡ d.requests)
+    × ((told_by d q answer).client ≡ d.client) × ((told_by d q answer).requests ≡ d.requests)
 told_votes d q None want = (refl, refl, refl, refl)
 told_votes d q (Some (answers.Granted life clock log)) want =
     subst (λ (w : Want). ((granted d q.site life clock log w).current ≡ d.current)
@@ -131,7 +130,7 @@ module _ (decl : Declaration) (d : Account) (c : Client) where
       → q.site ≡ site → q.want ≡ Prepare → q.life ≡ life_of t.lives site → IsAskedAndFor e t site
   finish e t v q site among at want life =
       let is_yes =
-              v.each q (In-filter (λ (x : ClientRequest). is_prepare x.want) q e.requests among (ap is_prepare want)) in
+      v.each q (In-filter (λ (x : ClientRequest). is_prepare x.want) q e.requests among (ap is_prepare want)) in
       record { q = q; among = among; at = at; want = want; life = life; clock = is_yes.0; taken = is_yes.1 }
 
   none_runs : (o : Option Command) → o ≡ Some commands.Commit → NoneRuns o → ⊥
@@ -144,33 +143,33 @@ module _ (decl : Declaration) (d : Account) (c : Client) where
   awaited (rests r) e t v site low has keeps command = absurd (none_runs d.command (command ∙ v.command) r.command)
   awaited (reads r) e t v site low has keeps command =
       absurd (let is : d.command ≡ Some (commands.Do r.object r.inv) = r.runs.command in
-              let run : d.command ≡ Some commands.Commit = command ∙ v.command in let never : ⊥ = cc in never)
+      let run : d.command ≡ Some commands.Commit = command ∙ v.command in let never : ⊥ = cc in never)
   awaited (appends r) e t v site low has keeps command =
       absurd (let is : d.command ≡ Some (commands.Do r.object r.inv) = r.runs.command in
-              let run : d.command ≡ Some commands.Commit = command ∙ v.command in let never : ⊥ = cc in never)
+      let run : d.command ≡ Some commands.Commit = command ∙ v.command in let never : ⊥ = cc in never)
   awaited (votes r) e t v site low has keeps command =
       let k : KeepsVotes d e = keeps (λ q among. (every-In (IsPrepare r.t) q d.requests r.prepares among).want) in
       let same : t ≡ r.t = (let both : Some t ≡ Some r.t = sym v.current ∙ k.current ∙ r.current in cc) in
       let there : In site (participants decl d r.t) =
-              In-filter (has_granted r.t.lives) site (cyclic decl.sites (first_site decl d.client))
-                (in_cyclic site decl.sites (first_site decl d.client) low)
-                (subst (λ (x : Current). has_granted x.lives site ≡ true) same has) in
+      In-filter (has_granted r.t.lives) site (cyclic decl.sites (first_site decl d.client))
+      (in_cyclic site decl.sites (first_site decl d.client) low)
+      (subst (λ (x : Current). has_granted x.lives site ≡ true) same has) in
       let q : Mapped (λ (x : ClientRequest). x.site) site d.requests =
-              map_in (λ (x : ClientRequest). x.site) site d.requests (subst (In site) (sym r.sites) there) in
+      map_in (λ (x : ClientRequest). x.site) site d.requests (subst (In site) (sym r.sites) there) in
       let p = k.requests q.from q.listed in
       let was : IsPrepare r.t q.from = every-In (IsPrepare r.t) q.from d.requests r.prepares q.listed in
       finish e t v p.0 site p.1 (p.2.site ∙ sym q.is) (p.2.want ∙ was.want)
-          (p.2.life ∙ was.life ∙ (λ i. life_of (sym same i).lives (sym q.is i)))
+      (p.2.life ∙ was.life ∙ (λ i. life_of (sym same i).lives (sym q.is i)))
 
   -- the commit is called: nobody has granted anything
   called_none : (e : Account) (t : Current) (v : IsVotedFor decl e t) (site : ℕ) → site < decl.sites
       → has_granted t.lives site ≡ true → e.requests ≡ [] → ⊥
   called_none e t v site low has empty =
       none_of (participants decl e t) site
-          (v.count
-            ∙ ap (λ (qs : List ClientRequest). length (filter (λ (q : ClientRequest). is_prepare q.want) qs)) empty)
+      (v.count
+      ∙ ap (λ (qs : List ClientRequest). length (filter (λ (q : ClientRequest). is_prepare q.want) qs)) empty)
       (In-filter (has_granted t.lives) site (cyclic decl.sites (first_site decl e.client))
-          (in_cyclic site decl.sites (first_site decl e.client) low) has)
+      (in_cyclic site decl.sites (first_site decl e.client) low) has)
 
   counted_command : (n : ℕ) (answer : Option Answer) → d.command ≡ (counted d n answer).command
   counted_command n answer = by (find (is_open n) d.requests)

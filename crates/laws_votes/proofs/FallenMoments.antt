@@ -259,7 +259,8 @@ module _ (fits : ℕ → List Record → Type 0) (decl : Declaration) (script : 
   fallen_moment h inputs (falls b lines slots older run left) kept before a cause c after is =
       elim (split older (marked b (steps.Fell causes.Script None) ∷ []) before (falls_writing a cause c) after is) [
         | First m s ↦ fallen_moment older slots run (kept_of_first older _ kept) before a cause c m s
-        | Second m e s ↦ absurd (dry_none _ (dry_one (marked b (steps.Fell causes.Script None)) refl) m a cause c after s)
+        | Second m e s ↦
+            absurd (dry_none _ (dry_one (marked b (steps.Fell causes.Script None)) refl) m a cause c after s)
       ]
   fallen_moment h inputs (rises b rs turn lines slots older run left fit has law) kept before a cause c after is =
       elim (split older (by b (steps.Rose rs ∷ posted_as turn.append (length (mail older)) turn)) before

@@ -1,6 +1,7 @@
 -- What a site granted to a transaction that its client runs, in the life and the epoch in which the site is, it holds:
 -- through falls.
-use Rattle.std.proofs.Common.{◌≡◌, ◌⊎◌, ◌<◌, ◌≤◌, ◌-◌, ℕ, Bool, true, false, List, [], ◌∷◌, ◌++◌, inl, inr, Option, Some, None, is_some, unwrap_or, slice_get, refl, sym, ap, ◌∙◌, subst, arith}
+use Rattle.std.proofs.Common.{◌≡◌, ◌⊎◌, ◌<◌, ◌≤◌, ◌-◌, ℕ, Bool, true, false, List, [], ◌∷◌, ◌++◌, inl, inr, Option}
+use Rattle.std.proofs.Common.{Some, None, is_some, unwrap_or, slice_get, refl, sym, ap, ◌∙◌, subst, arith}
 use Rattle.qc_core.specs.Names.{IsLawfulWithFalls, IsShown, is_up}
 use Rattle.qc_decl.specs.Names.{IsAccepted, is_client, is_site}
 use Rattle.qc_decl.specs.declared.declaration.Declaration.{Declaration}
@@ -57,25 +58,39 @@ another tx u apart = by (same_tx tx u) refl
     by false is = is
     by true is = absurd (apart (sym (same_tx_is tx u is)))
 
-prepared_holds : (tx u : TxId) (x : Item) (o : Option Promise) (s : Site) → In x (items_of tx s.held) → In x (items_of tx (after_prepare u o s).held)
+prepared_holds : (tx u : TxId) (x : Item) (o : Option Promise) (s : Site) → In x (items_of tx s.held)
+    → In x (items_of tx (after_prepare u o s).held)
 prepared_holds tx u x (Some p) s held = held
 prepared_holds tx u x None s held = held
 
-committed_holds : (tx u : TxId) (stamp : Stamp) (x : Item) (o : Option Promise) (s : Site) → (u ≡ tx → ⊥) → In x (items_of tx s.held) → In x (items_of tx (after_commit u stamp o s).held)
-committed_holds tx u stamp x (Some p) s apart held = subst (In x) (sym (items_of-kept u tx s.held (another tx u apart))) held
-committed_holds tx u stamp x None s apart held = subst (In x) (sym (items_of-kept u tx s.held (another tx u apart))) held
+committed_holds : (tx u : TxId) (stamp : Stamp) (x : Item) (o : Option Promise) (s : Site) → (u ≡ tx → ⊥)
+    → In x (items_of tx s.held) → In x (items_of tx (after_commit u stamp o s).held)
+committed_holds tx u stamp x (Some p) s apart held =
+    subst (In x) (sym (items_of-kept u tx s.held (another tx u apart))) held
+committed_holds tx u stamp x None s apart held =
+    subst (In x) (sym (items_of-kept u tx s.held (another tx u apart))) held
 
-holds_on : (ds : List Deed) (s : Site) (tx : TxId) (x : Item) → In x (items_of tx s.held) → KeepsLife ds → HaveNoInstall ds → NeverEnds tx ds → In x (items_of tx (site_from s ds).held)
+holds_on : (ds : List Deed) (s : Site) (tx : TxId) (x : Item) → In x (items_of tx s.held) → KeepsLife ds
+    → HaveNoInstall ds → NeverEnds tx ds → In x (items_of tx (site_from s ds).held)
 holds_on [] s tx x held calm none never = held
 holds_on (Grants u items view ∷ ds) s tx x held calm none never =
-    holds_on ds (after_deed s (Grants u items view)) tx x (subst (In x) (sym (items_of-append tx (each_held u items) s.held)) (In-second x (items_of tx (each_held u items)) (items_of tx s.held) held)) calm none
+    holds_on ds (after_deed s (Grants u items view)) tx x
+    (subst (In x) (sym (items_of-append tx (each_held u items) s.held))
+    (In-second x (items_of tx (each_held u items)) (items_of tx s.held) held)) calm none
     ((λ stamp among. never.0 stamp (inr among)), (λ among. never.1 (inr among)))
-holds_on (Prepares u ∷ ds) s tx x held calm none never = holds_on ds (after_deed s (Prepares u)) tx x (prepared_holds tx u x (promise_of u s.prepared) s held) calm none ((λ stamp among. never.0 stamp (inr among)), (λ among. never.1 (inr among)))
+holds_on (Prepares u ∷ ds) s tx x held calm none never =
+    holds_on ds (after_deed s (Prepares u)) tx x (prepared_holds tx u x (promise_of u s.prepared) s held) calm none
+    ((λ stamp among. never.0 stamp (inr among)), (λ among. never.1 (inr among)))
 holds_on (LearnsCommit u stamp ∷ ds) s tx x held calm none never =
-    holds_on ds (after_deed s (LearnsCommit u stamp)) tx x (committed_holds tx u stamp x (promise_of u s.prepared) s (λ same. never.0 stamp (inl (λ i. LearnsCommit (sym same i) stamp))) held) calm none
+    holds_on ds (after_deed s (LearnsCommit u stamp)) tx x
+    (committed_holds tx u stamp x (promise_of u s.prepared) s
+    (λ same. never.0 stamp (inl (λ i. LearnsCommit (sym same i) stamp))) held) calm none
     ((λ other among. never.0 other (inr among)), (λ among. never.1 (inr among)))
 holds_on (LearnsAbort u ∷ ds) s tx x held calm none never =
-    holds_on ds (after_deed s (LearnsAbort u)) tx x (subst (In x) (sym (items_of-kept u tx s.held (another tx u (λ same. never.1 (inl (λ i. LearnsAbort (sym same i))))))) held) calm none
+    holds_on ds (after_deed s (LearnsAbort u)) tx x
+    (subst (In x)
+    (sym (items_of-kept u tx s.held (another tx u (λ same. never.1 (inl (λ i. LearnsAbort (sym same i))))))) held)
+    calm none
     ((λ stamp among. never.0 stamp (inr among)), (λ among. never.1 (inr among)))
 holds_on (Closes ∷ ds) s tx x held calm none never = absurd calm
 holds_on (Installs k c log ∷ ds) s tx x held calm none never = absurd none
@@ -96,18 +111,22 @@ some_item Prepare asks full = absurd asks
 pub is_held_with : (held : List Held) (tx : TxId) (x : Item) → IsHeld (held_of held tx) x → is_held held tx ≡ true
 is_held_with held tx x has = by (entry_of held tx) x has
   where
-    by : (o : Option Held) (x : Item) → IsHeld (unwrap_or o (record { tx = tx; locks = []; own = [] })) x → is_some o ≡ true
+    by : (o : Option Held) (x : Item) → IsHeld (unwrap_or o (record { tx = tx; locks = []; own = [] })) x
+        → is_some o ≡ true
     by (Some h) x there = refl
     by None (Lock l) there = absurd there
     by None (Own o) there = absurd there
 
-module _ (fits : ℕ → List Record → Type 0) (decl : Declaration) (script : Script) (h : List Entry) (open_inputs : List Bool) (accepted : IsAccepted decl) (sound : IsScriptFor decl script)
+module _ (fits : ℕ → List Record → Type 0) (decl : Declaration) (script : Script) (h : List Entry)
+    (open_inputs : List Bool) (accepted : IsAccepted decl) (sound : IsScriptFor decl script)
     (run : RunsWithFalls (IsLawfulWithFalls decl) fits decl script h open_inputs) (kept : Kept h) where
   abbrev then : State
   then = now fits decl script h open_inputs accepted sound run kept
 
   wl : StateLaws decl then
-  wl = laws decl (refined fits decl script h open_inputs accepted sound run kept).acts (refined fits decl script h open_inputs accepted sound run kept).run
+  wl =
+      laws decl (refined fits decl script h open_inputs accepted sound run kept).acts
+      (refined fits decl script h open_inputs accepted sound run kept).run
 
   -- a site is in the epoch of each grant that it gave, or in a later one
   pub granted_below : (g : Granted) → In g then.granted → g.epoch ≤ epoch_from 1 (then.deeds g.site)
@@ -115,13 +134,17 @@ module _ (fits : ℕ → List Record → Type 0) (decl : Declaration) (script : 
       let law : GrantedLaw (then.deeds g.site) (then.life g.site) g = wl.granted g known in
       let rest : List Deed = Grants g.tx g.items g.view ∷ law.post in
       let rising : HasRisingEpochs 1 (g.before ++ rest) = subst (HasRisingEpochs 1) law.split (wl.rising g.site) in
-      let high : epoch_from 1 g.before ≤ epoch_from (epoch_from 1 g.before) rest = upward rest (epoch_from 1 g.before) (rising-right g.before rest 1 rising) in
-      let there : epoch_from (epoch_from 1 g.before) rest ≡ epoch_from 1 (then.deeds g.site) = sym (ap (epoch_from 1) law.split ∙ epoch-append g.before rest 1) in
+      let high : epoch_from 1 g.before ≤ epoch_from (epoch_from 1 g.before) rest =
+      upward rest (epoch_from 1 g.before) (rising-right g.before rest 1 rising) in
+      let there : epoch_from (epoch_from 1 g.before) rest ≡ epoch_from 1 (then.deeds g.site) =
+      sym (ap (epoch_from 1) law.split ∙ epoch-append g.before rest 1) in
       let told : epoch_from 1 g.before ≡ g.epoch = (wl.facts g known).current in
       omega arith
 
   -- a grant of a transaction that hasn't ended, of the life and the epoch in which its site is
-  module _ (g : Granted) (known : In g then.granted) (life : then.life g.site ≡ g.life) (epoch : epoch_from 1 (then.deeds g.site) ≡ g.epoch) (running : (then.status g.tx ≡ Active) ⊎ (then.status g.tx ≡ Voting)) where
+  module _ (g : Granted) (known : In g then.granted) (life : then.life g.site ≡ g.life)
+      (epoch : epoch_from 1 (then.deeds g.site) ≡ g.epoch)
+      (running : (then.status g.tx ≡ Active) ⊎ (then.status g.tx ≡ Voting)) where
     law : GrantedLaw (then.deeds g.site) (then.life g.site) g
     law = wl.granted g known
 
@@ -129,26 +152,35 @@ module _ (fits : ℕ → List Record → Type 0) (decl : Declaration) (script : 
     rising = subst (HasRisingEpochs 1) law.split (wl.rising g.site)
 
     no_install : HaveNoInstall law.post
-    no_install = between g.before (Grants g.tx g.items g.view) law.post g.epoch rising tt (wl.facts g known).current (sym (ap (epoch_from 1) law.split) ∙ epoch)
+    no_install =
+        between g.before (Grants g.tx g.items g.view) law.post g.epoch rising tt (wl.facts g known).current
+        (sym (ap (epoch_from 1) law.split) ∙ epoch)
 
     never : NeverEnds g.tx law.post
     never = (
-      (λ stamp among. no_outcome (then.status g.tx) running (Some stamp) (wl.deeds g.site (LearnsCommit g.tx stamp) (in_deeds (LearnsCommit g.tx stamp) among))),
-      (λ among. no_outcome (then.status g.tx) running None (wl.deeds g.site (LearnsAbort g.tx) (in_deeds (LearnsAbort g.tx) among))),
+      (λ stamp among. no_outcome (then.status g.tx) running (Some stamp)
+          (wl.deeds g.site (LearnsCommit g.tx stamp) (in_deeds (LearnsCommit g.tx stamp) among))),
+      (λ among. no_outcome (then.status g.tx) running None
+          (wl.deeds g.site (LearnsAbort g.tx) (in_deeds (LearnsAbort g.tx) among))),
     )
       where
         in_deeds : (d : Deed) → In d law.post → In d (then.deeds g.site)
-        in_deeds d among = subst (In d) (sym law.split) (In-second d g.before (Grants g.tx g.items g.view ∷ law.post) (inr among))
+        in_deeds d among =
+            subst (In d) (sym law.split) (In-second d g.before (Grants g.tx g.items g.view ∷ law.post) (inr among))
 
     pub still_held : (x : Item) → In x g.items → In x (items_of g.tx (site_after (then.deeds g.site)).held)
     still_held x among =
         subst (λ (ds : List Deed). In x (items_of g.tx (site_after ds).held)) (sym law.split)
-        (subst (λ (s : Site). In x (items_of g.tx s.held)) (sym (after_append g.before (Grants g.tx g.items g.view ∷ law.post) empty_site))
+        (subst (λ (s : Site). In x (items_of g.tx s.held))
+        (sym (after_append g.before (Grants g.tx g.items g.view ∷ law.post) empty_site))
         (holds_on law.post (after_deed (site_after g.before) (Grants g.tx g.items g.view)) g.tx x
-        (subst (In x) (sym (items_of-append g.tx (each_held g.tx g.items) (site_after g.before).held)) (In-first x (items_of g.tx (each_held g.tx g.items)) (items_of g.tx (site_after g.before).held) (subst (In x) (sym (items_of-each_held g.tx g.items)) among)))
+        (subst (In x) (sym (items_of-append g.tx (each_held g.tx g.items) (site_after g.before).held))
+        (In-first x (items_of g.tx (each_held g.tx g.items)) (items_of g.tx (site_after g.before).held)
+        (subst (In x) (sym (items_of-each_held g.tx g.items)) among)))
         (law.calm life) no_install never))
 
-  module _ (a : ℕ) (client : is_client decl a ≡ true) (t : Current) (begun : (account decl a h).current ≡ Some t) (site : ℕ) (has : has_granted t.lives site ≡ true) where
+  module _ (a : ℕ) (client : is_client decl a ≡ true) (t : Current) (begun : (account decl a h).current ≡ Some t)
+      (site : ℕ) (has : has_granted t.lives site ≡ true) where
     told : IsToldLife (deeds a [] h) t.tx site (life_of t.lives site)
     told = (has_life_grounds decl (a - decl.sites) (deeds a [] h)).told t site begun has
 
@@ -158,8 +190,10 @@ module _ (fits : ℕ → List Record → Type 0) (decl : Declaration) (script : 
       life = told.q.life;
       is = (
         sent_as a told.q.number told.q.site (messages.Request t.tx told.sent.epoch told.q.life told.q.want),
-        at_number fits decl script h open_inputs accepted sound run kept (sent_as a told.q.number told.q.site (messages.Request t.tx told.sent.epoch told.q.life told.q.want))
-            (sent_mail a [] h told.q.number told.q.site (messages.Request t.tx told.sent.epoch told.q.life told.q.want) told.sent.is),
+        at_number fits decl script h open_inputs accepted sound run kept
+            (sent_as a told.q.number told.q.site (messages.Request t.tx told.sent.epoch told.q.life told.q.want))
+            (sent_mail a [] h told.q.number told.q.site (messages.Request t.tx told.sent.epoch told.q.life told.q.want)
+            told.sent.is),
         refl,
         refl,
       );
@@ -179,13 +213,20 @@ module _ (fits : ℕ → List Record → Type 0) (decl : Declaration) (script : 
       pub among : In item grant.items
 
     pub granted : IsGrantedIn
-    granted = at (backed fits decl script h open_inputs accepted sound run kept told.taken.envelope (messages.Answer told.q.number (answers.Granted (life_of t.lives site) told.clock told.log)) (taken_mail a [] h told.taken.envelope told.taken.taken) told.taken.is)
+    granted =
+        at (backed fits decl script h open_inputs accepted sound run kept told.taken.envelope
+        (messages.Answer told.q.number (answers.Granted (life_of t.lives site) told.clock told.log))
+        (taken_mail a [] h told.taken.envelope told.taken.taken) told.taken.is)
       where
-        at : IsGrantTo decl then (net fits decl script h open_inputs accepted sound run kept).mail told.taken.envelope.from told.q.number (life_of t.lives site) told.clock told.log → IsGrantedIn
+        at : IsGrantTo decl then (net fits decl script h open_inputs accepted sound run kept).mail
+            told.taken.envelope.from told.q.number (life_of t.lives site) told.clock told.log → IsGrantedIn
         at b =
             let one = one_request fits decl script h open_inputs accepted sound run kept told.q.number told.taken.envelope.from told.q.site b.tx t.tx b.want told.q.want
-            (subst (λ (ms : List Envelope). IsRequest ms told.q.number told.taken.envelope.from b.tx b.want) (reached fits decl script h open_inputs accepted sound run kept).mail_is (record { epoch = b.epoch; life = b.named; is = b.request })) asked in
-            let item : HasItem b.want = some_item b.want b.grant.asks (subst (λ (w : Want). IsFull w) (sym one.2) told.full) in
+            (subst (λ (ms : List Envelope). IsRequest ms told.q.number told.taken.envelope.from b.tx b.want)
+            (reached fits decl script h open_inputs accepted sound run kept).mail_is
+            (record { epoch = b.epoch; life = b.named; is = b.request })) asked in
+            let item : HasItem b.want =
+            some_item b.want b.grant.asks (subst (λ (w : Want). IsFull w) (sym one.2) told.full) in
             let from : told.taken.envelope.from ≡ site = one.0 ∙ told.at in
             record {
               grant = b.grant.grant;
@@ -202,43 +243,56 @@ module _ (fits : ℕ → List Record → Type 0) (decl : Declaration) (script : 
 
     -- its epoch is the transaction's
     pub granted_epoch : granted.grant.epoch ≡ t.epoch
-    granted_epoch = granted.epoch ∙ ap then.epoch granted.its ∙ sym (epoch_named fits decl script h open_inputs accepted sound run kept a client t begun)
+    granted_epoch =
+        granted.epoch ∙ ap then.epoch granted.its
+        ∙ sym (epoch_named fits decl script h open_inputs accepted sound run kept a client t begun)
 
     -- the site is up in that life and that epoch, without an open input
     module _ (free : slice_get open_inputs site ≡ Some false) (up : is_up (deeds site [] h) ≡ true) (life : life_of t.lives site ≡ life_shown (deeds site [] h)) (epoch : t.epoch ≡ epoch_shown (deeds site [] h)) where
       sh : IsShown (deeds site [] h) ((net fits decl script h open_inputs accepted sound run kept).sites site)
       sh = shown fits decl script h open_inputs accepted sound run kept site granted.place free up
 
-      mir : SiteMirrors decl ((net fits decl script h open_inputs accepted sound run kept).sites site) (then.deeds site) (then.life site)
+      mir : SiteMirrors decl ((net fits decl script h open_inputs accepted sound run kept).sites site) (then.deeds site)
+          (then.life site)
       mir = mirrors fits decl script h open_inputs accepted sound run kept site granted.place free up
 
       same_life : then.life granted.grant.site ≡ granted.grant.life
       same_life = ap then.life granted.by ∙ sym mir.life ∙ sh.life ∙ sym life ∙ sym granted.life
 
       same_epoch : epoch_from 1 (then.deeds granted.grant.site) ≡ granted.grant.epoch
-      same_epoch = ap (λ (n : ℕ). epoch_from 1 (then.deeds n)) granted.by ∙ mir.epoch ∙ sh.epoch ∙ sym epoch ∙ sym granted_epoch
+      same_epoch =
+          ap (λ (n : ℕ). epoch_from 1 (then.deeds n)) granted.by ∙ mir.epoch ∙ sh.epoch ∙ sym epoch ∙ sym granted_epoch
 
       running : (then.status granted.grant.tx ≡ Active) ⊎ (then.status granted.grant.tx ≡ Voting)
-      running = subst (λ (tx : TxId). (then.status tx ≡ Active) ⊎ (then.status tx ≡ Voting)) (sym granted.its) (live fits decl script h open_inputs accepted sound run kept a client t begun).active
+      running =
+          subst (λ (tx : TxId). (then.status tx ≡ Active) ⊎ (then.status tx ≡ Voting)) (sym granted.its)
+          (live fits decl script h open_inputs accepted sound run kept a client t begun).active
 
       in_machine : In granted.item (items_of t.tx (site_after (then.deeds site)).held)
       in_machine =
           subst (λ (n : ℕ). In granted.item (items_of t.tx (site_after (then.deeds n)).held)) granted.by
-          (subst (λ (tx : TxId). In granted.item (items_of tx (site_after (then.deeds granted.grant.site)).held)) granted.its (still_held granted.grant granted.known same_life same_epoch running granted.item granted.among))
+          (subst (λ (tx : TxId). In granted.item (items_of tx (site_after (then.deeds granted.grant.site)).held))
+          granted.its
+          (still_held granted.grant granted.known same_life same_epoch running granted.item granted.among))
 
       pub granted_sites_hold_through_falls : is_held (held_shown (deeds site [] h)) t.tx ≡ true
       granted_sites_hold_through_falls = subst (λ (held : List Held). is_held held t.tx ≡ true) sh.held
-          (is_held_with ((net fits decl script h open_inputs accepted sound run kept).sites site).held t.tx granted.item (mir.held t.tx granted.item in_machine))
+          (is_held_with ((net fits decl script h open_inputs accepted sound run kept).sites site).held t.tx granted.item
+          (mir.held t.tx granted.item in_machine))
 
   -- a site whose promise a client waits for, in the life that the request names and in the transaction's epoch
-  module _ (a : ℕ) (client : is_client decl a ≡ true) (t : Current) (begun : (account decl a h).current ≡ Some t) (q : ClientRequest) (k : IsOpenVote (account decl a h) q) where
+  module _ (a : ℕ) (client : is_client decl a ≡ true) (t : Current) (begun : (account decl a h).current ≡ Some t)
+      (q : ClientRequest) (k : IsOpenVote (account decl a h) q) where
     participant : HasParticipant (account decl a h).current q
     participant = (has_life_grounds decl (a - decl.sites) (deeds a [] h)).votes q k.among k.want
 
     same : participant.0 ≡ t
     same = let both : Some participant.0 ≡ Some t = sym participant.1 ∙ begun in cc
 
-    pub asked_sites_hold_through_falls : slice_get open_inputs q.site ≡ Some false → is_up (deeds q.site [] h) ≡ true → q.life ≡ life_shown (deeds q.site [] h) → t.epoch ≡ epoch_shown (deeds q.site [] h) → is_held (held_shown (deeds q.site [] h)) t.tx ≡ true
+    pub asked_sites_hold_through_falls : slice_get open_inputs q.site ≡ Some false → is_up (deeds q.site [] h) ≡ true
+        → q.life ≡ life_shown (deeds q.site [] h) → t.epoch ≡ epoch_shown (deeds q.site [] h)
+        → is_held (held_shown (deeds q.site [] h)) t.tx ≡ true
     asked_sites_hold_through_falls free up life epoch =
-        granted_sites_hold_through_falls a client t begun q.site (subst (λ (u : Current). has_granted u.lives q.site ≡ true) same participant.2) free up
+        granted_sites_hold_through_falls a client t begun q.site
+        (subst (λ (u : Current). has_granted u.lives q.site ≡ true) same participant.2) free up
         (sym (ap (λ (u : Current). life_of u.lives q.site) same) ∙ sym participant.3 ∙ life) epoch

@@ -95,7 +95,8 @@ module _ (decl : Declaration) (script : Script) (fits : ℕ → List Record → 
   goes_on h k a new same none old before g after is =
       elim (split (deeds a [] h) new before (Takes g) after (sym same ∙ is)) [
         | First m s ↦ later h k a before g (old before g m s)
-        | Second m e s ↦ absurd (none g (subst (In (Takes g)) (sym s) (In-second (Takes g) m (Takes g ∷ after) (inl refl))))
+        | Second m e s ↦
+            absurd (none g (subst (In (Takes g)) (sym s) (In-second (Takes g) m (Takes g ∷ after) (inl refl))))
       ]
 
   silent : (c a : ℕ) (h : List Entry) (step : Step) → IsSilent step → Takings h a → Takings (h ++ marked c step ∷ []) a

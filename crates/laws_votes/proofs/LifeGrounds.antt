@@ -1,14 +1,15 @@
 -- What stands behind the lives of a begun transaction, through falls: the life of each site that granted it something
 -- was told by a grant, which its client took for a request that it had sent.
-use Rattle.std.proofs.Common.{◌≡◌, ◌+◌, ℕ, ◌==◌, ◌&&◌, Bool, true, false, cond, List, ◌∷◌, ◌++◌, inl, inr, Option}
-use Rattle.std.proofs.Common.{Some, None, refl, sym, ap, ◌∙◌, subst, arith, append_assoc}
+use Rattle.std.proofs.Common.{◌≡◌, ◌+◌, ℕ, ◌==◌, ◌&&◌, Bool, true, false, cond, List, ◌∷◌, ◌++◌, inl, inr, Option, Some}
+use Rattle.std.proofs.Common.{None, refl, sym, ap, ◌∙◌, subst, arith, append_assoc, ◌<◌, eqb-true, filter, length}
+use Rattle.std.proofs.Common.{slice_get}
 use Rattle.std.specs.Prelude.{fold}
 use Rattle.std.specs.Option.{option_map_or}
 use Rattle.std.proofs.lemmas.List.{append-nil}
 use Rattle.qc_stamp.specs.Names.{same_tx}
 use Rattle.qc_stamp.specs.declared.stamp.TxId.{TxId}
 use Rattle.qc_list.specs.Names.{In}
-use Rattle.qc_list.proofs.Members.{In-more}
+use Rattle.qc_list.proofs.Members.{In-more, In-passes, every-at, every-from_In}
 use Rattle.qc_decl.specs.declared.declaration.Declaration.{Declaration}
 use Rattle.qc_msg.specs.declared.message.Answer.{Answer}
 use Rattle.qc_msg.specs.declared.message.Message.{Message}
@@ -19,13 +20,10 @@ use Rattle.qc_msg.specs.declared.record.Record.TheVariants as records
 use Rattle.qc_msg.specs.declared.step.Command.{Command}
 use Rattle.qc_msg.specs.declared.step.Command.TheVariants as commands
 use Rattle.qc_msg.specs.Names.{Deed, Falls, Rises, Sends, Takes, Tells, Writes, has_granted, life_of}
-use Rattle.qc_promise.specs.Names.{Account, ClientRequest, Current, account_at, account_sent}
-use Rattle.qc_promise.specs.Names.{account_written, answer_of, carries, command_asks}
-use Rattle.qc_promise.specs.Names.{is_asked_for, is_of, is_prepare, is_this, new_account}
-use Rattle.qc_promise.specs.Names.{next_own, own_appended, participants, requests_for, same_line, same_own}
+use Rattle.qc_promise.specs.Names.{Account, ClientRequest, Current, account_at, account_sent, account_written}
+use Rattle.qc_promise.specs.Names.{answer_of, carries, command_asks, is_asked_for, is_of, is_prepare, is_this}
+use Rattle.qc_promise.specs.Names.{new_account, next_own, own_appended, participants, requests_for, same_line, same_own}
 use Rattle.qc_promise.specs.Names.{weighs}
-use Rattle.std.proofs.Common.{◌<◌, eqb-true, filter, length, slice_get}
-use Rattle.qc_list.proofs.Members.{In-passes, every-at, every-from_In}
 use Rattle.qc_decl.specs.Names.{first_site}
 use Rattle.qc_plan.specs.Names.{cyclic}
 use Rattle.qc_entry.specs.declared.line.OwnLine.{OwnLine}
@@ -36,9 +34,9 @@ use Rattle.laws_guarantees.proofs.Accounts.{HasGrounds, and_first, and_second}
 use Rattle.laws_guarantees.proofs.RequestGrounds.{has_grounds}
 use Rattle.laws_guarantees.proofs.SiteMoves.{IsFull}
 use Rattle.std.specs.Cmp.Lexicographic.{pointwise}
-use Rattle.laws_votes.proofs.LivesAdded.{HasParticipant, HasLifeGrounds, same_now}
+use Rattle.laws_votes.proofs.LivesAdded.{HasParticipant, HasLifeGrounds, same_now, same_told, same_grounds}
+use Rattle.laws_votes.proofs.LivesAdded.{bare_grounds}
 use Rattle.laws_votes.proofs.LivesTold.{told_alike}
-use Rattle.laws_votes.proofs.LivesAdded.{same_told, same_grounds, bare_grounds}
 use Rattle.laws_votes.proofs.TakenGrounds.{take_grounds}
 
 -- a record changes no transaction
@@ -77,8 +75,8 @@ module _ (decl : Declaration) where
   command_full d t site (Read o i) (Some (commands.Do object inv)) is = tt
   command_full d t site (Append o view own) (Some (commands.Do object inv)) is =
       carried_full d t object view own (answer_of decl t object inv)
-          (and_second (o == object) (carries decl t object view own (answer_of decl t object inv))
-            (and_first ((o == object) && carries decl t object view own (answer_of decl t object inv)) _ is))
+      (and_second (o == object) (carries decl t object view own (answer_of decl t object inv))
+      (and_first ((o == object) && carries decl t object view own (answer_of decl t object inv)) _ is))
   command_full d t site Prepare (Some (commands.Do object inv)) is = absurd (let never : ⊥ = cc in never)
   command_full d t site (Read o i) (Some commands.Commit) is = absurd (let never : ⊥ = cc in never)
   command_full d t site (Append o view own) (Some commands.Commit) is = absurd (let never : ⊥ = cc in never)
@@ -92,7 +90,7 @@ module _ (decl : Declaration) where
     where
       by : (o : Option Current)
           → option_map_or (λ (t : Current). is_of t site tx epoch life && command_asks decl d t site want d.command) o
-            false ≡ true → IsFull want
+          false ≡ true → IsFull want
       by None e = absurd (let never : ⊥ = cc in never)
       by (Some t) e =
           command_full d t site want d.command
@@ -115,7 +113,7 @@ module _ (decl : Declaration) where
   commit_participant d t site (Some commands.Commit) is =
       In-passes (has_granted t.lives) site (cyclic decl.sites (first_site decl d.client))
       (at_in (participants decl d t) (length (requests_for is_prepare d)) site
-          (this_one site (slice_get (participants decl d t) (length (requests_for is_prepare d))) is))
+      (this_one site (slice_get (participants decl d t) (length (requests_for is_prepare d))) is))
   commit_participant d t site (Some commands.Abort) is = absurd (let never : ⊥ = cc in never)
   commit_participant d t site (Some (commands.Epoch number)) is = absurd (let never : ⊥ = cc in never)
 
@@ -126,18 +124,18 @@ module _ (decl : Declaration) where
     where
       by : (o : Option Current) → d.current ≡ o
           → option_map_or (λ (t : Current). is_of t to tx epoch life && command_asks decl d t to want d.command) o false
-            ≡ true → HasParticipant o (record { number = n; site = to; life = life; want = want; taken = None })
+          ≡ true → HasParticipant o (record { number = n; site = to; life = life; want = want; taken = None })
       by None at e = absurd (let never : ⊥ = cc in never)
       by (Some t) at e = (
         t,
         refl,
         commit_participant d t to d.command
             (subst (λ (w : Want). command_asks decl d t to w d.command ≡ true) prepare
-              (and_second (is_of t to tx epoch life) (command_asks decl d t to want d.command) e)),
+            (and_second (is_of t to tx epoch life) (command_asks decl d t to want d.command) e)),
         eqb-true life (life_of t.lives to)
             (and_second (epoch == t.epoch) (life == life_of t.lives to)
-              (and_second (same_tx t.tx tx) ((epoch == t.epoch) && (life == life_of t.lives to))
-                (and_first (is_of t to tx epoch life) (command_asks decl d t to want d.command) e))),
+            (and_second (same_tx t.tx tx) ((epoch == t.epoch) && (life == life_of t.lives to))
+            (and_first (is_of t to tx epoch life) (command_asks decl d t to want d.command) e))),
       )
 
   send_grounds : (ds : List Deed) (d : Account) (n to : ℕ) (m : Message) → HasLifeGrounds ds d
@@ -146,30 +144,29 @@ module _ (decl : Declaration) where
     where
       by : (b : Bool) → is_asked_for decl d to tx epoch life want ≡ b
           → HasLifeGrounds (ds ++ Sends n to (messages.Request tx epoch life want) ∷ [])
-            (cond b
-              (record d
-                {
-                    requests =
-                        d.requests ++ record { number = n; site = to; life = life; want = want; taken = None } ∷ []
-                  }) d)
+          (cond b
+          (record d {
+            requests =
+                d.requests ++ record { number = n; site = to; life = life; want = want; taken = None } ∷ [];
+          }) d)
       by false is = same_grounds ds (Sends n to (messages.Request tx epoch life want)) d d refl refl k
       by true is = record {
         votes =
             λ q among prepare. elim (In-more q
             (record { number = n; site = to; life = life; want = want; taken = None }) d.requests among) [
-          | inl old ↦ k.votes q old prepare
-          | inr new ↦
-              subst (HasParticipant d.current) (sym new)
-              (asked_participant d n to tx epoch life want (sym (ap (λ (y : ClientRequest). y.want) new) ∙ prepare) is)
-        ];
+              | inl old ↦ k.votes q old prepare
+              | inr new ↦
+                  subst (HasParticipant d.current) (sym new)
+                  (asked_participant d n to tx epoch life want (sym (ap (λ (y : ClientRequest). y.want) new) ∙ prepare) is)
+            ];
         full =
             λ q among. elim (In-more q (record { number = n; site = to; life = life; want = want; taken = None })
             d.requests among) [
-          | inl old ↦ k.full q old
-          | inr new ↦
-              subst (λ (w : Want). IsFull w) (sym (ap (λ (y : ClientRequest). y.want) new))
-              (asked_full d to tx epoch life want is)
-        ];
+              | inl old ↦ k.full q old
+              | inr new ↦
+                  subst (λ (w : Want). IsFull w) (sym (ap (λ (y : ClientRequest). y.want) new))
+                  (asked_full d to tx epoch life want is)
+            ];
         told =
             same_told ds (Sends n to (messages.Request tx epoch life want)) d d (same_now d.current d.current refl) k;
       }
@@ -194,13 +191,13 @@ module _ (decl : Declaration) where
       record {
         votes = λ q never. absurd never;
         full = λ q never. absurd never;
-        told = λ t site is has. absurd (let never : ⊥ = cc in never)
+        told = λ t site is has. absurd (let never : ⊥ = cc in never);
       }
   one_more ds d (Rises kept) grounds k =
       record {
         votes = λ q never. absurd never;
         full = λ q never. absurd never;
-        told = λ t site is has. absurd (let never : ⊥ = cc in never)
+        told = λ t site is has. absurd (let never : ⊥ = cc in never);
       }
 
   all_more : (client : ℕ) (ds more : List Deed) → HasLifeGrounds ds (fold (account_at decl) (new_account client) ds)
@@ -210,7 +207,7 @@ module _ (decl : Declaration) where
       k
   all_more client ds (x ∷ more) k =
       subst (λ (v : List Deed). HasLifeGrounds v (fold (account_at decl) (new_account client) v))
-          (append_assoc ds (x ∷ []) more)
+      (append_assoc ds (x ∷ []) more)
       (all_more client (ds ++ x ∷ []) more
       (subst (HasLifeGrounds (ds ++ x ∷ [])) (sym (fold-append (account_at decl) (new_account client) ds (x ∷ [])))
       (one_more ds (fold (account_at decl) (new_account client) ds) x (has_grounds decl client ds) k)))
@@ -221,7 +218,7 @@ module _ (decl : Declaration) where
   has_life_grounds client ds =
       all_more client [] ds
       (record {
-          votes = λ q never. absurd never;
-          full = λ q never. absurd never;
-          told = λ t site is has. absurd (let never : ⊥ = cc in never)
-        })
+        votes = λ q never. absurd never;
+        full = λ q never. absurd never;
+        told = λ t site is has. absurd (let never : ⊥ = cc in never);
+      })

@@ -1,6 +1,6 @@
 -- The life that a grant told, and how lives are added to a begun transaction.
-use Rattle.std.proofs.Common.{◌≡◌, ◌⊎◌, ℕ, ◌==◌, Bool, true, false, cond, List, ◌∷◌, ◌++◌, inl, inr, Option, Some}
-use Rattle.std.proofs.Common.{None, option_map, refl, sym, ap, ◌∙◌, subst, ◌||◌, eqb-true}
+use Rattle.std.proofs.Common.{◌≡◌, ◌⊎◌, ℕ, ◌==◌, Bool, true, false, cond, List, ◌∷◌, ◌++◌, inl, inr, Option, Some, None}
+use Rattle.std.proofs.Common.{option_map, refl, sym, ap, ◌∙◌, subst, ◌||◌, eqb-true}
 use Rattle.std.specs.List.{find}
 use Rattle.std.specs.Option.{option_map_or}
 use Rattle.qc_stamp.specs.declared.stamp.TxId.{TxId}
@@ -80,10 +80,10 @@ same_told ds x d e alike k t site at has = by (alike t at)
         subst (λ (ls : List LifeAt). IsToldLife (ds ++ x ∷ []) t.tx site (life_of ls site)) (sym lives)
         (subst (λ (tx : TxId). IsToldLife (ds ++ x ∷ []) tx site (life_of old.lives site)) (sym its)
         (told_more ds x old.tx site (life_of old.lives site)
-            (k.told old site was (subst (λ (ls : List LifeAt). has_granted ls site ≡ true) lives has))))
+        (k.told old site was (subst (λ (ls : List LifeAt). has_granted ls site ≡ true) lives has))))
     by (inr none) =
         absurd (let no : false ≡ true = subst (λ (ls : List LifeAt). has_granted ls site ≡ true) none has in
-                let never : ⊥ = cc in never)
+        let never : ⊥ = cc in never)
 
 -- with the requests that it had, or with none
 
@@ -114,17 +114,17 @@ added site life = record { site = site; life = life } ∷ []
 
 pub first_added : (site life s : ℕ) (b : Bool) → (site == s) ≡ b → (b || false) ≡ true
     → (site ≡ s)
-      × (option_map_or (λ (x : LifeAt). x.life) (cond b (Some (record { site = site; life = life })) None) 0 ≡ life)
+    × (option_map_or (λ (x : LifeAt). x.life) (cond b (Some (record { site = site; life = life })) None) 0 ≡ life)
 first_added site life s true at is = (eqb-true site s at, refl)
 first_added site life s false at is = absurd (let never : ⊥ = cc in never)
 
 pub next_added : (x : LifeAt) (xs : List LifeAt) (site life s : ℕ) (b : Bool) → (b || has_granted xs s) ≡ false
     → (b || has_granted (xs ++ added site life) s) ≡ true
     → (has_granted xs s ≡ false → has_granted (xs ++ added site life) s ≡ true
-        → (site ≡ s) × (life_of (xs ++ added site life) s ≡ life))
+    → (site ≡ s) × (life_of (xs ++ added site life) s ≡ life))
     → (site ≡ s)
-        × (option_map_or (λ (y : LifeAt). y.life)
-          (cond b (Some x) (find (λ (y : LifeAt). y.site == s) (xs ++ added site life))) 0 ≡ life)
+    × (option_map_or (λ (y : LifeAt). y.life)
+    (cond b (Some x) (find (λ (y : LifeAt). y.site == s) (xs ++ added site life))) 0 ≡ life)
 next_added x xs site life s true none has rest = absurd (let never : ⊥ = cc in never)
 next_added x xs site life s false none has rest = rest none has
 

@@ -1,6 +1,5 @@
 -- The lives of a begun transaction: which an answer adds, and what grants told them.
-use Rattle.std.proofs.Common.{◌≡◌, ◌⊎◌, ℕ, List, inl, inr, Option, Some}
-use Rattle.std.proofs.Common.{None, option_map, refl, sym, ap, ◌∙◌, subst}
+use Rattle.std.proofs.Common.{◌≡◌, ◌⊎◌, ℕ, List, inl, inr, Option, Some, None, option_map, refl, sym, ap, ◌∙◌, subst}
 use Rattle.qc_msg.specs.declared.message.Answer.{Answer}
 use Rattle.qc_msg.specs.declared.message.Want.{Want}
 use Rattle.qc_msg.specs.Names.{with_life}
@@ -25,7 +24,7 @@ abbrev pub IsChangedBy : Option Current → ℕ → Option Answer → Current �
 IsChangedBy o site answer t =
     WasBegunWith o t
     ⊎ ((life : ℕ) × (clock : ℕ) × (log : List Line) × (answer ≡ Some (answers.Granted life clock log))
-      × HasOneMore o site life t)
+    × HasOneMore o site life t)
 
 pub same_changed : (o : Option Current) (site : ℕ) (answer : Option Answer) (t : Current) → o ≡ Some t
     → IsChangedBy o site answer t
@@ -38,13 +37,18 @@ pub one_changed : (o : Option Current) (site life clock : ℕ) (log : List Line)
 one_changed None site life clock log change keeps t is = absurd (let never : ⊥ = cc in never)
 one_changed (Some x) site life clock log change keeps t is =
     let same : t ≡ change x = cc in
-    inr (life, clock, log, refl,
-        record {
-            old = x;
-            was = refl;
-            its = ap (λ (y : Current). y.tx) same ∙ (keeps x).0;
-            lives = ap (λ (y : Current). y.lives) same ∙ (keeps x).1
-          })
+    inr (
+      life,
+      clock,
+      log,
+      refl,
+      record {
+        old = x;
+        was = refl;
+        its = ap (λ (y : Current). y.tx) same ∙ (keeps x).0;
+        lives = ap (λ (y : Current). y.lives) same ∙ (keeps x).1;
+      },
+    )
 
 pub promised_same : (d : Account) (clock : ℕ) (w : Want) → (promised d clock w).current ≡ d.current
 promised_same d clock (Read object inv) = refl

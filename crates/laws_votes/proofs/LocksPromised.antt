@@ -1,6 +1,6 @@
 -- Of what a site has promised it holds the locks, as it grants, promises, closes its epoch, and answers.
-use Rattle.std.proofs.Common.{fold, ◌≡◌, not, nat_le, if◌then◌else◌, ℕ, Bool, true, false, cond, List}
-use Rattle.std.proofs.Common.{◌∷◌, inl, inr, Option, Some, None, refl, sym, ap, ◌∙◌, subst, arith}
+use Rattle.std.proofs.Common.{fold, ◌≡◌, not, nat_le, if◌then◌else◌, ℕ, Bool, true, false, cond, List, ◌∷◌, inl, inr}
+use Rattle.std.proofs.Common.{Option, Some, None, refl, sym, ap, ◌∙◌, subst, arith}
 use Rattle.qc_core.specs.Names.{rises}
 use Rattle.qc_decl.specs.Names.{most_record_bytes}
 use Rattle.qc_decl.specs.declared.declaration.Declaration.{Declaration}
@@ -22,10 +22,8 @@ use Rattle.qc_msg.specs.declared.message.Want.TheVariants.{Append, Prepare, Read
 use Rattle.qc_msg.specs.declared.record.Record.{Record}
 use Rattle.qc_msg.specs.declared.turn.Turn.{Turn}
 use Rattle.laws_refinement.proofs.Held.{given_case, lock_more, lock_new}
-use Rattle.qc_site.specs.Names.{SiteState, answers, appends_by, dropped}
-use Rattle.qc_site.specs.Names.{fault_of, grants, holds, is_prepared, moved}
-use Rattle.qc_site.specs.Names.{promise_of, promised, reads_by}
-use Rattle.qc_site.specs.Names.{relation_at, requested, votes, without_prepared}
+use Rattle.qc_site.specs.Names.{SiteState, answers, appends_by, dropped, fault_of, grants, holds, is_prepared, moved}
+use Rattle.qc_site.specs.Names.{promise_of, promised, reads_by, relation_at, requested, votes, without_prepared}
 use Rattle.qc_stamp.proofs.Orders.{other_tx_sym}
 use Rattle.qc_stamp.specs.Names.{same_tx}
 use Rattle.qc_stamp.specs.declared.stamp.TxId.{TxId}
@@ -48,7 +46,7 @@ holds_more : (s : SiteState) (tx : TxId) (locks : List ReadLock) (own : List Own
 holds_more s tx locks own old p among l there =
     given_case (λ (ls : List ReadLock) (os : List OwnLine). In l ls) s.held tx p.tx locks own
     (λ same. locks_more (held_of s.held tx).locks locks l
-        (subst (λ (u : TxId). In l (held_of s.held u).locks) (sym same) (old p among l there))) (old p among l there)
+    (subst (λ (u : TxId). In l (held_of s.held u).locks) (sym same) (old p among l there))) (old p among l there)
 
 other_left : (tx : TxId) (ps : List Prepared) (p : Prepared) → In p (without_prepared ps tx) → same_tx p.tx tx ≡ false
 other_left tx [] p among = absurd among
@@ -63,7 +61,7 @@ other_left tx (q ∷ ps) p among = by (same_tx q.tx tx) refl (other_left tx ps p
 pub holds_dropped : (s : SiteState) (tx : TxId) → HoldsLocks s → HoldsLocks (dropped s tx)
 holds_dropped s tx old p among l there =
     subst (λ (h : Held). In l h.locks)
-        (sym (held-without_other s.held tx p.tx (other_tx_sym p.tx tx (other_left tx s.prepared p among))))
+    (sym (held-without_other s.held tx p.tx (other_tx_sym p.tx tx (other_left tx s.prepared p among))))
     (old p (In-unfiltered (λ (q : Prepared). not (same_tx q.tx tx)) p s.prepared among) l there)
 
 holds_promised : (s : SiteState) (tx : TxId) → HoldsLocks s → HoldsLocks (promised s (promise_of s tx))
@@ -79,7 +77,7 @@ lock_stays : (held : List Held) (q : Prepared) (t : TxId) (l : ReadLock) → In 
 lock_stays held q t l was =
     given_case (λ (ls : List ReadLock) (os : List OwnLine). In l ls) held q.tx t q.locks q.own
     (λ same. locks_more (held_of held q.tx).locks q.locks l
-        (subst (λ (u : TxId). In l (held_of held u).locks) (sym same) was)) was
+    (subst (λ (u : TxId). In l (held_of held u).locks) (sym same) was)) was
 
 locks_stay : (ps : List Prepared) (held : List Held) (t : TxId) (l : ReadLock) → In l (held_of held t).locks
     → In l (held_of (fold holds held ps) t).locks
@@ -92,8 +90,8 @@ has_locks [] held p among l there = absurd among
 has_locks (q ∷ ps) held p (inl same) l there =
     subst (λ (x : Prepared). In l x.locks → In l (held_of (fold holds (holds held q) ps) x.tx).locks) (sym same)
     (λ mine. locks_stay ps (holds held q) q.tx l
-        (subst (In l) (sym (locks_given held q.tx q.locks q.own)) (locks_all (held_of held q.tx).locks q.locks l mine)))
-        there
+    (subst (In l) (sym (locks_given held q.tx q.locks q.own)) (locks_all (held_of held q.tx).locks q.locks l mine)))
+    there
 has_locks (q ∷ ps) held p (inr among) l there = has_locks ps (holds held q) p among l there
 
 -- a site that does nothing but answer
@@ -102,7 +100,7 @@ stays s turn none old =
     record {
       locks = old;
       rises = omega arith;
-      writes = subst (λ (w : Option Record). WritePasses w s.clock) (sym none) tt
+      writes = subst (λ (w : Option Record). WritePasses w s.clock) (sym none) tt;
     }
 
 module _ (decl : Declaration) (s : SiteState) (old : HoldsLocks s) (from number : ℕ) where
@@ -111,7 +109,7 @@ module _ (decl : Declaration) (s : SiteState) (old : HoldsLocks s) (from number 
       record {
         locks = holds_more s tx (record { object = object; inv = inv } ∷ []) [] old;
         rises = omega arith;
-        writes = tt
+        writes = tt;
       }
   read tx object inv (Some c) = stays s _ refl old
 
@@ -122,10 +120,10 @@ module _ (decl : Declaration) (s : SiteState) (old : HoldsLocks s) (from number 
 
   prepare_by : (tx : TxId) (x y z : Bool)
       → MoveKeeps s
-        (if not x then moved s (answers from number Stale) else
-          (if y then moved s (answers from number (Yes s.clock)) else
-            (if z then moved (promised s (promise_of s tx)) (votes s from number (promise_of s tx)) else moved s
-              (answers from number Stale))))
+      (if not x then moved s (answers from number Stale) else
+      (if y then moved s (answers from number (Yes s.clock)) else
+      (if z then moved (promised s (promise_of s tx)) (votes s from number (promise_of s tx)) else moved s
+      (answers from number Stale))))
   prepare_by tx false y z = stays s (answers from number Stale) refl old
   prepare_by tx true true z = stays s (answers from number (Yes s.clock)) refl old
   prepare_by tx true false true = record { locks = holds_promised s tx old; rises = omega arith; writes = tt }

@@ -1,5 +1,5 @@
 -- Of a run with falls whose records are kept: its net, the machine's run that this is, and what stands behind its mail.
-use Rattle.std.proofs.Common.{◌≡◌, ◌↔◌, ℕ, Bool, List, Some, slice_get, sym, ap, ◌∙◌, subst, inl}
+use Rattle.std.proofs.Common.{◌≡◌, ◌↔◌, ℕ, Bool, List, Some, slice_get, sym, ap, ◌∙◌, subst, inl, inr}
 use Rattle.qc_core.specs.Names.{IsLawfulWithFalls}
 use Rattle.qc_decl.specs.Names.{IsAccepted}
 use Rattle.qc_decl.specs.declared.declaration.Declaration.{Declaration}
@@ -27,7 +27,6 @@ use Rattle.laws_reach.proofs.Reaching.{net_of}
 use Rattle.laws_reach.proofs.RunLaws.{apart}
 use Rattle.laws_reach.proofs.Written.{Agree, written_are}
 use Rattle.qc_msg.specs.declared.record.Record.TheVariants as journals
-use Rattle.std.proofs.Common.{inr}
 
 module _ (fits : ℕ → List Record → Type 0) (decl : Declaration) (script : Script) (h : List Entry)
     (open_inputs : List Bool) (accepted : IsAccepted decl) (sound : IsScriptFor decl script)

@@ -1,8 +1,7 @@
 -- A site by its conduct, through falls and rises: of what it has promised it holds the locks, and its clock has passed
 -- what its records say is done.
-use Rattle.std.proofs.Common.{◌≡◌, ◌≤◌, ℕ, Bool, true, List}
-use Rattle.std.proofs.Common.{◌∷◌, ◌++◌, inl, inr, Option, Some, None, option_to_list, refl, sym, ap, ◌∙◌, subst, arith}
-use Rattle.std.proofs.Common.{append_assoc}
+use Rattle.std.proofs.Common.{◌≡◌, ◌≤◌, ℕ, Bool, true, List, ◌∷◌, ◌++◌, inl, inr, Option, Some, None, option_to_list}
+use Rattle.std.proofs.Common.{refl, sym, ap, ◌∙◌, subst, arith, append_assoc}
 use Rattle.std.proofs.lemmas.List.Sums.{fold-append}
 use Rattle.laws_due.proofs.Standing.{actor_more}
 use Rattle.qc_core.proofs.ByNumber.{site_new, site_risen}
@@ -32,10 +31,8 @@ use Rattle.qc_msg.specs.declared.turn.Appended.TheVariants as ends
 use Rattle.qc_msg.specs.declared.turn.Turn.{Turn}
 use Rattle.qc_site.proofs.RequestCases.{close_cases}
 use Rattle.qc_site.proofs.Cases.{install_cases}
-use Rattle.qc_site.specs.Names.{SiteMove, SiteState, answers, clock_after, clock_told}
-use Rattle.qc_site.specs.Names.{finishes, installs, joins}
-use Rattle.qc_site.specs.Names.{names_declared, new_site, passed, prepared_of}
-use Rattle.qc_site.specs.Names.{site_on, site_takes}
+use Rattle.qc_site.specs.Names.{SiteMove, SiteState, answers, clock_after, clock_told, finishes, installs, joins}
+use Rattle.qc_site.specs.Names.{names_declared, new_site, passed, prepared_of, site_on, site_takes}
 use Rattle.qc_promise.specs.Names.{Journal, no_journal}
 use Rattle.theory_onecopy.proofs.Lists.{in_split}
 use Rattle.laws_reach.proofs.Growing.{actor_posted, all_sent, journal_posted}
@@ -71,24 +68,24 @@ module _ (decl : Declaration) where
   heard s from number (messages.Close epoch) old =
       close_cases (MoveKeeps s) s from number epoch (λ answer. stays s (answers from number answer) refl old)
       (λ near later. record {
-            locks = λ p among l there. has_locks s.prepared [] p among l there;
-            rises = omega arith;
-            writes = tt
-          })
+        locks = λ p among l there. has_locks s.prepared [] p among l there;
+        rises = omega arith;
+        writes = tt;
+      })
   heard s from number (messages.Install epoch began lines) old =
       install_keeps (passed s (messages.Install epoch began lines)) old
     where
       install_keeps : (at : SiteState) → HoldsLocks at → MoveKeeps at (installs at from number epoch began lines)
       install_keeps at had =
           install_cases (MoveKeeps at) at from number epoch began lines
-              (λ answer. stays at (answers from number answer) refl had)
+          (λ answer. stays at (answers from number answer) refl had)
           (λ later fits. record { locks = λ p among l there. absurd among; rises = omega arith; writes = tt })
 
   taken : (s : SiteState) (g : Input) → HoldsLocks s → MoveKeeps s (site_takes decl s g)
   taken s (inputs.Called command) old = stays s quiet refl old
   taken s (inputs.Got e) old =
       let m : MoveKeeps (passed s e.message) (site_on decl s e.from e.number e.message) =
-              heard s e.from e.number e.message old in
+      heard s e.from e.number e.message old in
       let up : s.clock ≤ clock_after s.clock e.message = clock_up e.message s.clock in
       let more : clock_after s.clock e.message ≤ (site_on decl s e.from e.number e.message).site.clock = m.rises in
       record { locks = m.locks; rises = omega arith; writes = m.writes }
@@ -108,7 +105,7 @@ move_keeps rs before move old m = record {
   dones = λ tx done among. elim (in_split (records.Done tx done) rs (option_to_list move.turn.write) among) [
     | inl earlier ↦
         (let low : done ≤ before.clock = old.dones tx done earlier in
-         let up : before.clock ≤ move.site.clock = m.rises in omega arith)
+        let up : before.clock ≤ move.site.clock = m.rises in omega arith)
     | inr now ↦ write_passed move.turn.write move.site.clock m.writes tx done now
   ];
 }
@@ -162,7 +159,7 @@ module _ (decl : Declaration) (site : ℕ) (is : is_site decl site ≡ true) whe
           (actor_more decl site before (Takes g ∷ []) ∙ ap (λ (v : Actor). actor_takes decl v g) old.at)
           (fold-append journal_at no_journal before (Takes g ∷ [])) lawful
           (move_keeps (journal_after before).records old.s (site_takes decl old.s g) old.keeps
-              (taken decl old.s g old.keeps.locks)))
+          (taken decl old.s g old.keeps.locks)))
       by ends.Failed done old = absurd (let never : ⊥ = cc in never)
       by ends.Stopped done old = absurd (let never : ⊥ = cc in never)
   stands ds up (crashes before served) on = absurd (let never : ⊥ = cc in never)

@@ -1,6 +1,6 @@
 -- A commit record is in a client's journal or pending: a post makes known what was known, or its turn's record.
-use Rattle.std.proofs.Common.{◌≡◌, ◌⊎◌, ◌+◌, ◌==◌, ℕ, Bool, true, false, List, ◌∷◌, ◌++◌, inl, inr, Option}
-use Rattle.std.proofs.Common.{Some, None, option_to_list, refl, sym, ap, subst}
+use Rattle.std.proofs.Common.{◌≡◌, ◌⊎◌, ◌+◌, ◌==◌, ℕ, Bool, true, false, List, ◌∷◌, ◌++◌, inl, inr, Option, Some, None}
+use Rattle.std.proofs.Common.{option_to_list, refl, sym, ap, subst}
 use Rattle.qc_core.specs.Names.{IsLawfulWithFalls}
 use Rattle.qc_decl.specs.Names.{IsAccepted}
 use Rattle.qc_decl.specs.declared.declaration.Declaration.{Declaration}
@@ -8,8 +8,7 @@ use Rattle.qc_entry.specs.declared.record.Commit.{Commit as CommitRecord}
 use Rattle.laws_votes.specs.Names.{AreWriting}
 use Rattle.laws_votes.proofs.SiteLives.{journal_next}
 use Rattle.qc_list.specs.Names.{In}
-use Rattle.qc_msg.specs.Names.{Entry, by, own, posted_as, sents}
-use Rattle.qc_msg.specs.Names.{step_of, told}
+use Rattle.qc_msg.specs.Names.{Entry, by, own, posted_as, sents, step_of, told}
 use Rattle.qc_msg.specs.Steps as post
 use Rattle.qc_msg.specs.declared.record.Record.{Record}
 use Rattle.qc_msg.specs.declared.record.Record.TheVariants.{Commit}
@@ -100,15 +99,24 @@ entry_same c a h e silent known = by (e.actor == a) refl
 pub first_post : (a n : ℕ) (turn : Turn) (c : CommitRecord) (end : Appended) → turn.write ≡ Some (Commit c)
     → turn.failed_sends ≡ [] → turn.failed_told ≡ Some Unknown
     → (xs : List Step) × (rest : List Entry) × AreWriting xs c × (by a (posted_as end n turn) ≡ by a xs ++ rest)
-first_post a n turn c ends.Done wrote none says =
-    (steps.Wrote (Commit c) ∷ [], by a (sents n turn.sends ++ told turn.told), inl refl,
-        λ i. by a (post.wrote (wrote i) ++ (sents n turn.sends ++ told turn.told)))
-first_post a n turn c ends.Failed wrote none says =
-    (steps.Told Unknown ∷ steps.Fell causes.Disk (Some (Commit c)) ∷ [], [], inr (causes.Disk, refl),
-        λ i. by a (sents n (none i) ++ (told (says i) ++ steps.Fell causes.Disk (wrote i) ∷ [])))
-first_post a n turn c ends.Stopped wrote none says =
-    (steps.Told Unknown ∷ steps.Fell causes.Stop (Some (Commit c)) ∷ [], [], inr (causes.Stop, refl),
-        λ i. by a (told (says i) ++ steps.Fell causes.Stop (wrote i) ∷ []))
+first_post a n turn c ends.Done wrote none says = (
+  steps.Wrote (Commit c) ∷ [],
+  by a (sents n turn.sends ++ told turn.told),
+  inl refl,
+  λ i. by a (post.wrote (wrote i) ++ (sents n turn.sends ++ told turn.told)),
+)
+first_post a n turn c ends.Failed wrote none says = (
+  steps.Told Unknown ∷ steps.Fell causes.Disk (Some (Commit c)) ∷ [],
+  [],
+  inr (causes.Disk, refl),
+  λ i. by a (sents n (none i) ++ (told (says i) ++ steps.Fell causes.Disk (wrote i) ∷ [])),
+)
+first_post a n turn c ends.Stopped wrote none says = (
+  steps.Told Unknown ∷ steps.Fell causes.Stop (Some (Commit c)) ∷ [],
+  [],
+  inr (causes.Stop, refl),
+  λ i. by a (told (says i) ++ steps.Fell causes.Stop (wrote i) ∷ []),
+)
 
 module _ (fits : ℕ → List Record → Type 0) (decl : Declaration) (script : Script) (accepted : IsAccepted decl)
     (sound : IsScriptFor decl script) where

@@ -1,7 +1,7 @@
 -- Each commit record in a client's journal, or pending there, was written, or was being written, in a post of that client,
 -- where it was due.
-use Rattle.std.proofs.Common.{◌≡◌, ◌⊎◌, ◌+◌, ◌==◌, ℕ, Bool, true, false, List, ◌∷◌, ◌++◌, inl, inr, length}
-use Rattle.std.proofs.Common.{Some, None, slice_get, refl, sym, ap, ◌∙◌, subst, append_assoc, eqb-true}
+use Rattle.std.proofs.Common.{◌≡◌, ◌⊎◌, ◌+◌, ◌==◌, ℕ, Bool, true, false, List, ◌∷◌, ◌++◌, inl, inr, length, Some, None}
+use Rattle.std.proofs.Common.{slice_get, refl, sym, ap, ◌∙◌, subst, append_assoc, eqb-true}
 use Rattle.laws_due.proofs.Standing.{actor_more, turn_is}
 use Rattle.qc_client.specs.Names.{client_takes}
 use Rattle.qc_core.specs.Names.{ActorMove, IsLawfulWithFalls, actor_after, actor_takes, journal_after, journal_at}
@@ -17,8 +17,7 @@ use Rattle.laws_votes.proofs.Clients.{IsCommitting, client_at, committing}
 use Rattle.qc_list.specs.Names.{In}
 use Rattle.qc_msg.proofs.DeedsGrow.{deeds-append, deeds-other, deeds-rose}
 use Rattle.qc_msg.proofs.Growth.{deeds-posted_as}
-use Rattle.qc_msg.specs.Names.{Deed, Entry, Rises, Takes, by, deeds, deeds_as, mail, marked, own, posted_as}
-use Rattle.qc_msg.specs.Names.{step_of}
+use Rattle.qc_msg.specs.Names.{Deed, Entry, Rises, Takes, by, deeds, deeds_as, mail, marked, own, posted_as, step_of}
 use Rattle.qc_msg.specs.declared.record.Record.{Record}
 use Rattle.qc_msg.specs.declared.record.Record.TheVariants.{Commit, Life}
 use Rattle.qc_msg.specs.declared.step.Fall.TheVariants as causes
@@ -29,8 +28,8 @@ use Rattle.qc_msg.specs.declared.turn.Turn.{Turn}
 use Rattle.qc_promise.specs.Names.{IsGivenBack, Journal, Kept, journal_of, journal_with, no_journal}
 use Rattle.laws_reach.proofs.Growing.{ended_journal, journal_posted}
 use Rattle.laws_reach.proofs.RunsStand.{kept_of_first}
-use Rattle.qc_script.specs.Names.{IsScriptFor, RunsWithFalls, begins, control, damaged, falls, phase}
-use Rattle.qc_script.specs.Names.{phase_of, posts, rises, takes, unopened}
+use Rattle.qc_script.specs.Names.{IsScriptFor, RunsWithFalls, begins, control, damaged, falls, phase, phase_of, posts}
+use Rattle.qc_script.specs.Names.{rises, takes, unopened}
 use Rattle.qc_script.specs.declared.script.Script.{Script}
 use Rattle.std.proofs.lemmas.List.Sums.{fold-append}
 use Rattle.laws_votes.proofs.Recorded.{IsKnown, posted_known, back_known, given_known, taken_same, controlled_same}
@@ -84,7 +83,7 @@ module _ (fits : ℕ → List Record → Type 0) (decl : Declaration) (script : 
       → IsKnown c (journal_of (own a (h ++ by b xs))) → IsKnown c (journal_of (own a h))
   elsewhere h xs b a c other known =
       subst (IsKnown c)
-          (sym (journal a (h ++ by b xs)) ∙ ap journal_after (deeds-other b a [] h xs other) ∙ journal a h) known
+      (sym (journal a (h ++ by b xs)) ∙ ap journal_after (deeds-other b a [] h xs other) ∙ journal a h) known
 
   module _ (h : List Entry) (inputs : List Bool) (run : IsRun h inputs) (kept : Kept h) (old : AreRecorded h) where
     posted : (b : ℕ) (turn : Turn) → slice_get inputs b ≡ Some true → IsLawfulWithFalls decl b (deeds b [] h) turn
@@ -99,12 +98,12 @@ module _ (fits : ℕ → List Record → Type 0) (decl : Declaration) (script : 
             elim k.turn [
               | inl none ↦
                   absurd (let no : None ≡ Some (Commit c) = sym none ∙ ap (λ (t : Turn). t.write) same ∙ writes in
-                          let never : ⊥ = cc in never)
+                  let never : ⊥ = cc in never)
               | inr t ↦ (
                   let p =
-                          first_post b (length (mail h)) turn c turn.append writes
-                            (ap (λ (x : Turn). x.failed_sends) (sym same) ∙ t.failed_sends)
-                            (ap (λ (x : Turn). x.failed_told) (sym same) ∙ t.failed_told) in
+                  first_post b (length (mail h)) turn c turn.append writes
+                  (ap (λ (x : Turn). x.failed_sends) (sym same) ∙ t.failed_sends)
+                  (ap (λ (x : Turn). x.failed_told) (sym same) ∙ t.failed_told) in
                   record {
                     before = h;
                     open_inputs = inputs;
@@ -124,16 +123,16 @@ module _ (fits : ℕ → List Record → Type 0) (decl : Declaration) (script : 
             committing_turn k mine =
                 ap (λ (v : _). (actor_takes decl v k.input).turn) (sym k.tied.actor)
                 ∙ ap (λ (m : ActorMove). m.turn)
-                    (sym (ap (actor_after decl b) k.is ∙ actor_more decl b k.before (Takes k.input ∷ [])))
-                    ∙ turn_is decl b mine (deeds b [] h) turn law
+                (sym (ap (actor_after decl b) k.is ∙ actor_more decl b k.before (Takes k.input ∷ [])))
+                ∙ turn_is decl b mine (deeds b [] h) turn law
 
         here : b ≡ a → IsKnown c (journal_of (own b h)) ⊎ (turn.write ≡ Some (Commit c))
         here same =
             elim (posted_known c turn.append turn.write (journal_after (deeds b [] h))
             (subst (IsKnown c)
-                (sym (journal b (h ++ by b (posted_as turn.append (length (mail h)) turn)))
-                  ∙ ap journal_after (deeds-posted_as turn.append b (length (mail h)) h turn)
-                  ∙ journal_posted (deeds b [] h) turn.append (length (mail h)) turn)
+            (sym (journal b (h ++ by b (posted_as turn.append (length (mail h)) turn)))
+            ∙ ap journal_after (deeds-posted_as turn.append b (length (mail h)) h turn)
+            ∙ journal_posted (deeds b [] h) turn.append (length (mail h)) turn)
             (subst (λ (n : ℕ). IsKnown c (journal_of (own n (h ++ by b (posted_as turn.append (length (mail h)) turn))))) (sym same) known))) [
               | inl before ↦ inl (subst (IsKnown c) (journal b h) before)
               | inr now ↦ inr now
@@ -171,27 +170,27 @@ module _ (fits : ℕ → List Record → Type 0) (decl : Declaration) (script : 
             ≡ (deeds b [] h ++ Rises given ∷ []) ++ deeds_as turn.append (length (mail h)) turn
         deeds_now =
             ap (deeds b [])
-                (sym (append_assoc h (marked b (steps.Rose given) ∷ [])
-                  (by b (posted_as turn.append (length (mail h)) turn))))
+            (sym (append_assoc h (marked b (steps.Rose given) ∷ [])
+            (by b (posted_as turn.append (length (mail h)) turn))))
             ∙ deeds-posted_as turn.append b (length (mail h)) (h ++ marked b (steps.Rose given) ∷ []) turn
-                ∙ ap (λ (v : List Deed). v ++ deeds_as turn.append (length (mail h)) turn) rose
+            ∙ ap (λ (v : List Deed). v ++ deeds_as turn.append (length (mail h)) turn) rose
 
         journal_now : journal_of (own b (h ++ by b (steps.Rose given ∷ posted_as turn.append (length (mail h)) turn)))
             ≡ ended_journal turn.append turn.write (record { records = given; pending = None })
         journal_now =
             sym (journal b (h ++ by b (steps.Rose given ∷ posted_as turn.append (length (mail h)) turn)))
-                ∙ ap journal_after deeds_now
-                ∙ journal_posted (deeds b [] h ++ Rises given ∷ []) turn.append (length (mail h)) turn
+            ∙ ap journal_after deeds_now
+            ∙ journal_posted (deeds b [] h ++ Rises given ∷ []) turn.append (length (mail h)) turn
             ∙ ap (ended_journal turn.append turn.write)
-                (fold-append journal_at no_journal (deeds b [] h) (Rises given ∷ []))
+            (fold-append journal_at no_journal (deeds b [] h) (Rises given ∷ []))
 
         -- a client writes that it rose
         writes_life : is_client decl b ≡ true → turn.write ≡ Some Life
         writes_life mine =
             ap (λ (t : Turn). t.write)
             (sym (turn_is decl b mine (deeds b [] (h ++ marked b (steps.Rose given) ∷ [])) turn law)
-                ∙ ap (λ (v : List Deed). (actor_after decl b v).turn) rose
-                ∙ ap (λ (m : ActorMove). m.turn) (actor_laws.rises decl b (deeds b [] h) given)
+            ∙ ap (λ (v : List Deed). (actor_after decl b v).turn) rose
+            ∙ ap (λ (m : ActorMove). m.turn) (actor_laws.rises decl b (deeds b [] h) given)
             ∙ ap (λ (m : ActorMove). m.turn) (client_risen decl b mine given))
 
         given_here : is_client decl b ≡ true
@@ -199,11 +198,11 @@ module _ (fits : ℕ → List Record → Type 0) (decl : Declaration) (script : 
             → In (Commit c) given
         given_here mine here =
             elim (posted_known c turn.append turn.write (record { records = given; pending = None }) here) [
-          | inl old ↦ given_known c given old
-          | inr new ↦
-              absurd
-              (let no : Some Life ≡ Some (Commit c) = sym (writes_life mine) ∙ new in let never : ⊥ = cc in never)
-        ]
+              | inl old ↦ given_known c given old
+              | inr new ↦
+                  absurd
+                  (let no : Some Life ≡ Some (Commit c) = sym (writes_life mine) ∙ new in let never : ⊥ = cc in never)
+            ]
 
         at : (t : Bool) → (b == a) ≡ t → IsKnown c (journal_of (own a h))
         at false other = elsewhere h (steps.Rose given ∷ posted_as turn.append (length (mail h)) turn) b a c other known
@@ -213,9 +212,9 @@ module _ (fits : ℕ → List Record → Type 0) (decl : Declaration) (script : 
             (back_known c (journal_of (own b h)) given back
             (given_here (subst (λ (n : ℕ). is_client decl n ≡ true) (sym is) client)
             (subst (IsKnown c) journal_now
-                (subst (λ (n : ℕ). IsKnown c
-                  (journal_of (own n (h ++ by b (steps.Rose given ∷ posted_as turn.append (length (mail h)) turn)))))
-                  (sym is) known))))
+            (subst (λ (n : ℕ). IsKnown c
+            (journal_of (own n (h ++ by b (steps.Rose given ∷ posted_as turn.append (length (mail h)) turn)))))
+            (sym is) known))))
 
   pub all_recorded : (h : List Entry) (inputs : List Bool) → IsRun h inputs → Kept h → AreRecorded h
   all_recorded h inputs begins kept =
@@ -238,7 +237,7 @@ module _ (fits : ℕ → List Record → Type 0) (decl : Declaration) (script : 
       (all_recorded older before run (kept_of_first older _ kept))
   all_recorded h inputs (rises b given turn lines before older run left fit has law) kept =
       risen older before run (kept_of_first older _ kept) (all_recorded older before run (kept_of_first older _ kept)) b
-          given turn law (kept older _ (marked b (steps.Rose given)) refl)
+      given turn law (kept older _ (marked b (steps.Rose given)) refl)
   all_recorded h inputs (damaged b offset lines before older run left) kept =
       absurd (kept older [] (marked b (steps.Damaged offset)) refl)
   all_recorded h inputs (unopened b cause lines before older run left disk) kept =

@@ -38,8 +38,7 @@ use Rattle.laws_reach.proofs.RunsStand.{kept_of_first}
 use Rattle.qc_script.specs.Names.{IsScriptFor, RunsWithFalls, begins, control, damaged, falls, phase, phase_of, posts}
 use Rattle.qc_script.specs.Names.{rises, takes, unopened}
 use Rattle.qc_script.specs.declared.script.Script.{Script}
-use Rattle.laws_votes.proofs.Untold.{reply_of, tells, silent_none, silent_one}
-use Rattle.laws_votes.proofs.Untold.{silent_taken, silent_line}
+use Rattle.laws_votes.proofs.Untold.{reply_of, tells, silent_none, silent_one, silent_taken, silent_line}
 use Rattle.laws_votes.proofs.RepliesLast.{IsToldIn, told_in}
 
 -- a turn that tells nothing
@@ -127,7 +126,7 @@ module _ (fits : ℕ → List Record → Type 0) (decl : Declaration) (script : 
         record {
           open_inputs = slice_set slots b false;
           run = posts b turn slots older run taken law;
-          none = slice_get-set_same slots b false true taken
+          none = slice_get-set_same slots b false true taken;
         }
 
     -- the client falls behind it
@@ -139,7 +138,7 @@ module _ (fits : ℕ → List Record → Type 0) (decl : Declaration) (script : 
         let unknown : reply ≡ Unknown = (let both : Some reply ≡ Some Unknown = sym told_is ∙ t.failed_told in cc) in
         let steps_are : by b (posted_as turn.append n turn) ≡ by b (unknown_fall cause t.commit) =
         is ∙ ap (λ (k : List Entry). k ++ tells b reply ∷ marked b (steps.Fell cause turn.write) ∷ []) none
-            ∙ (λ i. tells b (unknown i) ∷ marked b (steps.Fell cause (t.write i)) ∷ []) in
+        ∙ (λ i. tells b (unknown i) ∷ marked b (steps.Fell cause (t.write i)) ∷ []) in
         let same : older ≡ older ++ m = sym (append-nil older) ∙ ap (λ (k : List Entry). older ++ k) (sym none) in
         subst (λ (k : List Entry). Ends (older ++ by b (posted_as turn.append n turn)) b k reply) same
         (inr (record {
@@ -167,15 +166,15 @@ module _ (fits : ℕ → List Record → Type 0) (decl : Declaration) (script : 
             → Ends (older ++ by b (posted_as turn.append n turn)) b (older ++ m) reply
         at end same (at_end own last) =
             inl (subst (IsRunWithout fits decl script b)
-                (ap (λ (k : List Entry). older ++ k) (is ∙ ap (λ (k : List Entry). m ++ tells b reply ∷ k) last)
-                  ∙ sym (append_assoc older m (tells b reply ∷ []))) whole)
+            (ap (λ (k : List Entry). older ++ k) (is ∙ ap (λ (k : List Entry). m ++ tells b reply ∷ k) last)
+            ∙ sym (append_assoc older m (tells b reply ∷ []))) whole)
         at end same (as_failed own first last) =
             let t : IsCommitTurn turn = commit_turn ends.Failed same (λ has. has) (turn_of client) in
             fallen causes.Disk m reply t own.told (first ∙ ap (λ (ps : List Posting). by b (sents n ps)) t.failed_sends)
-                (is ∙ ap (λ (k : List Entry). m ++ tells b reply ∷ k) last)
+            (is ∙ ap (λ (k : List Entry). m ++ tells b reply ∷ k) last)
         at end same (as_stopped own first last) =
             fallen causes.Stop m reply (commit_turn ends.Stopped same (λ has. has) (turn_of client)) own.told first
-                (is ∙ ap (λ (k : List Entry). m ++ tells b reply ∷ k) last)
+            (is ∙ ap (λ (k : List Entry). m ++ tells b reply ∷ k) last)
 
   -- a rising turn tells nothing
   risen_silent : (older : List Entry) (b : ℕ) (rs : List Record) (turn : Turn)
@@ -186,10 +185,10 @@ module _ (fits : ℕ → List Record → Type 0) (decl : Declaration) (script : 
       same : (rises_by decl b rs (is_site decl b) (is_client decl b)).turn ≡ with_record turn
       same =
           ap (λ (m : ActorMove). m.turn)
-              (sym (ap (actor_after decl b)
-                (deeds-append b [] older (post.by b (steps.Rose rs ∷ []))
-                  ∙ ap (λ (v : List Deed). deeds b [] older ++ v) (deeds-rose b (mail older) rs))
-                ∙ actor_laws.rises decl b (deeds b [] older) rs))
+          (sym (ap (actor_after decl b)
+          (deeds-append b [] older (post.by b (steps.Rose rs ∷ []))
+          ∙ ap (λ (v : List Deed). deeds b [] older ++ v) (deeds-rose b (mail older) rs))
+          ∙ actor_laws.rises decl b (deeds b [] older) rs))
           ∙ due decl b (deeds b [] (older ++ marked b (steps.Rose rs) ∷ [])) turn law
 
       by : (s c : Bool) → (rises_by decl b rs s c).turn ≡ with_record turn
@@ -227,11 +226,11 @@ module _ (fits : ℕ → List Record → Type 0) (decl : Declaration) (script : 
           → Ends (older ++ by b (posted_as turn.append (length (mail older)) turn)) a before reply
       at m e s same =
           subst (λ (k : List Entry). Ends (older ++ by b (posted_as turn.append (length (mail older)) turn)) a k reply)
-              (sym e)
+          (sym e)
           (subst (λ (c : ℕ). Ends (older ++ by b (posted_as turn.append (length (mail older)) turn)) c (older ++ m)
-              reply) same
+          reply) same
           (posted older slots run (kept_of_first older _ kept) b turn taken law m reply after
-              (subst (λ (c : ℕ). is_client decl c ≡ true) (sym same) client)
+          (subst (λ (c : ℕ). is_client decl c ≡ true) (sym same) client)
           (s ∙ ap (λ (c : ℕ). m ++ tells c reply ∷ after) (sym same))))
   replies_end_their_turns_through_falls h inputs (phase slots older run idle done quiet more) kept before a reply after client is = elim (split older (marked _ (steps.Phase (phase_of older + 1)) ∷ []) before (tells a reply) after is) [
     | First m s ↦

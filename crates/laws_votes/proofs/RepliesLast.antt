@@ -1,10 +1,8 @@
 -- Where a reply stands in a post: nothing comes behind it, or the fall.
-use Rattle.std.proofs.Common.{◌≡◌, ◌+◌, ℕ, List, ◌∷◌, ◌++◌, Option, Some, None}
-use Rattle.std.proofs.Common.{refl, sym, ap, ◌∙◌, append_assoc}
+use Rattle.std.proofs.Common.{◌≡◌, ◌+◌, ℕ, List, ◌∷◌, ◌++◌, Option, Some, None, refl, sym, ap, ◌∙◌, append_assoc}
 use Rattle.std.proofs.lemmas.List.{append-nil}
 use Rattle.qc_msg.proofs.GrownMail.{by-append}
-use Rattle.qc_msg.specs.Names.{Entry, by, marked, posted_as, sents}
-use Rattle.qc_msg.specs.Names.{told}
+use Rattle.qc_msg.specs.Names.{Entry, by, marked, posted_as, sents, told}
 use Rattle.qc_msg.specs.Steps as post
 use Rattle.qc_msg.specs.declared.reply.Reply.{Reply}
 use Rattle.qc_msg.specs.declared.step.Fall.TheVariants as causes
@@ -28,9 +26,11 @@ told_last : (b : ℕ) (o : Option Reply) (rest : List Step) → AreSilent (by b 
 told_last b None rest silent m a reply after is = absurd (silent_none (by b rest) silent m a reply after is)
 told_last b (Some r) rest silent [] a reply after is =
     let same : tells b r ≡ tells a reply = cc in
-    let step : steps.Told r ≡ steps.Told reply = ap (λ (x : Entry). x.step) same in
-    (record { actor = ap (λ (x : Entry). x.actor) same; told = cc }, refl,
-        (let back : by b rest ≡ after = cc in sym back))
+    let step : steps.Told r ≡ steps.Told reply = ap (λ (x : Entry). x.step) same in (
+      record { actor = ap (λ (x : Entry). x.actor) same; told = cc },
+      refl,
+      (let back : by b rest ≡ after = cc in sym back),
+    )
 told_last b (Some r) rest silent (x ∷ m) a reply after is = absurd (silent_none (by b rest) silent m a reply after (cc))
 
 behind_silent : (b : ℕ) (first : List Step) (o : Option Reply) (rest : List Step) → AreSilent (by b first)
@@ -40,11 +40,11 @@ behind_silent : (b : ℕ) (first : List Step) (o : Option Reply) (rest : List St
 behind_silent b first o rest before_it behind_it m a reply after is =
     elim (split (by b first) (by b (told o ++ rest)) m (tells a reply) after
     (sym (by-append b first (told o ++ rest)) ∙ is)) [
-  | First k s ↦ absurd (silent_none (by b first) before_it m a reply k s)
-  | Second k e s ↦
-      (let t = told_last b o rest behind_it k a reply after s in
-       (t.0, e ∙ ap (λ (x : List Entry). by b first ++ x) t.1 ∙ append-nil (by b first), t.2))
-]
+      | First k s ↦ absurd (silent_none (by b first) before_it m a reply k s)
+      | Second k e s ↦
+          (let t = told_last b o rest behind_it k a reply after s in
+          (t.0, e ∙ ap (λ (x : List Entry). by b first ++ x) t.1 ∙ append-nil (by b first), t.2))
+    ]
 
 -- by the end of a post's record
 pub data IsToldIn (b n : ℕ) (turn : Turn) (a : ℕ) (reply : Reply) (m after : List Entry) : Appended → Type 0 where
@@ -59,20 +59,20 @@ pub told_in : (end : Appended) (b n : ℕ) (turn : Turn) (m : List Entry) (a : �
 told_in ends.Done b n turn m a reply after is =
     let parts : (post.wrote turn.write ++ sents n turn.sends) ++ (told turn.told ++ []) ≡ posted_as ends.Done n turn =
     ap (λ (xs : List Step). (post.wrote turn.write ++ sents n turn.sends) ++ xs) (append-nil (told turn.told))
-        ∙ append_assoc (post.wrote turn.write) (sents n turn.sends) (told turn.told) in
+    ∙ append_assoc (post.wrote turn.write) (sents n turn.sends) (told turn.told) in
     let t =
-            behind_silent b (post.wrote turn.write ++ sents n turn.sends) turn.told []
-              (silent_written b n turn.write turn.sends) (λ e never. absurd never) m a reply after
-              (ap (by b) parts ∙ is) in
+    behind_silent b (post.wrote turn.write ++ sents n turn.sends) turn.told []
+    (silent_written b n turn.write turn.sends) (λ e never. absurd never) m a reply after
+    (ap (by b) parts ∙ is) in
     at_end t.0 t.2
 told_in ends.Failed b n turn m a reply after is =
     let t =
-            behind_silent b (sents n turn.failed_sends) turn.failed_told (steps.Fell causes.Disk turn.write ∷ [])
-              (silent_sents b n turn.failed_sends) (silent_one (marked b (steps.Fell causes.Disk turn.write)) refl) m a
-              reply after is in
+    behind_silent b (sents n turn.failed_sends) turn.failed_told (steps.Fell causes.Disk turn.write ∷ [])
+    (silent_sents b n turn.failed_sends) (silent_one (marked b (steps.Fell causes.Disk turn.write)) refl) m a
+    reply after is in
     as_failed t.0 t.1 t.2
 told_in ends.Stopped b n turn m a reply after is =
     let t =
-            behind_silent b [] turn.failed_told (steps.Fell causes.Stop turn.write ∷ []) (λ e never. absurd never)
-              (silent_one (marked b (steps.Fell causes.Stop turn.write)) refl) m a reply after is in
+    behind_silent b [] turn.failed_told (steps.Fell causes.Stop turn.write ∷ []) (λ e never. absurd never)
+    (silent_one (marked b (steps.Fell causes.Stop turn.write)) refl) m a reply after is in
     as_stopped t.0 t.1 t.2

@@ -1,6 +1,6 @@
 -- What is taken and counts keeps what stands behind the lives of a begun transaction.
-use Rattle.std.proofs.Common.{◌≡◌, ◌+◌, ℕ, ◌==◌, Bool, true, false, List, ◌∷◌, ◌++◌, inl, inr, Option}
-use Rattle.std.proofs.Common.{Some, None, refl, sym, ap, ◌∙◌, subst}
+use Rattle.std.proofs.Common.{◌≡◌, ◌+◌, ℕ, ◌==◌, Bool, true, false, List, ◌∷◌, ◌++◌, inl, inr, Option, Some, None, refl}
+use Rattle.std.proofs.Common.{sym, ap, ◌∙◌, subst, eqb-true}
 use Rattle.std.specs.Prelude.{is_none}
 use Rattle.std.specs.List.{find}
 use Rattle.qc_stamp.specs.declared.stamp.TxId.{TxId}
@@ -14,31 +14,26 @@ use Rattle.qc_msg.specs.declared.message.Want.{Want}
 use Rattle.qc_msg.specs.declared.step.Input.{Input}
 use Rattle.qc_msg.specs.declared.step.Input.TheVariants as inputs
 use Rattle.qc_msg.specs.Names.{Deed, Takes, has_granted, life_of}
-use Rattle.qc_promise.specs.Names.{Account, ClientRequest, Current, account_heard}
-use Rattle.qc_promise.specs.Names.{account_taken, counted}
-use Rattle.qc_promise.specs.Names.{counted_for, is_open}
-use Rattle.qc_promise.specs.Names.{taken_for}
-use Rattle.qc_promise.specs.Names.{told_by}
-use Rattle.std.proofs.Common.{eqb-true}
+use Rattle.qc_promise.specs.Names.{Account, ClientRequest, Current, account_heard, account_taken, counted, counted_for}
+use Rattle.qc_promise.specs.Names.{is_open, taken_for, told_by}
 use Rattle.qc_entry.specs.declared.line.Line.{Line}
 use Rattle.qc_msg.specs.declared.message.Answer.TheVariants as answers
 use Rattle.qc_msg.specs.declared.message.Envelope.{Envelope}
 use Rattle.qc_msg.specs.declared.message.Want.TheVariants.{Prepare}
-use Rattle.laws_guarantees.proofs.Accounts.{HasGrounds, WasSent, WasTaken, after_taken, and_first, found_in}
-use Rattle.laws_guarantees.proofs.Accounts.{sent_more, told_requests}
+use Rattle.laws_guarantees.proofs.Accounts.{HasGrounds, WasSent, WasTaken, after_taken, and_first, found_in, sent_more}
+use Rattle.laws_guarantees.proofs.Accounts.{told_requests}
 use Rattle.laws_guarantees.proofs.SiteMoves.{IsFull}
 use Rattle.laws_guarantees.proofs.FirstGrants.{life_added}
-use Rattle.laws_votes.proofs.LivesAdded.{IsToldLife, HasParticipant, HasLifeGrounds, told_more, same_now}
-use Rattle.laws_votes.proofs.LivesAdded.{same_grounds, bare_grounds, not_yet, HasOneMore}
-use Rattle.laws_votes.proofs.LivesTold.{IsChangedBy}
-use Rattle.laws_votes.proofs.LivesTold.{told_changed, told_forward}
+use Rattle.laws_votes.proofs.LivesAdded.{IsToldLife, HasParticipant, HasLifeGrounds, told_more, same_now, same_grounds}
+use Rattle.laws_votes.proofs.LivesAdded.{bare_grounds, not_yet, HasOneMore}
+use Rattle.laws_votes.proofs.LivesTold.{IsChangedBy, told_changed, told_forward}
 
 -- something is taken, and counts
 
 module _ (ds : List Deed) (x : Deed) (d : Account) (n : ℕ) (answer : Option Answer) (grounds : HasGrounds ds d)
     (k : HasLifeGrounds ds d)
     (taken_now : (a : Answer) → answer ≡ Some a
-        → (e : Envelope) × (x ≡ Takes (inputs.Got e)) × (e.message ≡ messages.Answer n a)) where
+    → (e : Envelope) × (x ≡ Takes (inputs.Got e)) × (e.message ≡ messages.Answer n a)) where
   now_full : (q : ClientRequest) → In q (taken_for n answer d.requests) → IsFull q.want
   now_full q among = elim (after_taken n answer q d.requests among) [
     | inl old ↦ k.full q old
@@ -52,7 +47,7 @@ module _ (ds : List Deed) (x : Deed) (d : Account) (n : ℕ) (answer : Option An
     | inl old ↦ moved_on q (k.votes q old want)
     | inr now ↦ (
         let was : HasParticipant d.current now.old =
-                k.votes now.old now.among (sym (ap (λ (y : ClientRequest). y.want) now.is) ∙ want) in
+        k.votes now.old now.among (sym (ap (λ (y : ClientRequest). y.want) now.is) ∙ want) in
         moved_on q (
           was.0,
           was.1,
@@ -71,7 +66,7 @@ module _ (ds : List Deed) (x : Deed) (d : Account) (n : ℕ) (answer : Option An
   now_taken : (a : Answer) → answer ≡ Some a → WasTaken (ds ++ x ∷ []) n a
   now_taken a is =
       (let e = taken_now a is in
-       record { envelope = e.0; taken = subst (λ (y : Deed). In y (ds ++ x ∷ [])) e.1 (In-last x ds); is = e.2 })
+      record { envelope = e.0; taken = subst (λ (y : Deed). In y (ds ++ x ∷ [])) e.1 (In-last x ds); is = e.2 })
 
   now_told : (p : ClientRequest) → In p d.requests → p.number ≡ n → (t : Current) (site : ℕ)
       → (told_by (record d { requests = taken_for n answer d.requests }) p answer).current ≡ Some t
@@ -86,19 +81,19 @@ module _ (ds : List Deed) (x : Deed) (d : Account) (n : ℕ) (answer : Option An
       added_here life clock log is m true before_it =
           subst (λ (tx : TxId). IsToldLife (ds ++ x ∷ []) tx site (life_of t.lives site)) (sym m.its)
           (subst (λ (l : ℕ). IsToldLife (ds ++ x ∷ []) m.old.tx site l)
-              (sym (ap (λ (ls : List LifeAt). life_of ls site) m.lives
-                ∙ (life_added m.old.lives p.site life site before_it).1))
+          (sym (ap (λ (ls : List LifeAt). life_of ls site) m.lives
+          ∙ (life_added m.old.lives p.site life site before_it).1))
           (told_more ds x m.old.tx site (life_of m.old.lives site) (k.told m.old site m.was before_it)))
       added_here life clock log is m false before_it =
           let new =
-                  not_yet m.old.lives p.site life site before_it
-                    (subst (λ (ls : List LifeAt). has_granted ls site ≡ true) m.lives has) in
+          not_yet m.old.lives p.site life site before_it
+          (subst (λ (ls : List LifeAt). has_granted ls site ≡ true) m.lives has) in
           let s : (c : Current) × (d.current ≡ Some c) × WasSent ds p c.tx = grounds.sent p among in
           let same : s.0 ≡ m.old = (let both : Some s.0 ≡ Some m.old = sym s.1 ∙ m.was in cc) in
           let sent : WasSent ds p t.tx =
-                  subst (λ (tx : TxId). WasSent ds p tx) (ap (λ (y : Current). y.tx) same ∙ sym m.its) s.2 in
+          subst (λ (tx : TxId). WasSent ds p tx) (ap (λ (y : Current). y.tx) same ∙ sym m.its) s.2 in
           subst (λ (l : ℕ). IsToldLife (ds ++ x ∷ []) t.tx site l)
-              (sym (ap (λ (ls : List LifeAt). life_of ls site) m.lives ∙ new.1))
+          (sym (ap (λ (ls : List LifeAt). life_of ls site) m.lives ∙ new.1))
           (record {
             q = p;
             sent = sent_more ds x p t.tx sent;
@@ -116,7 +111,7 @@ module _ (ds : List Deed) (x : Deed) (d : Account) (n : ℕ) (answer : Option An
           subst (λ (ls : List LifeAt). IsToldLife (ds ++ x ∷ []) t.tx site (life_of ls site)) (sym lives)
           (subst (λ (tx : TxId). IsToldLife (ds ++ x ∷ []) tx site (life_of old.lives site)) (sym its)
           (told_more ds x old.tx site (life_of old.lives site)
-              (k.told old site was (subst (λ (ls : List LifeAt). has_granted ls site ≡ true) lives has))))
+          (k.told old site was (subst (λ (ls : List LifeAt). has_granted ls site ≡ true) lives has))))
       by (inr (life, clock, log, is, m)) = added_here life clock log is m (has_granted m.old.lives site) refl
 
   counted_grounds : HasLifeGrounds (ds ++ x ∷ []) (counted d n answer)

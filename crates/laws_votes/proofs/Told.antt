@@ -1,5 +1,7 @@
 -- No client is told that its transaction aborted because a site has forgotten it, in a run with falls; and nobody else is.
-use Rattle.std.proofs.Common.{◌*◌, ◌≡◌, ◌≤◌, ◌<◌, ◌+◌, ◌-◌, ◌==◌, ℕ, Bool, true, false, if◌then◌else◌, List, [], ◌∷◌, ◌++◌, inl, inr, Option, Some, None, is_some, length, refl, sym, ap, ◌∙◌, subst, arith, eqb-true, ltb-true}
+use Rattle.std.proofs.Common.{◌*◌, ◌≡◌, ◌≤◌, ◌<◌, ◌+◌, ◌-◌, ◌==◌, ℕ, Bool, true, false, if◌then◌else◌, List, [], ◌∷◌}
+use Rattle.std.proofs.Common.{◌++◌, inl, inr, Option, Some, None, is_some, length, refl, sym, ap, ◌∙◌, subst, arith}
+use Rattle.std.proofs.Common.{eqb-true, ltb-true}
 use Rattle.std.specs.Prelude.{fold, option_and_then, sum_by}
 use Rattle.std.proofs.lemmas.List.{append-nil}
 use Rattle.std.proofs.lemmas.List.Sums.{fold-append}
@@ -53,7 +55,8 @@ use Rattle.qc_script.specs.Names.{rises, takes, unopened}
 use Rattle.qc_script.specs.declared.script.Script.{Script}
 
 -- where an element stands
-pub in_place : {A : Type 0} (x : A) (xs : List A) → In x xs → (before : List A) × ((after : List A) × (xs ≡ before ++ x ∷ after))
+pub in_place : {A : Type 0} (x : A) (xs : List A) → In x xs
+    → (before : List A) × ((after : List A) × (xs ≡ before ++ x ∷ after))
 in_place x [] among = absurd among
 in_place x (y ∷ ys) (inl same) = ([], (ys, λ i. (sym same) i ∷ ys))
 in_place x (y ∷ ys) (inr there) = let p = in_place x ys there in (y ∷ p.0, (p.1.0, λ i. y ∷ p.1.1 i))
@@ -61,18 +64,25 @@ in_place x (y ∷ ys) (inr there) = let p = in_place x ys there in (y ∷ p.0, (
 -- a reply that tells that a transaction aborted is due alike where the record of its post isn't written
 
 module _ (decl : Declaration) where
-  commit_alike : (d : Account) (u : Bool) (t : Current) (why : AbortCause) → commit_row decl d u t ≡ Some (replies.Aborted why) → commit_row decl d false t ≡ Some (replies.Aborted why)
+  commit_alike : (d : Account) (u : Bool) (t : Current) (why : AbortCause)
+      → commit_row decl d u t ≡ Some (replies.Aborted why) → commit_row decl d false t ≡ Some (replies.Aborted why)
   commit_alike d u t why is = by u t.doomed (are_votes_in decl d t) (first_against (requests_for is_prepare d)) is
     where
-      by : (u x y : Bool) (o : Option AbortCause) → (if x then Some (replies.Aborted causes.Doomed) else (if y then vote_row d u o else None)) ≡ Some (replies.Aborted why)
-          → (if x then Some (replies.Aborted causes.Doomed) else (if y then vote_row d false o else None)) ≡ Some (replies.Aborted why)
+      by : (u x y : Bool) (o : Option AbortCause)
+          → (if x then Some (replies.Aborted causes.Doomed) else (if y then vote_row d u o else None))
+          ≡ Some (replies.Aborted why)
+          → (if x then Some (replies.Aborted causes.Doomed) else (if y then vote_row d false o else None))
+          ≡ Some (replies.Aborted why)
       by u true y o e = e
       by u false false o e = e
       by u false true (Some w) e = e
       by false false true None e = e
-      by true false true None e = absurd (let both : replies.Unknown ≡ replies.Aborted why = cc in let never : ⊥ = cc in never)
+      by true false true None e =
+          absurd (let both : replies.Unknown ≡ replies.Aborted why = cc in let never : ⊥ = cc in never)
 
-  row_alike : (d : Account) (u : Bool) (o : Option Current) (command : Command) (why : AbortCause) → row_of decl d u o command ≡ Some (replies.Aborted why) → row_of decl d false o command ≡ Some (replies.Aborted why)
+  row_alike : (d : Account) (u : Bool) (o : Option Current) (command : Command) (why : AbortCause)
+      → row_of decl d u o command ≡ Some (replies.Aborted why)
+      → row_of decl d false o command ≡ Some (replies.Aborted why)
   row_alike d u None command why e = e
   row_alike d u (Some t) commands.Begin why e = e
   row_alike d u (Some t) (commands.Do object inv) why e = e
@@ -80,15 +90,20 @@ module _ (decl : Declaration) where
   row_alike d u (Some t) commands.Abort why e = e
   row_alike d u (Some t) (commands.Epoch number) why e = e
 
-  due_alike : (d : Account) (u : Bool) (why : AbortCause) → due decl d u ≡ Some (replies.Aborted why) → running_row decl d false ≡ Some (replies.Aborted why)
+  due_alike : (d : Account) (u : Bool) (why : AbortCause) → due decl d u ≡ Some (replies.Aborted why)
+      → running_row decl d false ≡ Some (replies.Aborted why)
   due_alike d u why is = by d.command is
     where
-      at : (command : Command) (up declared : Bool) → (if up then (if declared then row_of decl d u d.current command else None) else Some replies.Down) ≡ Some (replies.Aborted why) → row_of decl d false d.current command ≡ Some (replies.Aborted why)
+      at : (command : Command) (up declared : Bool)
+          → (if up then (if declared then row_of decl d u d.current command else None) else Some replies.Down)
+          ≡ Some (replies.Aborted why) → row_of decl d false d.current command ≡ Some (replies.Aborted why)
       at command true true e = row_alike d u d.current command why e
       at command true false e = absurd (let never : ⊥ = cc in never)
-      at command false declared e = absurd (let both : replies.Down ≡ replies.Aborted why = cc in let never : ⊥ = cc in never)
+      at command false declared e =
+          absurd (let both : replies.Down ≡ replies.Aborted why = cc in let never : ⊥ = cc in never)
 
-      by : (c : Option Command) → option_and_then (reply_to decl d u) c ≡ Some (replies.Aborted why) → option_and_then (row_of decl d false d.current) c ≡ Some (replies.Aborted why)
+      by : (c : Option Command) → option_and_then (reply_to decl d u) c ≡ Some (replies.Aborted why)
+          → option_and_then (row_of decl d false d.current) c ≡ Some (replies.Aborted why)
       by None e = absurd (let never : ⊥ = cc in never)
       by (Some command) e = at command d.up (is_declared_for decl d.current command) e
 
@@ -106,7 +121,9 @@ sites_tell : (ds : List Deed) (reply : Reply) → AreByTurns true ds → In (Tel
 sites_tell ds reply are among =
     let p = in_place (Tells reply) ds among in
     let none : place_after true ds ≡ None =
-    ap (place_after true) p.1.1 ∙ fold-append (goes_on true) (Some turns.Idle) p.0 (Tells reply ∷ p.1.0) ∙ ap (λ (o : Option Place). fold (goes_on true) o p.1.0) (told_nowhere (place_after true p.0) reply) ∙ nowhere p.1.0 in
+    ap (place_after true) p.1.1 ∙ fold-append (goes_on true) (Some turns.Idle) p.0 (Tells reply ∷ p.1.0)
+    ∙ ap (λ (o : Option Place). fold (goes_on true) o p.1.0) (told_nowhere (place_after true p.0) reply)
+    ∙ nowhere p.1.0 in
     let no : false ≡ true = sym (ap is_some none) ∙ are in
     let never : ⊥ = cc in
     never
@@ -132,29 +149,37 @@ sends_mute n (p ∷ ps) more mute why (inr among) = sends_mute (n + 1) ps more m
 
 tells_mute : (o : Option Reply) (more : List Deed) → SaysAsAdmin o → IsMute more → IsMute (tells_of o ++ more)
 tells_mute None more his mute why among = mute why among
-tells_mute (Some reply) more his mute why (inl same) = subst IsAdminReply (let is : replies.Aborted why ≡ reply = cc in sym is) his
+tells_mute (Some reply) more his mute why (inl same) =
+    subst IsAdminReply (let is : replies.Aborted why ≡ reply = cc in sym is) his
 tells_mute (Some reply) more his mute why (inr among) = mute why among
 
 none_mute : IsMute []
 none_mute why among = among
 
-turn_mute : (end : Appended) (n : ℕ) (turn : Turn) → SaysAsAdmin turn.told → SaysAsAdmin turn.failed_told → IsMute (deeds_as end n turn)
+turn_mute : (end : Appended) (n : ℕ) (turn : Turn) → SaysAsAdmin turn.told → SaysAsAdmin turn.failed_told
+    → IsMute (deeds_as end n turn)
 turn_mute ends.Done n turn his failed =
     writes_mute turn.write (sends_of n turn.sends ++ tells_of turn.told) (sends_mute n turn.sends (tells_of turn.told)
     (subst IsMute (append-nil (tells_of turn.told)) (tells_mute turn.told [] his none_mute)))
 turn_mute ends.Failed n turn his failed =
     sends_mute n turn.failed_sends (tells_of turn.failed_told ++ Falls falling.Disk turn.write ∷ [])
-    (tells_mute turn.failed_told (Falls falling.Disk turn.write ∷ []) failed (one_mute (Falls falling.Disk turn.write) (λ why same. let never : ⊥ = cc in never)))
+    (tells_mute turn.failed_told (Falls falling.Disk turn.write ∷ []) failed
+    (one_mute (Falls falling.Disk turn.write) (λ why same. let never : ⊥ = cc in never)))
 turn_mute ends.Stopped n turn his failed =
-    tells_mute turn.failed_told (Falls falling.Stop turn.write ∷ []) failed (one_mute (Falls falling.Stop turn.write) (λ why same. let never : ⊥ = cc in never))
+    tells_mute turn.failed_told (Falls falling.Stop turn.write ∷ []) failed
+    (one_mute (Falls falling.Stop turn.write) (λ why same. let never : ⊥ = cc in never))
 
-module _ (decl : Declaration) (script : Script) (fits : ℕ → List Record → Type 0) (a : ℕ) (no_site : is_site decl a ≡ false) (no_client : is_client decl a ≡ false) where
-  event : (c : ℕ) (h : List Entry) (xs : List Step) (new : List Deed) → deeds c [] (h ++ by c xs) ≡ deeds c [] h ++ new → (c ≡ a → IsMute new) → IsMute (deeds a [] h) → IsMute (deeds a [] (h ++ by c xs))
+module _ (decl : Declaration) (script : Script) (fits : ℕ → List Record → Type 0) (a : ℕ)
+    (no_site : is_site decl a ≡ false) (no_client : is_client decl a ≡ false) where
+  event : (c : ℕ) (h : List Entry) (xs : List Step) (new : List Deed) → deeds c [] (h ++ by c xs) ≡ deeds c [] h ++ new
+      → (c ≡ a → IsMute new) → IsMute (deeds a [] h) → IsMute (deeds a [] (h ++ by c xs))
   event c h xs new same mute old = at (c == a) refl
     where
       at : (t : Bool) → (c == a) ≡ t → IsMute (deeds a [] (h ++ by c xs))
       at true is = λ why among.
-          elim (in_split (Tells (replies.Aborted why)) (deeds a [] h) new (subst (In (Tells (replies.Aborted why))) (subst (λ (k : ℕ). deeds k [] (h ++ by c xs) ≡ deeds k [] h ++ new) (eqb-true c a is) same) among)) [
+          elim (in_split (Tells (replies.Aborted why)) (deeds a [] h) new
+          (subst (In (Tells (replies.Aborted why)))
+          (subst (λ (k : ℕ). deeds k [] (h ++ by c xs) ≡ deeds k [] h ++ new) (eqb-true c a is) same) among)) [
             | inl before ↦ old why before
             | inr now ↦ mute (eqb-true c a is) why now
           ]
@@ -162,46 +187,74 @@ module _ (decl : Declaration) (script : Script) (fits : ℕ → List Record → 
 
   -- whose turn it is is the administrator
 
-  his_move : (c : ℕ) (ds : List Deed) (turn : Turn) → IsLawfulWithFalls decl c ds turn → c ≡ a → IsAdminMove (actor_after decl c ds)
+  his_move : (c : ℕ) (ds : List Deed) (turn : Turn) → IsLawfulWithFalls decl c ds turn → c ≡ a
+      → IsAdminMove (actor_after decl c ds)
   his_move c ds turn law same = by_kind (takes_inputs decl c ds turn law)
     where
       by_kind : TakesInputs decl c → IsAdminMove (actor_after decl c ds)
-      by_kind (inl site) = absurd (let none : is_site decl c ≡ false = ap (is_site decl) same ∙ no_site in let never : ⊥ = cc in never)
-      by_kind (inr (inl client)) = absurd (let none : is_client decl c ≡ false = ap (is_client decl) same ∙ no_client in let never : ⊥ = cc in never)
+      by_kind (inl site) =
+          absurd (let none : is_site decl c ≡ false = ap (is_site decl) same ∙ no_site in let never : ⊥ = cc in never)
+      by_kind (inr (inl client)) =
+          absurd (let none : is_client decl c ≡ false = ap (is_client decl) same ∙ no_client in
+          let never : ⊥ = cc in never)
       by_kind (inr (inr at)) = subst (λ (b : ℕ). IsAdminMove (actor_after decl b ds)) (sym at) (admin_over decl ds)
 
-  his_mute : (c n : ℕ) (ds : List Deed) (turn : Turn) → IsLawfulWithFalls decl c ds turn → c ≡ a → IsMute (deeds_as turn.append n turn)
+  his_mute : (c n : ℕ) (ds : List Deed) (turn : Turn) → IsLawfulWithFalls decl c ds turn → c ≡ a
+      → IsMute (deeds_as turn.append n turn)
   his_mute c n ds turn law same =
       let m : IsAdminMove (actor_after decl c ds) = his_move c ds turn law same in
       let is : (actor_after decl c ds).turn ≡ with_record turn = lawful_due decl c ds turn law in
-      turn_mute turn.append n turn (subst SaysAsAdmin (ap (λ (t : Turn). t.told) is) m.says) (subst SaysAsAdmin (ap (λ (t : Turn). t.failed_told) is) m.fails_say)
+      turn_mute turn.append n turn (subst SaysAsAdmin (ap (λ (t : Turn). t.told) is) m.says)
+      (subst SaysAsAdmin (ap (λ (t : Turn). t.failed_told) is) m.fails_say)
 
-  silent : (c : ℕ) (h : List Entry) (step : Step) → IsSilent step → IsMute (deeds a [] h) → IsMute (deeds a [] (h ++ marked c step ∷ []))
+  silent : (c : ℕ) (h : List Entry) (step : Step) → IsSilent step → IsMute (deeds a [] h)
+      → IsMute (deeds a [] (h ++ marked c step ∷ []))
   silent c h step is old = subst IsMute (sym (deeds-silent a c h step is)) old
 
-  others_mute : (h : List Entry) (inputs : List Bool) → RunsWithFalls (IsLawfulWithFalls decl) fits decl script h inputs → IsMute (deeds a [] h)
+  others_mute : (h : List Entry) (inputs : List Bool) → RunsWithFalls (IsLawfulWithFalls decl) fits decl script h inputs
+      → IsMute (deeds a [] h)
   others_mute h inputs begins = none_mute
   others_mute h inputs (takes c g slots older run free rdy) =
-      event c older (step_of g ∷ []) (Takes g ∷ []) (deeds-taken c older g (ready_sent (IsLawfulWithFalls decl) fits decl script older slots run c g rdy)) (λ same. one_mute (Takes g) (λ why e. let never : ⊥ = cc in never)) (others_mute older slots run)
+      event c older (step_of g ∷ []) (Takes g ∷ [])
+      (deeds-taken c older g (ready_sent (IsLawfulWithFalls decl) fits decl script older slots run c g rdy))
+      (λ same. one_mute (Takes g) (λ why e. let never : ⊥ = cc in never)) (others_mute older slots run)
   others_mute h inputs (posts c turn slots older run taken law) =
-      event c older (posted_as turn.append (length (mail older)) turn) (deeds_as turn.append (length (mail older)) turn) (deeds-posted_as turn.append c (length (mail older)) older turn) (λ same. his_mute c (length (mail older)) (deeds c [] older) turn law same) (others_mute older slots run)
-  others_mute h inputs (phase slots older run none done quiet more) = silent (controller decl) older (steps.Phase (phase_of older + 1)) (phase_silent (phase_of older + 1)) (others_mute older slots run)
-  others_mute h inputs (control line lines step slots older run left is) = silent (controller decl) older step (line_silent line step is) (others_mute older slots run)
+      event c older (posted_as turn.append (length (mail older)) turn) (deeds_as turn.append (length (mail older)) turn)
+      (deeds-posted_as turn.append c (length (mail older)) older turn)
+      (λ same. his_mute c (length (mail older)) (deeds c [] older) turn law same) (others_mute older slots run)
+  others_mute h inputs (phase slots older run none done quiet more) =
+      silent (controller decl) older (steps.Phase (phase_of older + 1)) (phase_silent (phase_of older + 1))
+      (others_mute older slots run)
+  others_mute h inputs (control line lines step slots older run left is) =
+      silent (controller decl) older step (line_silent line step is) (others_mute older slots run)
   others_mute h inputs (falls c lines slots older run left) =
-      event c older (steps.Fell falling.Script None ∷ []) (Falls falling.Script None ∷ []) (deeds-fall c older falling.Script) (λ same. one_mute (Falls falling.Script None) (λ why e. let never : ⊥ = cc in never)) (others_mute older slots run)
+      event c older (steps.Fell falling.Script None ∷ []) (Falls falling.Script None ∷ [])
+      (deeds-fall c older falling.Script)
+      (λ same. one_mute (Falls falling.Script None) (λ why e. let never : ⊥ = cc in never))
+      (others_mute older slots run)
   others_mute h inputs (rises c records turn lines slots older run left fit has law) =
-      event c older (steps.Rose records ∷ posted_as turn.append (length (mail older)) turn) (Rises records ∷ deeds_as turn.append (length (mail older)) turn) (deeds-risen c older records turn.append turn) (λ same. risen_mute same) (others_mute older slots run)
+      event c older (steps.Rose records ∷ posted_as turn.append (length (mail older)) turn)
+      (Rises records ∷ deeds_as turn.append (length (mail older)) turn)
+      (deeds-risen c older records turn.append turn) (λ same. risen_mute same) (others_mute older slots run)
     where
       risen_mute : c ≡ a → IsMute (Rises records ∷ deeds_as turn.append (length (mail older)) turn)
       risen_mute same why (inl e) = let never : ⊥ = cc in never
-      risen_mute same why (inr among) = his_mute c (length (mail older)) (deeds c [] (older ++ marked c (steps.Rose records) ∷ [])) turn law same why among
-  others_mute h inputs (damaged c offset lines slots older run left) = silent c older (steps.Damaged offset) (record { sends = λ k. refl; deeds = λ ms. refl }) (others_mute older slots run)
+      risen_mute same why (inr among) =
+          his_mute c (length (mail older)) (deeds c [] (older ++ marked c (steps.Rose records) ∷ [])) turn law same why
+          among
+  others_mute h inputs (damaged c offset lines slots older run left) =
+      silent c older (steps.Damaged offset) (record { sends = λ k. refl; deeds = λ ms. refl })
+      (others_mute older slots run)
   others_mute h inputs (unopened c cause lines slots older run left disk) =
-      event c older (steps.Fell cause None ∷ []) (Falls cause None ∷ []) (deeds-fall c older cause) (λ same. one_mute (Falls cause None) (λ why e. let never : ⊥ = cc in never)) (others_mute older slots run)
+      event c older (steps.Fell cause None ∷ []) (Falls cause None ∷ []) (deeds-fall c older cause)
+      (λ same. one_mute (Falls cause None) (λ why e. let never : ⊥ = cc in never)) (others_mute older slots run)
 
-module _ (fits : ℕ → List Record → Type 0) (decl : Declaration) (script : Script) (accepted : IsAccepted decl) (sound : IsScriptFor decl script) (commits : List CommitRecord)
-    (within : sum_by (λ (c : CommitRecord). answered c.ops) commits ≤ 2 * most_committed_operations) (h : List Entry) (inputs : List Bool) (run : RunsWithFalls (IsLawfulWithFalls decl) fits decl script h inputs) (kept : Kept h)
-    (all : AreAll fits decl script accepted sound commits within h) (a site : ℕ) (told : In (Tells (replies.Aborted (causes.Forgot site))) (deeds a [] h)) where
+module _ (fits : ℕ → List Record → Type 0) (decl : Declaration) (script : Script) (accepted : IsAccepted decl)
+    (sound : IsScriptFor decl script) (commits : List CommitRecord)
+    (within : sum_by (λ (c : CommitRecord). answered c.ops) commits ≤ 2 * most_committed_operations) (h : List Entry)
+    (inputs : List Bool) (run : RunsWithFalls (IsLawfulWithFalls decl) fits decl script h inputs) (kept : Kept h)
+    (all : AreAll fits decl script accepted sound commits within h) (a site : ℕ)
+    (told : In (Tells (replies.Aborted (causes.Forgot site))) (deeds a [] h)) where
   few : actors decl ≤ most_actors
   few = let s = accepted.sites in let c = accepted.clients in omega arith
 
@@ -209,15 +262,23 @@ module _ (fits : ℕ → List Record → Type 0) (decl : Declaration) (script : 
   client_told client =
       let p = in_place (Tells (replies.Aborted (causes.Forgot site))) (deeds a [] h) told in
       let behind : AreDeedsDue decl (account_of decl (a - decl.sites) p.0) (Tells (replies.Aborted (causes.Forgot site)) ∷ p.1.0) =
-      due_behind decl p.0 (Tells (replies.Aborted (causes.Forgot site)) ∷ p.1.0) (new_account (a - decl.sites)) (subst (AreRepliesDue decl (a - decl.sites)) p.1.1 (client_due fits decl script h inputs accepted sound run kept a client)) in
-      let v : IsForgottenVote decl (account_of decl (a - decl.sites) p.0) site = due_why decl (account_of decl (a - decl.sites) p.0) site (due_alike decl (account_of decl (a - decl.sites) p.0) (is_some (pending_next p.1.0)) (causes.Forgot site) behind.0.0) in
-      votes_remember fits decl script accepted sound commits within h inputs run kept all a client p.0 (Tells (replies.Aborted (causes.Forgot site)) ∷ p.1.0) p.1.1 v.0 v.1 v.2 v.3
+      due_behind decl p.0 (Tells (replies.Aborted (causes.Forgot site)) ∷ p.1.0) (new_account (a - decl.sites))
+      (subst (AreRepliesDue decl (a - decl.sites)) p.1.1
+      (client_due fits decl script h inputs accepted sound run kept a client)) in
+      let v : IsForgottenVote decl (account_of decl (a - decl.sites) p.0) site =
+      due_why decl (account_of decl (a - decl.sites) p.0) site
+      (due_alike decl (account_of decl (a - decl.sites) p.0) (is_some (pending_next p.1.0))
+      (causes.Forgot site) behind.0.0) in
+      votes_remember fits decl script accepted sound commits within h inputs run kept all a client p.0
+      (Tells (replies.Aborted (causes.Forgot site)) ∷ p.1.0) p.1.1 v.0 v.1 v.2 v.3
 
   site_told : is_site decl a ≡ true → ⊥
   site_told is =
       let low : a < decl.sites = ltb-true a decl.sites is in
       let in_all : a < actors decl = omega arith in
-      sites_tell (deeds a [] h) (replies.Aborted (causes.Forgot site)) (subst (λ (t : Bool). AreByTurns t (deeds a [] h)) is (run_by_turns decl script fits few h inputs run a in_all)) told
+      sites_tell (deeds a [] h) (replies.Aborted (causes.Forgot site))
+      (subst (λ (t : Bool). AreByTurns t (deeds a [] h)) is
+      (run_by_turns decl script fits few h inputs run a in_all)) told
 
   pub never_told : ⊥
   never_told = by (is_site decl a) (is_client decl a) refl refl
@@ -225,4 +286,5 @@ module _ (fits : ℕ → List Record → Type 0) (decl : Declaration) (script : 
       by : (s c : Bool) → is_site decl a ≡ s → is_client decl a ≡ c → ⊥
       by true c is other = site_told is
       by false true none client = client_told client
-      by false false none no_client = others_mute decl script fits a none no_client h inputs run (causes.Forgot site) told
+      by false false none no_client =
+          others_mute decl script fits a none no_client h inputs run (causes.Forgot site) told

@@ -1,6 +1,5 @@
 -- A site keeps its life as it takes an input, but where it closes its epoch; then it tells no vote.
-use Rattle.std.proofs.Common.{◌≡◌, ◌≤◌, ◌⊎◌, ℕ, not, Bool, true, false, List, inl, inr}
-use Rattle.std.proofs.Common.{refl, ap}
+use Rattle.std.proofs.Common.{◌≡◌, ◌≤◌, ◌⊎◌, ℕ, not, Bool, true, false, List, inl, inr, refl, ap}
 use Rattle.qc_core.specs.Names.{is_up}
 use Rattle.qc_decl.specs.declared.declaration.Declaration.{Declaration}
 use Rattle.qc_inbox.specs.Names.{is_down}
@@ -19,12 +18,10 @@ use Rattle.qc_msg.specs.declared.step.Input.{Input}
 use Rattle.qc_msg.specs.declared.step.Input.TheVariants as given
 use Rattle.qc_msg.specs.declared.turn.Posting.{Posting}
 use Rattle.laws_reach.proofs.PostedTurns.{never_up}
-use Rattle.qc_site.specs.Names.{SiteMove, SiteState, closed, closes_in, finishes, grants, passed, prepares}
-use Rattle.qc_site.specs.Names.{shut_answer, site_at, site_takes}
-use Rattle.qc_site.proofs.RequestCases.{append_cases, close_cases, join_cases, prepare_cases, read_cases}
-use Rattle.qc_site.proofs.Cases.{install_cases}
-use Rattle.qc_site.proofs.RequestCases.{request_cases}
-use Rattle.qc_site.proofs.Cases.{state_cases}
+use Rattle.qc_site.specs.Names.{SiteMove, SiteState, closed, closes_in, finishes, grants, passed, prepares, shut_answer}
+use Rattle.qc_site.specs.Names.{site_at, site_takes}
+use Rattle.qc_site.proofs.RequestCases.{append_cases, close_cases, join_cases, prepare_cases, read_cases, request_cases}
+use Rattle.qc_site.proofs.Cases.{install_cases, state_cases}
 use Rattle.qc_stamp.specs.declared.stamp.TxId.{TxId}
 
 -- a request for a promise that a vote answers, and the life that it names
@@ -47,7 +44,7 @@ other_life : (decl : Declaration) (s : SiteState) (from number : ℕ) (m : Messa
     → (site_at decl s from number m).site.life ≡ s.life
 other_life decl s from number m never =
     state_cases (λ (t : SiteState). t.life ≡ s.life) decl s from number m refl (λ tx epoch life object inv is. refl)
-        (λ tx epoch life object view own is. refl) (λ tx. refl)
+    (λ tx epoch life object view own is. refl) (λ tx. refl)
     (λ tx verdict is final. refl) (λ tx stamp p is. refl) (λ k is. absurd (never k is)) (λ k clock lines is later. refl)
 
 heard_life : (decl : Declaration) (s : SiteState) (from number : ℕ) (m : Message)
@@ -61,7 +58,7 @@ heard_life decl s from number (messages.Inquiry tx) stays = refl
 heard_life decl s from number (messages.Ask tx) stays = refl
 heard_life decl s from number (messages.Close k) stays =
     close_cases (λ m. closes_in m.turn ≡ false → m.site.life ≡ s.life) s from number k (λ answer none. refl)
-        (λ near later none. absurd (let clash : ⊥ = cc in clash)) stays
+    (λ near later none. absurd (let clash : ⊥ = cc in clash)) stays
 heard_life decl s from number (messages.Install k clock lines) stays =
     install_cases (λ m. m.site.life ≡ s.life) s from number k clock lines (λ answer. refl) (λ later fits. refl)
 
@@ -79,18 +76,18 @@ TellsNone m = closes_in m.turn ≡ true → (p : Posting) → In p m.turn.sends 
 promised_none : (s : SiteState) (from number : ℕ) (tx : TxId) → TellsNone (prepares s from number tx)
 promised_none s from number tx =
     prepare_cases TellsNone s from number tx (λ closes p among to v. let never : ⊥ = cc in never)
-        (λ held stands closes p among to v. let never : ⊥ = cc in never)
+    (λ held stands closes p among to v. let never : ⊥ = cc in never)
     (λ held made closes p among to v. let never : ⊥ = cc in never)
 
 wanted_none : (decl : Declaration) (s : SiteState) (from number : ℕ) (tx : TxId) (want : Want)
     → TellsNone (grants decl s from number tx want)
 wanted_none decl s from number tx (Read object inv) =
     read_cases TellsNone decl s from number tx object inv (λ free closes p among to v. let never : ⊥ = cc in never)
-        (λ c clash closes p among to v. let never : ⊥ = cc in never)
+    (λ c clash closes p among to v. let never : ⊥ = cc in never)
 wanted_none decl s from number tx (Append object view own) =
     append_cases TellsNone decl s from number tx object view own
-        (λ free closes p among to v. let never : ⊥ = cc in never)
-        (λ c clash closes p among to v. let never : ⊥ = cc in never)
+    (λ free closes p among to v. let never : ⊥ = cc in never)
+    (λ c clash closes p among to v. let never : ⊥ = cc in never)
 wanted_none decl s from number tx Prepare = promised_none s from number tx
 
 finished_none : (s : SiteState) (tx : TxId) (verdict : Outcome) → TellsNone (finishes s tx verdict)
@@ -104,21 +101,23 @@ heard_none : (decl : Declaration) (s : SiteState) (from number : ℕ) (m : Messa
     → TellsNone (site_at decl s from number m)
 heard_none decl s from number (messages.Request tx epoch life want) =
     request_cases TellsNone decl s from number tx epoch life want (λ closes p among to v. absurd among)
-        (λ fault is closes p among to v. let never : ⊥ = cc in never) (λ is. wanted_none decl s from number tx want)
+    (λ fault is closes p among to v. let never : ⊥ = cc in never) (λ is. wanted_none decl s from number tx want)
 heard_none decl s from number (messages.Answer to answer) = λ closes p among to v. absurd among
 heard_none decl s from number (messages.Decision tx verdict) = finished_none s tx verdict
 heard_none decl s from number (messages.Inquiry tx) = λ closes p among to v. absurd among
 heard_none decl s from number (messages.Ask tx) = λ closes p among to v. absurd among
 heard_none decl s from number (messages.Close k) =
     close_cases TellsNone s from number k (λ answer closes p among to v. let never : ⊥ = cc in never)
-    (λ near later closes p among to v. elim among
-        [ inl first ↦
+    (λ near later closes p among to v. elim among [
+      | inl first ↦
           (let says : p.message
-            ≡ messages.Answer number (shut_answer (closed s k)) = ap (λ (q : Posting). q.message) first in let never : ⊥
-              = (let told = v.1 in cc) in never) | inr none ↦ none ])
+          ≡ messages.Answer number (shut_answer (closed s k)) = ap (λ (q : Posting). q.message) first in let never : ⊥
+          = (let told = v.1 in cc) in never)
+      | inr none ↦ none
+    ])
 heard_none decl s from number (messages.Install k clock lines) =
     install_cases TellsNone s from number k clock lines (λ answer closes p among to v. let never : ⊥ = cc in never)
-        (λ later fits closes p among to v. let never : ⊥ = cc in never)
+    (λ later fits closes p among to v. let never : ⊥ = cc in never)
 
 pub takes_none : (decl : Declaration) (s : SiteState) (g : Input) → TellsNone (site_takes decl s g)
 takes_none decl s (given.Called command) = λ closes p among to v. absurd among

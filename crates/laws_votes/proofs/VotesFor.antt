@@ -1,7 +1,6 @@
 -- The row of a commit is Committed where all its votes are in and for it; what is taken meanwhile changes no more.
-use Rattle.std.proofs.Common.{◌≡◌, ◌-◌, ◌==◌, ◌&&◌, ℕ, Bool, true, false, cond}
-use Rattle.std.proofs.Common.{if◌then◌else◌, List, ◌∷◌, inl, inr, length, Option, Some, None, is_some, refl}
-use Rattle.std.proofs.Common.{sym, ap, ◌∙◌, eqb-true}
+use Rattle.std.proofs.Common.{◌≡◌, ◌-◌, ◌==◌, ◌&&◌, ℕ, Bool, true, false, cond, if◌then◌else◌, List, ◌∷◌, inl, inr}
+use Rattle.std.proofs.Common.{length, Option, Some, None, is_some, refl, sym, ap, ◌∙◌, eqb-true}
 use Rattle.std.specs.Prelude.{option_and_then}
 use Rattle.std.specs.List.{list_all}
 use Rattle.std.specs.Option.{option_or}
@@ -15,9 +14,8 @@ use Rattle.qc_msg.specs.declared.reply.AbortCause.{AbortCause}
 use Rattle.qc_msg.specs.declared.reply.AbortCause.TheVariants as causes
 use Rattle.qc_msg.specs.declared.step.Command.{Command}
 use Rattle.qc_msg.specs.declared.step.Command.TheVariants as commands
-use Rattle.qc_promise.specs.Names.{Account, ClientRequest, Current, against, are_votes_in}
-use Rattle.qc_promise.specs.Names.{commit_row, first_against, is_open, is_prepare}
-use Rattle.qc_promise.specs.Names.{participants, requests_for, row_of, running_row, taken_for}
+use Rattle.qc_promise.specs.Names.{Account, ClientRequest, Current, against, are_votes_in, commit_row, first_against}
+use Rattle.qc_promise.specs.Names.{is_open, is_prepare, participants, requests_for, row_of, running_row, taken_for}
 use Rattle.qc_promise.specs.Names.{vote_row}
 use Rattle.qc_stamp.specs.declared.stamp.Stamp.{Stamp}
 
@@ -59,7 +57,7 @@ all_taken (p ∷ qs) all q among = by (is_some p.taken) refl all among (all_take
     by : (b : Bool) → is_some p.taken ≡ b → (b && list_all (λ (q : ClientRequest). is_some q.taken) qs) ≡ true
         → In q (p ∷ qs)
         → (list_all (λ (q : ClientRequest). is_some q.taken) qs ≡ true → (x : ClientRequest) → In x qs
-          → is_some x.taken ≡ true) → is_some q.taken ≡ true
+        → is_some x.taken ≡ true) → is_some q.taken ≡ true
     by true at rest (inl same) more = ap (λ (x : ClientRequest). is_some x.taken) same ∙ at
     by true at rest (inr later) more = more rest q later
     by false at rest here more = absurd (let never : ⊥ = cc in never)
@@ -83,7 +81,7 @@ module _ (decl : Declaration) where
   voted d t command current in_all none =
       let both : ((length (participants decl d t) == length (requests_for is_prepare d)) ≡ true) × (list_all (λ (q : ClientRequest). is_some q.taken) (requests_for is_prepare d) ≡ true) =
       both_true (length (participants decl d t) == length (requests_for is_prepare d))
-          (list_all (λ (q : ClientRequest). is_some q.taken) (requests_for is_prepare d)) in_all in
+      (list_all (λ (q : ClientRequest). is_some q.taken) (requests_for is_prepare d)) in_all in
       record {
         command = command;
         current = current;
@@ -101,7 +99,7 @@ module _ (decl : Declaration) where
       by : (x y : Bool) (o : Option AbortCause) → are_votes_in decl d t ≡ y
           → first_against (requests_for is_prepare d) ≡ o
           → stamp_of (if x then Some (replies.Aborted causes.Doomed) else (if y then vote_row d false o else None))
-            ≡ Some stamp → IsVotedFor decl d t
+          ≡ Some stamp → IsVotedFor decl d t
       by true y o all none e = none_some None stamp refl e
       by false false o all none e = none_some None stamp refl e
       by false true None all none e = voted d t command current all none
@@ -141,21 +139,24 @@ in_taken number answer q (x ∷ qs) (inl same) = by (is_open number x) refl
   where
     by : (b : Bool) → is_open number x ≡ b
         → (p : ClientRequest) × In p (taken_for number answer (x ∷ qs)) × IsSameRequest q p
-    by true at =
-        (record x { taken = Some answer },
-        inl (ap (λ (b : Bool). cond b (record x { taken = Some answer }) x) (sym at)),
-        record {
-            site = ap (λ (y : ClientRequest). y.site) (sym same);
-            life = ap (λ (y : ClientRequest). y.life) (sym same);
-            want = ap (λ (y : ClientRequest). y.want) (sym same)
-          })
-    by false at =
-        (x, inl (ap (λ (b : Bool). cond b (record x { taken = Some answer }) x) (sym at)),
-        record {
-            site = ap (λ (y : ClientRequest). y.site) (sym same);
-            life = ap (λ (y : ClientRequest). y.life) (sym same);
-            want = ap (λ (y : ClientRequest). y.want) (sym same)
-          })
+    by true at = (
+      record x { taken = Some answer },
+      inl (ap (λ (b : Bool). cond b (record x { taken = Some answer }) x) (sym at)),
+      record {
+        site = ap (λ (y : ClientRequest). y.site) (sym same);
+        life = ap (λ (y : ClientRequest). y.life) (sym same);
+        want = ap (λ (y : ClientRequest). y.want) (sym same);
+      },
+    )
+    by false at = (
+      x,
+      inl (ap (λ (b : Bool). cond b (record x { taken = Some answer }) x) (sym at)),
+      record {
+        site = ap (λ (y : ClientRequest). y.site) (sym same);
+        life = ap (λ (y : ClientRequest). y.life) (sym same);
+        want = ap (λ (y : ClientRequest). y.want) (sym same);
+      },
+    )
 
 pub record KeepsVotes (d e : Account) : Type 0 where
   pub current : e.current ≡ d.current
@@ -169,5 +170,5 @@ same_votes d =
       current = refl;
       command = refl;
       client = refl;
-      requests = λ q among. (q, among, record { site = refl; life = refl; want = refl })
+      requests = λ q among. (q, among, record { site = refl; life = refl; want = refl });
     }

@@ -1,7 +1,7 @@
 -- A site that posts a turn votes in the life that its records give it, then and after the turn, where the request names
 -- one; and no other event votes.
-use Rattle.std.proofs.Common.{◌≡◌, ◌≤◌, ◌⊎◌, ℕ, Bool, true, false, List, ◌∷◌, ◌++◌, inl, inr, length, map}
-use Rattle.std.proofs.Common.{take, Some, option_to_list, slice_get, refl, sym, ap, ◌∙◌, subst, arith}
+use Rattle.std.proofs.Common.{◌≡◌, ◌≤◌, ◌⊎◌, ℕ, Bool, true, false, List, ◌∷◌, ◌++◌, inl, inr, length, map, take, Some}
+use Rattle.std.proofs.Common.{option_to_list, slice_get, refl, sym, ap, ◌∙◌, subst, arith}
 use Rattle.qc_core.specs.declared.actor.Actor.{Actor}
 use Rattle.qc_core.specs.Names.{ActorMove, IsLawfulWithFalls, actor_after, actor_takes, is_up, journal_after}
 use Rattle.qc_core.specs.Names.{with_record}
@@ -42,8 +42,7 @@ use Rattle.laws_reach.proofs.Growing.{journal_posted}
 use Rattle.laws_reach.proofs.Stood.{Stands, Stood, in_site}
 use Rattle.laws_reach.specs.Names.{HasTaken}
 use Rattle.qc_recover.specs.Names.{kept_by, most_inquiries, site_rises}
-use Rattle.qc_site.specs.Names.{SiteMove, SiteState, closes_in, in_order}
-use Rattle.qc_site.specs.Names.{site_takes}
+use Rattle.qc_site.specs.Names.{SiteMove, SiteState, closes_in, in_order, site_takes}
 use Rattle.laws_atomic.proofs.Stood.{may_come}
 use Rattle.laws_votes.proofs.VoteInputs.{IsCast, IsVote, takes_life, takes_none, fallen}
 
@@ -91,18 +90,18 @@ module _ (decl : Declaration) (accepted : IsAccepted decl) (h : List Entry) (inp
           let n : Refines decl old.net = nets_refine decl accepted old.net old.reached in
           (m.agrees.kept a site).life_is ∙ sym (m.agrees.sites a site (s.up ∙ up)).life
           ∙ ap (λ (t : SiteState). t.life) (put_here old.net.sites a move.site)
-              ∙ takes_life decl (old.net.sites a) x.given stays
+          ∙ takes_life decl (old.net.sites a) x.given stays
           ∙ (n.agrees.sites a site (s.up ∙ up)).life ∙ sym (n.agrees.kept a site).life_is
 
       records_then : life_at (after Done) a ≡ life_of (next.records a)
       records_then =
           ap (λ (j : Journal). life_of j.records)
-              (sym (journal a (after Done)) ∙ ap journal_after (deeds-posted_as Done a (length (mail h)) h turn)
-                ∙ journal_posted ds Done (length (mail h)) turn)
+          (sym (journal a (after Done)) ∙ ap journal_after (deeds-posted_as Done a (length (mail h)) h turn)
+          ∙ journal_posted ds Done (length (mail h)) turn)
           ∙ sym
-              (ap life_of
-                (put_here old.net.records a (old.net.records a ++ option_to_list move.turn.write)
-                  ∙ (λ i. s.records i ++ option_to_list (turn_is i).write)))
+          (ap life_of
+          (put_here old.net.records a (old.net.records a ++ option_to_list move.turn.write)
+          ∙ (λ i. s.records i ++ option_to_list (turn_is i).write)))
 
       casts : closes_in move.turn ≡ false → (e : Envelope) (to clock : ℕ)
           → In e (mail h ++ envelopes a (length (mail h)) turn.sends) → e.from ≡ a
@@ -112,26 +111,26 @@ module _ (decl : Declaration) (accepted : IsAccepted decl) (h : List Entry) (inp
           elim (later_votes_name_later_lives decl accepted old.net old.reached next
           (later_nets.more old.net next later_nets.same (later_nets.serves a x.given old.net site (s.up ∙ up) came)) e
           (subst (In e) (sym mail_then) among) (subst (λ (b : ℕ). is_site decl b ≡ true) (sym from) site) to clock is) [
-        | inl before ↦ inl (subst (In e) old.mail_is before)
-        | inr v ↦ inr (record {
-          request = v.request;
-          sent = subst (In v.request) mail_then v.sent;
-          numbered = v.numbered;
-          tx = v.tx;
-          epoch = v.epoch;
-          life = v.life;
-          named = v.named;
-          lives = elim v.low [
-            | inl none ↦ inl none
-            | inr low ↦ inr (
-                let here : life_of (old.net.records e.from) ≡ life_of (old.net.records a) =
-                        ap (λ (b : ℕ). life_of (old.net.records b)) from in
-                let same : life_at (after Done) a ≡ life_of (old.net.records a) = records_then ∙ life_then stays in
-                let low_is : life_of (old.net.records e.from) ≤ v.life = low in
-                omega arith)
-          ];
-        })
-      ]
+            | inl before ↦ inl (subst (In e) old.mail_is before)
+            | inr v ↦ inr (record {
+              request = v.request;
+              sent = subst (In v.request) mail_then v.sent;
+              numbered = v.numbered;
+              tx = v.tx;
+              epoch = v.epoch;
+              life = v.life;
+              named = v.named;
+              lives = elim v.low [
+                | inl none ↦ inl none
+                | inr low ↦ inr (
+                    let here : life_of (old.net.records e.from) ≡ life_of (old.net.records a) =
+                    ap (λ (b : ℕ). life_of (old.net.records b)) from in
+                    let same : life_at (after Done) a ≡ life_of (old.net.records a) = records_then ∙ life_then stays in
+                    let low_is : life_of (old.net.records e.from) ≤ v.life = low in
+                    omega arith)
+              ];
+            })
+          ]
         where
           mail_then : next.mail ≡ mail h ++ envelopes a (length (mail h)) turn.sends
           mail_then = (λ i. old.mail_is i ++ envelopes a (length (old.mail_is i)) (turn_is i).sends)
@@ -147,8 +146,8 @@ module _ (decl : Declaration) (accepted : IsAccepted decl) (h : List Entry) (inp
         → In e (envelopes a (length (mail h)) (sends_as turn.append turn)) → In p (sends_as turn.append turn)
         → e.from ≡ a → e.message ≡ p.message → e.message ≡ messages.Answer to (answers.Yes clock)
         → In e (mail h)
-            ⊎ IsCast (mail h ++ envelopes a (length (mail h)) (sends_as turn.append turn)) to
-              (life_at (after turn.append) a)
+        ⊎ IsCast (mail h ++ envelopes a (length (mail h)) (sends_as turn.append turn)) to
+        (life_at (after turn.append) a)
     post_casts e p to clock among posted from same is = by (is_up ds) refl turn.append law.may_end among posted
       where
         written : (end : Appended) → is_up ds ≡ false → MayEnd turn.write end → (end ≡ Done) ⊎ (sends_as end turn ≡ [])
@@ -159,15 +158,15 @@ module _ (decl : Declaration) (accepted : IsAccepted decl) (h : List Entry) (inp
         by : (u : Bool) → is_up ds ≡ u → (end : Appended) → MayEnd turn.write end
             → In e (envelopes a (length (mail h)) (sends_as end turn)) → In p (sends_as end turn)
             → In e (mail h)
-                ⊎ IsCast (mail h ++ envelopes a (length (mail h)) (sends_as end turn)) to (life_at (after end) a)
+            ⊎ IsCast (mail h ++ envelopes a (length (mail h)) (sends_as end turn)) to (life_at (after end) a)
         by true up Done may there sent = cast (closes_in (move up).turn) refl
           where
             cast : (t : Bool) → closes_in (move up).turn ≡ t
                 → In e (mail h)
-                  ⊎ IsCast (mail h ++ envelopes a (length (mail h)) turn.sends) to (life_at (after Done) a)
+                ⊎ IsCast (mail h ++ envelopes a (length (mail h)) turn.sends) to (life_at (after Done) a)
             cast true closes =
                 absurd (takes_none decl (old.net.sites a) (x up).given closes p
-                    (subst (λ (t : Turn). In p t.sends) (sym (turn_is up)) sent) to (clock, sym same ∙ is))
+                (subst (λ (t : Turn). In p t.sends) (sym (turn_is up)) sent) to (clock, sym same ∙ is))
             cast false stays =
                 casts up stays e to clock (In-second e (mail h) (envelopes a (length (mail h)) turn.sends) there) from
                 is
@@ -193,8 +192,8 @@ module _ (decl : Declaration) (accepted : IsAccepted decl) (h : List Entry) (inp
           ap (λ (m : ActorMove). m.turn) (sym (site_risen decl a site records)
           ∙ sym (actor_laws.rises decl a (deeds a [] h) records)
           ∙ ap (actor_after decl a)
-              (sym (deeds-append a [] h (by a (steps.Rose records ∷ []))
-                ∙ ap (λ (v : List Deed). deeds a [] h ++ v) (deeds-rose a (mail h) records))))
+          (sym (deeds-append a [] h (by a (steps.Rose records ∷ []))
+          ∙ ap (λ (v : List Deed). deeds a [] h ++ v) (deeds-rose a (mail h) records))))
           ∙ due decl a (deeds a [] (h ++ by a (steps.Rose records ∷ []))) turn law
 
       by : (end : Appended) → In p (sends_as end turn) → ⊥

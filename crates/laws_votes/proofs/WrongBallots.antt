@@ -1,5 +1,6 @@
 -- A client that falls as it writes a commit record has committed it just where it rises with it.
 use Rattle.std.proofs.Common.{◌≡◌, ℕ, Bool, true, List, [], ◌∷◌, ◌++◌, if◌then◌else◌, inl, inr, refl, sym, ap, subst}
+use Rattle.std.proofs.Common.{Some}
 use Rattle.std.specs.Prelude.{sum_by}
 use Rattle.laws_votes.specs.Names.{committed_operations}
 use Rattle.qc_decl.specs.Names.{is_client}
@@ -10,7 +11,6 @@ use Rattle.qc_msg.specs.declared.record.Record.{Record}
 use Rattle.qc_msg.specs.declared.record.Record.TheVariants.{Commit}
 use Rattle.qc_msg.specs.declared.step.Fall.TheVariants.{Stop}
 use Rattle.qc_msg.specs.declared.step.Step.TheVariants.{Fell, Rose}
-use Rattle.std.proofs.Common.{Some}
 use Rattle.theory_onecopy.specs.Names.{sorted}
 use Rattle.qc_promise.specs.Names.{IsGivenBack, IsKeptAt, Kept}
 

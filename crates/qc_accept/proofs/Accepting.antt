@@ -34,9 +34,8 @@ use Rattle.qc_accept.proofs.Answered.{came, found, mapped, same_ok}
 use Rattle.qc_accept.proofs.Kept.{IsTypeKept, AreTypesKept, types_kept}
 use Rattle.qc_accept.proofs.Drafted.{all_at, all_of, number_is, AreObjectsKept, objects_kept, AreLists, IsPlanOf}
 use Rattle.qc_accept.proofs.Drafted.{ArePlansKept, plans_kept}
-use Rattle.qc_accept.proofs.CheckedDrafts.{IsDraft, IsNamesOf, IsPart, draft_is, names_back, names_long}
-use Rattle.qc_accept.proofs.CheckedDrafts.{names_of_type, part_at}
-use Rattle.qc_accept.proofs.CheckedDrafts.{all_certified_none, all_admitted_none}
+use Rattle.qc_accept.proofs.CheckedDrafts.{IsDraft, IsNamesOf, IsPart, draft_is, names_back, names_long, names_of_type}
+use Rattle.qc_accept.proofs.CheckedDrafts.{part_at, all_certified_none, all_admitted_none}
 
 -- a store of kept parts fits
 pub store_fits : (sites : ℕ) (types : TypesOf) (objects : ObjectsOf) → sites ≤ most_sites → AreTypesKept types

@@ -1,20 +1,16 @@
 -- A declaration is what its document spells.
-use Rattle.std.proofs.Common.{◌≡◌, ℕ, List, ◌∷◌, ◌++◌, length, map, Option, Some, Ok, refl, sym, ap, ◌∙◌}
-use Rattle.std.proofs.Common.{subst}
+use Rattle.std.proofs.Common.{◌≡◌, ℕ, List, ◌∷◌, ◌++◌, length, map, Option, Some, Ok, refl, sym, ap, ◌∙◌, subst}
 use Rattle.std.specs.Prelude.{codes, option_and_then}
 use Rattle.toml.specs.Data.{Data, Members, as_table, get_member}
 use Rattle.qc_plan.specs.declared.plan.Plan.{Plan}
-use Rattle.qc_decl.specs.Names.{greatest_weight, most_clients, most_epochs, most_objects, most_sites}
-use Rattle.qc_decl.specs.Names.{most_types}
+use Rattle.qc_decl.specs.Names.{greatest_weight, most_clients, most_epochs, most_objects, most_sites, most_types}
 use Rattle.qc_decl.specs.declared.declaration.Declaration.{Declaration}
 use Rattle.qc_accept.specs.declared.epochs.Side.TheVariants.{Initial, Final}
-use Rattle.qc_accept.specs.Names.{Answer, AreListed, DraftOf, IsDeclared, ObjectsOf, StoreOf}
-use Rattle.qc_accept.specs.Names.{TypesOf, accepted, all_admitted, all_certified, array_at, declared, document_of}
-use Rattle.qc_accept.specs.Names.{draft, draft_of, epoch_keys, item_table, items, keys, keys_path}
-use Rattle.qc_accept.specs.Names.{needs, no_others, number, number_between}
-use Rattle.qc_accept.specs.Names.{objects_of, plan_in, plan_of, plans_of, read_each, required, text_at, told}
-use Rattle.qc_accept.specs.Names.{types_of, weights, with_object, with_plan, with_type}
-use Rattle.qc_accept.specs.Names.{with_weight}
+use Rattle.qc_accept.specs.Names.{Answer, AreListed, DraftOf, IsDeclared, ObjectsOf, StoreOf, TypesOf, accepted}
+use Rattle.qc_accept.specs.Names.{all_admitted, all_certified, array_at, declared, document_of, draft, draft_of}
+use Rattle.qc_accept.specs.Names.{epoch_keys, item_table, items, keys, keys_path, needs, no_others, number}
+use Rattle.qc_accept.specs.Names.{number_between, objects_of, plan_in, plan_of, plans_of, read_each, required, text_at}
+use Rattle.qc_accept.specs.Names.{told, types_of, weights, with_object, with_plan, with_type, with_weight}
 use Rattle.qc_accept.proofs.Answered.{came, mapped, same_ok, told_some}
 use Rattle.qc_accept.proofs.Listing.{plan_listed}
 use Rattle.qc_accept.proofs.Spelling.{in_order, items_are}
@@ -28,12 +24,12 @@ weights_in_order : (path : List ℕ) (table : Members) (sites : ℕ) (ws : List 
     → map (number_between 0 greatest_weight) (array_at table (codes "weights")) ≡ map Some ws
 weights_in_order path table sites ws is =
     let c =
-            came (items path table (codes "weights") sites sites)
-              (λ ds. told (path ++ codes "weights") (read_each with_weight [] ds)) ws is in
+    came (items path table (codes "weights") sites sites)
+    (λ ds. told (path ++ codes "weights") (read_each with_weight [] ds)) ws is in
     ap (map (number_between 0 greatest_weight)) (items_are path table (codes "weights") sites sites c.value c.first)
     ∙ in_order (number_between 0 greatest_weight) with_weight
     (λ so_far d next more. let m = mapped (number_between 0 greatest_weight d) (λ w. so_far ++ w ∷ []) next more in
-                           (m.value, m.first, m.rest))
+    (m.value, m.first, m.rest))
     c.value ws (told_some (path ++ codes "weights") (read_each with_weight [] c.value) ws c.rest)
 
 weights_of : (path : List ℕ) (table : Members) (store : StoreOf) (plan : Plan) → plan_of path table store ≡ Ok plan
@@ -45,7 +41,7 @@ weights_of path table store plan is =
     let d = came (no_others path table epoch_keys) _ plan c.rest in
     subst (λ (p : Plan). map (number_between 0 greatest_weight) (array_at table (codes "weights")) ≡ map Some p.weights)
     (same_ok (record { weights = a.value; initial = b.value; last = c.value }) plan d.rest)
-        (weights_in_order path table store.sites a.value a.first)
+    (weights_in_order path table store.sites a.value a.first)
 
 pub record IsPlanFrom (store : StoreOf) (d : Data) (plan : Plan) : Type 0 where
   pub item : Members
@@ -80,13 +76,13 @@ plan_from store plans d next is =
 
 pub types_from : (path : List ℕ) (table : Members) (types : TypesOf) → types_of path table ≡ Ok types
     → AreFrom IsTypeFrom (array_at table (codes "type")) types.list
-        × AreFrom (ItemText (codes "name")) (array_at table (codes "type")) types.names
+    × AreFrom (ItemText (codes "name")) (array_at table (codes "type")) types.names
 types_from path table types is =
     let c = came (items path table (codes "type") 1 most_types) _ types is in
     let array : array_at table (codes "type") ≡ c.value =
-            items_are path table (codes "type") 1 most_types c.value c.first in
+    items_are path table (codes "type") 1 most_types c.value c.first in
     subst (λ (ds : List Data). AreFrom IsTypeFrom ds types.list × AreFrom (ItemText (codes "name")) ds types.names)
-        (sym array) (
+    (sym array) (
       all_from with_type (λ (x : TypesOf). x.list) IsTypeFrom type_from (record { names = []; list = [] }) c.value types
           refl c.rest,
       all_from with_type (λ (x : TypesOf). x.names) (ItemText (codes "name")) type_name_from
@@ -96,13 +92,13 @@ types_from path table types is =
 pub objects_from : (path : List ℕ) (table : Members) (types : TypesOf) (objects : ObjectsOf)
     → objects_of path table types ≡ Ok objects
     → AreFrom (ItemText (codes "name")) (array_at table (codes "object")) objects.names
-        × AreFrom (IsTypeNamed types.names) (array_at table (codes "object")) objects.kinds
+    × AreFrom (IsTypeNamed types.names) (array_at table (codes "object")) objects.kinds
 objects_from path table types objects is =
     let c = came (items path table (codes "object") 1 most_objects) _ objects is in
     let array : array_at table (codes "object") ≡ c.value =
-            items_are path table (codes "object") 1 most_objects c.value c.first in
+    items_are path table (codes "object") 1 most_objects c.value c.first in
     subst (λ (ds : List Data). AreFrom (ItemText (codes "name")) ds objects.names
-        × AreFrom (IsTypeNamed types.names) ds objects.kinds) (sym array) (
+    × AreFrom (IsTypeNamed types.names) ds objects.kinds) (sym array) (
       all_from (with_object types.names) (λ (x : ObjectsOf). x.names) (ItemText (codes "name"))
           (object_name_from types.names) (record { names = []; kinds = [] }) c.value objects refl c.rest,
       all_from (with_object types.names) (λ (x : ObjectsOf). x.kinds) (IsTypeNamed types.names)
@@ -115,7 +111,7 @@ pub plans_from : (path : List ℕ) (table : Members) (store : StoreOf) (plans : 
 plans_from path table store plans is =
     let c = came (items path table (codes "epoch") 1 most_epochs) _ plans is in
     let array : array_at table (codes "epoch") ≡ c.value =
-            items_are path table (codes "epoch") 1 most_epochs c.value c.first in
+    items_are path table (codes "epoch") 1 most_epochs c.value c.first in
     subst (λ (ds : List Data). AreFrom (IsPlanFrom store) ds plans) (sym array)
     (all_from (with_plan store) plans_list (IsPlanFrom store) (plan_from store) [] c.value plans refl c.rest)
 
@@ -126,7 +122,7 @@ number_told : (path : List ℕ) (table : Members) (key : List ℕ) (least most n
 number_told path table key least most n is =
     let c = came (required path table key) (λ d. told (path ++ key) (number_between least most d)) n is in
     ap (option_and_then (number_between least most)) (is_member path table key c.value c.first)
-        ∙ told_some (path ++ key) (number_between least most c.value) n c.rest
+    ∙ told_some (path ++ key) (number_between least most c.value) n c.rest
 
 -- all of a document
 pub draft_declared : (table : Members) (d : DraftOf) → draft_of table ≡ Ok d → IsDeclared table d.decl
@@ -158,28 +154,28 @@ draft_declared table d is =
           record { item = i.from.item; at = ap (option_and_then as_table) i.at ∙ i.from.is; spelled = i.from.spelled };
       type_name_at = λ number name at.
           let i : IsFrom (ItemText (codes "name")) (array_at table (codes "type")) number name =
-                  t.1.each_is number name at in
+          t.1.each_is number name at in
           ap (λ (x : Option Data). option_and_then (λ item. text_at item (codes "name")) (option_and_then as_table x))
-              i.at ∙ i.from;
+          i.at ∙ i.from;
       object_name_at = λ object name at.
           let i : IsFrom (ItemText (codes "name")) (array_at table (codes "object")) object name =
-                  o.0.each_is object name at in
+          o.0.each_is object name at in
           ap (λ (x : Option Data). option_and_then (λ item. text_at item (codes "name")) (option_and_then as_table x))
-              i.at ∙ i.from;
+          i.at ∙ i.from;
       object_type_at = λ object number at.
           let i : IsFrom (IsTypeNamed c.value.names) (array_at table (codes "object")) object number =
-                  o.1.each_is object number at in
+          o.1.each_is object number at in
           ap (λ (x : Option Data). option_and_then (λ item. text_at item (codes "type")) (option_and_then as_table x))
-              i.at ∙ i.from;
+          i.at ∙ i.from;
       plan_at = λ place plan at.
           let i : IsFrom (IsPlanFrom (record { sites = a.value; types = c.value; objects = e.value })) (array_at table (codes "epoch")) place plan = p.each_is place plan at in
           record {
-                item = i.from.item;
-                at = ap (option_and_then as_table) i.at ∙ i.from.is;
-                weights = i.from.weights;
-                initial = i.from.initial;
-                last = i.from.last
-              };
+            item = i.from.item;
+            at = ap (option_and_then as_table) i.at ∙ i.from.is;
+            weights = i.from.weights;
+            initial = i.from.initial;
+            last = i.from.last;
+          };
     })
 
 pub accepted_declared : (bytes : List ℕ) (table : Members) (decl : Declaration) → document_of bytes ≡ Ok table
@@ -192,4 +188,4 @@ accepted_declared bytes table decl document is =
     let c = came (all_certified 0 b.value.decl.kind_names b.value.decl.kinds b.value.triples) _ decl b.rest in
     let e = came (all_admitted b.value.decl 1 b.value.decl.plans) _ decl c.rest in
     subst (λ (t : Members). IsDeclared t decl) same
-        (subst (IsDeclared a.value) (same_ok b.value.decl decl e.rest) (draft_declared a.value b.value b.first))
+    (subst (IsDeclared a.value) (same_ok b.value.decl decl e.rest) (draft_declared a.value b.value b.first))

@@ -7,11 +7,8 @@ use Rattle.std.proofs.lemmas.Option.{cond_some}
 use Rattle.toml.specs.Data.{Data, Members, as_str, as_table, get_member}
 use Rattle.qc_decl.proofs.Places.{place_at}
 use Rattle.qc_decl.specs.Names.{is_name}
-use Rattle.qc_accept.specs.Names.{IsSpelled, ObjectsOf, TypeOf}
-use Rattle.qc_accept.specs.Names.{TypesOf}
-use Rattle.qc_accept.specs.Names.{item_path, item_table, keys_path}
-use Rattle.qc_accept.specs.Names.{name_among, name_at, no_others, number, number_of, object_keys}
-use Rattle.qc_accept.specs.Names.{required, text_at, told, type_of}
+use Rattle.qc_accept.specs.Names.{IsSpelled, ObjectsOf, TypeOf, TypesOf, item_path, item_table, keys_path, name_among}
+use Rattle.qc_accept.specs.Names.{name_at, no_others, number, number_of, object_keys, required, text_at, told, type_of}
 use Rattle.qc_accept.specs.Names.{with_name, with_object, with_text, with_type}
 use Rattle.qc_accept.proofs.Answered.{came, found, same_ok, told_some}
 use Rattle.qc_accept.proofs.Spelling.{type_spelled}
@@ -85,14 +82,14 @@ type_name_from types d next is =
     let c = came (told (path ++ codes "name") (with_name types.names b.value)) _ next b.rest in
     let e = came (type_of path a.value (length types.names) (name_at c.value (length types.names))) _ next c.rest in
     let n : IsNewName types.names b.value c.value =
-            new_name types.names b.value c.value
-              (told_some (path ++ codes "name") (with_name types.names b.value) c.value c.first) in
+    new_name types.names b.value c.value
+    (told_some (path ++ codes "name") (with_name types.names b.value) c.value c.first) in
     record {
       one = n.text;
       grown =
           n.grown
           ∙ ap (λ (x : TypesOf). x.names)
-            (same_ok (record { names = c.value; list = types.list ++ e.value ∷ [] }) next e.rest);
+          (same_ok (record { names = c.value; list = types.list ++ e.value ∷ [] }) next e.rest);
       from =
           item_text_is (codes "name") d b.value a.value n.text
           (is_table (codes "type") (length types.names) d a.value a.first)
@@ -113,14 +110,14 @@ object_name_from types objects d next is =
     let f = came (told (path ++ codes "type") (name_among types e.value)) _ next e.rest in
     let g = came (no_others path a.value object_keys) _ next f.rest in
     let n : IsNewName objects.names b.value c.value =
-            new_name objects.names b.value c.value
-              (told_some (path ++ codes "name") (with_name objects.names b.value) c.value c.first) in
+    new_name objects.names b.value c.value
+    (told_some (path ++ codes "name") (with_name objects.names b.value) c.value c.first) in
     record {
       one = n.text;
       grown =
           n.grown
           ∙ ap (λ (x : ObjectsOf). x.names)
-            (same_ok (record { names = c.value; kinds = objects.kinds ++ f.value ∷ [] }) next g.rest);
+          (same_ok (record { names = c.value; kinds = objects.kinds ++ f.value ∷ [] }) next g.rest);
       from =
           item_text_is (codes "name") d b.value a.value n.text
           (is_table (codes "object") (length objects.names) d a.value a.first)
@@ -142,8 +139,8 @@ object_type_from types objects d next is =
     let f = came (told (path ++ codes "type") (name_among types e.value)) _ next e.rest in
     let g = came (no_others path a.value object_keys) _ next f.rest in
     let n =
-            found (as_str e.value) (number_of types) f.value
-              (told_some (path ++ codes "type") (name_among types e.value) f.value f.first) in
+    found (as_str e.value) (number_of types) f.value
+    (told_some (path ++ codes "type") (name_among types e.value) f.value f.first) in
     record {
       one = f.value;
       grown =

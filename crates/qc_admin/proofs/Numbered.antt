@@ -1,7 +1,6 @@
 -- What runs, once requests get their numbers: Closes, Asks and Installs.
-use Rattle.std.proofs.Common.{◌≡◌, ℕ, zero, suc, ◌+◌, ◌<◌, ◌==◌, ◌&&◌, Bool, true, false, cond, List, ◌∷◌, ◌++◌}
-use Rattle.std.proofs.Common.{fold, length, map, take, Option, Some, None, is_none, refl, sym, ap, ◌∙◌}
-use Rattle.std.proofs.Common.{append_assoc, arith}
+use Rattle.std.proofs.Common.{◌≡◌, ℕ, zero, suc, ◌+◌, ◌<◌, ◌==◌, ◌&&◌, Bool, true, false, cond, List, ◌∷◌, ◌++◌, fold}
+use Rattle.std.proofs.Common.{length, map, take, Option, Some, None, is_none, refl, sym, ap, ◌∙◌, append_assoc, arith}
 use Rattle.std.proofs.lemmas.Bool.{ne_eqb}
 use Rattle.std.proofs.lemmas.List.{append-nil}
 use Rattle.std.proofs.lemmas.List.FromFn.{length-range_with_len}
@@ -11,25 +10,23 @@ use Rattle.qc_decl.specs.Names.{IsAccepted}
 use Rattle.qc_msg.specs.declared.call.Call.{Call}
 use Rattle.qc_msg.specs.declared.turn.Turn.{Turn}
 use Rattle.qc_msg.specs.Names.{calls_from, sending, with_call}
-use Rattle.qc_epoch.specs.Names.{Admin, Asking, Decided, Installing, Question, ShutSite}
-use Rattle.qc_epoch.specs.Names.{all_sites, ask_of, doing, install_of, install_sends}
-use Rattle.qc_epoch.specs.Names.{installing, is_number, is_questioned, most_asks, moved, numbered_first, taken_for}
-use Rattle.qc_epoch.specs.Names.{with_question, with_questions}
+use Rattle.qc_epoch.specs.Names.{Admin, Asking, Decided, Installing, Question, ShutSite, all_sites, ask_of, doing}
+use Rattle.qc_epoch.specs.Names.{install_of, install_sends, installing, is_number, is_questioned, most_asks, moved}
+use Rattle.qc_epoch.specs.Names.{numbered_first, taken_for, with_question, with_questions}
 use Rattle.qc_msg.specs.declared.message.Outcome.{Outcome}
-use Rattle.qc_admin.specs.Names.{IsNumberedAtOnce, is_unasked}
-use Rattle.qc_admin.specs.Names.{numbered_all, sent_each}
+use Rattle.qc_admin.specs.Names.{IsNumberedAtOnce, is_unasked, numbered_all, sent_each}
 
 -- Installs get their numbers
 
 installs_sent : (m : Admin) (d : Decided) (closed awaits : List ℕ) (calls : List Call) (first : ℕ) (sites : List ℕ)
     → sent_each (doing m (Installing closed awaits calls [])) first (map (install_of d) sites)
-        ≡ doing m (Installing closed awaits (calls ++ calls_from first sites) [])
+    ≡ doing m (Installing closed awaits (calls ++ calls_from first sites) [])
 installs_sent m d closed awaits calls first [] =
     ap (λ (cs : List Call). doing m (Installing closed awaits cs [])) (sym (append-nil calls))
 installs_sent m d closed awaits calls first (s ∷ ss) =
     installs_sent m d closed awaits (with_call calls first s) (first + 1) ss
     ∙ ap (λ (cs : List Call). doing m (Installing closed awaits cs []))
-        (append_assoc calls (record { number = first; site = s } ∷ []) (calls_from (first + 1) ss))
+    (append_assoc calls (record { number = first; site = s } ∷ []) (calls_from (first + 1) ss))
 
 count_from : (first : ℕ) (sites : List ℕ) → length (calls_from first sites) ≡ length sites
 count_from first [] = refl
@@ -44,7 +41,7 @@ installs_new decl m d closed turn accepted are = record {
       ∙ installs_sent m d closed (all_sites decl) [] first (all_sites decl);
   holds = λ first.
       let counted : length (calls_from first (all_sites decl)) ≡ length (all_sites decl) =
-              count_from first (all_sites decl) in
+      count_from first (all_sites decl) in
       let row : length (all_sites decl) ≡ decl.sites = length-range_with_len 0 decl.sites in
       let some : 0 < decl.sites = accepted.has_site in
       ne_eqb (length (calls_from first (all_sites decl))) 0 (λ e. let never : ⊥ = omega arith in never);
@@ -55,7 +52,7 @@ installs_new decl m d closed turn accepted are = record {
 asks_sent : (decl : Declaration) (m : Admin) (next : ℕ) (shuts : List ShutSite) (qs : List Question) (first : ℕ)
     (ts : List Question)
     → sent_each (doing m (Asking next shuts qs)) first (map (ask_of decl) ts)
-        ≡ doing m (Asking next shuts (numbered_all (length ts) first qs))
+    ≡ doing m (Asking next shuts (numbered_all (length ts) first qs))
 asks_sent decl m next shuts qs first [] = refl
 asks_sent decl m next shuts qs first (t ∷ ts) = asks_sent decl m next shuts (numbered_first qs first) (first + 1) ts
 
@@ -137,7 +134,7 @@ asking_new decl m next shuts qs new some = record {
       ∙ ap (λ b. doing m (Asking next shuts (cond b (numbered_all (length (take most_asks qs)) first qs) qs))) (sym new);
   holds = λ first.
       ap (λ b. is_unasked (cond b (numbered_all (length (take most_asks qs)) first qs) qs)) new
-          ∙ asked_now 65535 first qs some;
+      ∙ asked_now 65535 first qs some;
 }
 
 -- what is taken leaves the numbers

@@ -1,7 +1,6 @@
 -- Closes and Asks get their numbers: a round after what came of a request, as requests are numbered.
-use Rattle.std.proofs.Common.{◌≡◌, ℕ, ◌+◌, ◌<◌, ◌==◌, Bool, true, false, cond, List, ◌∷◌, ◌++◌}
-use Rattle.std.proofs.Common.{length, map, take, Some, inl, inr, refl, sym, ap, ◌∙◌, subst}
-use Rattle.std.proofs.Common.{append_assoc, arith}
+use Rattle.std.proofs.Common.{◌≡◌, ℕ, ◌+◌, ◌<◌, ◌==◌, Bool, true, false, cond, List, ◌∷◌, ◌++◌, length, map, take, Some}
+use Rattle.std.proofs.Common.{inl, inr, refl, sym, ap, ◌∙◌, subst, append_assoc, arith}
 use Rattle.std.specs.Ordering.{nat_cmp}
 use Rattle.std.proofs.lemmas.Bool.{ne_eqb}
 use Rattle.std.proofs.lemmas.List.{append-nil}
@@ -16,16 +15,13 @@ use Rattle.qc_plan.specs.Names.{RoundState, all_noted, asking_all, note, verdict
 use Rattle.qc_front.specs.Names.{IsAwaiting, IsRound, awaited, sites_called, sites_of}
 use Rattle.qc_front.proofs.Apart.{AreApart}
 use Rattle.qc_front.proofs.Awaited.{asking_awaits, asking_round, asking_waits}
-use Rattle.qc_front.proofs.NotedRounds.{note_round, note_wants}
-use Rattle.qc_front.proofs.Noting.{awaits_some, no_calls, note_numbered, note_open}
-use Rattle.qc_front.proofs.NotedRounds.{round_apart}
-use Rattle.qc_front.proofs.Noting.{noted_awaits}
+use Rattle.qc_front.proofs.NotedRounds.{note_round, note_wants, round_apart}
+use Rattle.qc_front.proofs.Noting.{awaits_some, no_calls, note_numbered, note_open, noted_awaits}
 use Rattle.qc_front.proofs.Recording.{below_one}
-use Rattle.qc_epoch.specs.Names.{Admin, Asking, Closing, Doing, Installing, Resting, ShutSite}
-use Rattle.qc_epoch.specs.Names.{called, close_of, doing, goes_on}
-use Rattle.qc_epoch.specs.Names.{most_asks, moved}
-use Rattle.qc_admin.specs.Names.{AdminHolds, ClosingHolds, DoingHolds, IsNumberedAtOnce, numbered}
-use Rattle.qc_admin.specs.Names.{numbered_all, sent_each}
+use Rattle.qc_epoch.specs.Names.{Admin, Asking, Closing, Doing, Installing, Resting, ShutSite, called, close_of, doing}
+use Rattle.qc_epoch.specs.Names.{goes_on, most_asks, moved}
+use Rattle.qc_admin.specs.Names.{AdminHolds, ClosingHolds, DoingHolds, IsNumberedAtOnce, numbered, numbered_all}
+use Rattle.qc_admin.specs.Names.{sent_each}
 
 -- calls with consecutive numbers
 
@@ -41,9 +37,11 @@ from_later n first (s ∷ ss) low k (inr later) = from_later n (first + 1) ss (o
 
 from_ascends : (first : ℕ) (sites : List ℕ) → Ascends nat_cmp (map (λ (c : Call). c.number) (calls_from first sites))
 from_ascends first [] = tt
-from_ascends first (s ∷ ss) =
-    (below_one first (map (λ (c : Call). c.number) (calls_from (first + 1) ss))
-    (from_later first (first + 1) ss (omega arith)), from_ascends (first + 1) ss)
+from_ascends first (s ∷ ss) = (
+  below_one first (map (λ (c : Call). c.number) (calls_from (first + 1) ss))
+      (from_later first (first + 1) ss (omega arith)),
+  from_ascends (first + 1) ss,
+)
 
 some_calls : (calls : List Call) (sites : List ℕ) (first : ℕ) → (length calls == 0) ≡ false
     → numbered_from calls sites first ≡ calls
@@ -65,7 +63,7 @@ stays : (decl : Declaration) (epoch : ℕ) (runs : Doing) (first : ℕ) → Doin
 stays decl epoch Resting first h = refl
 stays decl epoch (Closing next calls round shuts) first h =
     ap (λ (cs : List Call). Closing next cs round shuts)
-        (some_calls calls (awaited round) first (open_calls calls round h.awaits h.numbered))
+    (some_calls calls (awaited round) first (open_calls calls round h.awaits h.numbered))
 stays decl epoch (Asking next shuts questions) first h =
     ap (λ b. Asking next shuts (cond b (numbered_all (length (take most_asks questions)) first questions) questions)) h
 stays decl epoch (Installing closed awaits calls installed) first h =
@@ -84,13 +82,13 @@ unsent decl m turn none h = record {
 closes_sent : (m : Admin) (next : ℕ) (calls : List Call) (round : RoundState) (shuts : List ShutSite) (first : ℕ)
     (sites : List ℕ)
     → sent_each (doing m (Closing next calls round shuts)) first (map (close_of next) sites)
-        ≡ doing m (Closing next (calls ++ calls_from first sites) round shuts)
+    ≡ doing m (Closing next (calls ++ calls_from first sites) round shuts)
 closes_sent m next calls round shuts first [] =
     ap (λ (cs : List Call). doing m (Closing next cs round shuts)) (sym (append-nil calls))
 closes_sent m next calls round shuts first (s ∷ ss) =
     closes_sent m next (with_call calls first s) round shuts (first + 1) ss
     ∙ ap (λ (cs : List Call). doing m (Closing next cs round shuts))
-        (append_assoc calls (record { number = first; site = s } ∷ []) (calls_from (first + 1) ss))
+    (append_assoc calls (record { number = first; site = s } ∷ []) (calls_from (first + 1) ss))
 
 same_need : (decl : Declaration) (client epoch need : ℕ) (r : RoundState) → IsRound decl client epoch need r
     → IsRound decl client epoch r.need r
@@ -100,22 +98,22 @@ same_need decl client epoch need r is = record { weights = is.weights; need_is =
 pub asks_new : (decl : Declaration) (m : Admin) (next : ℕ) (calls : List Call) (round : RoundState)
     (shuts : List ShutSite) → IsRound decl 0 m.epoch round.need round
     → verdict round ≡ verdicts.Waiting → calls ≡ [] → awaited round ≡ []
-        → IsNumberedAtOnce decl (goes_on m next calls round shuts)
+    → IsNumberedAtOnce decl (goes_on m next calls round shuts)
 asks_new decl m next calls round shuts is waits none nobody = record {
   told = λ first.
       ap (λ (cs : List Call). sent_each (doing m (Closing next cs (asking_all round (wanted round)) shuts)) first
-          (map (close_of next) (wanted round))) none
+      (map (close_of next) (wanted round))) none
       ∙ closes_sent m next [] (asking_all round (wanted round)) shuts first (wanted round)
       ∙ ap (λ (ss : List ℕ). doing m (Closing next (calls_from first ss) (asking_all round (wanted round)) shuts))
-          (sym asked)
+      (sym asked)
       ∙ ap
-          (λ (cs : List Call). doing m
-            (Closing next (numbered_from cs (awaited (asking_all round (wanted round))) first)
-              (asking_all round (wanted round)) shuts)) (sym none);
+      (λ (cs : List Call). doing m
+      (Closing next (numbered_from cs (awaited (asking_all round (wanted round))) first)
+      (asking_all round (wanted round)) shuts)) (sym none);
   holds = λ first.
       subst (λ (cs : List Call). ClosingHolds decl m.epoch
-          (numbered_from cs (awaited (asking_all round (wanted round))) first) (asking_all round (wanted round)))
-          (sym none)
+      (numbered_from cs (awaited (asking_all round (wanted round))) first) (asking_all round (wanted round)))
+      (sym none)
       (record {
         round_is =
             same_need decl 0 m.epoch round.need (asking_all round (wanted round))
@@ -127,7 +125,7 @@ asks_new decl m next calls round shuts is waits none nobody = record {
               record {
                 more = [];
                 is = append-nil (sites_called (calls_from first (awaited (asking_all round (wanted round)))))
-                    ∙ from_sites first (awaited (asking_all round (wanted round)))
+                    ∙ from_sites first (awaited (asking_all round (wanted round)));
               };
         };
         numbered = from_sites first (awaited (asking_all round (wanted round)));
@@ -140,7 +138,7 @@ asks_new decl m next calls round shuts is waits none nobody = record {
 pub asks_on : (decl : Declaration) (m : Admin) (next number site : ℕ) (standing : Standing) (calls : List Call)
     (round : RoundState) (shuts : List ShutSite)
     → ClosingHolds decl m.epoch calls round → site_called calls number ≡ Some site
-        → verdict (note round site standing) ≡ verdicts.Waiting
+    → verdict (note round site standing) ≡ verdicts.Waiting
     → IsNumberedAtOnce decl (goes_on m next (without_call calls number) (note round site standing) shuts)
 asks_on decl m next number site standing calls round shuts h called waits =
     by (all_noted (note round site standing).asked) refl
@@ -159,15 +157,15 @@ asks_on decl m next number site standing calls round shuts h called waits =
     by true all =
         let nobody : awaited (note round site standing) ≡ [] = noted_awaits (note round site standing).asked all in
         asks_new decl m next (without_call calls number) (note round site standing) shuts is waits
-            (no_calls (without_call calls number) (full ∙ nobody)) nobody
+        (no_calls (without_call calls number) (full ∙ nobody)) nobody
     by false some =
         let none : wanted (note round site standing) ≡ [] = note_wants round site standing h.awaits some in
         subst (λ (sites : List ℕ). IsNumberedAtOnce decl
-            (moved (doing m
-              (Closing next (without_call calls number) (asking_all (note round site standing) sites) shuts))
-              (sending (map (close_of next) sites)))) (sym none)
+        (moved (doing m
+        (Closing next (without_call calls number) (asking_all (note round site standing) sites) shuts))
+        (sending (map (close_of next) sites)))) (sym none)
         (unsent decl (doing m (Closing next (without_call calls number) (note round site standing) shuts)) (sending [])
-            refl
+        refl
         (record {
           round_is = is;
           awaits = record { open_still = some; asked_all = none };

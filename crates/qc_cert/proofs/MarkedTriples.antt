@@ -1,6 +1,6 @@
 -- Marks of the triples that stand nowhere before: what those cover.
-use Rattle.std.proofs.Common.{◌≡◌, ℕ, suc, ◌+◌, ◌<◌, Bool, true, false, cond, List, ◌∷◌, ◌++◌, All}
-use Rattle.std.proofs.Common.{length, get_or, take, drop, refl, sym, ap, ◌∙◌, arith, Ordering}
+use Rattle.std.proofs.Common.{◌≡◌, ℕ, suc, ◌+◌, ◌<◌, Bool, true, false, cond, List, ◌∷◌, ◌++◌, All, length, get_or}
+use Rattle.std.proofs.Common.{take, drop, refl, sym, ap, ◌∙◌, arith, Ordering}
 use Rattle.std.specs.Prelude.{not, ◌==◌, ◌&&◌, ◌||◌}
 use Rattle.std.specs.List.{list_any, AllByRecursion}
 use Rattle.std.specs.Ordering.{is_eq, nat_cmp, ordering_then}
@@ -9,8 +9,7 @@ use Rattle.std.proofs.lemmas.List.{take_more, drop_more}
 use Rattle.std.proofs.lemmas.Grind.{common_steps}
 use Rattle.std.proofs.lemmas.List.Elements.{All-from_recursion, recursion_from_All}
 use Rattle.std.proofs.lemmas.List.Folds.{list_any-append}
-use Rattle.qc_cert.specs.Names.{covers, distinct, firsts, firsts_after, is_among}
-use Rattle.qc_cert.specs.Names.{is_covered, is_same, marked, triple}
+use Rattle.qc_cert.specs.Names.{covers, distinct, firsts, firsts_after, is_among, is_covered, is_same, marked, triple}
 use Rattle.qc_cert.specs.declared.triple.Triple.{Triple}
 
 -- ---- what the set's order tells
@@ -31,16 +30,16 @@ number_last x y = grind (arith, common_steps)
 pub order_tells : TellsSame triple_cmp
 order_tells a b =
     number_then a.view b.view (ordering_then (nat_cmp a.log b.log) (nat_cmp a.out b.out))
-        ((a.log == b.log) && (a.out == b.out))
+    ((a.log == b.log) && (a.out == b.out))
     (number_then a.log b.log (nat_cmp a.out b.out) (a.out == b.out) (number_last a.out b.out))
 
 -- ---- the same triple
 pub same_equal : (a b : Triple) → is_same a b ≡ true → a ≡ b
 same_equal a b s =
     let one : ((a.view == b.view) ≡ true) × (((a.log == b.log) && (a.out == b.out)) ≡ true) =
-            and_parts (a.view == b.view) ((a.log == b.log) && (a.out == b.out)) s in
+    and_parts (a.view == b.view) ((a.log == b.log) && (a.out == b.out)) s in
     let two : ((a.log == b.log) ≡ true) × ((a.out == b.out) ≡ true) =
-            and_parts (a.log == b.log) (a.out == b.out) one.1 in
+    and_parts (a.log == b.log) (a.out == b.out) one.1 in
     ap (λ v. triple v a.log a.out) (eqb-true a.view b.view one.0)
     ∙ ap (λ l. triple b.view l a.out) (eqb-true a.log b.log two.0)
     ∙ ap (λ o. triple b.view b.log o) (eqb-true a.out b.out two.1)
@@ -78,17 +77,17 @@ length_firsts before (t ∷ ts) = ap suc (length_firsts (before ++ t ∷ []) ts)
 -- one triple more was marked
 pub marks_more : (list : List Triple) (i : ℕ) (x d : Triple) → i < length list → x ≡ get_or list i d
     → firsts_after (take i list) (drop i list)
-        ≡ not (is_among (take i list) x) ∷ firsts_after (take (i + 1) list) (drop (i + 1) list)
+    ≡ not (is_among (take i list) x) ∷ firsts_after (take (i + 1) list) (drop (i + 1) list)
 marks_more list i x d l e =
     ap (firsts_after (take i list)) (drop_more list i d l ∙ ap (λ y. y ∷ drop (i + 1) list) (sym e))
     ∙ ap (λ ts. not (is_among (take i list) x) ∷ firsts_after ts (drop (i + 1) list))
-        (sym (take_more list i d l ∙ ap (λ y. take i list ++ y ∷ []) (sym e)))
+    (sym (take_more list i d l ∙ ap (λ y. take i list ++ y ∷ []) (sym e)))
 
 -- the triples with a mark, from a place on
 pub marked_more : (marks : List Bool) (list : List Triple) (i : ℕ) (b c : Bool) (x d : Triple) → i < length marks
     → i < length list → b ≡ get_or marks i c → x ≡ get_or list i d
     → marked (drop i marks) (drop i list)
-        ≡ cond b (x ∷ marked (drop (i + 1) marks) (drop (i + 1) list)) (marked (drop (i + 1) marks) (drop (i + 1) list))
+    ≡ cond b (x ∷ marked (drop (i + 1) marks) (drop (i + 1) list)) (marked (drop (i + 1) marks) (drop (i + 1) list))
 marked_more marks list i b c x d m l be xe =
     ap (λ ms. marked ms (drop i list)) (drop_more marks i c m ∙ ap (λ y. y ∷ drop (i + 1) marks) (sym be))
     ∙ ap (marked (b ∷ drop (i + 1) marks)) (drop_more list i d l ∙ ap (λ y. y ∷ drop (i + 1) list) (sym xe))
@@ -103,11 +102,11 @@ seen_more list i x d q l e =
 -- what the set that was given a triple has
 pub seen_with : (cmp : Triple → Triple → Ordering) → TellsSame cmp → (old new : List Triple) (x : Triple)
     → ((t : Triple)
-        → list_any (λ k. is_eq (cmp t k)) new ≡ cond (is_eq (cmp x t)) true (list_any (λ k. is_eq (cmp t k)) old))
+    → list_any (λ k. is_eq (cmp t k)) new ≡ cond (is_eq (cmp x t)) true (list_any (λ k. is_eq (cmp t k)) old))
     → (t : Triple) → is_among new t ≡ (is_among old t || is_same x t)
 seen_with cmp tells old new x updates t =
     sym (finds new) ∙ updates t ∙ ap (λ b. cond b true (list_any (λ k. is_eq (cmp t k)) old)) (tells x t)
-        ∙ ap (cond (is_same x t) true) (finds old) ∙ either (is_same x t) (is_among old t)
+    ∙ ap (cond (is_same x t) true) (finds old) ∙ either (is_same x t) (is_among old t)
   where
     finds : (ks : List Triple) → list_any (λ k. is_eq (cmp t k)) ks ≡ is_among ks t
     finds ks = among_by cmp tells ks t
@@ -145,11 +144,11 @@ among_covers (a ∷ before) x t among c = by (is_same a x) refl among (λ later.
 -- each triple that stands before or after is covered by those before and the first of the others
 covered_after : (before ts : List Triple) (t : Triple)
     → (is_covered before t || is_covered (marked (firsts_after before ts) ts) t)
-      ≡ (is_covered before t || is_covered ts t)
+    ≡ (is_covered before t || is_covered ts t)
 covered_after before [] t = refl
 covered_after before (x ∷ ts) t = by (is_among before x) refl
     (ap (λ b. b || is_covered (marked (firsts_after (before ++ x ∷ []) ts) ts) t)
-        (sym (list_any-append (λ a. covers a t) before (x ∷ [])))
+    (sym (list_any-append (λ a. covers a t) before (x ∷ [])))
     ∙ covered_after (before ++ x ∷ []) ts t
     ∙ ap (λ b. b || is_covered ts t) (list_any-append (λ a. covers a t) before (x ∷ [])))
   where
@@ -170,9 +169,9 @@ covered_after before (x ∷ ts) t = by (is_among before x) refl
 
     by : (b : Bool) → is_among before x ≡ b
         → ((is_covered before t || (covers x t || false)) || is_covered rest t)
-            ≡ ((is_covered before t || (covers x t || false)) || is_covered ts t)
+        ≡ ((is_covered before t || (covers x t || false)) || is_covered ts t)
         → (is_covered before t || is_covered (cond (not b) (x ∷ rest) rest) t)
-            ≡ (is_covered before t || (covers x t || is_covered ts t))
+        ≡ (is_covered before t || (covers x t || is_covered ts t))
     by true among more =
         again (is_covered before t) (covers x t) (is_covered rest t) (is_covered ts t) (among_covers before x t among)
         more

@@ -1,7 +1,7 @@
 -- Pieces of a set, as rows of bits: how rows join, and what is left in the end.
 use Rattle.std.proofs.Common.{◌≡◌, ◌⊎◌, inl, inr, ℕ, zero, suc, ◌+◌, ◌-◌, ◌*◌, ◌/◌, ◌%◌, ◌^◌, ◌<◌, ◌≤◌, Bool, true}
-use Rattle.std.proofs.Common.{false, List, All, Option, Some, None, slice_get, length, get_or, bit_and}
-use Rattle.std.proofs.Common.{refl, sym, ap, ◌∙◌, add-one, arith, w64}
+use Rattle.std.proofs.Common.{false, List, All, Option, Some, None, slice_get, length, get_or, bit_and, refl, sym, ap}
+use Rattle.std.proofs.Common.{◌∙◌, add-one, arith, w64}
 use Rattle.std.specs.Prelude.{◌==◌, ◌&&◌}
 use Rattle.std.specs.Int.{bit_at, trailing_zeros}
 use Rattle.std.specs.Option.{option_map_or}
@@ -9,8 +9,8 @@ use Rattle.std.proofs.lemmas.Bool.{and_from, and_parts, cases_lt, eqb-true, eqb-
 use Rattle.std.proofs.lemmas.Bool.{true≢false}
 use Rattle.std.proofs.lemmas.List.Folds.{list_any_at}
 use Rattle.std.proofs.lemmas.Nat.{pow_pos, shr_split}
-use Rattle.std.proofs.lemmas.Nat.Bits.{bit_at-lt, bit_at_and, bit_at_above, bit_at_cat_high}
-use Rattle.std.proofs.lemmas.Nat.Bits.{bit_at_cat_low, bit_at_ones}
+use Rattle.std.proofs.lemmas.Nat.Bits.{bit_at-lt, bit_at_and, bit_at_above, bit_at_cat_high, bit_at_cat_low}
+use Rattle.std.proofs.lemmas.Nat.Bits.{bit_at_ones}
 use Rattle.std.proofs.lemmas.Option.{get_or_from_slice_get, slice_get_within}
 use Rattle.std.proofs.Math.Nat.{mod-lt}
 use Rattle.qc_cert.proofs.Computed.{true_within, within_true}
@@ -25,7 +25,7 @@ shifted : (n k i : ℕ) → bit_at (n / 2 ^ k) i ≡ bit_at n (i + k)
 shifted n k i =
     let less : n % 2 ^ k < 2 ^ k = mod-lt n (pow_pos k) in
     let high : bit_at (n / 2 ^ k * 2 ^ k + n % 2 ^ k) (i + k) ≡ bit_at (n / 2 ^ k) (i + k - k) =
-            bit_at_cat_high (n / 2 ^ k) k (n % 2 ^ k) (i + k) less (omega arith) in
+    bit_at_cat_high (n / 2 ^ k) k (n % 2 ^ k) (i + k) less (omega arith) in
     let back : i + k - k ≡ i = omega arith in
     sym (ap (λ m. bit_at m (i + k)) (sym (shr_split n k)) ∙ high ∙ ap (bit_at (n / 2 ^ k)) back)
 
@@ -47,7 +47,7 @@ past_piece set number i here = by (cases_lt i 4)
     by (inl l) = l
     by (inr past) = absurd (
         let none : bit_at (piece set number) i ≡ 0 =
-                bit_at_above (piece set number) 4 i (piece_small set number) past in
+        bit_at_above (piece set number) 4 i (piece_small set number) past in
         let one : bit_at (piece set number) i ≡ 1 = eqb-true _ 1 here in
         omega arith)
 
@@ -69,7 +69,7 @@ within_pieces a b small pieces = true_within a b at
         let low : k % 4 < 4 = omega arith in
         let ours : has (piece a (k / 4)) (k % 4) ≡ true = piece_has a (k / 4) (k % 4) low ∙ ap (has a) place ∙ here in
         let theirs : has (piece b (k / 4)) (k % 4) ≡ true =
-                within_true (piece a (k / 4)) (piece b (k / 4)) (pieces (k / 4) (omega (arith, l))) (k % 4) ours in
+        within_true (piece a (k / 4)) (piece b (k / 4)) (pieces (k / 4) (omega (arith, l))) (k % 4) ours in
         ap (has b) (sym place) ∙ sym (piece_has b (k / 4) (k % 4) low) ∙ theirs
 
 -- ---- words
@@ -138,9 +138,9 @@ pub within_agrees : (sets : List ℕ) (out place set count : ℕ) → slice_get 
 within_agrees sets out place set zero at within = refl
 within_agrees sets out place set (suc count) at within =
     and_from (agrees sets out place count) (keeps sets place count (piece out count))
-        (within_agrees sets out place set count at within)
+    (within_agrees sets out place set count at within)
     (ap (λ o. option_map_or (λ s. is_within (piece s count) (piece out count)) o false) at
-        ∙ pieces_within set out count within)
+    ∙ pieces_within set out count within)
 
 -- a set that agrees in all pieces is within it
 pub agrees_within : (sets : List ℕ) (out place : ℕ) → All (λ set. set < 2 ^ 64) sets → agrees sets out place 16 ≡ true
@@ -158,7 +158,7 @@ agrees_within sets out place small all = by (slice_get sets place) refl
         list_any_at (λ s. is_within s out) sets place 0 within
         (ap (λ s. is_within s out) is ∙ within_pieces set out fits (λ number l.
         ap (λ o. option_map_or (λ s. is_within (piece s number) (piece out number)) o false) (sym at)
-            ∙ agrees_each sets out place 16 all number l))
+        ∙ agrees_each sets out place 16 all number l))
 
 -- a word with a bit
 pub word_hit : (sets : List ℕ) (out from word : ℕ) → All (λ set. set < 2 ^ 64) sets → AreLeft sets out 16 from word

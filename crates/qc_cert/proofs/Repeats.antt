@@ -1,6 +1,6 @@
 -- The triples that stand nowhere before tell of all: what is covered, and the first fault.
-use Rattle.std.proofs.Common.{◌≡◌, ℕ, suc, ◌+◌, ◌<◌, Bool, true, false, cond, List, ◌∷◌, ◌++◌, Option, Some}
-use Rattle.std.proofs.Common.{None, length, get_or, drop, refl, sym, ap, ◌∙◌, add-one, ◌≤◌}
+use Rattle.std.proofs.Common.{◌≡◌, ℕ, suc, ◌+◌, ◌<◌, Bool, true, false, cond, List, ◌∷◌, ◌++◌, Option, Some, None}
+use Rattle.std.proofs.Common.{length, get_or, drop, refl, sym, ap, ◌∙◌, add-one, ◌≤◌}
 use Rattle.std.specs.Prelude.{is_some, not, ◌==◌, ◌||◌, option_and_then}
 use Rattle.std.specs.Option.{option_or}
 use Rattle.std.proofs.lemmas.Bool.{true≢false}
@@ -9,9 +9,9 @@ use Rattle.qc_list.specs.Names.{first_below}
 use Rattle.qc_list.proofs.Search.{none_parts, none_from, none_below, below_none}
 use Rattle.qc_table.specs.Names.{events_of, step_of, with_member}
 use Rattle.qc_table.specs.declared.kind.Kind.{Kind}
-use Rattle.qc_cert.specs.Names.{firsts, firsts_after, inv_fault, inv_of, is_allowed, is_among}
-use Rattle.qc_cert.specs.Names.{is_covered, is_free, is_same, left_out_fault, marked_fault, taken_fault, triple}
-use Rattle.qc_cert.specs.Names.{triple_fault, triples_fault, unequal_fault, unless_covered}
+use Rattle.qc_cert.specs.Names.{firsts, firsts_after, inv_fault, inv_of, is_allowed, is_among, is_covered, is_free}
+use Rattle.qc_cert.specs.Names.{is_same, left_out_fault, marked_fault, taken_fault, triple, triple_fault, triples_fault}
+use Rattle.qc_cert.specs.Names.{unequal_fault, unless_covered}
 use Rattle.qc_cert.specs.declared.fault.CertFault.{CertFault}
 use Rattle.qc_cert.specs.declared.fault.CertFault.TheVariants.{Uncovered, Unequal}
 use Rattle.qc_cert.specs.declared.triple.Triple.{Triple}
@@ -32,9 +32,9 @@ module _ (kind : Kind) (list : List Triple) (p q : ℕ) (t : Triple) where
     where
       by : (o : Option ℕ)
           → option_and_then (λ h. unless_covered list (Uncovered p e false) (triple t.view h (with_member t.out e))) o
-            ≡ None
+          ≡ None
           → option_and_then (λ h. unless_covered list (Uncovered q e false) (triple t.view h (with_member t.out e))) o
-              ≡ None
+          ≡ None
       by None e = refl
       by (Some h) n =
           no_fault list (Uncovered p e false) (Uncovered q e false) (triple t.view h (with_member t.out e)) n
@@ -56,11 +56,11 @@ module _ (kind : Kind) (list : List Triple) (p q : ℕ) (t : Triple) where
     where
       by : (b : Bool) (view log : Option ℕ)
           → cond b
-              (option_and_then (λ g. option_and_then (λ h. unless_covered list (Uncovered p e true) (triple g h t.out))
-                log) view) None ≡ None
+          (option_and_then (λ g. option_and_then (λ h. unless_covered list (Uncovered p e true) (triple g h t.out))
+          log) view) None ≡ None
           → cond b
-              (option_and_then (λ g. option_and_then (λ h. unless_covered list (Uncovered q e true) (triple g h t.out))
-                log) view) None ≡ None
+          (option_and_then (λ g. option_and_then (λ h. unless_covered list (Uncovered q e true) (triple g h t.out))
+          log) view) None ≡ None
       by false view log n = refl
       by true None log n = refl
       by true (Some g) None n = refl
@@ -82,30 +82,30 @@ module _ (kind : Kind) (list : List Triple) (p q : ℕ) (t : Triple) where
           let both : (responses p ≡ None) × (events p ≡ None) = none_parts (responses p) (events p) n in
           none_from (responses q) (events q)
           (below_none kind.table.resps (unequal_fault kind q t inv)
-              (λ resp less. unequal_anywhere inv resp
-                (none_below kind.table.resps (unequal_fault kind p t inv) both.0 resp less)))
+          (λ resp less. unequal_anywhere inv resp
+          (none_below kind.table.resps (unequal_fault kind p t inv) both.0 resp less)))
           (below_none (length (events_of kind.table.rows)) (taken_fault kind list q t inv)
-              (λ e less. taken_anywhere inv e
-                (none_below (length (events_of kind.table.rows)) (taken_fault kind list p t inv) both.1 e less)))
+          (λ e less. taken_anywhere inv e
+          (none_below (length (events_of kind.table.rows)) (taken_fault kind list p t inv) both.1 e less)))
 
   pub none_anywhere : triple_fault kind list p t ≡ None → triple_fault kind list q t ≡ None
   none_anywhere none =
       let both =
-              none_parts (first_below (length (events_of kind.table.rows)) (left_out_fault kind list p t))
-                (first_below kind.table.invs (inv_fault kind list p t)) none in
+      none_parts (first_below (length (events_of kind.table.rows)) (left_out_fault kind list p t))
+      (first_below kind.table.invs (inv_fault kind list p t)) none in
       none_from (first_below (length (events_of kind.table.rows)) (left_out_fault kind list q t))
-          (first_below kind.table.invs (inv_fault kind list q t))
+      (first_below kind.table.invs (inv_fault kind list q t))
       (below_none (length (events_of kind.table.rows)) (left_out_fault kind list q t)
-          (λ e less. left_out_anywhere e
-            (none_below (length (events_of kind.table.rows)) (left_out_fault kind list p t) both.0 e less)))
+      (λ e less. left_out_anywhere e
+      (none_below (length (events_of kind.table.rows)) (left_out_fault kind list p t) both.0 e less)))
       (below_none kind.table.invs (inv_fault kind list q t)
-          (λ inv less. inv_anywhere inv (none_below kind.table.invs (inv_fault kind list p t) both.1 inv less)))
+      (λ inv less. inv_anywhere inv (none_below kind.table.invs (inv_fault kind list p t) both.1 inv less)))
 
 -- one triple more without a fault
 none_more : (kind : Kind) (list before : List Triple) (place : ℕ) (x : Triple)
     → ((t : Triple) → is_among before t ≡ true → triple_fault kind list 0 t ≡ None)
     → triple_fault kind list place x ≡ None → (t : Triple) → is_among (before ++ x ∷ []) t ≡ true
-        → triple_fault kind list 0 t ≡ None
+    → triple_fault kind list 0 t ≡ None
 none_more kind list before place x none here t among =
     by (is_among before t) (is_same x t) refl refl (sym (among_more before x t) ∙ among)
   where
@@ -122,7 +122,7 @@ fault_after : (kind : Kind) (list before : List Triple) (place : ℕ) (ts : List
 fault_after kind list before place [] none = refl
 fault_after kind list before place (x ∷ ts) none =
     by (is_among before x) (triple_fault kind list place x) refl refl
-        (λ here. fault_after kind list (before ++ x ∷ []) (suc place) ts (none_more kind list before place x none here))
+    (λ here. fault_after kind list (before ++ x ∷ []) (suc place) ts (none_more kind list before place x none here))
   where
     rest : Option CertFault
     rest = marked_fault kind list (suc place) (firsts_after (before ++ x ∷ []) ts) ts
@@ -133,8 +133,8 @@ fault_after kind list before place (x ∷ ts) none =
     by true None among here more = more here
     by true (Some f) among here more =
         absurd (let nothing : triple_fault kind list place x ≡ None =
-                        none_anywhere kind list 0 place x (none x among) in
-                let never : ⊥ = cc in never)
+        none_anywhere kind list 0 place x (none x among) in
+        let never : ⊥ = cc in never)
     by false None among here more = more here
     by false (Some f) among here more = refl
 
@@ -147,16 +147,16 @@ fault_once kind list = fault_after kind list [] 0 list (λ t among. absurd (true
 pub fault_more : (kind : Kind) (list ts : List Triple) (marks : List Bool) (i : ℕ) (b c : Bool) (x d : Triple)
     → i < length marks → i < length ts → b ≡ get_or marks i c → x ≡ get_or ts i d
     → marked_fault kind list i (drop i marks) (drop i ts)
-        ≡ option_or (cond b (triple_fault kind list i x) None)
-          (marked_fault kind list (i + 1) (drop (i + 1) marks) (drop (i + 1) ts))
+    ≡ option_or (cond b (triple_fault kind list i x) None)
+    (marked_fault kind list (i + 1) (drop (i + 1) marks) (drop (i + 1) ts))
 fault_more kind list ts marks i b c x d m l be xe =
     ap (λ ms. marked_fault kind list i ms (drop i ts))
-        (drop_more marks i c m ∙ ap (λ y. y ∷ drop (i + 1) marks) (sym be))
+    (drop_more marks i c m ∙ ap (λ y. y ∷ drop (i + 1) marks) (sym be))
     ∙ ap (marked_fault kind list i (b ∷ drop (i + 1) marks))
-        (drop_more ts i d l ∙ ap (λ y. y ∷ drop (i + 1) ts) (sym xe))
+    (drop_more ts i d l ∙ ap (λ y. y ∷ drop (i + 1) ts) (sym xe))
     ∙ ap
-        (λ place. option_or (cond b (triple_fault kind list i x) None)
-          (marked_fault kind list place (drop (i + 1) marks) (drop (i + 1) ts))) (sym (add-one i))
+    (λ place. option_or (cond b (triple_fault kind list i x) None)
+    (marked_fault kind list place (drop (i + 1) marks) (drop (i + 1) ts))) (sym (add-one i))
 
 -- none is left
 pub fault_past : (kind : Kind) (list ts : List Triple) (marks : List Bool) (i : ℕ) → length ts ≤ i

@@ -1,16 +1,14 @@
 -- Tables of bits tell which sets are within another: what a row is, how rows join, and what is left in the end.
-use Rattle.std.proofs.Common.{◌≡◌, ◌⊎◌, inl, inr, ℕ, max, ◌+◌, ◌-◌, ◌*◌, ◌/◌, ◌%◌, ◌^◌, ◌<◌, ◌≤◌, Bool, true}
-use Rattle.std.proofs.Common.{false, List, ◌∷◌, ◌++◌, All, Some, slice_get, length, get_or}
-use Rattle.std.proofs.Common.{bit_or, refl, sym, ap, subst, ◌∙◌, arith}
+use Rattle.std.proofs.Common.{◌≡◌, ◌⊎◌, inl, inr, ℕ, max, ◌+◌, ◌-◌, ◌*◌, ◌/◌, ◌%◌, ◌^◌, ◌<◌, ◌≤◌, Bool, true, false}
+use Rattle.std.proofs.Common.{List, ◌∷◌, ◌++◌, All, Some, slice_get, length, get_or, bit_or, refl, sym, ap, subst, ◌∙◌}
+use Rattle.std.proofs.Common.{arith}
 use Rattle.std.specs.Prelude.{◌==◌, ◌||◌, not}
 use Rattle.std.specs.Int.{bit_at}
-use Rattle.std.proofs.lemmas.Bool.{cases_lt, eqb-true, eqb-false, false_from_ne_true}
-use Rattle.std.proofs.lemmas.Bool.{ne_eqb, true≢false}
+use Rattle.std.proofs.lemmas.Bool.{cases_lt, eqb-true, eqb-false, false_from_ne_true, ne_eqb, true≢false}
 use Rattle.std.proofs.lemmas.List.{get_or_append_left, get_or_push, length-append}
 use Rattle.std.proofs.lemmas.List.Folds.{list_any_none}
 use Rattle.std.proofs.lemmas.Nat.{or_comm}
-use Rattle.std.proofs.lemmas.Nat.Bits.{bit_at-zero, bit_at_or}
-use Rattle.std.proofs.lemmas.Nat.Bits.{same_from_bits}
+use Rattle.std.proofs.lemmas.Nat.Bits.{bit_at-zero, bit_at_or, same_from_bits}
 use Rattle.std.proofs.lemmas.Option.{slice_get-get_or}
 use Rattle.qc_cert.proofs.Shared.{none_left, or_none, or_true}
 use Rattle.qc_cert.specs.Names.{AreLeft, AreRows, IsLeft, IsRow, IsWord, agrees, any_within, keeps, no_row}
@@ -26,8 +24,8 @@ word_missed : (sets : List ℕ) (out from word place set : ℕ) → AreLeft sets
 word_missed sets out from word place set left none low high at within =
     let same : from + (place - from) ≡ place = omega (arith, low) in
     let here : has word (place - from) ≡ true =
-            left (place - from) (omega (arith, low, high)) ∙ ap (λ n. agrees sets out n 16) same
-              ∙ within_agrees sets out place set 16 at within in
+    left (place - from) (omega (arith, low, high)) ∙ ap (λ n. agrees sets out n 16) same
+    ∙ within_agrees sets out place set 16 at within in
     true≢false (sym here ∙ none_left word none (place - from))
 
 pub none_hit : (sets : List ℕ) (out : ℕ) (row : Row) → length sets ≤ 256 → IsLeft sets out 16 row
@@ -35,7 +33,7 @@ pub none_hit : (sets : List ℕ) (out : ℕ) (row : Row) → length sets ≤ 256
 none_hit sets out row few left a b c d = list_any_none (λ s. is_within s out) sets (λ k default l.
     false_from_ne_true (is_within (get_or sets k default) out) (λ (here : is_within (get_or sets k default) out ≡ true).
     by k (get_or sets k default) (slice_get-get_or sets k default l) here (omega (arith, l, few)) (cases_lt k 64)
-        (cases_lt k 128) (cases_lt k 192)))
+    (cases_lt k 128) (cases_lt k 192)))
   where
     by : (k set : ℕ) → slice_get sets k ≡ Some set → is_within set out ≡ true → k < 256 → (k < 64) ⊎ (64 ≤ k)
         → (k < 128) ⊎ (128 ≤ k) → (k < 192) ⊎ (192 ≤ k) → ⊥
@@ -69,7 +67,7 @@ begun_with sets from number some count word old here = record {
   below = λ k l. has_with word count k ∙ by k (count == k) refl l;
   above = λ k past.
       has_with word count k ∙ ap (λ b. b || (count == k)) (old.above k (omega (arith, past)))
-          ∙ ne_eqb count k (λ (same : count ≡ k). omega (arith, past, same));
+      ∙ ne_eqb count k (λ (same : count ≡ k). omega (arith, past, same));
 }
   where
     by : (k : ℕ) (b : Bool) → (count == k) ≡ b → k < count + 1 → (has word k || b) ≡ keeps sets (from + k) number some
@@ -112,7 +110,7 @@ rows_more sets rows row old new place l = by (cases_lt place (length rows))
         let same : length rows ≡ place = omega (arith, l, past, all) in
         subst (λ n. IsRow sets (n / 16) (n % 16) (get_or (rows ++ row ∷ []) n no_row)) same
         (subst (λ r. IsRow sets (length rows / 16) (length rows % 16) r)
-            (sym (get_or_push rows row no_row (length rows) refl)) new)
+        (sym (get_or_push rows row no_row (length rows) refl)) new)
 
 -- the row of a piece and a choice
 pub row_at : (sets : List ℕ) (rows : List Row) (number some place : ℕ) (row : Row) → AreRows sets rows
@@ -151,7 +149,7 @@ left_tells sets out row few small left fa fb fc fd =
         let two : bit_or row.first row.second ≡ 0 = or_zero _ row.third three in
         sym (none_hit sets out row few left (or_zero row.first row.second two) (or_zero row.second row.first (or_comm row.second row.first ∙ two))
         (or_zero row.third (bit_or row.first row.second) (or_comm row.third _ ∙ three))
-            (or_zero row.fourth _ (or_comm row.fourth (bit_or (bit_or row.first row.second) row.third) ∙ all)))
+        (or_zero row.fourth _ (or_comm row.fourth (bit_or (bit_or row.first row.second) row.third) ∙ all)))
     by false e false w x y ev ew ex ey =
         sym (word_hit sets out 0 row.first small left.first fa (eqb-false row.first 0 ev))
     by false e true false x y ev ew ex ey =

@@ -1,6 +1,6 @@
 -- The triples of a list by their two states.
-use Rattle.std.specs.Prelude.{◌≡◌, ℕ, Bool, ◌+◌, ◌*◌, ◌^◌, ◌<◌, ◌≤◌, ◌==◌, ◌||◌, All, List, [], ◌∷◌, ◌++◌, length}
-use Rattle.std.specs.Prelude.{true, slice_index_or, if◌then◌else◌}
+use Rattle.std.specs.Prelude.{◌≡◌, ℕ, Bool, ◌+◌, ◌*◌, ◌^◌, ◌<◌, ◌≤◌, ◌==◌, ◌||◌, All, List, [], ◌∷◌, ◌++◌, length, true}
+use Rattle.std.specs.Prelude.{slice_index_or, if◌then◌else◌}
 use Rattle.std.specs.List.{list_any}
 use Rattle.qc_cert.specs.Firsts.{firsts, distinct}
 use Rattle.qc_cert.specs.declared.triple.Triple.{Triple}

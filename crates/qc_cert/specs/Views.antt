@@ -1,8 +1,8 @@
 -- Closed sets of positions of a history, views, and exact relations: what a relation is to give, for every legal
 -- history. The idea is Herlihy's (1986). Sets of positions, and exactness in both directions, are this project's own
 -- words for it.
-use Rattle.std.specs.Prelude.{◌≡◌, ℕ, suc, ◌<◌, Bool, IsTrue, List, [], ◌∷◌, Option, Some, is_some}
-use Rattle.std.specs.Prelude.{if◌then◌else◌, slice_get, option_and_then}
+use Rattle.std.specs.Prelude.{◌≡◌, ℕ, suc, ◌<◌, Bool, IsTrue, List, [], ◌∷◌, Option, Some, is_some, if◌then◌else◌}
+use Rattle.std.specs.Prelude.{slice_get, option_and_then}
 use Rattle.std.specs.Option.{option_map_or}
 use Rattle.qc_table.specs.Names.{IsLegal, after, depends, event, events_of, next_in, step_of}
 use Rattle.qc_table.specs.declared.kind.Kind.{Kind}

@@ -1,6 +1,6 @@
 -- What a front end sends, and the name of its transaction after a move.
-use Rattle.std.proofs.Common.{◌≡◌, ℕ, ◌+◌, ◌≤◌, ◌⊎◌, List, ◌∷◌, ◌++◌, map}
-use Rattle.std.proofs.Common.{Option, Some, None, option_map, inl, inr, refl, sym, ap, subst, arith}
+use Rattle.std.proofs.Common.{◌≡◌, ℕ, ◌+◌, ◌≤◌, ◌⊎◌, List, ◌∷◌, ◌++◌, map, Option, Some, None, option_map, inl, inr}
+use Rattle.std.proofs.Common.{refl, sym, ap, subst, arith}
 use Rattle.std.specs.List.{AllByRecursion as Every, slice_get}
 use Rattle.qc_plan.specs.Names.{verdict, wanted}
 use Rattle.qc_stamp.specs.declared.stamp.TxId.{TxId}
@@ -23,11 +23,8 @@ use Rattle.qc_front.specs.declared.doing.Doing.{Doing}
 use Rattle.qc_front.specs.declared.doing.Doing.TheVariants.{Idle}
 use Rattle.qc_front.specs.declared.front.Front.{Front}
 use Rattle.qc_front.specs.declared.transaction.Transaction.{Transaction}
-use Rattle.qc_front.specs.Names.{FrontMove, appended_with}
-use Rattle.qc_front.specs.Names.{gives_up, learns, lived, moved}
-use Rattle.qc_front.specs.Names.{next_own, next_tx, read_with}
-use Rattle.qc_front.specs.Names.{request_of, turned}
-use Rattle.qc_front.specs.Names.{with_event, with_granted, with_view}
+use Rattle.qc_front.specs.Names.{FrontMove, appended_with, gives_up, learns, lived, moved, next_own, next_tx, read_with}
+use Rattle.qc_front.specs.Names.{request_of, turned, with_event, with_granted, with_view}
 use Rattle.qc_client.specs.Names.{name_of}
 
 -- what a front end sends: requests of its rounds, or that the transaction that was begun aborted, which has ended
@@ -56,7 +53,7 @@ abbrev pub IsNamed : Front → Front → Type 0
 IsNamed front next =
     (name_of next.transaction ≡ None)
     ⊎ ((name_of next.transaction ≡ name_of front.transaction)
-        ⊎ ((name_of next.transaction ≡ Some (next_tx front)) × (next.count ≡ front.count + 1)))
+    ⊎ ((name_of next.transaction ≡ Some (next_tx front)) × (next.count ≡ front.count + 1)))
 
 pub record IsFrontMove (front : Front) (m : FrontMove) : Type 0 where
   pub client : m.front.client ≡ front.client
@@ -88,7 +85,7 @@ stands front turn none = record {
 pub goes : (front next : Front) (t : Transaction) (doing : Doing) (turn : Turn) → IsSame front next
     → name_of front.transaction ≡ Some t.begun.tx
     → Every (λ (p : Posting). IsSending front (turned next (Some t) doing) p.message) turn.sends
-        → IsFrontMove front (moved (turned next (Some t) doing) turn)
+    → IsFrontMove front (moved (turned next (Some t) doing) turn)
 goes front next t doing turn same name sends = record {
   client = same.client;
   life = same.life;
@@ -109,7 +106,7 @@ gives front next t reply same name = record {
 } where
   each : (sites : List ℕ)
       → Every (λ (p : Posting). IsSending front (turned next None Idle) p.message)
-        (map (λ site. record { to = site; message = messages.Decision t.begun.tx outcomes.Aborted }) sites)
+      (map (λ site. record { to = site; message = messages.Decision t.begun.tx outcomes.Aborted }) sites)
   each [] = tt
   each (site ∷ sites) = ((name, refl), each sites)
 
@@ -163,8 +160,8 @@ pub event-name : (t : Transaction) (object inv event resp : ℕ)
     → (with_event t object inv event resp).begun.tx ≡ t.begun.tx
 event-name t object inv event resp =
     ap (λ (b : Begun). b.tx)
-        (view-name (record t { own = t.own ++ next_own t object event ∷ [] }) object
-          (option_map (λ (v : View). with_own v event) (slice_get t.views object)))
+    (view-name (record t { own = t.own ++ next_own t object event ∷ [] }) object
+    (option_map (λ (v : View). with_own v event) (slice_get t.views object)))
 
 pub learned : (front : Front) (answer : Option Answer) → IsSame front (learns front answer)
 learned front None = itself front

@@ -1,6 +1,6 @@
 -- What a move of a front end leaves: its numbers, the name of its transaction; and what it sends.
-use Rattle.std.proofs.Common.{◌≡◌, ℕ, Bool, true, false, cond, List, map}
-use Rattle.std.proofs.Common.{length, Option, Some, None, inr, refl, sym, ap, ◌∙◌, arith}
+use Rattle.std.proofs.Common.{◌≡◌, ℕ, Bool, true, false, cond, List, map, length, Option, Some, None, inr, refl, sym}
+use Rattle.std.proofs.Common.{ap, ◌∙◌, arith}
 use Rattle.std.specs.Prelude.{nat_le}
 use Rattle.qc_decl.specs.declared.declaration.Declaration.{Declaration}
 use Rattle.qc_decl.specs.Names.{append_need_of, most_transaction_operations, read_need_of}
@@ -21,11 +21,10 @@ use Rattle.qc_front.specs.declared.doing.Doing.{Doing}
 use Rattle.qc_front.specs.declared.doing.Doing.TheVariants.{Idle, Reading, Appending}
 use Rattle.qc_front.specs.declared.front.Front.{Front}
 use Rattle.qc_front.specs.declared.transaction.Transaction.{Transaction}
-use Rattle.qc_front.specs.Names.{aborts, answer_of, answered, append_by, append_want, appended_with}
-use Rattle.qc_front.specs.Names.{appending_takes, begins, called, commits, doomed, gives_up, learns, moved}
-use Rattle.qc_front.specs.Names.{op_of, performs, read_by, read_want, read_with, reading_takes}
-use Rattle.qc_front.specs.Names.{reads, request_of, resp_of, round_for, standing_of, takes, takes_in, turned}
-use Rattle.qc_front.specs.Names.{with_asked, with_event, with_op}
+use Rattle.qc_front.specs.Names.{aborts, answer_of, answered, append_by, append_want, appended_with, appending_takes}
+use Rattle.qc_front.specs.Names.{begins, called, commits, doomed, gives_up, learns, moved, op_of, performs, read_by}
+use Rattle.qc_front.specs.Names.{read_want, read_with, reading_takes, reads, request_of, resp_of, round_for}
+use Rattle.qc_front.specs.Names.{standing_of, takes, takes_in, turned, with_asked, with_event, with_op}
 use Rattle.qc_client.specs.Names.{name_of}
 use Rattle.qc_client.proofs.FrontSends.{IsFrontMove, IsSame, itself, stands, goes, gives, asked, read-name}
 use Rattle.qc_client.proofs.FrontSends.{appended-name, event-name, learned}
@@ -35,17 +34,17 @@ use Rattle.qc_client.proofs.FrontSends.{appended-name, event-name, learned}
 append-goes : (decl : Declaration) (front next : Front) (t : Transaction) (object inv event : ℕ) (calls : List Call)
     (round : RoundState) (v : Verdict) → IsSame front next
     → name_of front.transaction ≡ Some t.begun.tx
-        → IsFrontMove front (append_by decl next t object inv event calls round v)
+    → IsFrontMove front (append_by decl next t object inv event calls round v)
 append-goes decl front next t object inv event calls round verdicts.Waiting same name =
     goes front next (with_asked t (wanted round)) (Appending object inv event calls (asking_all round (wanted round)))
-        (sending (map (request_of t.begun (append_want decl t object event)) (wanted round))) same name
+    (sending (map (request_of t.begun (append_want decl t object event)) (wanted round))) same name
     (asked front
-        (turned next (Some (with_asked t (wanted round)))
-          (Appending object inv event calls (asking_all round (wanted round)))) t.begun
-        (append_want decl t object event) tt (wanted round))
+    (turned next (Some (with_asked t (wanted round)))
+    (Appending object inv event calls (asking_all round (wanted round)))) t.begun
+    (append_want decl t object event) tt (wanted round))
 append-goes decl front next t object inv event calls round verdicts.Met same name =
     goes front next (with_event t object inv event (resp_of decl object event)) Idle
-        (telling (replies.Response (resp_of decl object event))) same
+    (telling (replies.Response (resp_of decl object event))) same
     (name ∙ ap (λ (tx : TxId). Some tx) (sym (event-name t object inv event (resp_of decl object event)))) tt
 append-goes decl front next t object inv event calls round (verdicts.Closed epoch site) same name =
     goes front next (doomed t) Idle (telling (replies.Closed epoch site)) same name tt
@@ -61,18 +60,18 @@ answered-goes decl front next t object inv None same name =
     goes front next (with_op t (op_of object inv None)) Idle (telling replies.Absent) same name tt
 answered-goes decl front next t object inv (Some event) same name =
     append-goes decl front next t object inv event []
-        (round_for decl next t (append_need_of decl t.begun.epoch object event))
-        (verdict (round_for decl next t (append_need_of decl t.begun.epoch object event))) same name
+    (round_for decl next t (append_need_of decl t.begun.epoch object event))
+    (verdict (round_for decl next t (append_need_of decl t.begun.epoch object event))) same name
 
 read-goes : (decl : Declaration) (front next : Front) (t : Transaction) (object inv : ℕ) (calls : List Call)
     (round : RoundState) (v : Verdict) → IsSame front next
     → name_of front.transaction ≡ Some t.begun.tx → IsFrontMove front (read_by decl next t object inv calls round v)
 read-goes decl front next t object inv calls round verdicts.Waiting same name =
     goes front next (with_asked t (wanted round)) (Reading object inv calls (asking_all round (wanted round)))
-        (sending (map (request_of t.begun (read_want object inv)) (wanted round))) same name
+    (sending (map (request_of t.begun (read_want object inv)) (wanted round))) same name
     (asked front
-        (turned next (Some (with_asked t (wanted round))) (Reading object inv calls (asking_all round (wanted round))))
-        t.begun (read_want object inv) tt (wanted round))
+    (turned next (Some (with_asked t (wanted round))) (Reading object inv calls (asking_all round (wanted round))))
+    t.begun (read_want object inv) tt (wanted round))
 read-goes decl front next t object inv calls round verdicts.Met same name =
     answered-goes decl front next t object inv (answer_of decl t object inv) same name
 read-goes decl front next t object inv calls round (verdicts.Closed epoch site) same name =
@@ -89,16 +88,16 @@ performs-goes : (decl : Declaration) (front : Front) (o : Option Transaction) (o
 performs-goes decl front None object inv is = stands front (telling replies.NoTransaction) refl
 performs-goes decl front (Some t) object inv is =
     by t.begun.doomed (nat_le most_transaction_operations (length t.begun.ops)) where
-  round : RoundState
-  round = round_for decl front t (read_need_of decl t.begun.epoch object inv)
+      round : RoundState
+      round = round_for decl front t (read_need_of decl t.begun.epoch object inv)
 
-  by : (dead long : Bool)
-      → IsFrontMove front
-        (cond dead (moved front (telling replies.Doomed))
+      by : (dead long : Bool)
+          → IsFrontMove front
+          (cond dead (moved front (telling replies.Doomed))
           (cond long (moved front (telling replies.TooLong)) (reads decl front t object inv [] round)))
-  by true long = stands front (telling replies.Doomed) refl
-  by false true = stands front (telling replies.TooLong) refl
-  by false false = read-goes decl front front t object inv [] round (verdict round) (itself front) (ap name_of is)
+      by true long = stands front (telling replies.Doomed) refl
+      by false true = stands front (telling replies.TooLong) refl
+      by false false = read-goes decl front front t object inv [] round (verdict round) (itself front) (ap name_of is)
 
 begins-goes : (decl : Declaration) (front : Front) (o : Option Transaction) → IsFrontMove front (begins decl front o)
 begins-goes decl front (Some t) = stands front (telling (replies.Already t.begun.tx)) refl
@@ -141,7 +140,7 @@ takes-goes decl front number answer = by front.doing front.transaction refl wher
   reading t is object inv calls round None = stands front quiet refl
   reading t is object inv calls round (Some site) =
       read-goes decl front (learns front answer) (read_with t site object answer) object inv (without_call calls number)
-          (note round site (standing_of answer)) (verdict (note round site (standing_of answer))) (learned front answer)
+      (note round site (standing_of answer)) (verdict (note round site (standing_of answer))) (learned front answer)
       (ap name_of is ∙ ap (λ (tx : TxId). Some tx) (sym (read-name t site object answer)))
 
   appending : (t : Transaction) → front.transaction ≡ Some t
@@ -150,8 +149,8 @@ takes-goes decl front number answer = by front.doing front.transaction refl wher
   appending t is object inv event calls round None = stands front quiet refl
   appending t is object inv event calls round (Some site) =
       append-goes decl front (learns front answer) (appended_with t site answer) object inv event
-          (without_call calls number) (note round site (standing_of answer))
-          (verdict (note round site (standing_of answer))) (learned front answer)
+      (without_call calls number) (note round site (standing_of answer))
+      (verdict (note round site (standing_of answer))) (learned front answer)
       (ap name_of is ∙ ap (λ (tx : TxId). Some tx) (sym (appended-name t site answer)))
 
   by : (doing : Doing) (o : Option Transaction) → front.transaction ≡ o

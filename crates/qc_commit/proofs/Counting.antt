@@ -242,7 +242,8 @@ counted b takes t n (site ∷ sites) s once called =
         other : (n ≡ t.number) ⊎ (n ≡ t.number → ⊥) → IsCounted b takes t n (site ∷ sites) s
         other (inl same) = absurd (let none = called-below (n + 1) t.number (ballots_by b takes (n + 1) sites)
             (omega arith) in let never = rw none at called in let no : ⊥ = cc in no)
-        other (inr apart) = counted-next b takes t n site sites s (taken-stays takes (t ∷ []) n a is ∙ sym is) apart once.0
+        other (inr apart) =
+            counted-next b takes t n site sites s (taken-stays takes (t ∷ []) n a is ∙ sym is) apart once.0
             (rest called)
       by None is called rest = other (cases_eq n t.number) where
         other : (n ≡ t.number) ⊎ (n ≡ t.number → ⊥) → IsCounted b takes t n (site ∷ sites) s
@@ -250,5 +251,6 @@ counted b takes t n (site ∷ sites) s once called =
             let found = rw (eq-eqb n t.number same) at called in
             let it : site ≡ s = cc in
             subst (λ v. IsCounted b takes t n (site ∷ sites) v) it (counted-here b takes t n site sites is same)
-        other (inr apart) = counted-next b takes t n site sites s (taken-other takes t n (λ e. apart (sym e))) apart once.0
+        other (inr apart) =
+            counted-next b takes t n site sites s (taken-other takes t n (λ e. apart (sym e))) apart once.0
             (rest (rw (ne_eqb n t.number apart) at called))

@@ -98,7 +98,8 @@ known-more : (commits more : List Commit) (tx : TxId) (stamp : Stamp)
     → known_by (record_of commits tx) ≡ Committed stamp → known_by (record_of (commits ++ more) tx) ≡ Committed stamp
 known-more commits more tx stamp is = rw (find-append (λ (c : Commit). same_tx c.tx tx) commits more)
     (by (record_of commits tx) is) where
-      by : (o : Option Commit) → known_by o ≡ Committed stamp → known_by (option_or o (record_of more tx)) ≡ Committed stamp
+      by : (o : Option Commit) → known_by o ≡ Committed stamp
+          → known_by (option_or o (record_of more tx)) ≡ Committed stamp
       by None never = absurd (let no : ⊥ = cc in no)
       by (Some c) told = told
 

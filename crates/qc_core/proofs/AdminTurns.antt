@@ -1,6 +1,5 @@
 -- The administrator's turns: what they send, write and tell.
-use Rattle.std.proofs.Common.{◌≡◌, ◌⊎◌, inl, inr, true, List, ◌∷◌}
-use Rattle.std.proofs.Common.{Option, Some, None, refl}
+use Rattle.std.proofs.Common.{◌≡◌, ◌⊎◌, inl, inr, true, List, ◌∷◌, Option, Some, None, refl}
 use Rattle.std.specs.List.{AllByRecursion as Every}
 use Rattle.qc_core.proofs.FrontWrites.{NoAnswer, says_neither, tells_neither}
 use Rattle.qc_core.proofs.SiteWrites.{writes_no_life}
@@ -130,7 +129,7 @@ quiet_well =
       fails = tt;
       writes = tt;
       failed_sends = refl;
-      sends = tt
+      sends = tt;
     }
 
 pub tells_well : (reply : Reply) → says_neither (saying_of reply) ≡ true → IsAdminReply reply
@@ -144,7 +143,7 @@ tells_well reply neither his =
       fails = tt;
       writes = tt;
       failed_sends = refl;
-      sends = tt
+      sends = tt;
     }
 
 pub fault_well : IsAdminTurn (telling replies.Fault)
@@ -157,7 +156,7 @@ fault_well =
       fails = tt;
       writes = tt;
       failed_sends = refl;
-      sends = tt
+      sends = tt;
     }
 
 pub sends_well : (ps : List Posting) → Every IsSentByAdmin ps → IsAdminTurn (sending ps)
@@ -170,5 +169,5 @@ sends_well ps none =
       fails = tt;
       writes = tt;
       failed_sends = refl;
-      sends = none
+      sends = none;
     }

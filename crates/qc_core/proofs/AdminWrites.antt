@@ -1,7 +1,7 @@
 -- What the administrator's turns write and tell: a decision at most, whose failure is told alone, as that it is too long
 -- for a record; and he answers nothing.
-use Rattle.std.proofs.Common.{ℕ, ◌+◌, ◌==◌, inl, nat_le, Bool, true, false, cond, List, ◌∷◌, length}
-use Rattle.std.proofs.Common.{map, take, Option, Some, None, refl}
+use Rattle.std.proofs.Common.{ℕ, ◌+◌, ◌==◌, inl, nat_le, Bool, true, false, cond, List, ◌∷◌, length, map, take, Option}
+use Rattle.std.proofs.Common.{Some, None, refl}
 use Rattle.std.specs.List.{AllByRecursion as Every}
 use Rattle.qc_decl.specs.Names.{most_record_bytes}
 use Rattle.qc_decl.specs.declared.declaration.Declaration.{Declaration}
@@ -43,9 +43,9 @@ module _ (decl : Declaration) (m : Admin) where
     where
       by : (b : Bool)
           → IsAdminTurn
-            (cond b
-              (admins_moved (record { epoch = d.epoch; decided = Some d; doing = admins.installing decl closed })
-                (admins.decide_turn decl d)) (admins.replies_with m replies.Fault)).turn
+          (cond b
+          (admins_moved (record { epoch = d.epoch; decided = Some d; doing = admins.installing decl closed })
+          (admins.decide_turn decl d)) (admins.replies_with m replies.Fault)).turn
       by true =
           record {
             append = refl;
@@ -55,7 +55,7 @@ module _ (decl : Declaration) (m : Admin) where
             fails = refl;
             writes = tt;
             failed_sends = refl;
-            sends = installs_ask d (admins.all_sites decl)
+            sends = installs_ask d (admins.all_sites decl);
           }
       by false = fault_well
 
@@ -73,9 +73,9 @@ module _ (decl : Declaration) (m : Admin) where
     where
       by : (b : Bool)
           → IsAdminTurn
-            (cond b (admins.settles decl m epoch shuts questions)
-              (admins_moved (admins.doing m (Asking epoch shuts questions))
-                (sending (map (admins.ask_of decl) (take most_asks questions))))).turn
+          (cond b (admins.settles decl m epoch shuts questions)
+          (admins_moved (admins.doing m (Asking epoch shuts questions))
+          (sending (map (admins.ask_of decl) (take most_asks questions))))).turn
       by true = settles_well epoch shuts questions
       by false = sends_well (map (admins.ask_of decl) (take most_asks questions)) (asks_ask (take most_asks questions))
 
@@ -100,9 +100,9 @@ module _ (decl : Declaration) (m : Admin) where
     where
       by : (x y : Bool)
           → IsAdminTurn
-            (cond x (admins.again decl m m.decided)
-              (cond y (admins.closes decl m number [] (admins.close_round decl m.epoch) [])
-                (admins.replies_with m (replies.Order m.epoch)))).turn
+          (cond x (admins.again decl m m.decided)
+          (cond y (admins.closes decl m number [] (admins.close_round decl m.epoch) [])
+          (admins.replies_with m (replies.Order m.epoch)))).turn
       by true y = again_well m.decided
       by false true = closes_well number [] (admins.close_round decl m.epoch) []
       by false false = tells_well (replies.Order m.epoch) refl tt
@@ -120,8 +120,8 @@ module _ (decl : Declaration) (m : Admin) where
     where
       by : (b : Bool)
           → IsAdminTurn
-            (cond b (admins.settles decl m epoch shuts questions)
-              (admins_moved (admins.doing m (Asking epoch shuts questions)) quiet)).turn
+          (cond b (admins.settles decl m epoch shuts questions)
+          (admins_moved (admins.doing m (Asking epoch shuts questions)) quiet)).turn
       by true = settles_well epoch shuts questions
       by false = quiet_well
 
@@ -131,8 +131,8 @@ module _ (decl : Declaration) (m : Admin) where
     where
       by : (b : Bool)
           → IsAdminTurn
-            (cond b (admins.replies_with m (replies.Moved (admins.site_set closed) (admins.site_set installed)))
-              (admins_moved (admins.doing m (Installing closed awaited calls installed)) quiet)).turn
+          (cond b (admins.replies_with m (replies.Moved (admins.site_set closed) (admins.site_set installed)))
+          (admins_moved (admins.doing m (Installing closed awaited calls installed)) quiet)).turn
       by true = tells_well (replies.Moved (admins.site_set closed) (admins.site_set installed)) refl tt
       by false = quiet_well
 

@@ -21,7 +21,7 @@ use Rattle.qc_core.specs.declared.actor.Actor.{Actor}
 use Rattle.qc_core.specs.declared.actor.Actor.TheVariants as actor
 use Rattle.qc_core.specs.Names.{ActorMove, IsLawfulWithFalls, actor_after, actor_rises, actor_takes, by_admin}
 use Rattle.qc_core.specs.Names.{by_client, by_site, with_record}
-use Rattle.qc_core.proofs.ByTurns.{after_takes, called_turn}
+use Rattle.qc_core.proofs.PostsByTurns.{after_takes, called_turn}
 use Rattle.qc_core.proofs.LivesOfActors.{rises}
 use Rattle.qc_core.proofs.FrontWrites.{NoAnswer}
 use Rattle.qc_core.proofs.SiteWrites.{IsAnswerTo, IsSiteTurn, site_written}

@@ -1,13 +1,10 @@
 -- Who lives goes by turns: what stands in one place of this order, after each thing that an actor does.
-use Rattle.std.proofs.Common.{◌≡◌, ℕ, ◌+◌, ◌-◌, ◌<◌, Bool, true, false, cond, not, List, [], ◌∷◌, ◌++◌, fold, ◌&&◌}
-use Rattle.std.proofs.Common.{Option, Some, None, is_some, refl, sym, ap, ◌∙◌, subst, ◌⊎◌, inl, inr}
-use Rattle.std.proofs.lemmas.List.Sums.{fold-append}
+use Rattle.std.proofs.Common.{◌≡◌, ℕ, ◌+◌, ◌-◌, Bool, true, false, cond, List, ◌∷◌, ◌++◌, fold, ◌&&◌, Option, Some}
+use Rattle.std.proofs.Common.{None, is_some, refl, sym, ap, ◌∙◌, subst}
 use Rattle.qc_decl.specs.declared.declaration.Declaration.{Declaration}
-use Rattle.qc_decl.specs.Names.{administrator, is_administrator, is_client, is_site}
-use Rattle.qc_client.specs.Names.{client_takes, new_client}
+use Rattle.qc_decl.specs.Names.{is_client, is_site}
 use Rattle.qc_msg.specs.declared.record.Record.{Record}
 use Rattle.qc_msg.specs.declared.record.Record.TheVariants as records
-use Rattle.qc_msg.specs.declared.reply.Reply.{Reply}
 use Rattle.qc_msg.specs.declared.reply.Reply.TheVariants as replies
 use Rattle.qc_msg.specs.declared.step.Fall.{Fall}
 use Rattle.qc_msg.specs.declared.step.Fall.TheVariants as causes
@@ -17,101 +14,23 @@ use Rattle.qc_msg.specs.declared.turn.Appended.{Appended}
 use Rattle.qc_msg.specs.declared.turn.Appended.TheVariants.{Done, Failed, Stopped}
 use Rattle.qc_msg.specs.declared.turn.Posting.{Posting}
 use Rattle.qc_msg.specs.declared.turn.Turn.{Turn}
-use Rattle.qc_msg.specs.Names.{Deed, Falls, HasRecord, IsByDisk, MayEnd, Rises, Sends, Takes, Tells, Writes, command_in}
-use Rattle.qc_msg.specs.Names.{deeds_as, is_life, quiet, sends_of, telling, tells_of, writes_of}
+use Rattle.qc_msg.specs.Names.{Deed, Falls, IsByDisk, Rises, Takes, Tells, command_in, deeds_as, telling}
 use Rattle.qc_msg.specs.declared.step.Command.{Command}
 use Rattle.std.specs.List.{AllByRecursion as Every}
-use Rattle.qc_promise.specs.Names.{AreByTurns, Called, Failing, Fallen, Faulted, Idle, Open, Place, Rising, Saying}
-use Rattle.qc_promise.specs.Names.{SaysDown, SaysFault, SaysNeither, SaysUnwritten, Sending, Written, fallen_with}
-use Rattle.qc_promise.specs.Names.{goes_on, other, place_after, saying_of, told_first, told_last}
-use Rattle.qc_epoch.specs.Names.{new_admin}
+use Rattle.qc_promise.specs.Names.{AreByTurns, Called, Failing, Fallen, Faulted, Idle, Open, Place, Rising, Sending}
+use Rattle.qc_promise.specs.Names.{Written, place_after}
 use Rattle.qc_recover.specs.Names.{admin_rises, client_rises, rising, site_rises}
-use Rattle.qc_site.specs.Names.{new_site, site_takes}
 use Rattle.qc_core.specs.declared.actor.Actor.{Actor}
 use Rattle.qc_core.specs.declared.actor.Actor.TheVariants as actor
 use Rattle.qc_core.specs.Names.{ActorMove, AreUncommanded, IsLawfulWithFalls, IsUncommanded, Lives, MayReach}
-use Rattle.qc_core.specs.Names.{actor_after, actor_does, actor_rises, actor_sends, actor_takes, by_admin, by_client}
-use Rattle.qc_core.specs.Names.{by_site, down_takes, is_up, moved, up_at, with_record}
+use Rattle.qc_core.specs.Names.{actor_after, actor_rises, actor_takes, by_admin, by_client, by_site, down_takes, is_up}
+use Rattle.qc_core.specs.Names.{up_at, with_record}
 use Rattle.qc_core.specs.Lives as lives
-use Rattle.qc_core.proofs.AdminTurns.{FaultsAlone, IsAdminTurn, TellsNone, no_life}
-use Rattle.qc_core.proofs.AdminWrites.{admin_written}
-use Rattle.qc_core.proofs.LivesOfActors.{down, rises, turn_by, up}
-use Rattle.qc_core.proofs.FrontWrites.{FailsAlone, IsClientTurn, says_neither, says_unwritten, tells_neither}
-use Rattle.qc_core.proofs.FrontWrites.{tells_unwritten}
-use Rattle.qc_core.proofs.SiteWrites.{IsSiteTurn, site_written, writes_no_life}
-use Rattle.qc_core.proofs.Written.{client_written}
+use Rattle.qc_core.proofs.LivesOfActors.{down, rises, up}
 use Rattle.qc_core.proofs.OpenedInputs.{Opened, opened, up_more, post_up}
-use Rattle.qc_core.proofs.ActorKinds.{IsKind, kind_after}
-use Rattle.qc_core.proofs.RestingPlaces.{after, along, is_resting, Fits, still_up, site_post, client_post, admin_post}
-use Rattle.qc_core.proofs.RestingPlaces.{rising_post}
-
--- the turn that it posts is the actor's, but for what became of its record
-
-pub called_turn : (decl : Declaration) (a : ℕ) (ds : List Deed) (turn : Turn) → IsLawfulWithFalls decl a ds turn
-    → (actor_after decl a ds).turn ≡ with_record turn
-called_turn decl a ds turn lawful = by (is_site decl a) (is_client decl a) (is_administrator decl a) lawful.called_for
-  where
-    here : Some (actor_after decl a ds).turn ≡ Some (with_record turn) → (actor_after decl a ds).turn ≡ with_record turn
-    here is = cc
-
-    by : (x y z : Bool) → turn_by x y z (actor_after decl a ds).turn ≡ Some (with_record turn)
-        → (actor_after decl a ds).turn ≡ with_record turn
-    by true y z is = here is
-    by false true z is = here is
-    by false false true is = here is
-    by false false false is = absurd (let no : ⊥ = cc in no)
-
-pub after_takes : (decl : Declaration) (a : ℕ) (ds : List Deed) (g : Input)
-    → actor_after decl a (ds ++ Takes g ∷ []) ≡ actor_takes decl (actor_after decl a ds).actor g
-after_takes decl a ds g = fold-append (actor_does decl a) _ ds (Takes g ∷ [])
-
--- a post for an input
-
-taken_post : (decl : Declaration) (site : Bool) (v : Actor) (g : Input) (t : Turn) (n : ℕ) → IsKind site v
-    → (v ≡ actor.Down → ⊥) → (actor_takes decl v g).turn ≡ with_record t → MayEnd t.write t.append
-    → Fits (still_up t.append) false (after site (Some Open) (deeds_as t.append n t))
-taken_post decl site (actor.Site s) g t n kind up_now is may =
-    let well : IsSiteTurn g (with_record t) = subst (IsSiteTurn g) is (site_written decl s g) in
-    subst (λ (x : Bool). Fits (still_up t.append) false (after x (Some Open) (deeds_as t.append n t))) (sym kind)
-    (site_post t.append n t well.told well.failed well.writes may)
-taken_post decl site (actor.Client c) g t n kind up_now is may =
-    let well : IsClientTurn (with_record t) = subst IsClientTurn is (client_written decl c g) in
-    subst (λ (x : Bool). Fits (still_up t.append) false (after x (Some Open) (deeds_as t.append n t))) (sym kind)
-    (client_post t.append n t well.told well.fails well.writes may)
-taken_post decl site (actor.Admin m) g t n kind up_now is may =
-    let well : IsAdminTurn (with_record t) = subst IsAdminTurn is (admin_written decl m g) in
-    subst (λ (x : Bool). Fits (still_up t.append) false (after x (Some Open) (deeds_as t.append n t))) (sym kind)
-    (admin_post t.append n t well.told well.fails well.failed_sends (no_life t.write well.writes) may)
-taken_post decl site actor.Down g t n kind up_now is may = absurd (up_now refl)
-
--- a post while it is down
-
-down_done : (end : Appended) (w : Option Record) → w ≡ None → MayEnd w end → end ≡ Done
-down_done Done w none may = refl
-down_done Failed w none may = absurd (subst HasRecord none may)
-down_done Stopped w none may = absurd (subst HasRecord none may)
-
-down_deeds : (n : ℕ) (w : Option Record) (ps : List Posting) (told : Option Reply) → w ≡ None → ps ≡ []
-    → told ≡ Some replies.Down → writes_of w ++ (sends_of n ps ++ tells_of told) ≡ Tells replies.Down ∷ []
-down_deeds n w ps told none no_sends down_told =
-    ap (λ (v : Option Record). writes_of v ++ (sends_of n ps ++ tells_of told)) none
-    ∙ ap (λ (v : List Posting). sends_of n v ++ tells_of told) no_sends
-    ∙ ap tells_of down_told
-
-down_post : (t : Turn) (n : ℕ) → telling replies.Down ≡ with_record t → MayEnd t.write t.append
-    → (t.append ≡ Done) × (deeds_as t.append n t ≡ Tells replies.Down ∷ [])
-down_post t n is may = (
-  done,
-  ap (λ (end : Appended). deeds_as end n t) done
-      ∙ down_deeds n t.write t.sends t.told none (sym (ap (λ (x : Turn). x.sends) is))
-      (sym (ap (λ (x : Turn). x.told) is)),
-)
-  where
-    none : t.write ≡ None
-    none = sym (ap (λ (x : Turn). x.write) is)
-
-    done : t.append ≡ Done
-    done = down_done t.append t.write none may
+use Rattle.qc_core.proofs.ActorKinds.{kind_after}
+use Rattle.qc_core.proofs.RestingPlaces.{after, along, is_resting, Fits, still_up, rising_post}
+use Rattle.qc_core.proofs.PostsByTurns.{called_turn, after_takes, taken_post, down_post}
 
 -- who lives
 

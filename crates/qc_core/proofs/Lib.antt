@@ -41,6 +41,7 @@ pub mod SiteLives
 pub mod RestingPlaces
 pub mod ActorKinds
 pub mod OpenedInputs
+pub mod PostsByTurns
 pub mod ByTurns
 pub mod Answers
 pub mod KeptBack

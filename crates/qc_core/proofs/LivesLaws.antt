@@ -1,8 +1,8 @@
 -- An actor through its falls and rises: who is down has no state; who never falls lives as it acts; what it puts into its
 -- journal its steps put there.
-use Rattle.std.proofs.Common.{◌≡◌, ℕ, ◌+◌, ◌-◌, ◌==◌, Bool, true, false}
-use Rattle.std.proofs.Common.{cond, List, ◌∷◌, ◌++◌, fold, length, filter, map, Option, Some, None}
-use Rattle.std.proofs.Common.{option_to_list, slice_get, append_assoc, refl, sym, ap, ◌∙◌, subst}
+use Rattle.std.proofs.Common.{◌≡◌, ℕ, ◌+◌, ◌-◌, ◌==◌, Bool, true, false, cond, List, ◌∷◌, ◌++◌, fold, length, filter}
+use Rattle.std.proofs.Common.{map, Option, Some, None, option_to_list, slice_get, append_assoc, refl, sym, ap, ◌∙◌}
+use Rattle.std.proofs.Common.{subst}
 use Rattle.std.proofs.lemmas.List.Sums.{fold-append}
 use Rattle.qc_decl.specs.declared.declaration.Declaration.{Declaration}
 use Rattle.qc_decl.specs.Names.{is_administrator, is_client, is_site}
@@ -19,9 +19,8 @@ use Rattle.qc_msg.specs.Names.{Deed, Entry, Falls, MayEnd, Rises, Sends, Takes, 
 use Rattle.qc_msg.specs.Names.{envelope_of, heard, own, sends_as, sends_of, tells_of, turn_deeds}
 use Rattle.qc_promise.specs.Names.{Journal, journal_of, journal_with, no_journal}
 use Rattle.qc_core.specs.declared.actor.Actor.TheVariants as actor
-use Rattle.qc_core.specs.Names.{Acts, AreSteady, IsLawful, IsLawfulWithFalls, Lives}
-use Rattle.qc_core.specs.Names.{actor_after}
-use Rattle.qc_core.specs.Names.{is_up, journal_after, journal_at, turn_with_falls, up_at}
+use Rattle.qc_core.specs.Names.{Acts, AreSteady, IsLawful, IsLawfulWithFalls, Lives, actor_after, is_up, journal_after}
+use Rattle.qc_core.specs.Names.{journal_at, turn_with_falls, up_at}
 use Rattle.qc_core.specs.Acts as acts
 use Rattle.qc_core.specs.Lives as lives
 use Rattle.qc_core.proofs.ActorLaws.{turn}
@@ -71,7 +70,7 @@ act_lives decl a ds b n (acts.posts before turn m first act above lawful) =
     subst (λ (x : Appended). Lives decl a (before ++ deeds_as x first turn) false (first + length (sends_as x turn)))
     (written decl a before turn (acts_steady decl a before true m act) lawful)
     (lives.posts before turn m first (act_lives decl a before true m act) above
-        (lawful_still decl a before turn (acts_steady decl a before true m act) lawful))
+    (lawful_still decl a before turn (acts_steady decl a before true m act) lawful))
 
 -- journals
 
@@ -106,9 +105,9 @@ own_journal j a ms (e ∷ h) = by (e.actor == a) (own_journal (journal_with j e.
         → fold journal_at (journal_with j e.step) (deeds a more h) ≡ fold journal_with (journal_with j e.step) (own a h)
         → fold journal_at j (deeds a more h) ≡ fold journal_with j (own a h)
         → fold journal_at j (cond x (deed_at ms e.step) [] ++ deeds a more h)
-          ≡ fold journal_with j
-            (map (λ (k : Entry). k.step)
-              (cond x (e ∷ filter (λ (k : Entry). k.actor == a) h) (filter (λ (k : Entry). k.actor == a) h)))
+        ≡ fold journal_with j
+        (map (λ (k : Entry). k.step)
+        (cond x (e ∷ filter (λ (k : Entry). k.actor == a) h) (filter (λ (k : Entry). k.actor == a) h)))
     by true mine other =
         fold-append journal_at j (deed_at ms e.step) (deeds a more h)
         ∙ ap (λ (v : Journal). fold journal_at v (deeds a more h)) (one e.step)
@@ -138,14 +137,14 @@ fallen : (ds : List Deed) (cause : Fall) (pending : Option Record)
     → IsClear (is_up (ds ++ Falls cause pending ∷ [])) (journal_after (ds ++ Falls cause pending ∷ []))
 fallen ds cause pending is =
     absurd (let no : true ≡ false = sym is ∙ fold-append up_at true ds (Falls cause pending ∷ []) in
-            let none : ⊥ = cc in none)
+    let none : ⊥ = cc in none)
 
 clear_more : (ds more : List Deed) → IsClear (is_up ds) (journal_after ds) → AreSteady more
     → IsClear (is_up (ds ++ more)) (journal_after (ds ++ more))
 clear_more ds more clear steady =
     subst (λ (u : Bool). IsClear u (journal_after (ds ++ more))) (sym (fold-append up_at true ds more))
     (subst (IsClear (fold up_at (is_up ds) more)) (sym (fold-append journal_at no_journal ds more))
-        (clear_from (is_up ds) (journal_after ds) more clear steady))
+    (clear_from (is_up ds) (journal_after ds) more clear steady))
 
 clear_post : (ds : List Deed) (end : Appended) (first : ℕ) (turn : Turn) → IsClear (is_up ds) (journal_after ds)
     → IsClear (is_up (ds ++ deeds_as end first turn)) (journal_after (ds ++ deeds_as end first turn))
@@ -166,7 +165,7 @@ clear_post ds Failed first turn clear =
         append_assoc (sends_of first turn.failed_sends) (tells_of turn.failed_told) (Falls causes.Disk turn.write ∷ [])
 clear_post ds Stopped first turn clear =
     subst (λ (v : List Deed). IsClear (is_up v) (journal_after v))
-        (append_assoc ds (tells_of turn.failed_told) (Falls causes.Stop turn.write ∷ []))
+    (append_assoc ds (tells_of turn.failed_told) (Falls causes.Stop turn.write ∷ []))
     (fallen (ds ++ tells_of turn.failed_told) causes.Stop turn.write)
 
 pub clear : (decl : Declaration) (a : ℕ) (ds : List Deed) (b : Bool) (n : ℕ) → Lives decl a ds b n → is_up ds ≡ true
@@ -180,5 +179,5 @@ clear decl a ds b n (lives.crashes before m life is) = fallen before _ _
 clear decl a ds b n (lives.rises before records turn m first life is above lawful) =
     clear_post (before ++ Rises records ∷ []) turn.append first turn
     (subst (λ (j : Journal). IsClear (is_up (before ++ Rises records ∷ [])) j)
-        (sym (fold-append journal_at no_journal before (Rises records ∷ []))) (λ up_now. refl))
+    (sym (fold-append journal_at no_journal before (Rises records ∷ []))) (λ up_now. refl))
 clear decl a ds b n (lives.unopened before cause m life is by_disk) = fallen before _ _

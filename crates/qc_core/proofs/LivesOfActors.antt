@@ -1,7 +1,6 @@
 -- An actor through its falls and rises, deed by deed.
-use Rattle.std.proofs.Common.{◌≡◌, ℕ, ◌+◌, ◌-◌, ◌<◌, ◌&&◌, nat_le, nat_lt, arith, ltb-true, Bool, true, false}
-use Rattle.std.proofs.Common.{cond, not, List, ◌∷◌, ◌++◌, fold, Option, Some, None}
-use Rattle.std.proofs.Common.{refl, sym, ap, ◌∙◌}
+use Rattle.std.proofs.Common.{◌≡◌, ℕ, ◌+◌, ◌-◌, ◌<◌, ◌&&◌, nat_le, nat_lt, arith, ltb-true, Bool, true, false, cond}
+use Rattle.std.proofs.Common.{not, List, ◌∷◌, ◌++◌, fold, Option, Some, None, refl, sym, ap, ◌∙◌}
 use Rattle.std.proofs.lemmas.List.Sums.{fold-append}
 use Rattle.qc_decl.specs.declared.declaration.Declaration.{Declaration}
 use Rattle.qc_decl.specs.Names.{administrator, is_administrator, is_client, is_site}
@@ -11,16 +10,15 @@ use Rattle.qc_msg.specs.declared.step.Fall.{Fall}
 use Rattle.qc_msg.specs.declared.step.Input.{Input}
 use Rattle.qc_msg.specs.declared.step.Input.TheVariants as inputs
 use Rattle.qc_msg.specs.declared.turn.Turn.{Turn}
-use Rattle.qc_msg.specs.Names.{Deed, Falls, Rises, Sends, Takes, Tells, Writes}
-use Rattle.qc_msg.specs.Names.{quiet}
+use Rattle.qc_msg.specs.Names.{Deed, Falls, Rises, Sends, Takes, Tells, Writes, quiet}
 use Rattle.qc_site.specs.Names.{new_site, site_after}
 use Rattle.qc_epoch.specs.Names.{new_admin}
 use Rattle.qc_recover.specs.Names.{admin_rises, client_rises, site_rises}
 use Rattle.qc_core.specs.declared.actor.Actor.{Actor}
 use Rattle.qc_core.specs.declared.actor.Actor.TheVariants as actor
-use Rattle.qc_core.specs.Names.{ActorMove, AreSteady, IsLawful, MayReach}
-use Rattle.qc_core.specs.Names.{actor_after, actor_does, actor_rises, actor_sends, actor_takes, by_admin, by_client}
-use Rattle.qc_core.specs.Names.{by_site, is_up, moved, turn_after, turn_with_falls, up_at}
+use Rattle.qc_core.specs.Names.{ActorMove, AreSteady, IsLawful, MayReach, actor_after, actor_does, actor_rises}
+use Rattle.qc_core.specs.Names.{actor_sends, actor_takes, by_admin, by_client, by_site, is_up, moved, turn_after}
+use Rattle.qc_core.specs.Names.{turn_with_falls, up_at}
 use Rattle.qc_core.proofs.ActorLaws.{other_client, turn}
 
 -- one deed more
@@ -58,8 +56,8 @@ rises_up decl a rs = by (is_site decl a) (is_client decl a)
   where
     by : (x y : Bool)
         → is_down
-          (cond x (by_site (site_rises decl a rs))
-            (cond y (by_client (client_rises (a - decl.sites) rs)) (by_admin (admin_rises rs)))).actor ≡ false
+        (cond x (by_site (site_rises decl a rs))
+        (cond y (by_client (client_rises (a - decl.sites) rs)) (by_admin (admin_rises rs)))).actor ≡ false
     by true y = refl
     by false true = refl
     by false false = refl
@@ -83,8 +81,8 @@ new_up decl a = by (is_site decl a) (is_client decl a)
   where
     by : (x y : Bool)
         → is_down
-          (cond x (actor.Site (new_site a))
-            (cond y (actor.Client (new_client (a - decl.sites))) (actor.Admin new_admin))) ≡ false
+        (cond x (actor.Site (new_site a))
+        (cond y (actor.Client (new_client (a - decl.sites))) (actor.Admin new_admin))) ≡ false
     by true y = refl
     by false true = refl
     by false false = refl
@@ -131,13 +129,13 @@ some_turn decl a ds below = by (is_site decl a) refl
   where
     by : (x : Bool) → is_site decl a ≡ x
         → turn_by (is_site decl a) (is_client decl a) (is_administrator decl a) (actor_after decl a ds).turn
-          ≡ Some (actor_after decl a ds).turn
+        ≡ Some (actor_after decl a ds).turn
     by true is =
         ap (λ (x : Bool). turn_by x (is_client decl a) (is_administrator decl a) (actor_after decl a ds).turn) is
     by false is =
         ap (λ (x : Bool). turn_by x (is_client decl a) (is_administrator decl a) (actor_after decl a ds).turn) is
         ∙ ap (λ (y : Bool). turn_by false y (is_administrator decl a) (actor_after decl a ds).turn)
-            (other_client decl a below is)
+        (other_client decl a below is)
 
 pub same_turn : (decl : Declaration) (a : ℕ) (ds : List Deed) → AreSteady ds → a < administrator decl
     → turn_with_falls decl a ds ≡ turn_after decl a ds
@@ -154,7 +152,7 @@ who_acts decl a ds turn lawful = by (is_site decl a) (is_client decl a) refl ref
   where
     by : (x y : Bool) → is_site decl a ≡ x → is_client decl a ≡ y
         → cond x (Some (site_after decl a ds).turn) (cond y (Some (client_after decl (a - decl.sites) ds).turn) None)
-          ≡ Some turn → a < administrator decl
+        ≡ Some turn → a < administrator decl
     by true y site client is = let low : a < decl.sites = ltb-true a decl.sites site in omega arith
     by false true site client is =
         ltb-true a (administrator decl) (and_last (nat_le decl.sites a) (nat_lt a (administrator decl)) client)

@@ -1,6 +1,6 @@
 -- An empty history has what the state under the lock keeps; looks, rooms, one step more keep it.
-use Rattle.std.proofs.Common.{◌≡◌, ℕ, zero, suc, ◌+◌, ◌-◌, ◌<◌, ◌≤◌, Bool, true, false, List, length}
-use Rattle.std.proofs.Common.{refl, ap, sym, ◌∙◌, subst, arith, Option, Some, sum, replicate, drop}
+use Rattle.std.proofs.Common.{◌≡◌, ℕ, zero, suc, ◌+◌, ◌-◌, ◌<◌, ◌≤◌, Bool, true, false, List, length, refl, ap, sym}
+use Rattle.std.proofs.Common.{◌∙◌, subst, arith, Option, Some, sum, replicate, drop}
 use Rattle.std.specs.Prelude.{slice_get, slice_set}
 use Rattle.std.proofs.lemmas.List.{length-replicate}
 use mathlib.Core.Logic.{dite}
@@ -20,8 +20,8 @@ use Rattle.qc_pass.specs.declared.token.Right.{Right}
 use Rattle.qc_pass.specs.Names.{IsFirst, Met, all, ends, number, room, rooms}
 use Rattle.qc_script.specs.Names.{IsScriptFor, RunsWithFalls, begins, phase_of}
 use Rattle.qc_script.specs.declared.script.Script.{Script}
-use Rattle.qc_fabric.specs.Names.{ArmsNone, ArmsNoneBehind, IsFabricState, Logged, before_last_event}
-use Rattle.qc_fabric.specs.Names.{full_of, most_history}
+use Rattle.qc_fabric.specs.Names.{ArmsNone, ArmsNoneBehind, IsFabricState, Logged, before_last_event, full_of}
+use Rattle.qc_fabric.specs.Names.{most_history}
 use Rattle.qc_fabric.proofs.Fed.{get_else, length_set, sum-set, sum_cons}
 use Rattle.qc_fabric.proofs.Gains.{look_unarmed}
 use Rattle.qc_link.specs.Names.{most_actors}
@@ -34,8 +34,8 @@ module _ {L : ℕ → List Deed → Turn → Type 0} {F : ℕ → List Record �
   pub reserves_on : (s : IsFabricState L F D S z w lg mb op hd ph rsv sp tb ri) (r : Right Step) → ri ≡ Some r
       → (p q : Pass Step) (t : Right Step) (k : ℕ) → slice_get op (number p) ≡ Some true → room p ≡ 0
       → Met p r q t [] k → all t ≡ all r → (lg' : Logged) (mb' : Roomy) → lg'.history ≡ lg.history
-          → mb'.inboxes ≡ mb.inboxes → (rsv + sp) + k ≤ lg'.room → (rsv + sp) + k ≤ mb'.room
-          → length lg.history + ((rsv + sp) + k) ≤ most_history
+      → mb'.inboxes ≡ mb.inboxes → (rsv + sp) + k ≤ lg'.room → (rsv + sp) + k ≤ mb'.room
+      → length lg.history + ((rsv + sp) + k) ≤ most_history
       → IsFabricState L F D S z w lg' mb' op hd ph (rsv + k) sp tb (Some t)
   reserves_on s r e p q t k is none m a lg' mb' es ib lr mr bd =
       let before : rooms s.holder ≡ rooms r = rooms_of s r e in
@@ -56,8 +56,14 @@ module _ {L : ℕ → List Deed → Turn → Type 0} {F : ℕ → List Record �
         helds = s.helds;
         passes = ap length m.rooms_are ∙ (length_set (rooms r) (number p) k ∙ (ap length (sym before) ∙ s.passes));
         sum_is =
-            omega (arith, total, none, ap (λ (l : List ℕ). sum l) m.rooms_are, ap (λ (l : List ℕ). sum l) before,
-            s.sum_is);
+            omega (
+              arith,
+              total,
+              none,
+              ap (λ (l : List ℕ). sum l) m.rooms_are,
+              ap (λ (l : List ℕ). sum l) before,
+              s.sum_is,
+            );
         log_room = omega (arith, lr);
         mail_room = omega (arith, mr);
         bound = omega (arith, ap (λ (l : List Entry). length l) es, bd);
@@ -66,9 +72,9 @@ module _ {L : ℕ → List Deed → Turn → Type 0} {F : ℕ → List Record �
             λ i j f. dite (ℕ_discrete i (number p))
             (λ same. subst (λ (x : ℕ). slice_get op x ≡ Some true) (sym same) is)
             (λ ne. s.opened i j
-                (ap (λ (l : List ℕ). slice_get l i) before
-                  ∙ (sym (get_else (rooms r) (number p) i k ne)
-                    ∙ (ap (λ (l : List ℕ). slice_get l i) (sym m.rooms_are) ∙ f))));
+            (ap (λ (l : List ℕ). slice_get l i) before
+            ∙ (sym (get_else (rooms r) (number p) i k ne)
+            ∙ (ap (λ (l : List ℕ). slice_get l i) (sym m.rooms_are) ∙ f))));
         unarmed = unarmed_at t (a ∙ (all_of s r e ∙ sym es)) (look_unarmed p q r t k m a (unarmed_of s r e));
         sound = s.sound;
         few = s.few;
@@ -105,9 +111,9 @@ module _ {L : ℕ → List Deed → Turn → Type 0} {F : ℕ → List Record �
             λ i j f. dite (ℕ_discrete i (number p))
             (λ same. absurd (no_room_at (rooms r) (rooms t) (number p) i j m.made m.rooms_are same f))
             (λ ne. s.opened i j
-                (ap (λ (l : List ℕ). slice_get l i) before
-                  ∙ (sym (get_else (rooms r) (number p) i 0 ne)
-                    ∙ (ap (λ (l : List ℕ). slice_get l i) (sym m.rooms_are) ∙ f))));
+            (ap (λ (l : List ℕ). slice_get l i) before
+            ∙ (sym (get_else (rooms r) (number p) i 0 ne)
+            ∙ (ap (λ (l : List ℕ). slice_get l i) (sym m.rooms_are) ∙ f))));
         unarmed = unarmed_at t (a ∙ all_of s r e) (look_unarmed p q r t 0 m a (unarmed_of s r e));
         sound = s.sound;
         few = s.few;
@@ -138,8 +144,8 @@ none_behind (suc end) a = tt
 pub starts : (L : ℕ → List Deed → Turn → Type 0) (F : ℕ → List Record → Type 0) (D : Declaration) (S : Script)
     (z : TableId) (w : Script) (lg : Logged) (mb : Roomy) (op hd : List Bool) (tb : TableId) (r : Right Step)
     → w ≡ S → lg.history ≡ [] → mb.inboxes ≡ empty_inboxes S → op ≡ replicate (actors D) false
-        → hd ≡ replicate (actors D) false → tb ≡ z → IsFirst z (controller D + 1) r → IsScriptFor D S
-        → controller D < most_actors → TellsWhereDown L
+    → hd ≡ replicate (actors D) false → tb ≡ z → IsFirst z (controller D + 1) r → IsScriptFor D S
+    → controller D < most_actors → TellsWhereDown L
     → IsFabricState L F D S z w lg mb op hd 0 0 0 tb (Some r)
 starts L F D S z w lg mb op hd tb r ws none is oc hc te i so few down = record {
   script_is = ws;

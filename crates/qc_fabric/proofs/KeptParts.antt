@@ -1,6 +1,6 @@
 -- What the state under the lock keeps, with other memory, other spare room, after a look, and one step more.
-use Rattle.std.proofs.Common.{◌≡◌, ℕ, suc, ◌+◌, ◌-◌, ◌<◌, ◌≤◌, Bool, true, false, List, ◌∷◌, ◌++◌, length}
-use Rattle.std.proofs.Common.{refl, ap, sym, ◌∙◌, subst, arith, length-append, Option, Some, None, sum}
+use Rattle.std.proofs.Common.{◌≡◌, ℕ, suc, ◌+◌, ◌-◌, ◌<◌, ◌≤◌, Bool, true, false, List, ◌∷◌, ◌++◌, length, refl, ap}
+use Rattle.std.proofs.Common.{sym, ◌∙◌, subst, arith, length-append, Option, Some, None, sum}
 use Rattle.std.specs.Prelude.{slice_get, slice_set}
 use Rattle.atomic_table.specs.Seated.{TableId}
 use Rattle.qc_decl.specs.Names.{actors}
@@ -17,8 +17,8 @@ use Rattle.qc_pass.specs.Names.{Met, all, ends, number, right_table, room, rooms
 use Rattle.qc_promise.specs.Names.{arms_disk}
 use Rattle.qc_script.specs.Names.{RunsWithFalls, phase_of}
 use Rattle.qc_script.specs.declared.script.Script.{Script}
-use Rattle.qc_fabric.specs.Names.{ArmsNoneBehind, HasGrown, IsFabricState, Logged, before_last_event}
-use Rattle.qc_fabric.specs.Names.{begins_event, full_of, most_history}
+use Rattle.qc_fabric.specs.Names.{ArmsNoneBehind, HasGrown, IsFabricState, Logged, before_last_event, begins_event}
+use Rattle.qc_fabric.specs.Names.{full_of, most_history}
 use Rattle.qc_fabric.proofs.Events.{before_event}
 use Rattle.qc_fabric.proofs.Fed.{get_here, rooms_kept}
 use Rattle.qc_fabric.proofs.Gains.{look_unarmed, met_unarmed}
@@ -28,8 +28,8 @@ pub no_room_at : (old new : List ℕ) (p i j : ℕ) → p < length old → new �
 no_room_at old new p i j made is same f =
     let zero_there : slice_get (slice_set old p 0) p ≡ Some 0 = get_here old p 0 made in
     let there : slice_get (slice_set old p 0) p ≡ Some (suc j) =
-            subst (λ (x : ℕ). slice_get (slice_set old p 0) x ≡ Some (suc j)) same
-              (ap (λ (l : List ℕ). slice_get l i) (sym is) ∙ f) in
+    subst (λ (x : ℕ). slice_get (slice_set old p 0) x ≡ Some (suc j)) same
+    (ap (λ (l : List ℕ). slice_get l i) (sym is) ∙ f) in
     let both : Some 0 ≡ Some (suc j) = sym zero_there ∙ there in
     let bad : 0 ≡ suc j = cc in absurd (omega (arith, bad))
 
@@ -65,7 +65,7 @@ module _ {L : ℕ → List Deed → Turn → Type 0} {F : ℕ → List Record �
   pub other_memory : (s : IsFabricState L F D S z w lg mb op hd ph rsv sp tb ri) (lg' : Logged) (mb' : Roomy)
       (hd' : List Bool) → lg'.history ≡ lg.history → mb'.inboxes ≡ mb.inboxes
       → rsv + sp ≤ lg'.room → rsv + sp ≤ mb'.room → length hd' ≡ actors D
-          → IsFabricState L F D S z w lg' mb' op hd' ph rsv sp tb ri
+      → IsFabricState L F D S z w lg' mb' op hd' ph rsv sp tb ri
   other_memory s lg' mb' hd' es is lr mr len = record {
     script_is = s.script_is;
     holder = s.holder;
@@ -97,7 +97,7 @@ module _ {L : ℕ → List Deed → Turn → Type 0} {F : ℕ → List Record �
   pub other_spare : (s : IsFabricState L F D S z w lg mb op hd ph rsv sp tb ri) (lg' : Logged) (mb' : Roomy) (sp' : ℕ)
       → lg'.history ≡ lg.history → mb'.inboxes ≡ mb.inboxes
       → rsv + sp' ≤ lg'.room → rsv + sp' ≤ mb'.room → length lg.history + (rsv + sp') ≤ most_history
-          → IsFabricState L F D S z w lg' mb' op hd ph rsv sp' tb ri
+      → IsFabricState L F D S z w lg' mb' op hd ph rsv sp' tb ri
   other_spare s lg' mb' sp' es is lr mr bd = record {
     script_is = s.script_is;
     holder = s.holder;
@@ -161,17 +161,17 @@ module _ {L : ℕ → List Deed → Turn → Type 0} {F : ℕ → List Record �
       → (p q : Pass Step) (t : Right Step) (x : Step) (op' : List Bool) (ph' : ℕ)
       → Met p r q t (x ∷ []) (room p) → all t ≡ all r ++ marked (number p) x ∷ []
       → (lg1 lg' : Logged) (mb' : Roomy) → lg1.history ≡ lg.history → (rsv + sp) + 1 ≤ lg1.room
-          → length lg.history + ((rsv + sp) + 1) ≤ most_history → HasGrown lg1 lg' (marked (number p) x ∷ [])
+      → length lg.history + ((rsv + sp) + 1) ≤ most_history → HasGrown lg1 lg' (marked (number p) x ∷ [])
       → rsv + sp ≤ mb'.room → IsKept S (lg.history ++ marked (number p) x ∷ []) mb'.inboxes
-          → ph' ≡ phase_of (lg.history ++ marked (number p) x ∷ [])
+      → ph' ≡ phase_of (lg.history ++ marked (number p) x ∷ [])
       → RunsWithFalls L F D S (lg.history ++ marked (number p) x ∷ []) op' → length op' ≡ actors D
-          → ((k : ℕ) → slice_get op k ≡ Some true → slice_get op' k ≡ Some true)
+      → ((k : ℕ) → slice_get op k ≡ Some true → slice_get op' k ≡ Some true)
       → full_of lg.history ≡ None → begins_event x ≡ true → ((b : ℕ) → arms_disk b x ≡ false)
-          → IsFabricState L F D S z w lg' mb' op' hd ph' rsv sp tb (Some t)
+      → IsFabricState L F D S z w lg' mb' op' hd ph' rsv sp tb (Some t)
   steps_on s r e p q t x op' ph' m a lg1 lg' mb' hs lr bd g mr kept phs run len more under starts_one calm =
       let same : rooms t ≡ rooms s.holder = rooms_kept p q r t (x ∷ []) m ∙ sym (rooms_of s r e) in
       let es : lg'.history ≡ lg.history ++ marked (number p) x ∷ [] =
-              g.history ∙ ap (λ (l : List Entry). l ++ marked (number p) x ∷ []) hs in
+      g.history ∙ ap (λ (l : List Entry). l ++ marked (number p) x ∷ []) hs in
       record {
         script_is = s.script_is;
         holder = t;
@@ -188,8 +188,12 @@ module _ {L : ℕ → List Deed → Turn → Type 0} {F : ℕ → List Record �
         sum_is = ap (λ (l : List ℕ). sum l) same ∙ s.sum_is;
         log_room = omega (arith, g.room, lr);
         mail_room = mr;
-        bound = omega (arith, ap (λ (l : List Entry). length l) es, length-append lg.history (marked (number p) x ∷ []),
-            bd);
+        bound = omega (
+          arith,
+          ap (λ (l : List Entry). length l) es,
+          length-append lg.history (marked (number p) x ∷ []),
+          bd,
+        );
         below =
             ap (λ (l : List Entry). full_of (before_last_event l)) es
             ∙ (ap full_of (before_event lg.history (marked (number p) x) [] starts_one refl) ∙ under);

@@ -1,6 +1,6 @@
 -- What the calls tell through the caller's pass alone.
-use Rattle.std.specs.Prelude.{◌≡◌, ◌⊎◌, ◌+◌, ◌<◌, ◌≤◌}
-use Rattle.std.specs.Prelude.{ℕ, Bool, true, false, List, [], ◌∷◌, ◌++◌, Some, None, IsSome, length, max, slice_get}
+use Rattle.std.specs.Prelude.{◌≡◌, ◌⊎◌, ◌+◌, ◌<◌, ◌≤◌, ℕ, Bool, true, false, List, [], ◌∷◌, ◌++◌, Some, None, IsSome}
+use Rattle.std.specs.Prelude.{length, max, slice_get}
 use Rattle.std.specs.List.{AllByRecursion as Every}
 use mathlib.Core.List.{IsPrefix}
 use Rattle.qc_decl.specs.Names.{controller}

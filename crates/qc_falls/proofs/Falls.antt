@@ -8,8 +8,7 @@ use Rattle.qc_outside.specs.declared.disk.ArmKind.TheVariants.{Fail, Stop}
 use Rattle.qc_promise.specs.Names.{Arm, Spent, Tally, no_tally, tally, tally_with}
 use Rattle.std.specs.List.{AllByRecursion as Every}
 use Rattle.qc_falls.specs.Names.{arms, arms_other, fails, rises_with_one, stops, stops_rising}
-use Rattle.qc_falls.specs.Disks.{crashes, damaged, rises}
-use Rattle.qc_falls.specs.Disks.{writes}
+use Rattle.qc_falls.specs.Disks.{crashes, damaged, rises, writes}
 
 -- more falls than were counted
 

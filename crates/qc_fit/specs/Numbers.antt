@@ -1,7 +1,7 @@
 -- Whether a number is declared: an actor's, a client's, an epoch's, and those of an object's type; and whether a clock
 -- leaves room for a run.
-use Rattle.std.specs.Prelude.{ℕ, ◌^◌, Bool, true, false, ◌==◌, ◌&&◌, nat_le, nat_lt, length}
-use Rattle.std.specs.Prelude.{Option, Some, None, is_some}
+use Rattle.std.specs.Prelude.{ℕ, ◌^◌, Bool, true, false, ◌==◌, ◌&&◌, nat_le, nat_lt, length, Option, Some, None}
+use Rattle.std.specs.Prelude.{is_some}
 use Rattle.std.specs.Option.{option_map_or}
 use Rattle.qc_decl.specs.Names.{administrator, client_actor, is_client, plan_in, table_at}
 use Rattle.qc_decl.specs.declared.declaration.Declaration.{Declaration}

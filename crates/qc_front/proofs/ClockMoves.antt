@@ -1,6 +1,6 @@
 -- A command's move never lets the clock, the known epoch and the count of transactions fall.
-use Rattle.std.proofs.Common.{◌≡◌, ℕ, ◌+◌, ◌≤◌, Bool, true, false, cond, nat_le, List, length, Option, Some}
-use Rattle.std.proofs.Common.{None, refl, arith}
+use Rattle.std.proofs.Common.{◌≡◌, ℕ, ◌+◌, ◌≤◌, Bool, true, false, cond, nat_le, List, length, Option, Some, None, refl}
+use Rattle.std.proofs.Common.{arith}
 use Rattle.qc_decl.specs.declared.declaration.Declaration.{Declaration}
 use Rattle.qc_decl.specs.Names.{append_need_of, most_transaction_operations, read_need_of}
 use Rattle.qc_msg.specs.declared.call.Call.{Call}
@@ -14,9 +14,8 @@ use Rattle.qc_plan.specs.declared.standing.Verdict.TheVariants as verdicts
 use Rattle.qc_plan.specs.Names.{RoundState, verdict}
 use Rattle.qc_front.specs.declared.front.Front.{Front}
 use Rattle.qc_front.specs.declared.transaction.Transaction.{Transaction}
-use Rattle.qc_front.specs.Names.{aborts, answer_of, answered, append_by}
-use Rattle.qc_front.specs.Names.{begins, called, commits, gives_up}
-use Rattle.qc_front.specs.Names.{moved, performs, read_by, reads, round_for}
+use Rattle.qc_front.specs.Names.{aborts, answer_of, answered, append_by, begins, called, commits, gives_up, moved}
+use Rattle.qc_front.specs.Names.{performs, read_by, reads, round_for}
 
 -- a move keeps both, and the count of transactions; a command raises that by one at most
 
@@ -51,8 +50,8 @@ answered_keeps : (decl : Declaration) (front : Front) (t : Transaction) (object 
 answered_keeps decl front t object inv None = record { clock = refl; epoch = refl; count = refl }
 answered_keeps decl front t object inv (Some event) =
     append_by_keeps decl front t object inv event []
-        (round_for decl front t (append_need_of decl t.begun.epoch object event))
-        (verdict (round_for decl front t (append_need_of decl t.begun.epoch object event)))
+    (round_for decl front t (append_need_of decl t.begun.epoch object event))
+    (verdict (round_for decl front t (append_need_of decl t.begun.epoch object event)))
 
 pub read_by_keeps : (decl : Declaration) (front : Front) (t : Transaction) (object inv : ℕ) (calls : List Call)
     (r : RoundState) (v : Verdict) → Keeps front (read_by decl front t object inv calls r v).front

@@ -1,6 +1,5 @@
 -- The clock and the known epoch never fall, and pass those of what counts.
-use Rattle.std.proofs.Common.{◌≡◌, ℕ, ◌≤◌, Option, Some}
-use Rattle.std.proofs.Common.{None, refl, sym, ◌∙◌, subst, arith}
+use Rattle.std.proofs.Common.{◌≡◌, ℕ, ◌≤◌, Option, Some, None, refl, sym, ◌∙◌, subst, arith}
 use Rattle.qc_stamp.specs.declared.clock.Clock.{Clock}
 use Rattle.qc_decl.specs.declared.declaration.Declaration.{Declaration}
 use Rattle.qc_msg.specs.declared.message.Answer.{Answer}
@@ -11,10 +10,8 @@ use Rattle.qc_front.specs.declared.doing.Doing.{Doing}
 use Rattle.qc_front.specs.declared.doing.Doing.TheVariants.{Idle, Reading, Appending}
 use Rattle.qc_front.specs.declared.front.Front.{Front}
 use Rattle.qc_front.specs.declared.transaction.Transaction.{Transaction}
-use Rattle.qc_front.specs.Names.{Learns, appended_with}
-use Rattle.qc_front.specs.Names.{appending_takes, asked_at, asked_in, ended, learns}
-use Rattle.qc_front.specs.Names.{read_with, reading_takes, standing_of}
-use Rattle.qc_front.specs.Names.{takes, takes_in}
+use Rattle.qc_front.specs.Names.{Learns, appended_with, appending_takes, asked_at, asked_in, ended, learns, read_with}
+use Rattle.qc_front.specs.Names.{reading_takes, standing_of, takes, takes_in}
 use Rattle.qc_front.proofs.ClockMoves.{Keeps, append_by_keeps, read_by_keeps}
 
 -- what is learned of what counts
@@ -25,7 +22,7 @@ learned_by front site None =
       clock = omega arith;
       epoch = omega arith;
       granted = λ s life told log asked is. (let never : ⊥ = cc in absurd never);
-      closed = λ s told asked is. (let never : ⊥ = cc in absurd never)
+      closed = λ s told asked is. (let never : ⊥ = cc in absurd never);
     }
 learned_by front site (Some (answers.Granted life clock log)) = record {
   clock = omega arith;
@@ -44,63 +41,63 @@ learned_by front site (Some (answers.Clash holder inv event)) =
       clock = omega arith;
       epoch = omega arith;
       granted = λ s life told log asked is. (let never : ⊥ = cc in absurd never);
-      closed = λ s told asked is. (let never : ⊥ = cc in absurd never)
+      closed = λ s told asked is. (let never : ⊥ = cc in absurd never);
     }
 learned_by front site (Some (answers.Behind epoch)) =
     record {
       clock = omega arith;
       epoch = omega arith;
       granted = λ s life told log asked is. (let never : ⊥ = cc in absurd never);
-      closed = λ s told asked is. (let never : ⊥ = cc in absurd never)
+      closed = λ s told asked is. (let never : ⊥ = cc in absurd never);
     }
 learned_by front site (Some (answers.Restarted now)) =
     record {
       clock = omega arith;
       epoch = omega arith;
       granted = λ s life told log asked is. (let never : ⊥ = cc in absurd never);
-      closed = λ s told asked is. (let never : ⊥ = cc in absurd never)
+      closed = λ s told asked is. (let never : ⊥ = cc in absurd never);
     }
 learned_by front site (Some answers.Stale) =
     record {
       clock = omega arith;
       epoch = omega arith;
       granted = λ s life told log asked is. (let never : ⊥ = cc in absurd never);
-      closed = λ s told asked is. (let never : ⊥ = cc in absurd never)
+      closed = λ s told asked is. (let never : ⊥ = cc in absurd never);
     }
 learned_by front site (Some answers.Fault) =
     record {
       clock = omega arith;
       epoch = omega arith;
       granted = λ s life told log asked is. (let never : ⊥ = cc in absurd never);
-      closed = λ s told asked is. (let never : ⊥ = cc in absurd never)
+      closed = λ s told asked is. (let never : ⊥ = cc in absurd never);
     }
 learned_by front site (Some (answers.Yes clock)) =
     record {
       clock = omega arith;
       epoch = omega arith;
       granted = λ s life told log asked is. (let never : ⊥ = cc in absurd never);
-      closed = λ s told asked is. (let never : ⊥ = cc in absurd never)
+      closed = λ s told asked is. (let never : ⊥ = cc in absurd never);
     }
 learned_by front site (Some (answers.Shut clock lines prepared)) =
     record {
       clock = omega arith;
       epoch = omega arith;
       granted = λ s life told log asked is. (let never : ⊥ = cc in absurd never);
-      closed = λ s told asked is. (let never : ⊥ = cc in absurd never)
+      closed = λ s told asked is. (let never : ⊥ = cc in absurd never);
     }
 learned_by front site (Some answers.Installed) =
     record {
       clock = omega arith;
       epoch = omega arith;
       granted = λ s life told log asked is. (let never : ⊥ = cc in absurd never);
-      closed = λ s told asked is. (let never : ⊥ = cc in absurd never)
+      closed = λ s told asked is. (let never : ⊥ = cc in absurd never);
     }
 learned_by front site (Some (answers.Answered verdict)) =
     record {
       clock = omega arith;
       epoch = omega arith;
       granted = λ s life told log asked is. (let never : ⊥ = cc in absurd never);
-      closed = λ s told asked is. (let never : ⊥ = cc in absurd never)
+      closed = λ s told asked is. (let never : ⊥ = cc in absurd never);
     }
 
 nothing_learned : (front : Front) (answer : Option Answer) → Learns front front None answer
@@ -137,8 +134,8 @@ takes_in_learns decl front (Reading object inv calls round) (Some t) number answ
     by (Some site) =
         learned_move front _ site answer
         (read_by_keeps decl (learns front answer) (read_with t site object answer) object inv
-            (without_call calls number) (note round site (standing_of answer))
-            (verdict (note round site (standing_of answer))))
+        (without_call calls number) (note round site (standing_of answer))
+        (verdict (note round site (standing_of answer))))
 takes_in_learns decl front (Appending object inv event calls round) (Some t) number answer =
     by (site_called calls number)
   where
@@ -148,8 +145,8 @@ takes_in_learns decl front (Appending object inv event calls round) (Some t) num
     by (Some site) =
         learned_move front _ site answer
         (append_by_keeps decl (learns front answer) (appended_with t site answer) object inv event
-            (without_call calls number) (note round site (standing_of answer))
-            (verdict (note round site (standing_of answer))))
+        (without_call calls number) (note round site (standing_of answer))
+        (verdict (note round site (standing_of answer))))
 
 pub takes_learns : (decl : Declaration) (front : Front) (number : ℕ) (answer : Option Answer)
     → Learns front (takes decl front number answer).front (asked_at front number) answer
@@ -186,8 +183,8 @@ takes_in_count decl front (Reading object inv calls round) (Some t) number answe
     by (Some site) =
         count_after front _ answer
         (read_by_keeps decl (learns front answer) (read_with t site object answer) object inv
-            (without_call calls number) (note round site (standing_of answer))
-            (verdict (note round site (standing_of answer))))
+        (without_call calls number) (note round site (standing_of answer))
+        (verdict (note round site (standing_of answer))))
 takes_in_count decl front (Appending object inv event calls round) (Some t) number answer =
     by (site_called calls number)
   where
@@ -197,8 +194,8 @@ takes_in_count decl front (Appending object inv event calls round) (Some t) numb
     by (Some site) =
         count_after front _ answer
         (append_by_keeps decl (learns front answer) (appended_with t site answer) object inv event
-            (without_call calls number) (note round site (standing_of answer))
-            (verdict (note round site (standing_of answer))))
+        (without_call calls number) (note round site (standing_of answer))
+        (verdict (note round site (standing_of answer))))
 
 pub takes_count : (decl : Declaration) (front : Front) (number : ℕ) (answer : Option Answer)
     → (takes decl front number answer).front.count ≡ front.count

@@ -1,6 +1,6 @@
 -- What holds of a front end holds after each command.
-use Rattle.std.proofs.Common.{◌≡◌, ℕ, ◌+◌, ◌<◌, ◌≤◌, nat_le, Bool, true, false, cond, List, ◌∷◌, ◌++◌}
-use Rattle.std.proofs.Common.{length, Option, Some, None, refl, sym, ap, ◌∙◌, subst, arith, append_assoc}
+use Rattle.std.proofs.Common.{◌≡◌, ℕ, ◌+◌, ◌<◌, ◌≤◌, nat_le, Bool, true, false, cond, List, ◌∷◌, ◌++◌, length, Option}
+use Rattle.std.proofs.Common.{Some, None, refl, sym, ap, ◌∙◌, subst, arith, append_assoc}
 use Rattle.std.specs.Prelude.{option_map, slice_get}
 use Rattle.std.proofs.lemmas.Bool.{leb-false}
 use Rattle.std.proofs.lemmas.List.{length-append}
@@ -23,13 +23,10 @@ use Rattle.qc_front.specs.declared.doing.Doing.{Doing}
 use Rattle.qc_front.specs.declared.doing.Doing.TheVariants.{Idle, Reading, Appending}
 use Rattle.qc_front.specs.declared.front.Front.{Front}
 use Rattle.qc_front.specs.declared.transaction.Transaction.{Transaction}
-use Rattle.qc_front.specs.Names.{AreOpen, BegunHolds, DoingHolds, FrontHolds, FrontMove}
-use Rattle.qc_front.specs.Names.{IsRound, RecordsHold, aborts, answer_of, answered, append_by}
-use Rattle.qc_front.specs.Names.{appends, begins, called, commits}
-use Rattle.qc_front.specs.Names.{fresh, gives_up, moved, next_own, next_tx, op_of, performs}
-use Rattle.qc_front.specs.Names.{read_by, reads, resp_of, round_for}
-use Rattle.qc_front.specs.Names.{sites_called, weights_of, with_event}
-use Rattle.qc_front.specs.Names.{with_view}
+use Rattle.qc_front.specs.Names.{AreOpen, BegunHolds, DoingHolds, FrontHolds, FrontMove, IsRound, RecordsHold, aborts}
+use Rattle.qc_front.specs.Names.{answer_of, answered, append_by, appends, begins, called, commits, fresh, gives_up}
+use Rattle.qc_front.specs.Names.{moved, next_own, next_tx, op_of, performs, read_by, reads, resp_of, round_for}
+use Rattle.qc_front.specs.Names.{sites_called, weights_of, with_event, with_view}
 use Rattle.qc_front.proofs.Awaited.{asking_awaits, asking_round, asking_waits}
 use Rattle.qc_front.proofs.Recording.{event_recorded, fresh_recorded, op_recorded}
 
@@ -67,7 +64,7 @@ room_after : (t : Transaction) (object inv event resp : ℕ) → length t.begun.
 room_after t object inv event resp few =
     subst (λ (b : Begun). length (b.ops ++ op_of object inv (Some resp) ∷ []) ≤ 16)
     (sym (view_keeps (record t { own = t.own ++ next_own t object event ∷ [] }) object
-        (option_map (λ (v : View). with_own v event) (slice_get t.views object))))
+    (option_map (λ (v : View). with_own v event) (slice_get t.views object))))
     (room_left t.begun.ops (op_of object inv (Some resp)) few)
 
 at_most : (many : ℕ) → many < 16 → many ≤ 16
@@ -79,9 +76,9 @@ MoveHolds decl move = FrontHolds decl move.front
 append_by_holds : (decl : Declaration) (front : Front) (t : Transaction) (object inv event : ℕ) (calls : List Call)
     (r : RoundState) (v : Verdict) → verdict r ≡ v
     → RecordsHold decl t.views t.own t.begun.ops → length t.begun.ops < most_transaction_operations
-        → answer_of decl t object inv ≡ Some event
+    → answer_of decl t object inv ≡ Some event
     → IsRound decl front.client t.begun.epoch (append_need_of decl t.begun.epoch object event) r → AreOpen calls r
-        → MoveHolds decl (append_by decl front t object inv event calls r v)
+    → MoveHolds decl (append_by decl front t object inv event calls r v)
 append_by_holds decl front t object inv event calls r verdicts.Waiting is records few chosen round calls_are = (
   records,
   record {
@@ -92,9 +89,10 @@ append_by_holds decl front t object inv event calls r verdicts.Waiting is record
     calls_are = asking_calls calls r calls_are;
   },
 )
-append_by_holds decl front t object inv event calls r verdicts.Met is records few chosen round calls_are =
-    (event_recorded decl t object inv event (resp_of decl object event) records,
-        room_after t object inv event (resp_of decl object event) few)
+append_by_holds decl front t object inv event calls r verdicts.Met is records few chosen round calls_are = (
+  event_recorded decl t object inv event (resp_of decl object event) records,
+  room_after t object inv event (resp_of decl object event) few,
+)
 append_by_holds decl front t object inv event calls r (verdicts.Closed epoch site) is records few chosen round calls_are = (records, at_most (length t.begun.ops) few)
 append_by_holds decl front t object inv event calls r (verdicts.Clash tx site) is records few chosen round calls_are =
     (records, at_most (length t.begun.ops) few)
@@ -104,30 +102,31 @@ append_by_holds decl front t object inv event calls r (verdicts.Short got need) 
 pub appends_holds : (decl : Declaration) (front : Front) (t : Transaction) (object inv event : ℕ) (calls : List Call)
     (r : RoundState)
     → RecordsHold decl t.views t.own t.begun.ops → length t.begun.ops < most_transaction_operations
-        → answer_of decl t object inv ≡ Some event
+    → answer_of decl t object inv ≡ Some event
     → IsRound decl front.client t.begun.epoch (append_need_of decl t.begun.epoch object event) r → AreOpen calls r
-        → MoveHolds decl (appends decl front t object inv event calls r)
+    → MoveHolds decl (appends decl front t object inv event calls r)
 appends_holds decl front t object inv event calls r =
     append_by_holds decl front t object inv event calls r (verdict r) refl
 
 answered_holds : (decl : Declaration) (front : Front) (t : Transaction) (object inv : ℕ) (event : Option ℕ)
     → answer_of decl t object inv ≡ event
     → RecordsHold decl t.views t.own t.begun.ops → length t.begun.ops < most_transaction_operations
-        → MoveHolds decl (answered decl front t object inv event)
-answered_holds decl front t object inv None chosen records few =
-    (op_recorded decl t.views t.own t.begun.ops (op_of object inv None) records,
-        room_left t.begun.ops (op_of object inv None) few)
+    → MoveHolds decl (answered decl front t object inv event)
+answered_holds decl front t object inv None chosen records few = (
+  op_recorded decl t.views t.own t.begun.ops (op_of object inv None) records,
+  room_left t.begun.ops (op_of object inv None) few,
+)
 answered_holds decl front t object inv (Some event) chosen records few =
     let need : ℕ = append_need_of decl t.begun.epoch object event in
     appends_holds decl front t object inv event [] (round_for decl front t need) records few chosen
-        (started_round decl front t need)
+    (started_round decl front t need)
     (no_calls_yet (weights_of decl t.begun.epoch) (first_site decl front.client) need)
 
 read_by_holds : (decl : Declaration) (front : Front) (t : Transaction) (object inv : ℕ) (calls : List Call)
     (r : RoundState) (v : Verdict) → verdict r ≡ v
     → RecordsHold decl t.views t.own t.begun.ops → length t.begun.ops < most_transaction_operations
     → IsRound decl front.client t.begun.epoch (read_need_of decl t.begun.epoch object inv) r → AreOpen calls r
-        → MoveHolds decl (read_by decl front t object inv calls r v)
+    → MoveHolds decl (read_by decl front t object inv calls r v)
 read_by_holds decl front t object inv calls r verdicts.Waiting is records few round calls_are = (
   records,
   record {
@@ -150,7 +149,7 @@ pub reads_holds : (decl : Declaration) (front : Front) (t : Transaction) (object
     (r : RoundState)
     → RecordsHold decl t.views t.own t.begun.ops → length t.begun.ops < most_transaction_operations
     → IsRound decl front.client t.begun.epoch (read_need_of decl t.begun.epoch object inv) r → AreOpen calls r
-        → MoveHolds decl (reads decl front t object inv calls r)
+    → MoveHolds decl (reads decl front t object inv calls r)
 reads_holds decl front t object inv calls r = read_by_holds decl front t object inv calls r (verdict r) refl
 
 -- commands
@@ -178,19 +177,20 @@ performs_holds decl front (Some t) object inv here same =
     by false true is = same
     by false false is =
         reads_holds decl front t object inv [] (round_for decl front t (read_need_of decl t.begun.epoch object inv))
-            here.0 (leb-false 16 (length t.begun.ops) is)
+        here.0 (leb-false 16 (length t.begun.ops) is)
         (started_round decl front t (read_need_of decl t.begun.epoch object inv))
-            (no_calls_yet (weights_of decl t.begun.epoch) (first_site decl front.client)
-              (read_need_of decl t.begun.epoch object inv))
+        (no_calls_yet (weights_of decl t.begun.epoch) (first_site decl front.client)
+        (read_need_of decl t.begun.epoch object inv))
 
 begins_holds : (decl : Declaration) (front : Front) (t : Option Transaction)
     → BegunHolds decl front.client t front.doing → MoveHolds decl (moved front quiet)
     → MoveHolds decl (begins decl front t)
 begins_holds decl front (Some t) here same = same
-begins_holds decl front None here same =
-    (fresh_recorded decl,
-        subst (λ (d : Doing). DoingHolds decl front.client (fresh decl (next_tx front) front.epoch) d) (sym here)
-          (omega arith))
+begins_holds decl front None here same = (
+  fresh_recorded decl,
+  subst (λ (d : Doing). DoingHolds decl front.client (fresh decl (next_tx front) front.epoch) d) (sym here)
+      (omega arith),
+)
 
 commits_holds : (decl : Declaration) (front : Front) (t : Option Transaction) → MoveHolds decl (moved front quiet)
     → MoveHolds decl (commits front t)

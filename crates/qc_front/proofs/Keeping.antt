@@ -1,6 +1,5 @@
 -- What holds of a front end holds after each of its moves.
-use Rattle.std.proofs.Common.{◌≡◌, ℕ, ◌<◌, List}
-use Rattle.std.proofs.Common.{length, Option, Some, None, refl, sym, ap, ◌∙◌, subst}
+use Rattle.std.proofs.Common.{◌≡◌, ℕ, ◌<◌, List, length, Option, Some, None, refl, sym, ap, ◌∙◌, subst}
 use Rattle.std.specs.Prelude.{option_map, slice_get}
 use Rattle.qc_decl.specs.declared.declaration.Declaration.{Declaration}
 use Rattle.qc_decl.specs.Names.{append_need_of, most_transaction_operations, read_need_of}
@@ -18,12 +17,10 @@ use Rattle.qc_front.specs.declared.doing.Doing.{Doing}
 use Rattle.qc_front.specs.declared.doing.Doing.TheVariants.{Idle, Reading, Appending}
 use Rattle.qc_front.specs.declared.front.Front.{Front}
 use Rattle.qc_front.specs.declared.transaction.Transaction.{Transaction}
-use Rattle.qc_front.specs.Names.{AppendingHolds, BegunHolds, FrontHolds, FrontMove}
-use Rattle.qc_front.specs.Names.{IsRound, ReadingHolds, RecordsHold}
-use Rattle.qc_front.specs.Names.{append_counts, appended_with, appending_takes, appends, called, ended}
-use Rattle.qc_front.specs.Names.{learns, lived, moved, new_front}
-use Rattle.qc_front.specs.Names.{read_counts, read_with, reading_takes, reads}
-use Rattle.qc_front.specs.Names.{standing_of, takes, takes_in, with_granted}
+use Rattle.qc_front.specs.Names.{AppendingHolds, BegunHolds, FrontHolds, FrontMove, IsRound, ReadingHolds, RecordsHold}
+use Rattle.qc_front.specs.Names.{append_counts, appended_with, appending_takes, appends, called, ended, learns, lived}
+use Rattle.qc_front.specs.Names.{moved, new_front, read_counts, read_with, reading_takes, reads, standing_of, takes}
+use Rattle.qc_front.specs.Names.{takes_in, with_granted}
 use Rattle.qc_front.proofs.Learning.{append_learns, learned, read_learns}
 use Rattle.qc_front.proofs.NotedRounds.{note_round, round_apart}
 use Rattle.qc_front.proofs.Noting.{note_open}
@@ -92,46 +89,46 @@ appended_is t site (Some (answers.Answered verdict)) = refl
 read_counts_holds : (decl : Declaration) (front : Front) (t : Transaction) (object inv : ℕ) (calls : List Call)
     (r : RoundState) (number site : ℕ) (answer : Option Answer) → site_called calls number ≡ Some site
     → RecordsHold decl t.views t.own t.begun.ops → ReadingHolds decl front.client t object inv calls r
-        → MoveHolds decl (read_counts decl (learns front answer) t object inv calls r number site answer)
+    → MoveHolds decl (read_counts decl (learns front answer) t object inv calls r number site answer)
 read_counts_holds decl front t object inv calls r number site answer called records h =
     let keeps : KeepsOps t (read_with t site object answer) = read_keeps t site object answer in
     subst (MoveHolds decl)
-        (sym (read_learns decl front answer (read_with t site object answer) object inv (without_call calls number)
-          (note r site (standing_of answer))))
+    (sym (read_learns decl front answer (read_with t site object answer) object inv (without_call calls number)
+    (note r site (standing_of answer))))
     (learns_holds decl front answer
-        (reads decl front (read_with t site object answer) object inv (without_call calls number)
-          (note r site (standing_of answer)))
+    (reads decl front (read_with t site object answer) object inv (without_call calls number)
+    (note r site (standing_of answer)))
     (reads_holds decl front (read_with t site object answer) object inv (without_call calls number)
-        (note r site (standing_of answer))
+    (note r site (standing_of answer))
     (read_recorded decl t site object answer records)
     (subst (λ (ops : List Op). length ops < most_transaction_operations) (sym keeps.ops) h.room)
     (subst (λ (epoch : ℕ). IsRound decl front.client epoch (read_need_of decl epoch object inv)
-        (note r site (standing_of answer))) (sym keeps.epoch)
+    (note r site (standing_of answer))) (sym keeps.epoch)
     (note_round decl front.client t.begun.epoch (read_need_of decl t.begun.epoch object inv) r site (standing_of answer)
-        h.round_is))
+    h.round_is))
     (note_open calls r number site (standing_of answer) h.calls_are called
-        (round_apart decl front.client t.begun.epoch (read_need_of decl t.begun.epoch object inv) r h.round_is))))
+    (round_apart decl front.client t.begun.epoch (read_need_of decl t.begun.epoch object inv) r h.round_is))))
 
 append_counts_holds : (decl : Declaration) (front : Front) (t : Transaction) (object inv event : ℕ) (calls : List Call)
     (r : RoundState) (number site : ℕ) (answer : Option Answer) → site_called calls number ≡ Some site
     → RecordsHold decl t.views t.own t.begun.ops → AppendingHolds decl front.client t object inv event calls r
-        → MoveHolds decl (append_counts decl (learns front answer) t object inv event calls r number site answer)
+    → MoveHolds decl (append_counts decl (learns front answer) t object inv event calls r number site answer)
 append_counts_holds decl front t object inv event calls r number site answer called records h =
     let lives : List LifeAt = (appended_with t site answer).begun.lives in
     subst (MoveHolds decl) (sym (append_learns decl front answer (appended_with t site answer) object inv event (without_call calls number) (note r site (standing_of answer))
     ∙ ap
-        (λ (u : Transaction). learned answer
-          (appends decl front u object inv event (without_call calls number) (note r site (standing_of answer))))
-        (appended_is t site answer)))
+    (λ (u : Transaction). learned answer
+    (appends decl front u object inv event (without_call calls number) (note r site (standing_of answer))))
+    (appended_is t site answer)))
     (learns_holds decl front answer
-        (appends decl front (relived t lives) object inv event (without_call calls number)
-          (note r site (standing_of answer)))
+    (appends decl front (relived t lives) object inv event (without_call calls number)
+    (note r site (standing_of answer)))
     (appends_holds decl front (relived t lives) object inv event (without_call calls number)
-        (note r site (standing_of answer)) records h.room h.chosen
+    (note r site (standing_of answer)) records h.room h.chosen
     (note_round decl front.client t.begun.epoch (append_need_of decl t.begun.epoch object event) r site
-        (standing_of answer) h.round_is)
+    (standing_of answer) h.round_is)
     (note_open calls r number site (standing_of answer) h.calls_are called
-        (round_apart decl front.client t.begun.epoch (append_need_of decl t.begun.epoch object event) r h.round_is))))
+    (round_apart decl front.client t.begun.epoch (append_need_of decl t.begun.epoch object event) r h.round_is))))
 
 takes_in_holds : (decl : Declaration) (front : Front) (doing : Doing) (t : Option Transaction) (number : ℕ)
     (answer : Option Answer) → BegunHolds decl front.client t doing → MoveHolds decl (moved front quiet)

@@ -1,7 +1,7 @@
 -- What a round waits for, and which requests are open, once what came of one of them is noted.
-use Rattle.std.proofs.Common.{◌≡◌, ◌≢◌, ℕ, ◌+◌, ◌<◌, ◌==◌, ◌&&◌, nat_lt, not, Bool, true, false}
-use Rattle.std.proofs.Common.{cond, inl, inr, List, ◌∷◌, ◌++◌, map, filter, Option, Some, None}
-use Rattle.std.proofs.Common.{option_map, is_some, refl, sym, ap, ◌∙◌, subst, eq-eqb, eqb-true, arith}
+use Rattle.std.proofs.Common.{◌≡◌, ◌≢◌, ℕ, ◌+◌, ◌<◌, ◌==◌, ◌&&◌, nat_lt, not, Bool, true, false, cond, inl, inr, List}
+use Rattle.std.proofs.Common.{◌∷◌, ◌++◌, map, filter, Option, Some, None, option_map, is_some, refl, sym, ap, ◌∙◌}
+use Rattle.std.proofs.Common.{subst, eq-eqb, eqb-true, arith}
 use Rattle.std.specs.Prelude.{is_none}
 use Rattle.std.specs.List.{find}
 use Rattle.std.specs.Ordering.{nat_cmp}
@@ -32,7 +32,7 @@ call_in (c ∷ calls) number site called = by (c.number == number) called (call_
   where
     by : (t : Bool)
         → option_map (λ (x : Call). x.site) (cond t (Some c) (find (λ (x : Call). x.number == number) calls))
-          ≡ Some site → (site_called calls number ≡ Some site → In site (sites_called calls))
+        ≡ Some site → (site_called calls number ≡ Some site → In site (sites_called calls))
         → In site (c.site ∷ sites_called calls)
     by true is more = inl (let same : c.site ≡ site = cc in sym same)
     by false is more = inr (more is)
@@ -57,24 +57,24 @@ without_sites (c ∷ calls) number site called numbers sites =
   where
     by : (t : Bool) → (c.number == number) ≡ t
         → option_map (λ (x : Call). x.site) (cond t (Some c) (find (λ (x : Call). x.number == number) calls))
-          ≡ Some site
+        ≡ Some site
         → (site_called calls number ≡ Some site
-            → sites_called (without_call calls number) ≡ filter (λ (s : ℕ). not (s == site)) (sites_called calls))
+        → sites_called (without_call calls number) ≡ filter (λ (s : ℕ). not (s == site)) (sites_called calls))
         → sites_called (cond (not t) (c ∷ without_call calls number) (without_call calls number))
-            ≡ filter (λ (s : ℕ). not (s == site)) (c.site ∷ sites_called calls)
+        ≡ filter (λ (s : ℕ). not (s == site)) (c.site ∷ sites_called calls)
     by true is here more =
         let same : c.site ≡ site = cc in
         ap sites_called (calls_kept number calls (λ n n_in eq. numbers.0 n n_in (eqb-true c.number number is ∙ sym eq)))
         ∙ sym (none_lost site (sites_called calls) (λ s s_in eq. sites.0 s s_in (same ∙ sym eq)))
         ∙ ap
-            (λ (t : Bool). cond (not t) (c.site ∷ filter (λ (s : ℕ). not (s == site)) (sites_called calls))
-              (filter (λ (s : ℕ). not (s == site)) (sites_called calls))) (sym (eq-eqb c.site site same))
+        (λ (t : Bool). cond (not t) (c.site ∷ filter (λ (s : ℕ). not (s == site)) (sites_called calls))
+        (filter (λ (s : ℕ). not (s == site)) (sites_called calls))) (sym (eq-eqb c.site site same))
     by false is later more = by_site (c.site == site) refl
       where
         by_site : (t : Bool) → (c.site == site) ≡ t
             → c.site ∷ sites_called (without_call calls number)
-              ≡ cond (not t) (c.site ∷ filter (λ (s : ℕ). not (s == site)) (sites_called calls))
-                (filter (λ (s : ℕ). not (s == site)) (sites_called calls))
+            ≡ cond (not t) (c.site ∷ filter (λ (s : ℕ). not (s == site)) (sites_called calls))
+            (filter (λ (s : ℕ). not (s == site)) (sites_called calls))
         by_site true eq = absurd (sites.0 site (call_in calls number site later) (eqb-true c.site site eq))
         by_site false eq = ap (λ (ss : List ℕ). c.site ∷ ss) (more later)
 
@@ -105,8 +105,8 @@ numbers-filter number (c ∷ calls) = by (c.number == number) (numbers-filter nu
   where
     by : (t : Bool) → numbers_of (without_call calls number) ≡ filter (λ (n : ℕ). not (n == number)) (numbers_of calls)
         → numbers_of (cond (not t) (c ∷ without_call calls number) (without_call calls number))
-            ≡ cond (not t) (c.number ∷ filter (λ (n : ℕ). not (n == number)) (numbers_of calls))
-              (filter (λ (n : ℕ). not (n == number)) (numbers_of calls))
+        ≡ cond (not t) (c.number ∷ filter (λ (n : ℕ). not (n == number)) (numbers_of calls))
+        (filter (λ (n : ℕ). not (n == number)) (numbers_of calls))
     by true more = more
     by false more = ap (λ (ns : List ℕ). c.number ∷ ns) more
 
@@ -121,8 +121,8 @@ unnoted_apart (a ∷ rest) apart = by a.standing (unnoted_apart rest apart.1)
   where
     by : (o : Option Standing) → AreApart (unnoted rest)
         → AreApart
-          (sites_of (cond (is_none o) (a ∷ filter (λ (x : Asked). is_none x.standing) rest)
-            (filter (λ (x : Asked). is_none x.standing) rest)))
+        (sites_of (cond (is_none o) (a ∷ filter (λ (x : Asked). is_none x.standing) rest)
+        (filter (λ (x : Asked). is_none x.standing) rest)))
     by None more = (λ y y_in. apart.0 y (unnoted_in rest y y_in), more)
     by (Some standing) more = more
 
@@ -137,7 +137,7 @@ note_open calls r number site standing o called apart = record {
     more = filter (λ (s : ℕ). not (s == site)) o.sites.more;
     is = ap (λ (ss : List ℕ). ss ++ filter (λ (s : ℕ). not (s == site)) o.sites.more)
         (without_sites calls number site called (ascends_apart (numbers_of calls) o.numbers)
-            (prefix_apart (sites_called calls) (unnoted r.asked) o.sites (unnoted_apart r.asked apart)))
+        (prefix_apart (sites_called calls) (unnoted r.asked) o.sites (unnoted_apart r.asked apart)))
         ∙ sym (filter-append (λ (s : ℕ). not (s == site)) (sites_called calls) o.sites.more)
         ∙ ap (λ (ss : List ℕ). filter (λ (s : ℕ). not (s == site)) ss) o.sites.is
         ∙ sym (note_awaits site standing r.asked apart);
@@ -151,7 +151,7 @@ pub note_numbered : (calls : List Call) (r : RoundState) (number site : ℕ) (st
     → sites_called calls ≡ awaited r → sites_called (without_call calls number) ≡ awaited (note r site standing)
 note_numbered calls r number site standing o called apart full =
     without_sites calls number site called (ascends_apart (numbers_of calls) o.numbers)
-        (prefix_apart (sites_called calls) (unnoted r.asked) o.sites (unnoted_apart r.asked apart))
+    (prefix_apart (sites_called calls) (unnoted r.asked) o.sites (unnoted_apart r.asked apart))
     ∙ ap (λ (ss : List ℕ). filter (λ (s : ℕ). not (s == site)) ss) full
     ∙ sym (note_awaits site standing r.asked apart)
 
@@ -163,8 +163,8 @@ noted_awaits (a ∷ rest) noted = by a.standing noted (noted_awaits rest)
   where
     by : (o : Option Standing) → (is_some o && all_noted rest) ≡ true → (all_noted rest ≡ true → unnoted rest ≡ [])
         → sites_of
-          (cond (is_none o) (a ∷ filter (λ (x : Asked). is_none x.standing) rest)
-            (filter (λ (x : Asked). is_none x.standing) rest)) ≡ []
+        (cond (is_none o) (a ∷ filter (λ (x : Asked). is_none x.standing) rest)
+        (filter (λ (x : Asked). is_none x.standing) rest)) ≡ []
     by None is more = let never : ⊥ = cc in absurd never
     by (Some standing) is more = more is
 
@@ -174,8 +174,8 @@ awaits_some (a ∷ rest) open_still none = by a.standing open_still none (awaits
   where
     by : (o : Option Standing) → (is_some o && all_noted rest) ≡ false
         → sites_of
-          (cond (is_none o) (a ∷ filter (λ (x : Asked). is_none x.standing) rest)
-            (filter (λ (x : Asked). is_none x.standing) rest)) ≡ [] → (all_noted rest ≡ false → unnoted rest ≡ [] → ⊥)
+        (cond (is_none o) (a ∷ filter (λ (x : Asked). is_none x.standing) rest)
+        (filter (λ (x : Asked). is_none x.standing) rest)) ≡ [] → (all_noted rest ≡ false → unnoted rest ≡ [] → ⊥)
         → ⊥
     by None is empty more = let never : ⊥ = cc in never
     by (Some standing) is empty more = more is empty

@@ -1,6 +1,5 @@
 -- What a front end becomes and does for a command, for an answer and for a lost request.
-use Rattle.std.specs.Prelude.{ℕ, if◌then◌else◌, List, filter, map, is_none}
-use Rattle.std.specs.Prelude.{Option, Some, None}
+use Rattle.std.specs.Prelude.{ℕ, if◌then◌else◌, List, filter, map, is_none, Option, Some, None}
 use Rattle.qc_decl.specs.declared.declaration.Declaration.{Declaration}
 use Rattle.qc_plan.specs.declared.standing.Asked.{Asked}
 use Rattle.qc_plan.specs.Names.{RoundState, note}

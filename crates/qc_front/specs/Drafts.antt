@@ -1,6 +1,6 @@
 -- A transaction as it is to become: what a `do` on one object changes of it.
-use Rattle.std.specs.Prelude.{◌≡◌, ℕ, true, List, [], ◌∷◌, ◌++◌, fold, map, slice_get, slice_set, is_some}
-use Rattle.std.specs.Prelude.{Option, Some, None, option_and_then, option_map}
+use Rattle.std.specs.Prelude.{◌≡◌, ℕ, true, List, [], ◌∷◌, ◌++◌, fold, map, slice_get, slice_set, is_some, Option, Some}
+use Rattle.std.specs.Prelude.{None, option_and_then, option_map}
 use Rattle.std.specs.Option.{option_map_or}
 use Rattle.qc_decl.specs.declared.declaration.Declaration.{Declaration}
 use Rattle.qc_decl.specs.Names.{table_at}

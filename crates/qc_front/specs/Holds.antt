@@ -1,6 +1,6 @@
 -- What holds of a front end in every run.
-use Rattle.std.specs.Prelude.{◌≡◌, ℕ, ◌<◌, ◌≤◌, false, List, [], ◌++◌, filter, length, map, slice_get, ◌==◌}
-use Rattle.std.specs.Prelude.{Option, Some, None}
+use Rattle.std.specs.Prelude.{◌≡◌, ℕ, ◌<◌, ◌≤◌, false, List, [], ◌++◌, filter, length, map, slice_get, ◌==◌, Option}
+use Rattle.std.specs.Prelude.{Some, None}
 use Rattle.std.specs.Ordering.{nat_cmp}
 use Rattle.qc_list.specs.Names.{Ascends, In}
 use Rattle.qc_decl.specs.declared.declaration.Declaration.{Declaration}

@@ -1,6 +1,5 @@
 -- How a front end executes an invocation: a read round, the view's answer, an append round, the reply.
-use Rattle.std.specs.Prelude.{ℕ, nat_le, true, if◌then◌else◌, List, [], fold, length, map}
-use Rattle.std.specs.Prelude.{Option, Some, None}
+use Rattle.std.specs.Prelude.{ℕ, nat_le, true, if◌then◌else◌, List, [], fold, length, map, Option, Some, None}
 use Rattle.qc_decl.specs.declared.declaration.Declaration.{Declaration}
 use Rattle.qc_decl.specs.Names.{append_need_of, most_transaction_operations, read_need_of}
 use Rattle.qc_plan.specs.Names.{RoundState, asking_all, verdict, wanted}

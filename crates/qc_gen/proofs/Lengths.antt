@@ -1,6 +1,6 @@
 -- How long the text of a load is.
-use Rattle.std.proofs.Common.{◌≡◌, ◌∙◌, ◌*◌, ◌%◌, ◌-◌, ◌<◌, ◌≤◌, ◌++◌, ◌==◌, ℕ, zero, suc, refl, ap, arith}
-use Rattle.std.proofs.Common.{List, [], ◌∷◌, Bool, true, false, codes, length, length-append, if◌then◌else◌}
+use Rattle.std.proofs.Common.{◌≡◌, ◌∙◌, ◌*◌, ◌%◌, ◌-◌, ◌<◌, ◌≤◌, ◌++◌, ◌==◌, ℕ, zero, suc, refl, ap, arith, List, []}
+use Rattle.std.proofs.Common.{◌∷◌, Bool, true, false, codes, length, length-append, if◌then◌else◌}
 use Rattle.std.proofs.Math.Nat.{mod-lt}
 use Rattle.std.specs.Fmt.{digits}
 use Rattle.qc_gen.proofs.Texts.{texts_join}

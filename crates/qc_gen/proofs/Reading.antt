@@ -1,6 +1,6 @@
 -- How a load is read over `@three`, command by command.
-use Rattle.std.proofs.Common.{◌≡◌, ◌∙◌, ◌+◌, ◌%◌, ◌++◌, ◌==◌, ℕ, zero, suc, refl, sym, ap, arith, List, [], ◌∷◌}
-use Rattle.std.proofs.Common.{Bool, true, false, Some, Ok, codes, nat_lt, if◌then◌else◌, append-nil, lt-ltb}
+use Rattle.std.proofs.Common.{◌≡◌, ◌∙◌, ◌+◌, ◌%◌, ◌++◌, ◌==◌, ℕ, zero, suc, refl, sym, ap, arith, List, [], ◌∷◌, Bool}
+use Rattle.std.proofs.Common.{true, false, Some, Ok, codes, nat_lt, if◌then◌else◌, append-nil, lt-ltb}
 use Rattle.std.proofs.Math.Nat.{mod-lt}
 use Rattle.std.proofs.lemmas.List.{append_assoc}
 use Rattle.qc_decl.specs.Names.{three}

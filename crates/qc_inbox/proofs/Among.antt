@@ -1,7 +1,6 @@
 -- What waits for an actor was sent to it.
-use Rattle.std.proofs.Common.{◌≡◌, ℕ, zero, suc, ◌+◌, ◌-◌, ◌<◌, ◌==◌, ◌&&◌, Bool, true, false, cond, not}
-use Rattle.std.proofs.Common.{List, ◌∷◌, ◌++◌, Option, Some, None, inl, inr, option_to_list, ap, sym, subst}
-use Rattle.std.proofs.Common.{◌∙◌, append_assoc}
+use Rattle.std.proofs.Common.{◌≡◌, ℕ, zero, suc, ◌+◌, ◌-◌, ◌<◌, ◌==◌, ◌&&◌, Bool, true, false, cond, not, List, ◌∷◌}
+use Rattle.std.proofs.Common.{◌++◌, Option, Some, None, inl, inr, option_to_list, ap, sym, subst, ◌∙◌, append_assoc}
 use Rattle.std.specs.Prelude.{drop, set, slice_get}
 use Rattle.std.specs.List.{AllByRecursion as Every, cons_option, fold}
 use Rattle.std.proofs.lemmas.List.{append-nil}
@@ -18,12 +17,9 @@ use Rattle.qc_msg.specs.declared.step.Step.{Step}
 use Rattle.qc_msg.specs.declared.step.Step.TheVariants as steps
 use Rattle.qc_msg.specs.Names.{Entry, WasSentTo, envelope_at, envelope_of, mail}
 use Rattle.qc_msg.specs.declared.step.Fall.{Fall}
-use Rattle.qc_script.specs.Names.{Inbox, actor_fell}
-use Rattle.qc_script.specs.Names.{command_called, control_acted, copy_taken}
-use Rattle.qc_script.specs.Names.{emptied, empty_inbox, fell_by, inbox, inbox_at}
-use Rattle.qc_script.specs.Names.{is_by_line, is_up, loss_taken}
-use Rattle.qc_script.specs.Names.{ready_in, reply_told, requests_to}
-use Rattle.qc_script.specs.Names.{requests_to_others, takes_commands, with_lost, wrote_record}
+use Rattle.qc_script.specs.Names.{Inbox, actor_fell, command_called, control_acted, copy_taken, emptied, empty_inbox}
+use Rattle.qc_script.specs.Names.{fell_by, inbox, inbox_at, is_by_line, is_up, loss_taken, ready_in, reply_told}
+use Rattle.qc_script.specs.Names.{requests_to, requests_to_others, takes_commands, with_lost, wrote_record}
 use Rattle.qc_script.specs.Ready as ready
 use Rattle.qc_script.specs.declared.script.Script.{Script}
 use Rattle.qc_inbox.specs.Names.{AreNumbered, Inboxes, IsKept}
@@ -35,13 +31,12 @@ fell_wait ms a i r waits = by (r == a)
   where
     by : (t : Bool)
         → Waits ms a
-          (emptied t
-            (record i
-              {
-                  up = set i.up r false;
-                  unanswered = requests_to_others r i.unanswered;
-                  lost = with_lost (requests_to r i.unanswered) i.lost
-                }))
+        (emptied t
+        (record i {
+          up = set i.up r false;
+          unanswered = requests_to_others r i.unanswered;
+          lost = with_lost (requests_to r i.unanswered) i.lost;
+        }))
     by true = record { copies = tt; opening = waits.opening; late = waits.late }
     by false = record { copies = waits.copies; opening = waits.opening; late = waits.late }
 
@@ -49,13 +44,13 @@ fell_by_waits : (ms : List Envelope) (a : ℕ) (i : Inbox) (r : ℕ) (cause : Fa
     → Waits ms a (fell_by a i r cause)
 fell_by_waits ms a i r cause waits =
     by_test (Waits ms a) (is_by_line (is_up i.up r) cause) (control_acted a (actor_fell a i r)) (actor_fell a i r)
-        (acted_wait ms a _ (fell_wait ms a i r waits)) (fell_wait ms a i r waits)
+    (acted_wait ms a _ (fell_wait ms a i r waits)) (fell_wait ms a i r waits)
 
 wrote_waits : (ms : List Envelope) (a : ℕ) (i : Inbox) (r : ℕ) → Waits ms a i → Waits ms a (wrote_record a i r)
 wrote_waits ms a i r waits =
     by_test (Waits ms a) (is_up i.up r) i _ waits
-        (acted_wait ms a (record i { up = set i.up r true })
-          (record { copies = waits.copies; opening = waits.opening; late = waits.late }))
+    (acted_wait ms a (record i { up = set i.up r true })
+    (record { copies = waits.copies; opening = waits.opening; late = waits.late }))
 
 every_drop : (P : Envelope → Type 0) (es : List Envelope) → Every P es → Every P (drop 1 es)
 every_drop P [] every = tt
@@ -71,35 +66,35 @@ step_waits script ms a i by (steps.Phase k) waits =
 step_waits script ms a i by (steps.Cut x y) waits =
     nothing ms a _
     (acted_wait ms a (record i { cuts = with_cut i.cuts x y })
-      (record { copies = waits.copies; opening = waits.opening; late = waits.late }))
+    (record { copies = waits.copies; opening = waits.opening; late = waits.late }))
 step_waits script ms a i by (steps.Heal x y) waits =
     nothing ms a _
     (acted_wait ms a (record i { cuts = without_cut i.cuts x y })
-      (record { copies = waits.copies; opening = waits.opening; late = waits.late }))
+    (record { copies = waits.copies; opening = waits.opening; late = waits.late }))
 step_waits script ms a i by (steps.Armed actor kind at) waits = nothing ms a _ (acted_wait ms a i waits)
 step_waits script ms a i by (steps.Called command) waits =
     nothing ms a _
-        (by_test (Waits ms a) (by == a) (command_called i) i
-          (record { copies = waits.copies; opening = waits.opening; late = waits.late }) waits)
+    (by_test (Waits ms a) (by == a) (command_called i) i
+    (record { copies = waits.copies; opening = waits.opening; late = waits.late }) waits)
 step_waits script ms a i by (steps.Got n) waits =
     nothing ms a _
-        (by_test (Waits ms a) (by == a) (copy_taken i) i
-          (record {
-              copies = every_drop (IsSentTo ms a) i.copies waits.copies;
-              opening = waits.opening;
-              late = waits.late
-            }) waits)
+    (by_test (Waits ms a) (by == a) (copy_taken i) i
+    (record {
+      copies = every_drop (IsSentTo ms a) i.copies waits.copies;
+      opening = waits.opening;
+      late = waits.late;
+    }) waits)
 step_waits script ms a i by (steps.Lost n) waits =
     nothing ms a _
-        (by_test (Waits ms a) (by == a) (loss_taken i) i
-          (record { copies = waits.copies; opening = waits.opening; late = waits.late }) waits)
+    (by_test (Waits ms a) (by == a) (loss_taken i) i
+    (record { copies = waits.copies; opening = waits.opening; late = waits.late }) waits)
 step_waits script ms a i by (steps.Wrote written) waits = nothing ms a _ (wrote_waits ms a i by waits)
 step_waits script ms a i by (steps.Sent n to message) waits =
     sends_wait script.links ms a i (record { number = n; from = by; to = to; message = message }) waits
 step_waits script ms a i by (steps.Told reply) waits =
     nothing ms a _
-        (by_test (Waits ms a) (by == a) (reply_told i) i
-          (record { copies = waits.copies; opening = waits.opening; late = waits.late }) waits)
+    (by_test (Waits ms a) (by == a) (reply_told i) i
+    (record { copies = waits.copies; opening = waits.opening; late = waits.late }) waits)
 step_waits script ms a i by (steps.Fell cause pending) waits = nothing ms a _ (fell_by_waits ms a i by cause waits)
 step_waits script ms a i by (steps.Rose records) waits = nothing ms a i waits
 step_waits script ms a i by (steps.Damaged offset) waits = nothing ms a _ (acted_wait ms a i waits)
@@ -114,10 +109,10 @@ steps_wait : (script : Script) (a : ℕ) (h : List Entry) (ms : List Envelope) (
 steps_wait script a [] ms i waits = nothing ms a i waits
 steps_wait script a (e ∷ h) ms i waits =
     subst (λ (x : List Envelope). Waits x a
-        (fold (λ (i : Inbox) (e : Entry). inbox_at script a i e.actor e.step) (inbox_at script a i e.actor e.step) h))
+    (fold (λ (i : Inbox) (e : Entry). inbox_at script a i e.actor e.step) (inbox_at script a i e.actor e.step) h))
     (mail_cons ms (envelope_of e) (mail h))
     (steps_wait script a h (ms ++ option_to_list (envelope_of e)) (inbox_at script a i e.actor e.step)
-        (step_waits script ms a i e.actor e.step waits))
+    (step_waits script ms a i e.actor e.step waits))
 
 inbox_waits : (script : Script) (a : ℕ) (h : List Entry) → Waits (mail h) a (inbox script a h)
 inbox_waits script a h = steps_wait script a h [] empty_inbox (record { copies = tt; opening = tt; late = tt })
@@ -149,21 +144,21 @@ first_found decl a ms i g numbered waits is = controls i.controls is
 
     loss : (ns : List ℕ)
         → ready.first_lost ns (cond (takes_commands decl a && not i.busy) (ready.first_command i.commands) None)
-          ≡ Some g → WasSentTo a ms g
+        ≡ Some g → WasSentTo a ms g
     loss [] is = allowed (takes_commands decl a && not i.busy) is
     loss (n ∷ ns) is = let said : inputs.Lost n ≡ g = cc in subst (λ (x : Input). WasSentTo a ms x) said tt
 
     copy : (es : List Envelope) → Every (IsSentTo ms a) es
         → ready.first_copy es
-          (ready.first_lost i.lost (cond (takes_commands decl a && not i.busy) (ready.first_command i.commands) None))
-          ≡ Some g → WasSentTo a ms g
+        (ready.first_lost i.lost (cond (takes_commands decl a && not i.busy) (ready.first_command i.commands) None))
+        ≡ Some g → WasSentTo a ms g
     copy [] every is = loss i.lost is
     copy (e ∷ es) every is =
         let said : inputs.Got e ≡ g = cc in subst (λ (x : Input). WasSentTo a ms x) said (found ms a e numbered every.0)
 
     controls : (cs : List Control) → ready.after_controls cs
         (ready.first_copy i.copies
-          (ready.first_lost i.lost (cond (takes_commands decl a && not i.busy) (ready.first_command i.commands) None)))
+        (ready.first_lost i.lost (cond (takes_commands decl a && not i.busy) (ready.first_command i.commands) None)))
         ≡ Some g → WasSentTo a ms g
     controls [] is = copy i.copies waits.copies is
     controls (c ∷ cs) is = absurd (let never : ⊥ = cc in never)
@@ -183,7 +178,7 @@ pub copies_found : (script : Script) (h : List Entry) (kept : Inboxes) (a : ℕ)
     → Every (λ (e : Envelope). WasSentTo a (mail h) (inputs.Got e)) (inbox script a h).copies
 copies_found script h kept a is =
     every-weaker (IsSentTo (mail h) a) (λ (e : Envelope). WasSentTo a (mail h) (inputs.Got e))
-        (λ e sent. found (mail h) a e is.numbered sent) (inbox script a h).copies (inbox_waits script a h).copies
+    (λ e sent. found (mail h) a e is.numbered sent) (inbox script a h).copies (inbox_waits script a h).copies
 
 -- who sent a message that is ready is an actor
 pub sender_within : (decl : Declaration) (script : Script) (h : List Entry) (kept : Inboxes) (a : ℕ) (e : Envelope)

@@ -1,6 +1,6 @@
 -- Messages that wait for an actor were sent to it: so after each step.
-use Rattle.std.proofs.Common.{◌≡◌, ℕ, ◌+◌, ◌-◌, ◌==◌, ◌&&◌, Bool, true, false, if◌then◌else◌}
-use Rattle.std.proofs.Common.{List, ◌∷◌, ◌++◌, Option, Some, None, refl, sym, subst}
+use Rattle.std.proofs.Common.{◌≡◌, ℕ, ◌+◌, ◌-◌, ◌==◌, ◌&&◌, Bool, true, false, if◌then◌else◌, List, ◌∷◌, ◌++◌, Option}
+use Rattle.std.proofs.Common.{Some, None, refl, sym, subst}
 use Rattle.std.specs.Prelude.{drop}
 use Rattle.std.specs.List.{AllByRecursion as Every}
 use Rattle.std.specs.Option.{option_map_or}
@@ -15,12 +15,10 @@ use Rattle.qc_msg.specs.declared.message.Envelope.{Envelope}
 use Rattle.qc_msg.specs.declared.message.Message.{Message}
 use Rattle.qc_msg.specs.declared.message.Message.TheVariants as messages
 use Rattle.qc_msg.specs.declared.step.Control.{Control}
-use Rattle.qc_script.specs.Names.{Inbox, acting, answers_by, comes, comes_at_once, comes_with}
-use Rattle.qc_script.specs.Names.{commands_for, control_acted, copies_at_once, count_of}
-use Rattle.qc_script.specs.Names.{goes, goes_with, has_request, if_up}
-use Rattle.qc_script.specs.Names.{is_request, is_up, late_copies, one_more, opened, opened_by}
-use Rattle.qc_script.specs.Names.{phase_begun, request_answered, request_sent}
-use Rattle.qc_script.specs.Names.{with_copies}
+use Rattle.qc_script.specs.Names.{Inbox, acting, answers_by, comes, comes_at_once, comes_with, commands_for}
+use Rattle.qc_script.specs.Names.{control_acted, copies_at_once, count_of, goes, goes_with, has_request, if_up}
+use Rattle.qc_script.specs.Names.{is_request, is_up, late_copies, one_more, opened, opened_by, phase_begun}
+use Rattle.qc_script.specs.Names.{request_answered, request_sent, with_copies}
 use Rattle.qc_script.specs.declared.script.PhaseLines.{PhaseLines}
 
 -- an envelope is one of some messages, and for actor a
@@ -112,10 +110,10 @@ comes_wait ms a up i e f sent waits =
 goes_wait : (i : Inbox) (e : Envelope) (f : Fate) → SameWaits i (goes_with i e f)
 goes_wait i e f =
     by_test (SameWaits i) (is_request e.message)
-        (request_sent (record i { to_each = one_more i.to_each e.to }) e.number e.to f)
-        (record i { to_each = one_more i.to_each e.to })
+    (request_sent (record i { to_each = one_more i.to_each e.to }) e.number e.to f)
+    (record i { to_each = one_more i.to_each e.to })
     (by_test (SameWaits i) (comes_at_once f && is_up i.up e.to) _ _
-        (record { copies = refl; opening = refl; late = refl }) (record { copies = refl; opening = refl; late = refl }))
+    (record { copies = refl; opening = refl; late = refl }) (record { copies = refl; opening = refl; late = refl }))
     (record { copies = refl; opening = refl; late = refl })
 
 pub sends_wait : (links : List Link) (ms : List Envelope) (a : ℕ) (i : Inbox) (e : Envelope) → Waits ms a i
@@ -123,9 +121,9 @@ pub sends_wait : (links : List Link) (ms : List Envelope) (a : ℕ) (i : Inbox) 
 sends_wait links ms a i e waits =
     waits_along (ms ++ e ∷ []) a (comes links a i e) (goes links a (comes links a i e) e)
     (by_test (SameWaits (comes links a i e)) (e.from == a)
-        (goes_with (comes links a i e) e
-          (fate links (comes links a i e).cuts e.from e.to (count_of (comes links a i e).to_each e.to + 1)))
-        (comes links a i e)
+    (goes_with (comes links a i e) e
+    (fate links (comes links a i e).cuts e.from e.to (count_of (comes links a i e).to_each e.to + 1)))
+    (comes links a i e)
     (goes_wait (comes links a i e) e _) (same_waits (comes links a i e)))
     (by (e.to == a) refl)
   where
@@ -134,8 +132,8 @@ sends_wait links ms a i e waits =
 
     by : (t : Bool) → (e.to == a) ≡ t
         → Waits (ms ++ e ∷ []) a
-          (if t then comes_with (is_up i.up a) i e (fate links i.cuts e.from e.to (count_of i.from_each e.from + 1))
-            else i)
+        (if t then comes_with (is_up i.up a) i e (fate links i.cuts e.from e.to (count_of i.from_each e.from + 1))
+        else i)
     by true is = comes_wait (ms ++ e ∷ []) a (is_up i.up a) i e _ (In-last e ms, eqb-true e.to a is) more
     by false is = more
 
@@ -148,7 +146,7 @@ opened_by_wait ms a [] i waits =
       copies = every-append (IsSentTo ms a) (if_up (is_up i.up a) i.opening) i.copies
           (every_up (IsSentTo ms a) (is_up i.up a) i.opening waits.opening) waits.copies;
       opening = tt;
-      late = waits.late
+      late = waits.late;
     }
 opened_by_wait ms a (c ∷ cs) i waits = waits
 
@@ -162,18 +160,17 @@ pub begun_wait : (ms : List Envelope) (a : ℕ) (i : Inbox) (o : Option PhaseLin
 begun_wait ms a i None waits = waits
 begun_wait ms a i (Some phase) waits =
     opened_wait ms a
-        (record i
-          {
-              opening = i.opening ++ i.late;
-              late = [];
-              controls = phase.controls;
-              commands = i.commands ++ commands_for a phase.commands
-            })
+    (record i {
+      opening = i.opening ++ i.late;
+      late = [];
+      controls = phase.controls;
+      commands = i.commands ++ commands_for a phase.commands;
+    })
     (record {
-          copies = waits.copies;
-          opening = every-append (IsSentTo ms a) i.opening i.late waits.opening waits.late;
-          late = tt
-        })
+      copies = waits.copies;
+      opening = every-append (IsSentTo ms a) i.opening i.late waits.opening waits.late;
+      late = tt;
+    })
 
 pub acted_wait : (ms : List Envelope) (a : ℕ) (i : Inbox) → Waits ms a i → Waits ms a (control_acted a i)
 acted_wait ms a i waits =

@@ -182,7 +182,8 @@ asked_tray trays a (l ∷ ls) within = asked_tray (with_command trays l) a ls
         { commands = (tray_at (with_command trays l) a).commands ++ commands_for a ls }
         ≡ record (tray_at trays a) {
           commands = (tray_at trays a).commands ++ map (λ (x : CommandLine). x.command)
-              (cond t (l ∷ filter (λ (x : CommandLine). x.actor == a) ls) (filter (λ (x : CommandLine). x.actor == a) ls));
+              (cond t (l ∷ filter (λ (x : CommandLine). x.actor == a) ls)
+              (filter (λ (x : CommandLine). x.actor == a) ls));
         }
     by true is =
         let here : l.actor ≡ a = eqb-true l.actor a is in

@@ -1,6 +1,6 @@
 -- While a control line is left no input is open: steps of posts and inputs.
-use Rattle.std.proofs.Common.{◌≡◌, ℕ, ◌+◌, ◌-◌, ◌==◌, Bool, true, false, if◌then◌else◌, List, ◌∷◌, ◌++◌}
-use Rattle.std.proofs.Common.{length, Option, Some, None, refl, ap, sym, subst, ◌∙◌}
+use Rattle.std.proofs.Common.{◌≡◌, ℕ, ◌+◌, ◌-◌, ◌==◌, Bool, true, false, if◌then◌else◌, List, ◌∷◌, ◌++◌, length, Option}
+use Rattle.std.proofs.Common.{Some, None, refl, ap, sym, subst, ◌∙◌}
 use Rattle.std.specs.Prelude.{drop, set}
 use Rattle.std.specs.List.{AllByRecursion as Every}
 use Rattle.std.proofs.lemmas.List.{length-set}
@@ -18,15 +18,12 @@ use Rattle.qc_msg.specs.declared.turn.Appended.TheVariants.{Done, Failed, Stoppe
 use Rattle.qc_msg.specs.declared.turn.Posting.{Posting}
 use Rattle.qc_msg.specs.declared.turn.Turn.{Turn}
 use Rattle.qc_msg.specs.Names.{by, posted_as, sents, step_of, told, wrote}
-use Rattle.qc_script.specs.Names.{Inbox, acting, actor_fell, command_called}
-use Rattle.qc_script.specs.Names.{control_acted, copy_taken}
-use Rattle.qc_script.specs.Names.{inbox_at, is_by_line, is_up, loss_taken}
-use Rattle.qc_script.specs.Names.{reply_told}
+use Rattle.qc_script.specs.Names.{Inbox, acting, actor_fell, command_called, control_acted, copy_taken, inbox_at}
+use Rattle.qc_script.specs.Names.{is_by_line, is_up, loss_taken, reply_told}
 use Rattle.qc_script.specs.declared.script.Script.{Script}
 use Rattle.qc_script.proofs.InboxesSend.{sends_does}
 use Rattle.qc_inbox.proofs.Emptied.{acted_up, after, fell_controls, fell_up}
-use Rattle.qc_inbox.proofs.Standing.{ClosedWhile, IsSettled}
-use Rattle.qc_inbox.proofs.Standing.{opened_controls}
+use Rattle.qc_inbox.proofs.Standing.{ClosedWhile, IsSettled, opened_controls}
 
 pub record Lined (inputs : List Bool) (i : Inbox) : Type 0 where
   pub long : length i.up ≡ most_actors
@@ -91,15 +88,15 @@ step_calm script b i r (steps.Lost n) is =
     calm_if (r == b) i (loss_taken i) i (calm_same i (loss_taken i) refl refl) (calm_same i i refl refl)
 step_calm script b i r (steps.Wrote written) is =
     calm_if (is_up i.up r) i i _ (calm_same i i refl refl)
-        (acted_calm b i (record i { up = set i.up r true }) (length-set i.up r true) (λ none. none))
+    (acted_calm b i (record i { up = set i.up r true }) (length-set i.up r true) (λ none. none))
 step_calm script b i r (steps.Sent n to message) is =
     calm_same i _ (sends_does script.links b i (record { number = n; from = r; to = to; message = message })).up
-        (sends_does script.links b i (record { number = n; from = r; to = to; message = message })).controls
+    (sends_does script.links b i (record { number = n; from = r; to = to; message = message })).controls
 step_calm script b i r (steps.Told reply) is =
     calm_if (r == b) i (reply_told i) i (calm_same i (reply_told i) refl refl) (calm_same i i refl refl)
 step_calm script b i r (steps.Fell cause pending) is =
     calm_if (is_by_line (is_up i.up r) cause) i (control_acted b (actor_fell b i r)) (actor_fell b i r)
-        (acted_calm b i (actor_fell b i r) (fell_calm b i r).long (fell_calm b i r).left) (fell_calm b i r)
+    (acted_calm b i (actor_fell b i r) (fell_calm b i r).long (fell_calm b i r).left) (fell_calm b i r)
 step_calm script b i r (steps.Rose records) is = calm_same i i refl refl
 step_calm script b i r (steps.Damaged offset) is = absurd is
 
@@ -109,7 +106,7 @@ steps_calm script b i r [] are = calm_same i i refl refl
 steps_calm script b i r (x ∷ xs) are =
     let first : Calm i (inbox_at script b i r x) = step_calm script b i r x are.0 in
     let rest : Calm (inbox_at script b i r x) (after script b (inbox_at script b i r x) (by r xs)) =
-            steps_calm script b (inbox_at script b i r x) r xs are.1 in
+    steps_calm script b (inbox_at script b i r x) r xs are.1 in
     record { long = rest.long ∙ first.long; left = λ none. rest.left (first.left none) }
 
 tells_actors : (reply : Option Reply) (xs : List Step) → Every IsActors xs → Every IsActors (told reply ++ xs)

@@ -1,7 +1,6 @@
 -- What an actor waits for are its own requests, as messages come and go.
-use Rattle.std.proofs.Common.{◌≡◌, ℕ, ◌+◌, ◌-◌, ◌==◌, ◌&&◌, ◌||◌, nat_lt, Bool, true, false, cond, if◌then◌else◌}
-use Rattle.std.proofs.Common.{List, ◌∷◌, ◌++◌, refl, subst}
-use Rattle.std.proofs.Common.{eqb-true}
+use Rattle.std.proofs.Common.{◌≡◌, ℕ, ◌+◌, ◌-◌, ◌==◌, ◌&&◌, ◌||◌, nat_lt, Bool, true, false, cond, if◌then◌else◌, List}
+use Rattle.std.proofs.Common.{◌∷◌, ◌++◌, refl, subst, eqb-true}
 use Rattle.std.specs.Prelude.{drop, filter}
 use Rattle.std.specs.List.{AllByRecursion as Every}
 use Rattle.qc_link.specs.Names.{fate}
@@ -11,12 +10,9 @@ use Rattle.qc_list.proofs.Members.{In-first, In-last, every-append, every-weaker
 use Rattle.qc_msg.specs.declared.message.Envelope.{Envelope}
 use Rattle.qc_msg.specs.declared.message.Message.{Message}
 use Rattle.qc_msg.specs.declared.message.Message.TheVariants as messages
-use Rattle.qc_script.specs.Names.{Inbox, SentRequest, answers_by, comes, comes_at_once}
-use Rattle.qc_script.specs.Names.{count_of}
-use Rattle.qc_script.specs.Names.{goes, has_request, is_request}
-use Rattle.qc_script.specs.Names.{is_up, one_more}
-use Rattle.qc_script.specs.Names.{request_answered, request_sent}
-use Rattle.qc_script.specs.Names.{with_copies, with_lost, with_number, without_request}
+use Rattle.qc_script.specs.Names.{Inbox, SentRequest, answers_by, comes, comes_at_once, count_of, goes, has_request}
+use Rattle.qc_script.specs.Names.{is_request, is_up, one_more, request_answered, request_sent, with_copies, with_lost}
+use Rattle.qc_script.specs.Names.{with_number, without_request}
 use Rattle.qc_inbox.specs.Names.{IsOwnRequest}
 
 abbrev pub IsOwn : List Envelope → ℕ → SentRequest → Type 0
@@ -38,7 +34,7 @@ more_owned ms ns a n is =
       member = In-first is.envelope ms ns is.member;
       number_is = is.number_is;
       from_is = is.from_is;
-      asks = is.asks
+      asks = is.asks;
     }
 
 pub owns_more : (ms ns : List Envelope) (a : ℕ) (i : Inbox) → Owns ms a i → Owns (ms ++ ns) a i
@@ -98,15 +94,14 @@ module _ (ms : List Envelope) (a : ℕ) where
 
       at : (t : Bool) → has_request i.unanswered number ≡ t
           → Owns ms a
-            (if t then record i
-              {
-                  unanswered = without_request i.unanswered number;
-                  lost = if comes_at_once f then i.lost else with_number i.lost number
-                } else i)
+          (if t then record i {
+            unanswered = without_request i.unanswered number;
+            lost = if comes_at_once f then i.lost else with_number i.lost number;
+          } else i)
       at true is =
           record {
             unanswered = every_filter (IsOwn ms a) _ i.unanswered o.unanswered;
-            lost = lost (comes_at_once f) (asked_of i.unanswered number o.unanswered is)
+            lost = lost (comes_at_once f) (asked_of i.unanswered number o.unanswered is);
           }
       at false is = o
 
@@ -123,7 +118,7 @@ module _ (ms : List Envelope) (a : ℕ) where
   owns_comes links i e o =
       owns_if ms a (e.to == a) _ i
       (owns_answers (with_copies (is_up i.up a) i e (fate links i.cuts e.from e.to (count_of i.from_each e.from + 1)))
-          e.message (fate links i.cuts e.from e.to (count_of i.from_each e.from + 1))
+      e.message (fate links i.cuts e.from e.to (count_of i.from_each e.from + 1))
       (record { unanswered = o.unanswered; lost = o.lost })) o
 
   owns_sent : (i : Inbox) (number to : ℕ) (f : Fate) → IsOwnRequest ms a number → Owns ms a i
@@ -131,10 +126,10 @@ module _ (ms : List Envelope) (a : ℕ) where
   owns_sent i number to f is o =
       owns_if ms a (comes_at_once f && is_up i.up to) _ _
       (record {
-            unanswered =
-                every-append (IsOwn ms a) i.unanswered (record { number = number; to = to } ∷ []) o.unanswered (is, tt);
-            lost = o.lost
-          })
+        unanswered =
+            every-append (IsOwn ms a) i.unanswered (record { number = number; to = to } ∷ []) o.unanswered (is, tt);
+        lost = o.lost;
+      })
       (record { unanswered = o.unanswered; lost = every_number (IsOwnRequest ms a) i.lost number o.lost is })
 
 pub owns_message : (links : List Link) (ms : List Envelope) (a : ℕ) (i : Inbox) (e : Envelope) → Owns ms a i
@@ -152,9 +147,9 @@ owns_message links ms a i e o = at (e.from == a) refl (is_request e.message) ref
 
     at : (t : Bool) → (e.from == a) ≡ t → (q : Bool) → is_request e.message ≡ q
         → Owns (ms ++ e ∷ []) a
-            (if t then
-              (if q then request_sent (record j { to_each = one_more j.to_each e.to }) e.number e.to f else record j
-                { to_each = one_more j.to_each e.to }) else j)
+        (if t then
+        (if q then request_sent (record j { to_each = one_more j.to_each e.to }) e.number e.to f else record j
+        { to_each = one_more j.to_each e.to }) else j)
     at true mine true asks =
         owns_sent (ms ++ e ∷ []) a (record j { to_each = one_more j.to_each e.to }) e.number e.to f
         (record { envelope = e; member = In-last e ms; number_is = refl; from_is = eqb-true e.from a mine; asks = asks }) (record { unanswered = came.unanswered; lost = came.lost })

@@ -1,6 +1,6 @@
 -- What an actor may take as lost, and what it waits for, are requests that it sent itself.
-use Rattle.std.proofs.Common.{◌≡◌, ℕ, ◌+◌, ◌-◌, ◌==◌, ◌&&◌, Bool, true, false, cond, not}
-use Rattle.std.proofs.Common.{List, ◌∷◌, ◌++◌, Option, Some, None, option_to_list, ap, subst, append_assoc}
+use Rattle.std.proofs.Common.{◌≡◌, ℕ, ◌+◌, ◌-◌, ◌==◌, ◌&&◌, Bool, true, false, cond, not, List, ◌∷◌, ◌++◌, Option, Some}
+use Rattle.std.proofs.Common.{None, option_to_list, ap, subst, append_assoc}
 use Rattle.std.specs.Prelude.{drop, set, slice_get}
 use Rattle.std.specs.List.{AllByRecursion as Every, cons_option, fold}
 use Rattle.std.specs.Option.{option_map_or}
@@ -15,12 +15,10 @@ use Rattle.qc_msg.specs.declared.step.Input.TheVariants as inputs
 use Rattle.qc_msg.specs.declared.step.Step.{Step}
 use Rattle.qc_msg.specs.declared.step.Step.TheVariants as steps
 use Rattle.qc_msg.specs.Names.{Entry, envelope_at, envelope_of, mail}
-use Rattle.qc_script.specs.Names.{Inbox, SentRequest, acting, actor_fell}
-use Rattle.qc_script.specs.Names.{command_called, commands_for, control_acted, copy_taken, emptied}
-use Rattle.qc_script.specs.Names.{empty_inbox, fell_by, inbox, inbox_at, is_by_line}
-use Rattle.qc_script.specs.Names.{is_up, loss_taken, opened, opened_by, phase_begun, ready_in, reply_told}
-use Rattle.qc_script.specs.Names.{requests_to, requests_to_others, takes_commands}
-use Rattle.qc_script.specs.Names.{with_lost, wrote_record}
+use Rattle.qc_script.specs.Names.{Inbox, SentRequest, acting, actor_fell, command_called, commands_for, control_acted}
+use Rattle.qc_script.specs.Names.{copy_taken, emptied, empty_inbox, fell_by, inbox, inbox_at, is_by_line, is_up}
+use Rattle.qc_script.specs.Names.{loss_taken, opened, opened_by, phase_begun, ready_in, reply_told, requests_to}
+use Rattle.qc_script.specs.Names.{requests_to_others, takes_commands, with_lost, wrote_record}
 use Rattle.qc_script.specs.Ready as ready
 use Rattle.qc_script.specs.declared.script.PhaseLines.{PhaseLines}
 use Rattle.qc_script.specs.declared.script.Script.{Script}
@@ -49,26 +47,24 @@ owns_phase : (ms : List Envelope) (a : ℕ) (i : Inbox) (o : Option PhaseLines) 
 owns_phase ms a i None o = o
 owns_phase ms a i (Some p) o =
     owns_opened ms a
-        (record i
-          {
-              opening = i.opening ++ i.late;
-              late = [];
-              controls = p.controls;
-              commands = i.commands ++ commands_for a p.commands
-            }) (record { unanswered = o.unanswered; lost = o.lost })
+    (record i {
+      opening = i.opening ++ i.late;
+      late = [];
+      controls = p.controls;
+      commands = i.commands ++ commands_for a p.commands;
+    }) (record { unanswered = o.unanswered; lost = o.lost })
 
 owns_fallen : (ms : List Envelope) (a : ℕ) (i : Inbox) (r : ℕ) → Owns ms a i → Owns ms a (actor_fell a i r)
 owns_fallen ms a i r o = at (r == a)
   where
     at : (t : Bool)
         → Owns ms a
-          (emptied t
-            (record i
-              {
-                  up = set i.up r false;
-                  unanswered = requests_to_others r i.unanswered;
-                  lost = with_lost (requests_to r i.unanswered) i.lost
-                }))
+        (emptied t
+        (record i {
+          up = set i.up r false;
+          unanswered = requests_to_others r i.unanswered;
+          lost = with_lost (requests_to r i.unanswered) i.lost;
+        }))
     at true = record { unanswered = tt; lost = tt }
     at false = record {
       unanswered = every_filter (IsOwn ms a) _ i.unanswered o.unanswered;
@@ -81,7 +77,7 @@ owns_fell : (ms : List Envelope) (a : ℕ) (i : Inbox) (r : ℕ) (cause : Fall) 
     → Owns ms a (fell_by a i r cause)
 owns_fell ms a i r cause o =
     owns_if ms a (is_by_line (is_up i.up r) cause) (control_acted a (actor_fell a i r)) (actor_fell a i r)
-        (owns_acted ms a (actor_fell a i r) (owns_fallen ms a i r o)) (owns_fallen ms a i r o)
+    (owns_acted ms a (actor_fell a i r) (owns_fallen ms a i r o)) (owns_fallen ms a i r o)
 
 owns_wrote : (ms : List Envelope) (a : ℕ) (i : Inbox) (r : ℕ) → Owns ms a i → Owns ms a (wrote_record a i r)
 owns_wrote ms a i r o =
@@ -108,7 +104,7 @@ owns_step script ms a i by (steps.Got n) o =
 owns_step script ms a i by (steps.Lost n) o =
     owns_more ms [] a _
     (owns_if ms a (by == a) (loss_taken i) i
-      (record { unanswered = o.unanswered; lost = every_drop (IsOwnRequest ms a) i.lost o.lost }) o)
+    (record { unanswered = o.unanswered; lost = every_drop (IsOwnRequest ms a) i.lost o.lost }) o)
 owns_step script ms a i by (steps.Wrote written) o = owns_more ms [] a _ (owns_wrote ms a i by o)
 owns_step script ms a i by (steps.Sent n to message) o =
     owns_message script.links ms a i (record { number = n; from = by; to = to; message = message }) o
@@ -129,10 +125,10 @@ owns_all : (script : Script) (a : ℕ) (h : List Entry) (ms : List Envelope) (i 
 owns_all script a [] ms i o = owns_more ms [] a i o
 owns_all script a (e ∷ h) ms i o =
     subst (λ (x : List Envelope). Owns x a
-        (fold (λ (i : Inbox) (e : Entry). inbox_at script a i e.actor e.step) (inbox_at script a i e.actor e.step) h))
+    (fold (λ (i : Inbox) (e : Entry). inbox_at script a i e.actor e.step) (inbox_at script a i e.actor e.step) h))
     (mail_cons ms (envelope_of e) (mail h))
     (owns_all script a h (ms ++ option_to_list (envelope_of e)) (inbox_at script a i e.actor e.step)
-        (owns_step script ms a i e.actor e.step o))
+    (owns_step script ms a i e.actor e.step o))
 
 inbox_owns : (script : Script) (a : ℕ) (h : List Entry) → Owns (mail h) a (inbox script a h)
 inbox_owns script a h = owns_all script a h [] empty_inbox (record { unanswered = tt; lost = tt })
@@ -153,20 +149,20 @@ first_lost_owned decl a n P i all is = controls i.controls is
 
     loss : (ns : List ℕ) → Every P ns
         → ready.first_lost ns (cond (takes_commands decl a && not i.busy) (ready.first_command i.commands) None)
-          ≡ Some (inputs.Lost n) → P n
+        ≡ Some (inputs.Lost n) → P n
     loss [] owned is = allowed (takes_commands decl a && not i.busy) is
     loss (m ∷ ns) owned is = let same : m ≡ n = cc in subst P same owned.0
 
     copy : (es : List Envelope)
         → ready.first_copy es
-          (ready.first_lost i.lost (cond (takes_commands decl a && not i.busy) (ready.first_command i.commands) None))
-          ≡ Some (inputs.Lost n) → P n
+        (ready.first_lost i.lost (cond (takes_commands decl a && not i.busy) (ready.first_command i.commands) None))
+        ≡ Some (inputs.Lost n) → P n
     copy [] is = loss i.lost all is
     copy (e ∷ es) is = absurd (let never : ⊥ = cc in never)
 
     controls : (cs : List Control) → ready.after_controls cs
         (ready.first_copy i.copies
-          (ready.first_lost i.lost (cond (takes_commands decl a && not i.busy) (ready.first_command i.commands) None)))
+        (ready.first_lost i.lost (cond (takes_commands decl a && not i.busy) (ready.first_command i.commands) None)))
         ≡ Some (inputs.Lost n) → P n
     controls [] is = copy i.copies is
     controls (c ∷ cs) is = absurd (let never : ⊥ = cc in never)

@@ -1,7 +1,6 @@
 -- Which actor comes next after a history.
 use Rattle.std.specs.Prelude.{ℕ, zero, suc, ◌+◌, ◌==◌, nat_lt, Bool, true, false, if◌then◌else◌, List, Option, Some}
-use Rattle.std.specs.Prelude.{None}
-use Rattle.std.specs.Prelude.{fold, get_or, option_map}
+use Rattle.std.specs.Prelude.{None, fold, get_or, option_map}
 use Rattle.qc_decl.specs.Names.{actors}
 use Rattle.qc_decl.specs.declared.declaration.Declaration.{Declaration}
 use Rattle.qc_msg.specs.declared.step.Input.{Input}

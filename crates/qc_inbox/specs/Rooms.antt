@@ -1,7 +1,6 @@
 -- What is kept of all inboxes, and what changes in it as actors and the controller act.
-use Rattle.std.specs.Prelude.{ℕ, ◌+◌, ◌==◌, Bool, true, false, List, [], ◌∷◌, Option, Some, None, drop, get_or}
-use Rattle.std.specs.Prelude.{length, map}
-use Rattle.std.specs.Prelude.{replicate, set}
+use Rattle.std.specs.Prelude.{ℕ, ◌+◌, ◌==◌, Bool, true, false, List, [], ◌∷◌, Option, Some, None, drop, get_or, length}
+use Rattle.std.specs.Prelude.{map, replicate, set}
 use Rattle.qc_link.specs.Names.{fate, most_actors, no_cuts, with_cut, without_cut}
 use Rattle.qc_link.specs.declared.rule.Fate.{Fate}
 use Rattle.qc_msg.specs.declared.message.Message.{Message}

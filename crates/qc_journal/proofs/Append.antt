@@ -1,6 +1,6 @@
 -- What the two writes of an append tell, each made to last.
-use Rattle.std.proofs.Common.{◌≡◌, ℕ, ◌+◌, List, [], ◌∷◌, ◌++◌, length, Option, Some, None, IfSome, Result, OnOk}
-use Rattle.std.proofs.Common.{inl, sym, ◌∙◌, ap, subst, arith, append_assoc, length-append}
+use Rattle.std.proofs.Common.{◌≡◌, ℕ, ◌+◌, List, [], ◌∷◌, ◌++◌, length, Option, Some, None, IfSome, Result, OnOk, inl}
+use Rattle.std.proofs.Common.{sym, ◌∙◌, ap, subst, arith, append_assoc, length-append}
 use Rattle.std.proofs.lemmas.Result.{on_ok_weaker}
 use Rattle.qc_outside.specs.Names.{IsImage, Leaves, Since, Stored, Tells, Told, as_read, settled, wrote}
 use Rattle.qc_outside.specs.declared.disk.DiskFault.{DiskFault}

@@ -125,7 +125,8 @@ decided from to ordinal links n x is low read =
       go [] x low read = absurd (omega arith)
       go (l ∷ links) x low read = by (is_for from to ordinal l) (go links x) low read where
         by : (t : Bool) → (first (is_for from to ordinal) links < length links
-            → x ≡ get_or links (first (is_for from to ordinal) links) x → fate_of x.rule ≡ by_rules links from to ordinal)
+            → x ≡ get_or links (first (is_for from to ordinal) links) x
+            → fate_of x.rule ≡ by_rules links from to ordinal)
             → cond t 0 (suc (first (is_for from to ordinal) links)) < length (l ∷ links)
             → x ≡ get_or (l ∷ links) (cond t 0 (suc (first (is_for from to ordinal) links))) x
             → fate_of x.rule ≡ cond t (fate_of l.rule) (by_rules links from to ordinal)

@@ -1,6 +1,6 @@
 -- The index of a plan of links: for each pattern that its rules have, the place of the first such rule.
-use Rattle.std.specs.Prelude.{◌≡◌, ℕ, suc, nat_eq, ◌&&◌, Bool, if◌then◌else◌, List, [], ◌∷◌}
-use Rattle.std.specs.Prelude.{Option, Some, None, option_map}
+use Rattle.std.specs.Prelude.{◌≡◌, ℕ, suc, nat_eq, ◌&&◌, Bool, if◌then◌else◌, List, [], ◌∷◌, Option, Some, None}
+use Rattle.std.specs.Prelude.{option_map}
 use Rattle.std.specs.BTreeMap.{BTreeMap, get}
 use Rattle.std.specs.Option.{option_cmp, option_eq}
 use Rattle.std.specs.Ordering.{nat_cmp, ordering_then}

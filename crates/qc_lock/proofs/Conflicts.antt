@@ -1,6 +1,6 @@
 -- The smallest clash is the smallest conflict.
-use Rattle.std.proofs.Common.{◌≡◌, ℕ, ◌==◌, ◌&&◌, Bool, true, false, cond, List}
-use Rattle.std.proofs.Common.{filter, map, Option, Some, None, refl, sym, subst}
+use Rattle.std.proofs.Common.{◌≡◌, ℕ, ◌==◌, ◌&&◌, Bool, true, false, cond, List, filter, map, Option, Some, None, refl}
+use Rattle.std.proofs.Common.{sym, subst}
 use Rattle.std.specs.List.{flat_map}
 use Rattle.std.proofs.lemmas.Bool.{eq-eqb, eqb-true}
 use Rattle.qc_stamp.specs.declared.stamp.TxId.{TxId}
@@ -59,21 +59,21 @@ read_back relation held tx object inv d c =
     let f : OwnLine → Clash = λ l. record { holder = c.holder.tx; inv = inv; event = l.event } in
     let test : OwnLine → Bool = λ l. (l.object == object) && depends relation inv l.event in
     let passes : test c.line ≡ true =
-            both (c.line.object == object) (depends relation inv c.line.event) (eq-eqb c.line.object object c.here)
-              c.depended in
+    both (c.line.object == object) (depends relation inv c.line.event) (eq-eqb c.line.object object c.here)
+    c.depended in
     let here : In (f c.line) (lines_in_way relation tx object inv c.holder) =
     unless-in (same_tx c.holder.tx tx) (f c.line) (map f (filter test c.holder.own)) c.another
-        (map-in f c.line (filter test c.holder.own) (filter-in test c.line c.holder.own c.own passes)) in
+    (map-in f c.line (filter test c.holder.own) (filter-in test c.line c.holder.own c.own passes)) in
     flat_map-in (lines_in_way relation tx object inv) d c.holder held c.holds
-        (subst (λ x. In x (lines_in_way relation tx object inv c.holder)) (sym c.told) here)
+    (subst (λ x. In x (lines_in_way relation tx object inv c.holder)) (sym c.told) here)
 
 pub read_smallest : (relation : List ℕ) (held : List Held) (tx : TxId) (object inv : ℕ)
     → IsSmallest (IsReadConflict relation held tx object inv) (read_clash relation held tx object inv)
 read_smallest relation held tx object inv =
     smallest_by (λ d. In d (read_clashes relation held tx object inv)) (IsReadConflict relation held tx object inv)
-        (read_clash relation held tx object inv)
+    (read_clash relation held tx object inv)
     (read_to relation held tx object inv) (read_back relation held tx object inv)
-        (smallest_of (read_clashes relation held tx object inv))
+    (smallest_of (read_clashes relation held tx object inv))
 
 -- appends
 
@@ -111,23 +111,23 @@ append_back relation held tx own d c =
     let f : ReadLock → Clash = λ l. record { holder = c.holder.tx; inv = l.inv; event = c.line.event } in
     let test : ReadLock → Bool = λ l. (l.object == c.line.object) && depends relation l.inv c.line.event in
     let passes : test c.lock ≡ true =
-            both (c.lock.object == c.line.object) (depends relation c.lock.inv c.line.event)
-              (eq-eqb c.lock.object c.line.object c.here) c.depended in
+    both (c.lock.object == c.line.object) (depends relation c.lock.inv c.line.event)
+    (eq-eqb c.lock.object c.line.object c.here) c.depended in
     let here : In (f c.lock) (locks_in_way relation tx c.line c.holder) =
     unless-in (same_tx c.holder.tx tx) (f c.lock) (map f (filter test c.holder.locks)) c.another
-        (map-in f c.lock (filter test c.holder.locks) (filter-in test c.lock c.holder.locks c.locked passes)) in
+    (map-in f c.lock (filter test c.holder.locks) (filter-in test c.lock c.holder.locks c.locked passes)) in
     let way : In d (flat_map (locks_in_way relation tx c.line) held) =
-            flat_map-in (locks_in_way relation tx c.line) d c.holder held c.holds
-              (subst (λ x. In x (locks_in_way relation tx c.line c.holder)) (sym c.told) here) in
+    flat_map-in (locks_in_way relation tx c.line) d c.holder held c.holds
+    (subst (λ x. In x (locks_in_way relation tx c.line c.holder)) (sym c.told) here) in
     flat_map-in (λ (line : OwnLine). flat_map (locks_in_way relation tx line) held) d c.line own c.given way
 
 pub append_smallest : (relation : List ℕ) (held : List Held) (tx : TxId) (own : List OwnLine)
     → IsSmallest (IsAppendConflict relation held tx own) (append_clash relation held tx own)
 append_smallest relation held tx own =
     smallest_by (λ d. In d (append_clashes relation held tx own)) (IsAppendConflict relation held tx own)
-        (append_clash relation held tx own)
+    (append_clash relation held tx own)
     (append_to relation held tx own) (append_back relation held tx own)
-        (smallest_of (append_clashes relation held tx own))
+    (smallest_of (append_clashes relation held tx own))
 
 -- grants
 
@@ -141,41 +141,41 @@ none_of P (Some c) d least is p = absurd (cc)
 
 pub read_free : (relation : List ℕ) (held : List Held) (tx : TxId) (object inv : ℕ) (holder : Held) (line : OwnLine)
     → read_clash relation held tx object inv ≡ None → In holder held → same_tx holder.tx tx ≡ false → In line holder.own
-        → line.object ≡ object
+    → line.object ≡ object
     → depends relation inv line.event ≡ false
 read_free relation held tx object inv holder line free holds another own here =
     is_false (depends relation inv line.event) (λ depended.
     none_of (IsReadConflict relation held tx object inv) (read_clash relation held tx object inv)
-        (record { holder = holder.tx; inv = inv; event = line.event }) (read_smallest relation held tx object inv) free
+    (record { holder = holder.tx; inv = inv; event = line.event }) (read_smallest relation held tx object inv) free
     (record {
-          holder = holder;
-          line = line;
-          holds = holds;
-          another = another;
-          own = own;
-          here = here;
-          depended = depended;
-          told = refl
-        }))
+      holder = holder;
+      line = line;
+      holds = holds;
+      another = another;
+      own = own;
+      here = here;
+      depended = depended;
+      told = refl;
+    }))
 
 pub append_free : (relation : List ℕ) (held : List Held) (tx : TxId) (own : List OwnLine) (line : OwnLine)
     (holder : Held) (lock : ReadLock)
     → append_clash relation held tx own ≡ None → In line own → In holder held → same_tx holder.tx tx ≡ false
-        → In lock holder.locks → lock.object ≡ line.object
+    → In lock holder.locks → lock.object ≡ line.object
     → depends relation lock.inv line.event ≡ false
 append_free relation held tx own line holder lock free given holds another locked here =
     is_false (depends relation lock.inv line.event) (λ depended.
     none_of (IsAppendConflict relation held tx own) (append_clash relation held tx own)
-        (record { holder = holder.tx; inv = lock.inv; event = line.event }) (append_smallest relation held tx own) free
+    (record { holder = holder.tx; inv = lock.inv; event = line.event }) (append_smallest relation held tx own) free
     (record {
-          line = line;
-          holder = holder;
-          lock = lock;
-          given = given;
-          holds = holds;
-          another = another;
-          locked = locked;
-          here = here;
-          depended = depended;
-          told = refl
-        }))
+      line = line;
+      holder = holder;
+      lock = lock;
+      given = given;
+      holds = holds;
+      another = another;
+      locked = locked;
+      here = here;
+      depended = depended;
+      told = refl;
+    }))

@@ -73,7 +73,8 @@ small_wide : (before after : BTreeSet Place) (tx : TxId) (test : ℕ → ℕ →
     → Widens before after tx test all → AreSmall after
 small_wide before after tx test all small widens =
     λ other a b there. by other a b there (is_there before a b other) refl where
-      by : (other : TxId) (a b : ℕ) → is_there after a b other ≡ true → (t : Bool) → is_there before a b other ≡ t → b < 256
+      by : (other : TxId) (a b : ℕ) → is_there after a b other ≡ true → (t : Bool) → is_there before a b other ≡ t
+          → b < 256
       by other a b there true is = small other a b is
       by other a b there false is = (widens.within other a b there is).2
 

@@ -1,6 +1,6 @@
 -- Entries under numbers: each is found by its number, and put under it.
-use Rattle.std.proofs.Common.{◌≡◌, ℕ, ◌<◌, arith, Bool, true, false, cond, List, ◌∷◌, Option, Some, None}
-use Rattle.std.proofs.Common.{refl, sym, ◌∙◌, ap, subst}
+use Rattle.std.proofs.Common.{◌≡◌, ℕ, ◌<◌, arith, Bool, true, false, cond, List, ◌∷◌, Option, Some, None, refl, sym}
+use Rattle.std.proofs.Common.{◌∙◌, ap, subst}
 use Rattle.std.specs.BTreeMap.{insert_entry, is_at}
 use Rattle.std.specs.Cmp.{IsTotalOrder}
 use Rattle.std.specs.List.{AllByRecursion}
@@ -41,7 +41,7 @@ tx_same a b = by (same_tx a b) refl where
   by true is = subst (λ u. is_eq (tx_cmp a u) ≡ true) (tx_apart a b is) (ap is_eq (cmp_self tx_order.total a))
   by false is = false_from_ne_true (is_eq (tx_cmp a b)) (λ equal.
       both_ways (same_tx a b) is
-          (subst (λ u. same_tx a u ≡ true) (tx_order.apart a b (equal_is (tx_cmp a b) equal)) (same_self a)))
+      (subst (λ u. same_tx a u ≡ true) (tx_order.apart a b (equal_is (tx_cmp a b) equal)) (same_self a)))
 
 pub nat_self : (n : ℕ) → nat_cmp n n ≡ Equal
 nat_self n = cmp_self nat_cmp_total n
@@ -86,10 +86,10 @@ pub number_below : {A : Type 0} (tx_of : A → TxId) (next : ℕ) (es : List (�
 number_below tx_of next [] tx n low is = absurd (none_some n is)
 number_below tx_of next (e ∷ es) tx n low is =
     by (same_tx (tx_of e.1) tx) (number_below tx_of next es tx n low.1) is where
-  by : (t : Bool) → (number_of tx_of es tx ≡ Some n → n < next) → cond t (Some e.0) (number_of tx_of es tx) ≡ Some n
-      → n < next
-  by true rest is = subst (λ m. m < next) (some_is 0 e.0 n is) low.0
-  by false rest is = rest is
+      by : (t : Bool) → (number_of tx_of es tx ≡ Some n → n < next) → cond t (Some e.0) (number_of tx_of es tx) ≡ Some n
+          → n < next
+      by true rest is = subst (λ m. m < next) (some_is 0 e.0 n is) low.0
+      by false rest is = rest is
 
 -- an entry is found by its number
 
@@ -98,15 +98,15 @@ pub entry_at : {A : Type 0} (tx_of : A → TxId) (es : List (ℕ × A)) (tx : Tx
 entry_at tx_of [] tx n rises is = absurd (none_some n is)
 entry_at tx_of (e ∷ es) tx n rises is =
     by (same_tx (tx_of e.1) tx) (entry_at tx_of es tx n (sorted_tail nat_cmp e.0 (keys_of es) rises)) is where
-  by : (t : Bool) → (number_of tx_of es tx ≡ Some n → lookup (is_at (nat_cmp n)) es ≡ one_of tx_of (values_of es) tx)
-      → cond t (Some e.0) (number_of tx_of es tx) ≡ Some n
-      → cond (is_eq (nat_cmp n e.0)) (Some e.1) (lookup (is_at (nat_cmp n)) es)
+      by : (t : Bool) → (number_of tx_of es tx ≡ Some n → lookup (is_at (nat_cmp n)) es ≡ one_of tx_of (values_of es) tx)
+          → cond t (Some e.0) (number_of tx_of es tx) ≡ Some n
+          → cond (is_eq (nat_cmp n e.0)) (Some e.1) (lookup (is_at (nat_cmp n)) es)
           ≡ cond t (Some e.1) (one_of tx_of (values_of es) tx)
-  by true rest is =
-      let here : nat_cmp n e.0 ≡ Equal = subst (λ m. nat_cmp m e.0 ≡ Equal) (some_is 0 e.0 n is) (nat_self e.0) in
-      ap (λ o. cond (is_eq o) (Some e.1) (lookup (is_at (nat_cmp n)) es)) here
-  by false rest is =
-      ap (λ o. cond (is_eq o) (Some e.1) (lookup (is_at (nat_cmp n)) es)) (later tx_of e es tx n rises is) ∙ rest is
+      by true rest is =
+          let here : nat_cmp n e.0 ≡ Equal = subst (λ m. nat_cmp m e.0 ≡ Equal) (some_is 0 e.0 n is) (nat_self e.0) in
+          ap (λ o. cond (is_eq o) (Some e.1) (lookup (is_at (nat_cmp n)) es)) here
+      by false rest is =
+          ap (λ o. cond (is_eq o) (Some e.1) (lookup (is_at (nat_cmp n)) es)) (later tx_of e es tx n rises is) ∙ rest is
 
 pub entry_none : {A : Type 0} (tx_of : A → TxId) (es : List (ℕ × A)) (tx : TxId) → number_of tx_of es tx ≡ None
     → one_of tx_of (values_of es) tx ≡ None
@@ -133,18 +133,18 @@ pub values_known : {A : Type 0} (tx_of : A → TxId) (es : List (ℕ × A)) (h :
 values_known tx_of [] h n rises is = absurd (none_some n is)
 values_known tx_of (e ∷ es) h n rises is =
     by (same_tx (tx_of e.1) (tx_of h)) (values_known tx_of es h n (sorted_tail nat_cmp e.0 (keys_of es) rises)) is where
-  by : (t : Bool)
-      → (number_of tx_of es (tx_of h) ≡ Some n
-        → values_of (insert_entry nat_cmp es n h) ≡ put_one tx_of (values_of es) h)
-      → cond t (Some e.0) (number_of tx_of es (tx_of h)) ≡ Some n
-      → values_of (match_ordering (nat_cmp n e.0) ((n, h) ∷ e ∷ es) ((e.0, h) ∷ es) (e ∷ insert_entry nat_cmp es n h))
+      by : (t : Bool)
+          → (number_of tx_of es (tx_of h) ≡ Some n
+          → values_of (insert_entry nat_cmp es n h) ≡ put_one tx_of (values_of es) h)
+          → cond t (Some e.0) (number_of tx_of es (tx_of h)) ≡ Some n
+          → values_of (match_ordering (nat_cmp n e.0) ((n, h) ∷ e ∷ es) ((e.0, h) ∷ es) (e ∷ insert_entry nat_cmp es n h))
           ≡ cond t (h ∷ values_of es) (e.1 ∷ put_one tx_of (values_of es) h)
-  by true rest is =
-      let here : nat_cmp n e.0 ≡ Equal = subst (λ m. nat_cmp m e.0 ≡ Equal) (some_is 0 e.0 n is) (nat_self e.0) in
-      ap (λ o. values_of (match_ordering o ((n, h) ∷ e ∷ es) ((e.0, h) ∷ es) (e ∷ insert_entry nat_cmp es n h))) here
-  by false rest is =
-      ap (λ o. values_of (match_ordering o ((n, h) ∷ e ∷ es) ((e.0, h) ∷ es) (e ∷ insert_entry nat_cmp es n h)))
-      (later tx_of e es (tx_of h) n rises is) ∙ ap (λ hs. e.1 ∷ hs) (rest is)
+      by true rest is =
+          let here : nat_cmp n e.0 ≡ Equal = subst (λ m. nat_cmp m e.0 ≡ Equal) (some_is 0 e.0 n is) (nat_self e.0) in
+          ap (λ o. values_of (match_ordering o ((n, h) ∷ e ∷ es) ((e.0, h) ∷ es) (e ∷ insert_entry nat_cmp es n h))) here
+      by false rest is =
+          ap (λ o. values_of (match_ordering o ((n, h) ∷ e ∷ es) ((e.0, h) ∷ es) (e ∷ insert_entry nat_cmp es n h)))
+          (later tx_of e es (tx_of h) n rises is) ∙ ap (λ hs. e.1 ∷ hs) (rest is)
 
 pub number_known : {A : Type 0} (tx_of : A → TxId) (es : List (ℕ × A)) (h : A) (n : ℕ) (tx : TxId) → Rises es
     → number_of tx_of es (tx_of h) ≡ Some n → number_of tx_of (insert_entry nat_cmp es n h) tx ≡ number_of tx_of es tx
@@ -152,20 +152,20 @@ number_known tx_of [] h n tx rises is = absurd (none_some n is)
 number_known tx_of (e ∷ es) h n tx rises is =
     by (same_tx (tx_of e.1) (tx_of h)) refl (number_known tx_of es h n tx (sorted_tail nat_cmp e.0 (keys_of es) rises))
     is where
-  by : (t : Bool) → same_tx (tx_of e.1) (tx_of h) ≡ t
-      → (number_of tx_of es (tx_of h) ≡ Some n
-        → number_of tx_of (insert_entry nat_cmp es n h) tx ≡ number_of tx_of es tx)
-      → cond t (Some e.0) (number_of tx_of es (tx_of h)) ≡ Some n
-      → number_of tx_of
+      by : (t : Bool) → same_tx (tx_of e.1) (tx_of h) ≡ t
+          → (number_of tx_of es (tx_of h) ≡ Some n
+          → number_of tx_of (insert_entry nat_cmp es n h) tx ≡ number_of tx_of es tx)
+          → cond t (Some e.0) (number_of tx_of es (tx_of h)) ≡ Some n
+          → number_of tx_of
           (match_ordering (nat_cmp n e.0) ((n, h) ∷ e ∷ es) ((e.0, h) ∷ es) (e ∷ insert_entry nat_cmp es n h)) tx
           ≡ number_of tx_of (e ∷ es) tx
-  by true same rest is =
-      let here : nat_cmp n e.0 ≡ Equal = subst (λ m. nat_cmp m e.0 ≡ Equal) (some_is 0 e.0 n is) (nat_self e.0) in
-      ap
+      by true same rest is =
+          let here : nat_cmp n e.0 ≡ Equal = subst (λ m. nat_cmp m e.0 ≡ Equal) (some_is 0 e.0 n is) (nat_self e.0) in
+          ap
           (λ o. number_of tx_of (match_ordering o ((n, h) ∷ e ∷ es) ((e.0, h) ∷ es) (e ∷ insert_entry nat_cmp es n h))
-            tx) here
-      ∙ ap (λ u. cond (same_tx u tx) (Some e.0) (number_of tx_of es tx)) (sym (tx_apart (tx_of e.1) (tx_of h) same))
-  by false same rest is =
-      ap
-      (λ o. number_of tx_of (match_ordering o ((n, h) ∷ e ∷ es) ((e.0, h) ∷ es) (e ∷ insert_entry nat_cmp es n h)) tx)
-      (later tx_of e es (tx_of h) n rises is) ∙ ap (cond (same_tx (tx_of e.1) tx) (Some e.0)) (rest is)
+          tx) here
+          ∙ ap (λ u. cond (same_tx u tx) (Some e.0) (number_of tx_of es tx)) (sym (tx_apart (tx_of e.1) (tx_of h) same))
+      by false same rest is =
+          ap
+          (λ o. number_of tx_of (match_ordering o ((n, h) ∷ e ∷ es) ((e.0, h) ∷ es) (e ∷ insert_entry nat_cmp es n h)) tx)
+          (later tx_of e es (tx_of h) n rises is) ∙ ap (cond (same_tx (tx_of e.1) tx) (Some e.0)) (rest is)

@@ -11,8 +11,8 @@ use Rattle.qc_lock.specs.Numbered.{same_tx}
 use Rattle.qc_lock.proofs.Entries.{tx_apart}
 use Rattle.qc_lock.proofs.Ones.{once-put, once-filter}
 use Rattle.qc_lock.proofs.NumberedEntries.{tx_same, values_known, number_known}
-use Rattle.qc_lock.proofs.Numbers.{below_known, values_new, number_new, below_more}
-use Rattle.qc_lock.proofs.Numbers.{below_put, values_taken, number_taken, below_taken}
+use Rattle.qc_lock.proofs.Numbers.{below_known, values_new, number_new, below_more, below_put, values_taken}
+use Rattle.qc_lock.proofs.Numbers.{number_taken, below_taken}
 
 -- the map has this at one key, and what the other map has at others
 abbrev pub Changes : BTreeMap TxId ℕ → BTreeMap TxId ℕ → TxId → Option ℕ → Type 0

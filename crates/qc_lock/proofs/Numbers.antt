@@ -1,6 +1,6 @@
 -- Entries under numbers are the list of them: what is put, found and taken by number is so by transaction.
-use Rattle.std.proofs.Common.{◌≡◌, ℕ, ◌<◌, ◌+◌, arith, Bool, true, false, cond, not, List, ◌∷◌, Option, Some, None}
-use Rattle.std.proofs.Common.{Bor, refl, sym, ◌∙◌, ap, subst}
+use Rattle.std.proofs.Common.{◌≡◌, ℕ, ◌<◌, ◌+◌, arith, Bool, true, false, cond, not, List, ◌∷◌, Option, Some, None, Bor}
+use Rattle.std.proofs.Common.{refl, sym, ◌∙◌, ap, subst}
 use Rattle.std.specs.BTreeMap.{insert_entry, is_at}
 use Rattle.std.specs.Map.{keys_of, lookup, remove_entry, values_of}
 use Rattle.std.specs.Option.{MatchOption, option_copied}
@@ -30,7 +30,7 @@ values_new tx_of [] h n low is = refl
 values_new tx_of (e ∷ es) h n low is =
     let none = first_other tx_of e es (tx_of h) is in
     ap (λ o. values_of (match_ordering o ((n, h) ∷ e ∷ es) ((e.0, h) ∷ es) (e ∷ insert_entry nat_cmp es n h)))
-        (below_greater e.0 n low.0)
+    (below_greater e.0 n low.0)
     ∙ ap (λ hs. e.1 ∷ hs) (values_new tx_of es h n low.1 none.1)
     ∙ ap (λ t. cond t (h ∷ values_of es) (e.1 ∷ put_one tx_of (values_of es) h)) (sym none.0)
 
@@ -47,7 +47,7 @@ pub number_new : {A : Type 0} (tx_of : A → TxId) (es : List (ℕ × A)) (h : A
 number_new tx_of [] h n tx low is = refl
 number_new tx_of (e ∷ es) h n tx low is =
     ap (λ o. number_of tx_of (match_ordering o ((n, h) ∷ e ∷ es) ((e.0, h) ∷ es) (e ∷ insert_entry nat_cmp es n h)) tx)
-        (below_greater e.0 n low.0)
+    (below_greater e.0 n low.0)
     ∙ ap (cond (same_tx (tx_of e.1) tx) (Some e.0)) (number_new tx_of es h n tx low.1 none.1)
     ∙ by (same_tx (tx_of h) tx) refl where
       none : (same_tx (tx_of e.1) (tx_of h) ≡ false) × (number_of tx_of es (tx_of h) ≡ None)
@@ -55,7 +55,7 @@ number_new tx_of (e ∷ es) h n tx low is =
 
       by : (t : Bool) → same_tx (tx_of h) tx ≡ t
           → cond (same_tx (tx_of e.1) tx) (Some e.0) (cond t (Some n) (number_of tx_of es tx))
-            ≡ cond t (Some n) (cond (same_tx (tx_of e.1) tx) (Some e.0) (number_of tx_of es tx))
+          ≡ cond t (Some n) (cond (same_tx (tx_of e.1) tx) (Some e.0) (number_of tx_of es tx))
       by true same =
           ap (λ t. cond t (Some e.0) (Some n))
           (subst (λ u. same_tx (tx_of e.1) u ≡ false) (tx_apart (tx_of h) tx same) none.0)
@@ -104,65 +104,65 @@ values_taken tx_of [] tx n rises single is = absurd (none_some n is)
 values_taken tx_of (e ∷ es) tx n rises single is =
     by (same_tx (tx_of e.1) tx) refl (values_taken tx_of es tx n (sorted_tail nat_cmp e.0 (keys_of es) rises) single.1)
     is where
-  by : (t : Bool) → same_tx (tx_of e.1) tx ≡ t
-      → (number_of tx_of es tx ≡ Some n
-        → values_of (remove_entry (is_at (nat_cmp n)) es) ≡ without_one tx_of (values_of es) tx)
-      → cond t (Some e.0) (number_of tx_of es tx) ≡ Some n
-      → values_of (cond (is_eq (nat_cmp n e.0)) es (e ∷ remove_entry (is_at (nat_cmp n)) es))
+      by : (t : Bool) → same_tx (tx_of e.1) tx ≡ t
+          → (number_of tx_of es tx ≡ Some n
+          → values_of (remove_entry (is_at (nat_cmp n)) es) ≡ without_one tx_of (values_of es) tx)
+          → cond t (Some e.0) (number_of tx_of es tx) ≡ Some n
+          → values_of (cond (is_eq (nat_cmp n e.0)) es (e ∷ remove_entry (is_at (nat_cmp n)) es))
           ≡ cond (not t) (e.1 ∷ without_one tx_of (values_of es) tx) (without_one tx_of (values_of es) tx)
-  by true same rest is =
-      let here : nat_cmp n e.0 ≡ Equal = subst (λ m. nat_cmp m e.0 ≡ Equal) (some_is 0 e.0 n is) (nat_self e.0) in
-      let apart : AreOfOthers tx_of tx (values_of es) =
-              subst (λ u. AreOfOthers tx_of u (values_of es)) (tx_apart (tx_of e.1) tx same) single.0 in
-      ap (λ o. values_of (cond (is_eq o) es (e ∷ remove_entry (is_at (nat_cmp n)) es))) here
-      ∙ sym (without_none tx_of (values_of es) tx (apart_none tx_of (values_of es) tx apart))
-  by false same rest is =
-      ap (λ o. values_of (cond (is_eq o) es (e ∷ remove_entry (is_at (nat_cmp n)) es))) (later tx_of e es tx n rises is)
-      ∙ ap (λ hs. e.1 ∷ hs) (rest is)
+      by true same rest is =
+          let here : nat_cmp n e.0 ≡ Equal = subst (λ m. nat_cmp m e.0 ≡ Equal) (some_is 0 e.0 n is) (nat_self e.0) in
+          let apart : AreOfOthers tx_of tx (values_of es) =
+          subst (λ u. AreOfOthers tx_of u (values_of es)) (tx_apart (tx_of e.1) tx same) single.0 in
+          ap (λ o. values_of (cond (is_eq o) es (e ∷ remove_entry (is_at (nat_cmp n)) es))) here
+          ∙ sym (without_none tx_of (values_of es) tx (apart_none tx_of (values_of es) tx apart))
+      by false same rest is =
+          ap (λ o. values_of (cond (is_eq o) es (e ∷ remove_entry (is_at (nat_cmp n)) es))) (later tx_of e es tx n rises is)
+          ∙ ap (λ hs. e.1 ∷ hs) (rest is)
 
 pub number_taken : {A : Type 0} (tx_of : A → TxId) (es : List (ℕ × A)) (tx : TxId) (n : ℕ) (other : TxId) → Rises es
     → IsOneForEach tx_of (values_of es) → number_of tx_of es tx ≡ Some n
     → number_of tx_of (remove_entry (is_at (nat_cmp n)) es) other
-      ≡ cond (same_tx tx other) None (number_of tx_of es other)
+    ≡ cond (same_tx tx other) None (number_of tx_of es other)
 number_taken tx_of [] tx n other rises single is = absurd (none_some n is)
 number_taken tx_of (e ∷ es) tx n other rises single is =
     by (same_tx (tx_of e.1) tx) refl
     (number_taken tx_of es tx n other (sorted_tail nat_cmp e.0 (keys_of es) rises) single.1) is where
-  gone : tx ≡ tx_of e.1 → (s : Bool) → same_tx tx other ≡ s
-      → number_of tx_of es other ≡ cond s None (cond s (Some e.0) (number_of tx_of es other))
-  gone same true is =
-      number_none tx_of es other
-      (apart_none tx_of (values_of es) other
-        (subst (λ u. AreOfOthers tx_of u (values_of es)) (sym same ∙ tx_apart tx other is) single.0))
-  gone same false is = refl
+      gone : tx ≡ tx_of e.1 → (s : Bool) → same_tx tx other ≡ s
+          → number_of tx_of es other ≡ cond s None (cond s (Some e.0) (number_of tx_of es other))
+      gone same true is =
+          number_none tx_of es other
+          (apart_none tx_of (values_of es) other
+          (subst (λ u. AreOfOthers tx_of u (values_of es)) (sym same ∙ tx_apart tx other is) single.0))
+      gone same false is = refl
 
-  kept : same_tx (tx_of e.1) tx ≡ false → (s : Bool) → same_tx tx other ≡ s
-      → cond (same_tx (tx_of e.1) other) (Some e.0) (cond s None (number_of tx_of es other))
-        ≡ cond s None (cond (same_tx (tx_of e.1) other) (Some e.0) (number_of tx_of es other))
-  kept apart true is =
-      ap (λ t. cond t (Some e.0) None) (subst (λ u. same_tx (tx_of e.1) u ≡ false) (tx_apart tx other is) apart)
-  kept apart false is = refl
+      kept : same_tx (tx_of e.1) tx ≡ false → (s : Bool) → same_tx tx other ≡ s
+          → cond (same_tx (tx_of e.1) other) (Some e.0) (cond s None (number_of tx_of es other))
+          ≡ cond s None (cond (same_tx (tx_of e.1) other) (Some e.0) (number_of tx_of es other))
+      kept apart true is =
+          ap (λ t. cond t (Some e.0) None) (subst (λ u. same_tx (tx_of e.1) u ≡ false) (tx_apart tx other is) apart)
+      kept apart false is = refl
 
-  by : (t : Bool) → same_tx (tx_of e.1) tx ≡ t
-      → (number_of tx_of es tx ≡ Some n
-        → number_of tx_of (remove_entry (is_at (nat_cmp n)) es) other
+      by : (t : Bool) → same_tx (tx_of e.1) tx ≡ t
+          → (number_of tx_of es tx ≡ Some n
+          → number_of tx_of (remove_entry (is_at (nat_cmp n)) es) other
           ≡ cond (same_tx tx other) None (number_of tx_of es other))
-      → cond t (Some e.0) (number_of tx_of es tx) ≡ Some n
-      → number_of tx_of (cond (is_eq (nat_cmp n e.0)) es (e ∷ remove_entry (is_at (nat_cmp n)) es)) other
+          → cond t (Some e.0) (number_of tx_of es tx) ≡ Some n
+          → number_of tx_of (cond (is_eq (nat_cmp n e.0)) es (e ∷ remove_entry (is_at (nat_cmp n)) es)) other
           ≡ cond (same_tx tx other) None (cond (same_tx (tx_of e.1) other) (Some e.0) (number_of tx_of es other))
-  by true same rest is =
-      let here : nat_cmp n e.0 ≡ Equal = subst (λ m. nat_cmp m e.0 ≡ Equal) (some_is 0 e.0 n is) (nat_self e.0) in
-      let named : tx ≡ tx_of e.1 = sym (tx_apart (tx_of e.1) tx same) in
-      ap (λ o. number_of tx_of (cond (is_eq o) es (e ∷ remove_entry (is_at (nat_cmp n)) es)) other) here
-      ∙ subst
+      by true same rest is =
+          let here : nat_cmp n e.0 ≡ Equal = subst (λ m. nat_cmp m e.0 ≡ Equal) (some_is 0 e.0 n is) (nat_self e.0) in
+          let named : tx ≡ tx_of e.1 = sym (tx_apart (tx_of e.1) tx same) in
+          ap (λ o. number_of tx_of (cond (is_eq o) es (e ∷ remove_entry (is_at (nat_cmp n)) es)) other) here
+          ∙ subst
           (λ u. number_of tx_of es other
-            ≡ cond (same_tx tx other) None (cond (same_tx u other) (Some e.0) (number_of tx_of es other))) named
+          ≡ cond (same_tx tx other) None (cond (same_tx u other) (Some e.0) (number_of tx_of es other))) named
           (gone named (same_tx tx other) refl)
-  by false same rest is =
-      ap (λ o. number_of tx_of (cond (is_eq o) es (e ∷ remove_entry (is_at (nat_cmp n)) es)) other)
+      by false same rest is =
+          ap (λ o. number_of tx_of (cond (is_eq o) es (e ∷ remove_entry (is_at (nat_cmp n)) es)) other)
           (later tx_of e es tx n rises is)
-      ∙ ap (cond (same_tx (tx_of e.1) other) (Some e.0)) (rest is)
-      ∙ kept same (same_tx tx other) refl
+          ∙ ap (cond (same_tx (tx_of e.1) other) (Some e.0)) (rest is)
+          ∙ kept same (same_tx tx other) refl
 
 pub below_taken : {A : Type 0} (next : ℕ) (test : ℕ → Bool) (es : List (ℕ × A)) → AreBelow next es
     → AreBelow next (remove_entry test es)

@@ -1,6 +1,6 @@
 -- The smallest of those of which a predicate holds; members of lists that are joined, mapped and filtered.
-use Rattle.std.proofs.Common.{◌≡◌, ◌⊎◌, inl, inr, Bool, true, false, cond, List, ◌∷◌, ◌++◌, fold}
-use Rattle.std.proofs.Common.{filter, map, Option, Some, None, refl, sym, ◌∙◌, ap, subst}
+use Rattle.std.proofs.Common.{◌≡◌, ◌⊎◌, inl, inr, Bool, true, false, cond, List, ◌∷◌, ◌++◌, fold, filter, map, Option}
+use Rattle.std.proofs.Common.{Some, None, refl, sym, ◌∙◌, ap, subst}
 use Rattle.std.specs.Cmp.{IsTotalOrder}
 use Rattle.std.specs.List.{flat_map}
 use Rattle.std.specs.Ordering.{ordering_reverse}
@@ -10,9 +10,7 @@ use Rattle.std.proofs.lemmas.Cmp.{then_total, on_total, nat_cmp_total}
 use Rattle.qc_stamp.proofs.Orders.{tx_order}
 use Rattle.qc_list.specs.Names.{by_order}
 use Rattle.qc_lock.specs.declared.clash.Clash.{Clash}
-use Rattle.qc_lock.specs.Names.{In, IsSmallest}
-use Rattle.qc_lock.specs.Names.{clash_cmp, smaller}
-use Rattle.qc_lock.specs.Names.{smallest}
+use Rattle.qc_lock.specs.Names.{In, IsSmallest, clash_cmp, smaller, smallest}
 
 pub clash_total : IsTotalOrder clash_cmp
 clash_total =
@@ -86,7 +84,7 @@ run P best [] least = smallest_by P (λ d. P d ⊎ In d []) best (λ d p. inl p)
   back d (inr never) = absurd never
 run P best (c ∷ cs) least =
     smallest_by (λ d. (P d ⊎ (d ≡ c)) ⊎ In d cs) (λ d. P d ⊎ In d (c ∷ cs)) (fold smaller (smaller best c) cs) to back
-        (run (λ d. P d ⊎ (d ≡ c)) (smaller best c) cs (step P best c least)) where
+    (run (λ d. P d ⊎ (d ≡ c)) (smaller best c) cs (step P best c least)) where
       to : (d : Clash) → (P d ⊎ (d ≡ c)) ⊎ In d cs → P d ⊎ In d (c ∷ cs)
       to d (inl (inl p)) = inl p
       to d (inl (inr is)) = inr (inl is)
@@ -101,9 +99,9 @@ pub smallest_of : (cs : List Clash) → IsSmallest (λ d. In d cs) (smallest cs)
 smallest_of cs =
     smallest_by (λ d. ⊥ ⊎ In d cs) (λ d. In d cs) (smallest cs) to (λ d member. inr member)
     (run (λ d. ⊥) None cs (λ d never. never)) where
-  to : (d : Clash) → ⊥ ⊎ In d cs → In d cs
-  to d (inl never) = absurd never
-  to d (inr member) = member
+      to : (d : Clash) → ⊥ ⊎ In d cs → In d cs
+      to d (inl never) = absurd never
+      to d (inr member) = member
 
 -- membership
 
@@ -133,10 +131,10 @@ pub in-flat_map : {A B : Type 0} (f : A → List B) (y : B) (xs : List A) → In
 in-flat_map f y [] member = absurd member
 in-flat_map {A = A} {B = B} f y (x ∷ xs) member =
     by (in-append y (f x) (flat_map f xs) member) (in-flat_map f y xs) where
-  by : In y (f x) ⊎ In y (flat_map f xs) → (In y (flat_map f xs) → Some_in (λ z. In y (f z)) xs)
-      → Some_in (λ z. In y (f z)) (x ∷ xs)
-  by (inl here) rest = (x, inl refl, here)
-  by (inr there) rest = let found = rest there in (found.0, inr found.1, found.2)
+      by : In y (f x) ⊎ In y (flat_map f xs) → (In y (flat_map f xs) → Some_in (λ z. In y (f z)) xs)
+          → Some_in (λ z. In y (f z)) (x ∷ xs)
+      by (inl here) rest = (x, inl refl, here)
+      by (inr there) rest = let found = rest there in (found.0, inr found.1, found.2)
 
 pub flat_map-in : {A B : Type 0} (f : A → List B) (y : B) (x : A) (xs : List A) → In x xs → In y (f x)
     → In y (flat_map f xs)
@@ -168,9 +166,9 @@ pub filter-in : {A : Type 0} (test : A → Bool) (x : A) (xs : List A) → In x 
 filter-in test x [] member passes = absurd member
 filter-in {A = A} test x (z ∷ zs) member passes =
     by (test z) refl (λ there. filter-in test x zs there passes) member where
-  by : (t : Bool) → test z ≡ t → (In x zs → In x (filter test zs)) → In x (z ∷ zs)
-      → In x (cond t (z ∷ filter test zs) (filter test zs))
-  by true is rest (inl same) = inl same
-  by true is rest (inr member) = inr (rest member)
-  by false is rest (inl same) = let no : test x ≡ false = subst (λ w. test w ≡ false) (sym same) is in absurd (cc)
-  by false is rest (inr member) = rest member
+      by : (t : Bool) → test z ≡ t → (In x zs → In x (filter test zs)) → In x (z ∷ zs)
+          → In x (cond t (z ∷ filter test zs) (filter test zs))
+      by true is rest (inl same) = inl same
+      by true is rest (inr member) = inr (rest member)
+      by false is rest (inl same) = let no : test x ≡ false = subst (λ w. test w ≡ false) (sym same) is in absurd (cc)
+      by false is rest (inr member) = rest member

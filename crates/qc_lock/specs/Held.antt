@@ -1,6 +1,6 @@
 -- What unfinished transactions hold: an entry for each, in the order in which they came to hold something.
-use Rattle.std.specs.Prelude.{Bool, ◌==◌, ◌&&◌, not, if◌then◌else◌, Option, is_some, unwrap_or}
-use Rattle.std.specs.Prelude.{List, [], ◌∷◌, length, fold, filter}
+use Rattle.std.specs.Prelude.{Bool, ◌==◌, ◌&&◌, not, if◌then◌else◌, Option, is_some, unwrap_or, List, [], ◌∷◌, length}
+use Rattle.std.specs.Prelude.{fold, filter}
 use Rattle.std.specs.List.{find, list_any}
 use Rattle.std.specs.Ordering.{nat_cmp, on, then_cmp}
 use Rattle.std.specs.declared.cmp.Ordering.{Ordering}

@@ -1,7 +1,7 @@
 -- Where what is held stands in the index: by object, then the invocation of a read or the event of an own line, then
 -- the transaction that holds it.
-use Rattle.std.specs.Prelude.{◌≡◌, ℕ, ◌<◌, Bool, true, false, ◌==◌}
-use Rattle.std.specs.Prelude.{◌&&◌, not, if◌then◌else◌, List, MatchOption, Option, Some, None}
+use Rattle.std.specs.Prelude.{◌≡◌, ℕ, ◌<◌, Bool, true, false, ◌==◌, ◌&&◌, not, if◌then◌else◌, List, MatchOption, Option}
+use Rattle.std.specs.Prelude.{Some, None}
 use Rattle.std.specs.BTreeMap.{is_at}
 use Rattle.std.specs.BTreeSet.{BTreeSet, contains}
 use Rattle.std.specs.List.{list_any}

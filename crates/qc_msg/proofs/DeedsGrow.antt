@@ -1,7 +1,6 @@
 -- How an actor's own steps and deeds grow, as the history does.
-use Rattle.std.proofs.Common.{◌≡◌, ℕ, ◌+◌, ◌==◌, Bool, true, false, cond, List, ◌∷◌, ◌++◌, map, filter}
-use Rattle.std.proofs.Common.{Option, Some, None, option_to_list, refl, ap, sym, ◌∙◌}
-use Rattle.std.proofs.Common.{append_assoc}
+use Rattle.std.proofs.Common.{◌≡◌, ℕ, ◌+◌, ◌==◌, Bool, true, false, cond, List, ◌∷◌, ◌++◌, map, filter, Option, Some}
+use Rattle.std.proofs.Common.{None, option_to_list, refl, ap, sym, ◌∙◌, append_assoc}
 use Rattle.std.specs.List.{cons_option}
 use Rattle.std.proofs.lemmas.Bool.{eq-eqb}
 use Rattle.std.proofs.lemmas.List.{append-nil, map-append}
@@ -17,11 +16,9 @@ use Rattle.qc_msg.specs.declared.turn.Appended.{Appended}
 use Rattle.qc_msg.specs.declared.turn.Appended.TheVariants.{Done, Failed, Stopped}
 use Rattle.qc_msg.specs.declared.turn.Posting.{Posting}
 use Rattle.qc_msg.specs.declared.turn.Turn.{Turn}
-use Rattle.qc_msg.specs.Names.{Deed, Entry, Falls, Rises, Sends}
-use Rattle.qc_msg.specs.Names.{by, deed_at, deeds, deeds_as, envelope_of}
-use Rattle.qc_msg.specs.Names.{fell, mail, marked, own, posted, posted_as}
-use Rattle.qc_msg.specs.Names.{sends_of, sents, tells_of, told}
-use Rattle.qc_msg.specs.Names.{turn_deeds, writes_of, written, wrote}
+use Rattle.qc_msg.specs.Names.{Deed, Entry, Falls, Rises, Sends, by, deed_at, deeds, deeds_as, envelope_of, fell, mail}
+use Rattle.qc_msg.specs.Names.{marked, own, posted, posted_as, sends_of, sents, tells_of, told, turn_deeds, writes_of}
+use Rattle.qc_msg.specs.Names.{written, wrote}
 use Rattle.qc_msg.proofs.GrownMail.{by-append, by-posted}
 
 -- an actor's own steps
@@ -33,22 +30,22 @@ pub own-append : (a : ℕ) (h k : List Entry) → own a (h ++ k) ≡ own a h ++ 
 own-append a h k =
     ap (λ (v : List Entry). map (λ (e : Entry). e.step) v) (filter-append (λ (e : Entry). e.actor == a) h k)
     ∙ map-append (λ (e : Entry). e.step) (filter (λ (e : Entry). e.actor == a) h)
-        (filter (λ (e : Entry). e.actor == a) k)
+    (filter (λ (e : Entry). e.actor == a) k)
 
 pub own-by_same : (a : ℕ) (xs : List Step) → own a (by a xs) ≡ xs
 own-by_same a [] = refl
 own-by_same a (x ∷ xs) =
     ap (λ (v : Bool). map (λ (e : Entry). e.step)
-        (cond v (marked a x ∷ filter (λ (e : Entry). e.actor == a) (by a xs))
-          (filter (λ (e : Entry). e.actor == a) (by a xs)))) (same_actor a)
+    (cond v (marked a x ∷ filter (λ (e : Entry). e.actor == a) (by a xs))
+    (filter (λ (e : Entry). e.actor == a) (by a xs)))) (same_actor a)
     ∙ ap (λ (v : List Step). x ∷ v) (own-by_same a xs)
 
 pub own-by_other : (a b : ℕ) (xs : List Step) → (a == b) ≡ false → own b (by a xs) ≡ []
 own-by_other a b [] other = refl
 own-by_other a b (x ∷ xs) other =
     ap (λ (v : Bool). map (λ (e : Entry). e.step)
-        (cond v (marked a x ∷ filter (λ (e : Entry). e.actor == b) (by a xs))
-          (filter (λ (e : Entry). e.actor == b) (by a xs)))) other
+    (cond v (marked a x ∷ filter (λ (e : Entry). e.actor == b) (by a xs))
+    (filter (λ (e : Entry). e.actor == b) (by a xs)))) other
     ∙ own-by_other a b xs other
 
 -- a history that goes on by an actor's steps
@@ -75,14 +72,14 @@ deeds-append a ms (e ∷ h) k =
     ∙ sym (append_assoc here (deeds a (ms ++ more) h) (deeds a ((ms ++ more) ++ mail h) k))
     ∙ ap (λ (v : List Envelope). (here ++ deeds a (ms ++ more) h) ++ deeds a v k)
     (append_assoc ms more (mail h)
-        ∙ ap (λ (v : List Envelope). ms ++ v) (sym (cons_option-append (envelope_of e) (mail h))))
+    ∙ ap (λ (v : List Envelope). ms ++ v) (sym (cons_option-append (envelope_of e) (mail h))))
 
 -- steps of another actor are no deeds
 pub deeds-none : (a b : ℕ) (ms : List Envelope) (xs : List Step) → (a == b) ≡ false → deeds b ms (by a xs) ≡ []
 deeds-none a b ms [] other = refl
 deeds-none a b ms (x ∷ xs) other =
     ap (λ (v : Bool). cond v (deed_at ms x) [] ++ deeds b (ms ++ option_to_list (envelope_of (marked a x))) (by a xs))
-        other
+    other
     ∙ deeds-none a b (ms ++ option_to_list (envelope_of (marked a x))) xs other
 
 -- so the deeds stay where another actor goes on
@@ -106,7 +103,7 @@ deeds-sents a n ms [] = refl
 deeds-sents a n ms (p ∷ ps) =
     let more : List Envelope = ms ++ option_to_list (envelope_of (marked a (Sent n p.to p.message))) in
     ap (λ (v : Bool). cond v (deed_at ms (Sent n p.to p.message)) [] ++ deeds a more (by a (sents (n + 1) ps)))
-        (same_actor a)
+    (same_actor a)
     ∙ ap (λ (v : List Deed). Sends n p.to p.message ∷ v) (deeds-sents a (n + 1) more ps)
 
 -- what a turn does
@@ -149,9 +146,9 @@ deeds-as_same Failed a n ms turn =
     deeds-two a ms (sents n turn.failed_sends) (told turn.failed_told ++ fell causes.Disk turn.write)
     (sends_of n turn.failed_sends) (tells_of turn.failed_told ++ Falls causes.Disk turn.write ∷ [])
     (λ ns. deeds-sents a n ns turn.failed_sends)
-        (λ ns. deeds-two a ns (told turn.failed_told) (fell causes.Disk turn.write) (tells_of turn.failed_told)
-          (Falls causes.Disk turn.write ∷ []) (λ os. deeds-told a os turn.failed_told)
-          (λ os. deeds-fell a os causes.Disk turn.write))
+    (λ ns. deeds-two a ns (told turn.failed_told) (fell causes.Disk turn.write) (tells_of turn.failed_told)
+    (Falls causes.Disk turn.write ∷ []) (λ os. deeds-told a os turn.failed_told)
+    (λ os. deeds-fell a os causes.Disk turn.write))
 deeds-as_same Stopped a n ms turn =
     deeds-two a ms (told turn.failed_told) (fell causes.Stop turn.write) (tells_of turn.failed_told)
     (Falls causes.Stop turn.write ∷ []) (λ ns. deeds-told a ns turn.failed_told)

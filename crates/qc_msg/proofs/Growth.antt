@@ -1,6 +1,6 @@
 -- How what is read off a history grows, as the history does.
-use Rattle.std.proofs.Common.{◌≡◌, ℕ, ◌+◌, ◌==◌, ◌≤◌, Bool, true, false, cond, List, ◌∷◌, ◌++◌, map, filter}
-use Rattle.std.proofs.Common.{sum_by, Option, Some, None, option_to_list, refl, ap, subst, sym, ◌∙◌, arith}
+use Rattle.std.proofs.Common.{◌≡◌, ℕ, ◌+◌, ◌==◌, ◌≤◌, Bool, true, false, cond, List, ◌∷◌, ◌++◌, map, filter, sum_by}
+use Rattle.std.proofs.Common.{Option, Some, None, option_to_list, refl, ap, subst, sym, ◌∙◌, arith}
 use Rattle.std.specs.List.{AllByRecursion as Every, cons_option}
 use Rattle.std.specs.Prelude.{fold}
 use Rattle.std.proofs.lemmas.List.{append-nil}
@@ -15,11 +15,10 @@ use Rattle.qc_msg.specs.declared.step.Step.TheVariants.{Fell, Rose, Wrote, Sent,
 use Rattle.qc_msg.specs.declared.turn.Appended.{Appended}
 use Rattle.qc_msg.specs.declared.turn.Appended.TheVariants.{Done, Failed, Stopped}
 use Rattle.qc_msg.specs.declared.turn.Turn.{Turn}
-use Rattle.qc_msg.specs.Names.{Deed, Entry, IsNoRise, Takes, Tally, WasSentTo, answered}
-use Rattle.qc_msg.specs.Names.{answered_at, answered_in, by, commit_in, deed_at, deeds, deeds_as, envelope_of}
-use Rattle.qc_msg.specs.Names.{envelopes, fell, heard, mail, marked, no_tally, operations_of, own, posted, posted_as}
-use Rattle.qc_msg.specs.Names.{sends_as, sents, standing_after, step_of, tally_of, tally_with, told}
-use Rattle.qc_msg.specs.Names.{turn_deeds, written}
+use Rattle.qc_msg.specs.Names.{Deed, Entry, IsNoRise, Takes, Tally, WasSentTo, answered, answered_at, answered_in, by}
+use Rattle.qc_msg.specs.Names.{commit_in, deed_at, deeds, deeds_as, envelope_of, envelopes, fell, heard, mail, marked}
+use Rattle.qc_msg.specs.Names.{no_tally, operations_of, own, posted, posted_as, sends_as, sents, standing_after}
+use Rattle.qc_msg.specs.Names.{step_of, tally_of, tally_with, told, turn_deeds, written}
 use Rattle.qc_entry.specs.declared.record.Commit.{Commit}
 use Rattle.qc_msg.proofs.GrownMail.{by-append, mail-append, mail-sents, mail-told, mail-posted}
 use Rattle.qc_msg.proofs.DeedsGrow.{same_actor, own-append, deeds-append, deeds-by_same, deeds-as_same}
@@ -45,7 +44,7 @@ mail-posted_as Failed a n turn =
     mail-two a (sents n turn.failed_sends) (told turn.failed_told ++ fell causes.Disk turn.write)
     (envelopes a n turn.failed_sends) [] (mail-sents a n turn.failed_sends)
     (mail-two a (told turn.failed_told) (fell causes.Disk turn.write) [] [] (mail-told a turn.failed_told) refl)
-        ∙ append-nil (envelopes a n turn.failed_sends)
+    ∙ append-nil (envelopes a n turn.failed_sends)
 mail-posted_as Stopped a n turn =
     mail-two a (told turn.failed_told) (fell causes.Stop turn.write) [] [] (mail-told a turn.failed_told) refl
 
@@ -84,9 +83,9 @@ deeds-none_own a ms (e ∷ k) none =
   where
     by_actor : (mine : Bool)
         → map (λ (x : Entry). x.step)
-          (cond mine (e ∷ filter (λ (x : Entry). x.actor == a) k) (filter (λ (x : Entry). x.actor == a) k)) ≡ []
+        (cond mine (e ∷ filter (λ (x : Entry). x.actor == a) k) (filter (λ (x : Entry). x.actor == a) k)) ≡ []
         → (own a k ≡ [] → deeds a (ms ++ option_to_list (envelope_of e)) k ≡ [])
-            → cond mine (deed_at ms e.step) [] ++ deeds a (ms ++ option_to_list (envelope_of e)) k ≡ []
+        → cond mine (deed_at ms e.step) [] ++ deeds a (ms ++ option_to_list (envelope_of e)) k ≡ []
     by_actor true h rest = absurd (let never : ⊥ = cc in never)
     by_actor false h rest = rest h
 
@@ -96,7 +95,7 @@ pub same_deeds : (a : ℕ) (ms : List Envelope) (h k : List Entry) → own a (h 
 same_deeds a ms h k same =
     let none : own a k ≡ [] = nothing_more (own a h) (own a k) (sym (own-append a h k) ∙ same) in
     deeds-append a ms h k ∙ ap (λ (v : List Deed). deeds a ms h ++ v) (deeds-none_own a (ms ++ mail h) k none)
-        ∙ append-nil (deeds a ms h)
+    ∙ append-nil (deeds a ms h)
   where
     nothing_more : (xs ys : List Step) → xs ++ ys ≡ xs → ys ≡ []
     nothing_more [] ys h = h
@@ -113,7 +112,7 @@ operations-more h e = ap (λ (t : Tally). t.operations) (tally-more h e)
 
 pub standing-more : (h : List Entry) (e : Entry) (a : ℕ)
     → (tally_of (h ++ e ∷ [])).standing a
-      ≡ cond (a == e.actor) (standing_after ((tally_of h).standing a) e.step) ((tally_of h).standing a)
+    ≡ cond (a == e.actor) (standing_after ((tally_of h).standing a) e.step) ((tally_of h).standing a)
 standing-more h e a = ap (λ (t : Tally). t.standing a) (tally-more h e)
 
 tally_grows : (t : Tally) (k : List Entry) → t.operations ≤ (fold tally_with t k).operations
@@ -156,9 +155,9 @@ tally_written t [] none = let nothing : sum_by answered_by [] ≡ 0 = refl in om
 tally_written t (e ∷ h) none =
     let rest : (fold tally_with (tally_with t e) h).operations ≡ (t.operations + answered_at (t.standing e.actor) e.step) + sum_by answered_by (written h) = tally_written (tally_with t e) h none.1 in
     let one : answered_at (t.standing e.actor) e.step ≡ answered_in (commit_in e.step) =
-            answered_written (t.standing e.actor) e.step none.0 in
+    answered_written (t.standing e.actor) e.step none.0 in
     let all : answered_in (commit_in e.step) + sum_by answered_by (written h) ≡ sum_by answered_by (written (e ∷ h)) =
-            operations-cons (commit_in e.step) (written h) in
+    operations-cons (commit_in e.step) (written h) in
     omega arith
 
 pub operations-written : (h : List Entry) → Every (λ (e : Entry). IsNoRise e.step) h

@@ -1,6 +1,5 @@
 -- What is known in a cell, while others act, and once its actor took an input or its process was given up.
-use Rattle.std.proofs.Common.{◌≡◌, ℕ, ◌<◌, Bool, true, false, []}
-use Rattle.std.proofs.Common.{refl, sym, ap, ◌∙◌, subst, inl, inr}
+use Rattle.std.proofs.Common.{◌≡◌, ℕ, ◌<◌, Bool, true, false, [], refl, sym, ap, ◌∙◌, subst, inl, inr}
 use Rattle.atomic_table.specs.Seated.{TableId}
 use Rattle.qc_core.specs.Names.{IsLawfulWithFalls}
 use Rattle.qc_decl.specs.Names.{actors}

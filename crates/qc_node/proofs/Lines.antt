@@ -1,7 +1,7 @@
 -- Who is named by the control line that may be done next, and what is known of that actor: it is up where it is to
 -- fall, and down where it is to rise.
-use Rattle.std.proofs.Common.{◌≡◌, ℕ, ◌<◌, ◌≤◌, not, Bool, true, false, List, [], ◌∷◌, Some, slice_get, fold}
-use Rattle.std.proofs.Common.{refl, sym, ap, ◌∙◌, arith, subst}
+use Rattle.std.proofs.Common.{◌≡◌, ℕ, ◌<◌, ◌≤◌, not, Bool, true, false, List, [], ◌∷◌, Some, slice_get, fold, refl, sym}
+use Rattle.std.proofs.Common.{ap, ◌∙◌, arith, subst}
 use Rattle.qc_core.specs.Names.{IsLawfulWithFalls, actor_after, is_up, up_at}
 use Rattle.qc_core.specs.declared.actor.Actor.TheVariants.{Down}
 use Rattle.qc_core.proofs.LivesOfActors.{down, up}

@@ -1,6 +1,6 @@
 -- A new pass among new passes.
-use Rattle.std.proofs.Common.{◌≡◌, ℕ, suc, ◌+◌, ◌<◌, List, [], ◌∷◌, ◌++◌, length, length-append, Some}
-use Rattle.std.proofs.Common.{refl, sym, ap, ◌∙◌, subst, arith, slice_get}
+use Rattle.std.proofs.Common.{◌≡◌, ℕ, suc, ◌+◌, ◌<◌, List, [], ◌∷◌, ◌++◌, length, length-append, Some, refl, sym, ap}
+use Rattle.std.proofs.Common.{◌∙◌, subst, arith, slice_get}
 use Rattle.atomic_table.specs.Seated.{TableId}
 use Rattle.laws_turns.proofs.Places.{slice_get-last, slice_get-more}
 use Rattle.qc_msg.specs.declared.step.Step.{Step}

@@ -1,6 +1,5 @@
 -- A turn in a cell, from the spelling of its record to its post: what the calls between them ask, and the cell then.
-use Rattle.std.proofs.Common.{◌≡◌, ℕ, ◌<◌, Bool, true, false, List, Option, Some, None}
-use Rattle.std.proofs.Common.{refl, sym, ap, ◌∙◌, subst}
+use Rattle.std.proofs.Common.{◌≡◌, ℕ, ◌<◌, Bool, true, false, List, Option, Some, None, refl, sym, ap, ◌∙◌, subst}
 use Rattle.std.specs.Prelude.{option_map}
 use Rattle.atomic_table.specs.Seated.{TableId}
 use Rattle.qc_core.specs.declared.actor.Actor.{Actor}
@@ -25,8 +24,7 @@ use Rattle.qc_fabric.specs.Names.{Posts, Sees, Takes}
 use Rattle.qc_node.specs.Names.{IsCell, IsRunnable, fits_of}
 use Rattle.qc_node.proofs.Kept.{cell_stored}
 use Rattle.qc_node.proofs.ServedStores.{few_open}
-use Rattle.qc_node.proofs.Served.{few_asked, may_write, posts_go, process_last, short_after, stored_now}
-use Rattle.qc_node.proofs.Served.{stored_then}
+use Rattle.qc_node.proofs.Served.{few_asked, may_write, posts_go, process_last, short_after, stored_now, stored_then}
 
 -- only a turn with a record ends otherwise than done
 ends_so : (w : Option Record) (end : Appended) (spelling : Option (List ℕ)) → spelling ≡ option_map spelled w

@@ -1,6 +1,6 @@
 -- A restart in a cell: what its calls ask, and what is known of the process once the actor rose, or stays down.
-use Rattle.std.proofs.Common.{◌≡◌, ℕ, ◌+◌, ◌^◌, ◌<◌, ◌≤◌, Bool, true, List, [], ◌∷◌, ◌++◌, length, Option, None}
-use Rattle.std.proofs.Common.{refl, sym, ap, ◌∙◌, subst, arith, append_assoc}
+use Rattle.std.proofs.Common.{◌≡◌, ℕ, ◌+◌, ◌^◌, ◌<◌, ◌≤◌, Bool, true, List, [], ◌∷◌, ◌++◌, length, Option, None, refl}
+use Rattle.std.proofs.Common.{sym, ap, ◌∙◌, subst, arith, append_assoc}
 use Rattle.std.specs.Prelude.{IfSome}
 use Rattle.std.specs.List.{AllByRecursion as Every}
 use Rattle.std.proofs.lemmas.Bool.{and_parts}
@@ -72,7 +72,8 @@ same_size end (risings.Damaged offset) = refl
 same_size end (risings.NotOpened cause) = refl
 
 closed_few : (s : StoreView) → s.journal ≡ None → HasFewRecords s
-closed_few s closed = subst (λ (o : Option OpenJournal). IfSome o (λ (p : OpenJournal). p.records < 2 ^ 32)) (sym closed) tt
+closed_few s closed =
+    subst (λ (o : Option OpenJournal). IfSome o (λ (p : OpenJournal). p.records < 2 ^ 32)) (sym closed) tt
 
 module _ (tells : Bool) (decl : Declaration) (script : Script) (q : Pass Step) (low : number q < actors decl)
     (old : ProcessView) (known : IsProcess tells decl (number q) (seen q) old) (opened : ProcessView) where
@@ -150,7 +151,8 @@ module _ (tells : Bool) (decl : Declaration) (script : Script) (q : Pass Step) (
             (did.does
             ∙ (ap (λ (l : List Deed). ds ++ RisesDeed records ∷ l) (same_deeds end first turn)
             ∙ sym (append_assoc ds (RisesDeed records ∷ []) (deeds_as end first turn))))
-            ∙ turned decl a (ds ++ RisesDeed records ∷ []) turn first opened.actor (ap (λ (m : ActorMove). m.actor) move_is)
+            ∙ turned decl a (ds ++ RisesDeed records ∷ []) turn first opened.actor
+            (ap (λ (m : ActorMove). m.actor) move_is)
             (risen_sent decl a ds records (ended Done) first (lawful Done)) end new.actor appends.stays appends.falls
 
         abbrev between : List Entry
@@ -247,7 +249,8 @@ module _ (tells : Bool) (decl : Declaration) (script : Script) (q : Pass Step) (
     process_as (risings.Damaged offset) end new r first is same did =
         subst (λ (p : ProcessView). IsProcess tells decl (number r) (seen r)
         (record { number = p.number; actor = actor_sent p.actor first; store = p.store })) (sym same)
-        (down_process (steps.Damaged offset ∷ []) is.0 down r first did.others did.not_own did.pass.number_is did.seen_is
+        (down_process (steps.Damaged offset ∷ []) is.0 down r first did.others did.not_own did.pass.number_is
+        did.seen_is
         (ap (λ (l : List Deed). (actor_after decl a l).actor) (did.does ∙ append-nil ds) ∙ known_down))
     process_as (risings.NotOpened cause) end new r first is same did =
         subst (λ (p : ProcessView). IsProcess tells decl (number r) (seen r)

@@ -5,7 +5,7 @@ use Rattle.qc_core.specs.declared.actor.Actor.{Actor}
 use Rattle.qc_core.specs.declared.actor.Actor.TheVariants as actors_of
 use Rattle.qc_core.specs.Names.{ActorFits, ActorMove, AsksFew, IsLawfulWithFalls, actor_after, actor_sent, actor_takes}
 use Rattle.qc_core.specs.Names.{moved}
-use Rattle.qc_core.proofs.ByTurns.{after_takes}
+use Rattle.qc_core.proofs.PostsByTurns.{after_takes}
 use Rattle.qc_core.proofs.Written.{after_written}
 use Rattle.qc_epoch.specs.Names.{most_asks}
 use Rattle.qc_decl.specs.Names.{IsAccepted, actors, most_steps}
@@ -21,8 +21,8 @@ use Rattle.qc_msg.specs.Names.{posted_as, step_of}
 use Rattle.qc_msg.proofs.GrownMail.{length-mail}
 use Rattle.qc_pass.specs.declared.token.Pass.{Pass}
 use Rattle.qc_pass.specs.Names.{number, seen}
-use Rattle.qc_process.specs.Names.{Goes, HasFewRecords, IsProcess, IsReadable, IsStored, IsUp, IsWritable}
-use Rattle.qc_process.specs.Names.{MayWrite, ProcessView, StoreView}
+use Rattle.qc_process.specs.Names.{Goes, HasFewRecords, IsProcess, IsReadable, IsStored, IsUp, IsWritable, MayWrite}
+use Rattle.qc_process.specs.Names.{ProcessView, StoreView}
 use Rattle.qc_script.specs.Names.{IsScriptFor}
 use Rattle.qc_script.specs.declared.script.Script.{Script}
 use Rattle.laws_bounds.proofs.TurnsSpelled.{turn_spelled}
@@ -47,8 +47,12 @@ module _ (tells : Bool) (decl : Declaration) (script : Script) (accepted : IsAcc
   pub short_after : length (seen q) ≤ most_history + 1
   short_after =
       let front : length (seen p ++ took.others) ≤ most_history = took.few in
-      omega (arith, front, ap (λ (l : List Entry). length l) took.seen_is,
-          length-append (seen p ++ took.others) (marked (number p) (step_of g) ∷ []))
+      omega (
+        arith,
+        front,
+        ap (λ (l : List Entry). length l) took.seen_is,
+        length-append (seen p ++ took.others) (marked (number p) (step_of g) ∷ []),
+      )
 
   module _ (pr : ProcessView) (known : IsProcess tells decl (number p) (seen p) pr) where
     pub input_fits : ActorFits pr.actor
@@ -56,12 +60,12 @@ module _ (tells : Bool) (decl : Declaration) (script : Script) (accepted : IsAcc
         subst ActorFits
         (ap (λ (ds : List Deed). (actor_after decl (number p) ds).actor) took.does_before ∙ sym known.actor_is)
         (fits decl script accepted (number p) (seen p ++ took.others) took.run_before.0 took.run_before.1 short_before
-            took.is_closed)
+        took.is_closed)
 
     pub input_readable : IsReadable g
     input_readable =
         readable decl script accepted (number p) (seen p ++ took.others) took.run_before.0 took.run_before.1
-            short_before g took.is_ready
+        short_before g took.is_ready
 
     -- it acted
 
@@ -129,7 +133,7 @@ module _ (tells : Bool) (decl : Declaration) (script : Script) (accepted : IsAcc
       few_asked =
           subst AsksFew after_is
           (asks_few decl script accepted (number p) (seen q) took.run.0 took.run.1 took.is_open
-              (record turn { append = Done }) lawful)
+          (record turn { append = Done }) lawful)
 
       -- the store, when the input was taken
 
@@ -156,7 +160,7 @@ module _ (tells : Bool) (decl : Declaration) (script : Script) (accepted : IsAcc
             subst (λ (n : ℕ). IsLawfulWithFalls decl n (deeds (number p2) [] (seen p2)) (record turn { append = end }))
             (sym number_is)
             (subst (λ (ds : List Deed). IsLawfulWithFalls decl (number p) ds (record turn { append = end }))
-                (sym deeds_then)
+            (sym deeds_then)
             (lawful_end end may))
 
         pub stored_now : (s : StoreView) → IsStored tells decl (number p) (seen q) s
@@ -211,8 +215,8 @@ module _ (tells : Bool) (decl : Declaration) (script : Script) (accepted : IsAcc
               actor_is =
                   sym (ap (λ (n : ℕ). (actor_after decl n (deeds (number r) [] (seen r))).actor) number_last
                   ∙
-                      (ap (λ (ds : List Deed). (actor_after decl (number p) ds).actor) deeds_last
-                        ∙ actor_then v kept down));
+                  (ap (λ (ds : List Deed). (actor_after decl (number p) ds).actor) deeds_last
+                  ∙ actor_then v kept down));
               stored = subst (λ (n : ℕ). IsStored tells decl n (seen r) s) (sym posts.pass.number_is) is;
             }
 
@@ -220,7 +224,7 @@ module _ (tells : Bool) (decl : Declaration) (script : Script) (accepted : IsAcc
                 ≡ turn
             turn_here =
                 ap (λ (v : Actor). (actor_takes decl v g).turn) (sym known.actor_is)
-                    ∙ ap (λ (m : ActorMove). m.turn) acted
+                ∙ ap (λ (m : ActorMove). m.turn) acted
 
             pub served : (b c : Bool) (x : ProcessView) → c ≡ false
                 → IsServed decl (record { number = number p; seen = seen p; given_up = b; process = pr })
@@ -239,7 +243,7 @@ module _ (tells : Bool) (decl : Declaration) (script : Script) (accepted : IsAcc
                   ∙ (ap (λ (ds : List Deed). ds ++ deeds_as end first ended) took.does
                   ∙ (ap (λ (ds : List Deed). (deeds (number p) [] (seen p) ++ TakesInput g ∷ []) ++ ds) (same_deeds end first turn)
                   ∙ ap (λ (t : Turn). (deeds (number p) [] (seen p) ++ TakesInput g ∷ []) ++ deeds_as end first t)
-                      (sym turn_here)));
+                  (sym turn_here)));
               up = up;
             }
               where

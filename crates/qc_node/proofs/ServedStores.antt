@@ -1,6 +1,6 @@
 -- A cell's store, over the input that it took and over what others did.
-use Rattle.std.proofs.Common.{◌≡◌, ℕ, ◌+◌, ◌^◌, ◌<◌, ◌≤◌, Bool, List, ◌∷◌, ◌++◌, length, Option, Some, None}
-use Rattle.std.proofs.Common.{refl, sym, ◌∙◌, subst, arith}
+use Rattle.std.proofs.Common.{◌≡◌, ℕ, ◌+◌, ◌^◌, ◌<◌, ◌≤◌, Bool, List, ◌∷◌, ◌++◌, length, Option, Some, None, refl, sym}
+use Rattle.std.proofs.Common.{◌∙◌, subst, arith}
 use Rattle.std.specs.Prelude.{IfSome}
 use Rattle.std.proofs.lemmas.List.{append-nil}
 use Rattle.qc_core.specs.Names.{IsLawfulWithFalls}
@@ -8,12 +8,10 @@ use Rattle.qc_decl.specs.declared.declaration.Declaration.{Declaration}
 use Rattle.qc_msg.specs.declared.step.Input.{Input}
 use Rattle.qc_msg.specs.declared.step.Input.TheVariants as inputs
 use Rattle.qc_msg.specs.declared.step.Step.{Step}
-use Rattle.qc_msg.specs.Names.{Entry, by}
-use Rattle.qc_msg.specs.Names.{step_of}
+use Rattle.qc_msg.specs.Names.{Entry, by, step_of}
 use Rattle.qc_pass.specs.declared.token.Pass.{Pass}
 use Rattle.qc_pass.specs.Names.{number, seen}
-use Rattle.qc_process.specs.Names.{Goes, HasFewRecords, IsPlaced, IsStored}
-use Rattle.qc_process.specs.Names.{OpenJournal, StoreView}
+use Rattle.qc_process.specs.Names.{Goes, HasFewRecords, IsPlaced, IsStored, OpenJournal, StoreView}
 use Rattle.qc_process.proofs.Going.{plain_on}
 use Rattle.qc_process.proofs.Plain.{ArePlain}
 use Rattle.qc_script.specs.declared.script.Script.{Script}
@@ -24,7 +22,7 @@ use Rattle.qc_node.specs.Names.{fits_of}
 
 pub took_goes : (decl : Declaration) (script : Script) (p q : Pass Step) (g : Input)
     → Takes (IsLawfulWithFalls decl) (fits_of decl) decl script p q g
-        → Goes (number p) (seen p) (step_of g ∷ []) (seen q)
+    → Goes (number p) (seen p) (step_of g ∷ []) (seen q)
 took_goes decl script p q g took = record { others = took.others; not_own = took.not_own; now_is = took.seen_is }
 
 -- what others did, and nothing else
@@ -34,7 +32,7 @@ saw_goes p q saw =
     record {
       others = saw.others;
       not_own = saw.not_own;
-      now_is = saw.seen_is ∙ sym (append-nil (seen p ++ saw.others))
+      now_is = saw.seen_is ∙ sym (append-nil (seen p ++ saw.others));
     }
 
 plain_input : (g : Input) → ArePlain (step_of g ∷ [])

@@ -1,7 +1,6 @@
 -- What the disks that all went back tell of a run: its falls are spent, its records kept, and the places hold its
 -- journals.
-use Rattle.std.proofs.Common.{◌≡◌, ℕ, ◌-◌, ◌^◌, ◌<◌, ◌≤◌, Bool, true, List, Option, None}
-use Rattle.std.proofs.Common.{refl, arith}
+use Rattle.std.proofs.Common.{◌≡◌, ℕ, ◌-◌, ◌^◌, ◌<◌, ◌≤◌, Bool, true, List, Option, None, refl, arith}
 use Rattle.qc_core.specs.Names.{IsLawfulWithFalls}
 use Rattle.qc_decl.specs.Names.{actors, controller, most_steps}
 use Rattle.qc_decl.specs.declared.declaration.Declaration.{Declaration}

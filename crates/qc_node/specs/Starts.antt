@@ -1,7 +1,7 @@
 -- What a rack is while its disks are handed out to the actors of a run, one by one; why no process began, and how the
 -- disks that were handed out come back.
-use Rattle.std.specs.Prelude.{◌≡◌, ℕ, ◌+◌, ◌<◌, ◌≤◌, Bool, true, List, [], Option, Some, Ok}
-use Rattle.std.specs.Prelude.{All, IsSome, is_some, slice_get}
+use Rattle.std.specs.Prelude.{◌≡◌, ℕ, ◌+◌, ◌<◌, ◌≤◌, Bool, true, List, [], Option, Some, Ok, All, IsSome, is_some}
+use Rattle.std.specs.Prelude.{slice_get}
 use Rattle.qc_decl.specs.declared.declaration.Declaration.{Declaration}
 use Rattle.qc_outside.specs.Names.{HoldsNoByte, IsHandedOut, IsSameAtAll, NamesActor, Places, Rose, Told, settled}
 use Rattle.qc_outside.specs.declared.rack.RackFault.{RackFault}

@@ -1,6 +1,6 @@
 -- One call after another: what is armed goes on, and an arm acts or a fault of the disk's own comes.
-use Rattle.std.proofs.Common.{◌≡◌, ℕ, ◌+◌, ◌-◌, ◌≤◌, Option, Some, None, Result, Ok, Err, inl, inr, refl, sym}
-use Rattle.std.proofs.Common.{◌∙◌, ap, subst, arith, nat_le, true, false, Bool, if◌then◌else◌}
+use Rattle.std.proofs.Common.{◌≡◌, ℕ, ◌+◌, ◌-◌, ◌≤◌, Option, Some, None, Result, Ok, Err, inl, inr, refl, sym, ◌∙◌, ap}
+use Rattle.std.proofs.Common.{subst, arith, nat_le, true, false, Bool, if◌then◌else◌}
 use Rattle.std.proofs.lemmas.Bool.{leb-true, leb-false}
 use Rattle.qc_outside.specs.Names.{Armed, Burns, BurnsMany, BurnsNothing, DiskRose, Fuse, HasActed, HasFailed}
 use Rattle.qc_outside.specs.Names.{HasFaulted, HasPassed, IsArmedAfter, IsBlamed, IsRefused, Rose, acting, armed_after}

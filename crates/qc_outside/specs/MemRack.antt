@@ -1,6 +1,6 @@
 -- What the places of a rack in memory hold.
-use Rattle.std.specs.Prelude.{◌≡◌, ℕ, ◌<◌, Bool, true, false, ◌&&◌, nat_eq, List, [], ◌∷◌, ◌++◌}
-use Rattle.std.specs.Prelude.{length, take, find, bytes_eq, HoldsAt, Option, Some, None, option_map, Vec}
+use Rattle.std.specs.Prelude.{◌≡◌, ℕ, ◌<◌, Bool, true, false, ◌&&◌, nat_eq, List, [], ◌∷◌, ◌++◌, length, take, find}
+use Rattle.std.specs.Prelude.{bytes_eq, HoldsAt, Option, Some, None, option_map, Vec}
 use Rattle.std.specs.declared.alloc.Global.{Global}
 use Rattle.qc_outside.specs.Places.{Place, Places}
 use Rattle.qc_outside.specs.declared.mem_rack.Kept.{Kept}

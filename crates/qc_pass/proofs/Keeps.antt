@@ -1,7 +1,6 @@
 -- Each kind of step keeps the pass rule.
-use Rattle.std.proofs.Common.{◌≡◌, ℕ, ◌+◌, ◌%◌, ◌^◌, ◌≢◌, true, List, ◌∷◌, ◌++◌}
-use Rattle.std.proofs.Common.{length, set, refl, ap, sym, ◌∙◌, arith, length-append, length-set}
-use Rattle.std.proofs.Common.{Option, Some, slice_get}
+use Rattle.std.proofs.Common.{◌≡◌, ℕ, ◌+◌, ◌%◌, ◌^◌, ◌≢◌, true, List, ◌∷◌, ◌++◌, length, set, refl, ap, sym, ◌∙◌, arith}
+use Rattle.std.proofs.Common.{length-append, length-set, Option, Some, slice_get}
 use Rattle.std.specs.Prelude.{slice_index}
 use mathlib.Core.Option.{none}
 use lib.Seq.{set-get_or}
@@ -11,8 +10,8 @@ use Rattle.qc_list.specs.declared.marked.Marked.{Marked}
 use Rattle.qc_pass.specs.declared.view.View.{View}
 use Rattle.qc_pass.specs.Names.{Adds, IsJoined, IsOneHistory, IsPassOf, IsRightTo, Knows, Loads, joined, marked}
 use Rattle.qc_pass.specs.Names.{pass_apart, right_apart, with_entry}
-use Rattle.qc_pass.proofs.Places.{got, at_inside, set_here, set_else, at_last, set_fact, end_fact}
-use Rattle.qc_pass.proofs.Places.{prefix_more, prefix_all}
+use Rattle.qc_pass.proofs.Places.{got, at_inside, set_here, set_else, at_last, set_fact, end_fact, prefix_more}
+use Rattle.qc_pass.proofs.Places.{prefix_all}
 use Rattle.qc_pass.proofs.Owns.{own_mine, own_other}
 use Rattle.qc_pass.proofs.Passes.{counted}
 
@@ -38,7 +37,7 @@ module _ {E : Type 0} where
       let at : slice_get s.views id ≡ Some v = got s.views id v here in
       let same : set s.words 0 (slice_index s.words 0) ≡ s.words = set-get_or s.words 0 0 in
       let kept : IsOneHistory record { words = s.words; homes = s.homes; views = set s.views id v } =
-              rw (set_again s.views id v here) h in
+      rw (set_again s.views id v here) h in
       (v, keeps, tt, rw same kept, (knows s h id v at is has, refl))
 
   pub loads : (slots id : ℕ) (me : Me (Unit {0}) (View E)) → IsJoined me
@@ -69,19 +68,19 @@ module _ {E : Type 0} where
           holds = refl;
           word = ap (λ (ws : List ℕ). set ws 0 ((slice_index s.words 0 + 1) % 2 ^ 64)) h.word
               ∙ ap (λ (n : ℕ). n ∷ [])
-                  (counted (slice_index s.words 0) (length h.history) now
-                    ∙ ap (λ (n : ℕ). n % 2 ^ 64) (sym (length-append h.history (marked v.number e ∷ []))));
+              (counted (slice_index s.words 0) (length h.history) now
+              ∙ ap (λ (n : ℕ). n % 2 ^ 64) (sym (length-append h.history (marked v.number e ∷ []))));
           as_many = h.as_many;
           unmade = λ n le. own_other n v.number h.history e (λ q. omega (arith, p.made, le, q)) ∙ h.unmade n le;
           right =
               set_fact (λ k u. u.has_right ≡ true → IsRightTo history' h.rooms h.ends id k u) s.views id
               (with_entry v e)
               (λ f. record {
-                    own_seat = refl;
-                    all_is = ap (λ (l : List (Marked E)). l ++ marked v.number e ∷ []) r.all_is;
-                    rooms_is = r.rooms_is;
-                    ends_is = r.ends_is
-                  })
+                own_seat = refl;
+                all_is = ap (λ (l : List (Marked E)). l ++ marked v.number e ∷ []) r.all_is;
+                rooms_is = r.rooms_is;
+                ends_is = r.ends_is;
+              })
               (λ k u ne at' f. absurd (ne ((h.right k u at' f).own_seat ∙ sym r.own_seat)));
           pass =
               set_fact (λ k u. u.is_pass ≡ true → IsPassOf history' h.rooms h.ends h.seats k u) s.views id
@@ -104,8 +103,10 @@ module _ {E : Type 0} where
                 had_end = q.had_end;
               });
         },
-        (knows s h id v at is has,
-            λ x also. let same : e ≡ x = cc (is_picked, also) in ap (λ (y : E). (with_entry v y, [])) same),
+        (
+          knows s h id v at is has,
+          λ x also. let same : e ≡ x = cc (is_picked, also) in ap (λ (y : E). (with_entry v y, [])) same,
+        ),
       )
 
   pub adds : (slots id : ℕ) (me : Me (Unit {0}) (View E)) (picked : Option E) (e : E) → picked ≡ Some e → IsJoined me
@@ -145,13 +146,13 @@ module _ {E : Type 0} where
               ends_is = ap (λ (l : List ℕ). set l v.number (length v.all)) r.ends_is;
             })
             (set_fact (λ k u. u.has_right ≡ true → IsRightTo h.history rooms' ends' (length views') k u) s.views id
-                (pass_apart room v) (λ f. absurd (cc f))
+            (pass_apart room v) (λ f. absurd (cc f))
             (λ k u ne e f. absurd (ne ((h.right k u e f).own_seat ∙ sym r.own_seat))));
         pass =
             end_fact (λ k u. u.is_pass ≡ true → IsPassOf h.history rooms' ends' h.seats k u) views' (right_apart room v)
             (λ f. absurd (cc f))
             (set_fact (λ k u. u.is_pass ≡ true → IsPassOf h.history rooms' ends' h.seats k u) s.views id
-                (pass_apart room v)
+            (pass_apart room v)
             (λ f. record {
               own_seat = p.own_seat;
               made = omega (arith, p.made, length-set h.rooms v.number room);

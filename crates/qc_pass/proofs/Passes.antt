@@ -1,13 +1,12 @@
 -- The word is made, the right makes a pass, and a pass takes the right over: each keeps the pass rule.
-use Rattle.std.proofs.Common.{◌≡◌, ℕ, zero, suc, ◌+◌, ◌==◌, ◌%◌, ◌^◌, ◌≢◌, true, false, cond, List, ◌∷◌, ◌++◌}
-use Rattle.std.proofs.Common.{length, set, refl, ap, sym, ◌∙◌, subst, arith, length-append, eq-eqb, ne_eqb}
-use Rattle.std.proofs.Common.{Some, slice_get}
+use Rattle.std.proofs.Common.{◌≡◌, ℕ, zero, suc, ◌+◌, ◌==◌, ◌%◌, ◌^◌, ◌≢◌, true, false, cond, List, ◌∷◌, ◌++◌, length}
+use Rattle.std.proofs.Common.{set, refl, ap, sym, ◌∙◌, subst, arith, length-append, eq-eqb, ne_eqb, Some, slice_get}
 use Rattle.std.proofs.Math.Nat.{mod-add-mod}
 use Rattle.atomic_table.specs.Table.{opening, Splits, Joins}
 use Rattle.qc_list.specs.declared.marked.Marked.{Marked}
 use Rattle.qc_pass.specs.declared.view.View.{View}
-use Rattle.qc_pass.specs.Names.{IsOneHistory, IsPassOf, IsRightTo, joined}
-use Rattle.qc_pass.specs.Names.{next_pass, pass_view, right_view, spent, with_pass}
+use Rattle.qc_pass.specs.Names.{IsOneHistory, IsPassOf, IsRightTo, joined, next_pass, pass_view, right_view, spent}
+use Rattle.qc_pass.specs.Names.{with_pass}
 use Rattle.qc_pass.proofs.Places.{got, at_inside, set_here, set_else, at_longer, at_last, set_fact, end_fact}
 
 pub counted : (n k : ℕ) → n ≡ k % 2 ^ 64 → (n + 1) % 2 ^ 64 ≡ (k + 1) % 2 ^ 64
@@ -40,7 +39,7 @@ module _ {E : Type 0} where
       first_right zero v e f =
           let s : first_view ≡ v = cc e in
           subst (λ (u : View E). IsRightTo [] [] [] 0 0 u) s record
-              { own_seat = refl; all_is = refl; rooms_is = refl; ends_is = refl }
+          { own_seat = refl; all_is = refl; rooms_is = refl; ends_is = refl }
       first_right (suc k) v e f = absurd (cc e)
 
       first_pass : (k : ℕ) (v : View E) → slice_get (first_view ∷ []) k ≡ Some v → v.is_pass ≡ true
@@ -53,7 +52,7 @@ module _ {E : Type 0} where
   -- the right makes a pass
   pub makes : (id : ℕ) (all : List (Marked E)) (rooms ends : List ℕ)
       → Splits IsOneHistory id (right_view all rooms ends) (with_pass (right_view all rooms ends))
-          (next_pass (right_view all rooms ends))
+      (next_pass (right_view all rooms ends))
   makes id all rooms ends s h here =
       let v : View E = right_view all rooms ends in
       let at : slice_get s.views id ≡ Some v = got s.views id v here in
@@ -98,7 +97,7 @@ module _ {E : Type 0} where
               had_end = at_last h.ends 0 (length rooms) (h.as_many ∙ sym (ap length r.rooms_is));
             })
             (set_fact (λ k u. u.is_pass ≡ true → IsPassOf h.history rooms' ends' seats' k u) s.views id (with_pass v)
-                (λ f. absurd (cc f))
+            (λ f. absurd (cc f))
             (λ k u ne e f. let p : IsPassOf h.history h.rooms h.ends h.seats k u = h.pass k u e f in record {
               own_seat = rw (ne_eqb u.number (length h.rooms) (λ q. omega (arith, p.made, q))) p.own_seat;
               made = omega (arith, p.made, length-append h.rooms (0 ∷ []));
@@ -113,14 +112,14 @@ module _ {E : Type 0} where
   pub joins : (id n : ℕ) (seen : List (Marked E)) (mine : List E) (room other : ℕ) (all : List (Marked E))
       (rooms ends : List ℕ)
       → Joins IsOneHistory id (pass_view n seen mine room) other (right_view all rooms ends)
-          (joined (pass_view n seen mine room) (right_view all rooms ends)) spent
+      (joined (pass_view n seen mine room) (right_view all rooms ends)) spent
   joins id n seen mine room other all rooms ends s h here ne there' =
       let v : View E = pass_view n seen mine room in
       let w : View E = right_view all rooms ends in
       let j : View E = joined v w in
       let at : slice_get s.views id ≡ Some v = got s.views id v here in
       let there : slice_get s.views other ≡ Some w =
-              sym (set_else s.views id other j ne) ∙ got (set s.views id j) other w there' in
+      sym (set_else s.views id other j ne) ∙ got (set s.views id j) other w there' in
       let r : IsRightTo h.history h.rooms h.ends h.holder other w = h.right other w there refl in
       let p : IsPassOf h.history h.rooms h.ends h.seats id v = h.pass id v at refl in
       record {
@@ -141,21 +140,21 @@ module _ {E : Type 0} where
             set_fact (λ k u. u.has_right ≡ true → IsRightTo h.history h.rooms h.ends id k u) (set s.views id j) other
             spent (λ f. absurd (cc f))
             (λ k u away e. set_fact (λ k u. k ≢ other → u.has_right ≡ true → IsRightTo h.history h.rooms h.ends id k u)
-                s.views id j
+            s.views id j
             (λ _ f. record { own_seat = refl; all_is = r.all_is; rooms_is = r.rooms_is; ends_is = r.ends_is })
             (λ k u ne e away f. absurd (away ((h.right k u e f).own_seat ∙ sym r.own_seat))) k u e away);
         pass =
             set_fact (λ k u. u.is_pass ≡ true → IsPassOf h.history h.rooms h.ends h.seats k u) (set s.views id j) other
             spent (λ f. absurd (cc f))
             (λ k u away e. set_fact (λ k u. u.is_pass ≡ true → IsPassOf h.history h.rooms h.ends h.seats k u) s.views id
-                j
+            j
             (λ f. record {
-                  own_seat = p.own_seat;
-                  made = p.made;
-                  part = p.part;
-                  begins = p.begins;
-                  had_room = p.had_room;
-                  had_end = p.had_end
-                })
+              own_seat = p.own_seat;
+              made = p.made;
+              part = p.part;
+              begins = p.begins;
+              had_room = p.had_room;
+              had_end = p.had_end;
+            })
             (λ k u ne e f. h.pass k u e f) k u e);
       }

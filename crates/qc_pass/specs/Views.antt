@@ -1,6 +1,6 @@
 -- What a seat knows, how each kind of step changes that, and what a step tells.
-use Rattle.std.specs.Prelude.{ℕ, ◌≡◌, ◌==◌, ◌<◌, true, false, List, [], ◌∷◌, ◌++◌, map, filter, length}
-use Rattle.std.specs.Prelude.{slice_get, slice_set, Option, Some}
+use Rattle.std.specs.Prelude.{ℕ, ◌≡◌, ◌==◌, ◌<◌, true, false, List, [], ◌∷◌, ◌++◌, map, filter, length, slice_get}
+use Rattle.std.specs.Prelude.{slice_set, Option, Some}
 use mathlib.Core.List.{IsPrefix}
 use Rattle.atomic_table.specs.Table.{Me, Step}
 use Rattle.qc_list.specs.declared.marked.Marked.{Marked}

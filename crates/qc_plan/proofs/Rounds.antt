@@ -1,15 +1,13 @@
 -- Met rounds weigh what is needed, and to ask one by one is to ask all that is wanted.
 use Rattle.std.proofs.Common.{◌≡◌, ℕ, zero, suc, ◌+◌, ◌-◌, map, slice_index, append_assoc, length-take, ◌<◌, ◌≤◌}
-use Rattle.std.proofs.Common.{nat_lt, Bool, true, false, cond, List, ◌∷◌, ◌++◌, Some}
-use Rattle.std.proofs.Common.{unwrap_or, length, take, drop, set, refl, sym, ◌∙◌, ap, subst, arith}
+use Rattle.std.proofs.Common.{nat_lt, Bool, true, false, cond, List, ◌∷◌, ◌++◌, Some, unwrap_or, length, take, drop}
+use Rattle.std.proofs.Common.{set, refl, sym, ◌∙◌, ap, subst, arith}
 use Rattle.std.specs.List.{range_with_len}
 use Rattle.std.proofs.lemmas.List.{drop-set-lt, set_past, map-append}
 use Rattle.std.proofs.Math.Seq.{take-set-lt}
 use Rattle.std.proofs.lemmas.Bool.Decides.{nat_tests}
-use Rattle.qc_plan.specs.Names.{RoundState, all_noted, asking_all, asking_in_turn}
-use Rattle.qc_plan.specs.Names.{cyclic, has_granted}
-use Rattle.qc_plan.specs.Names.{is_waiting, note_in, place_in, prefix, refusal, settled}
-use Rattle.qc_plan.specs.Names.{start, verdict, wanted, weighing, weight}
+use Rattle.qc_plan.specs.Names.{RoundState, all_noted, asking_all, asking_in_turn, cyclic, has_granted, is_waiting}
+use Rattle.qc_plan.specs.Names.{note_in, place_in, prefix, refusal, settled, start, verdict, wanted, weighing, weight}
 use Rattle.qc_plan.specs.declared.standing.Asked.{Asked}
 use Rattle.qc_plan.specs.declared.standing.Standing.{Standing}
 use Rattle.qc_plan.specs.declared.standing.Verdict.TheVariants as verdicts
@@ -21,9 +19,9 @@ awaited : (weights : List ℕ) (need : ℕ) (asked : List Asked) (rest : List �
     → wanted (state weights need asked rest) ≡ prefix weights need asked rest
 awaited weights need asked rest noted =
     ap (λ n. cond (is_waiting (cond n
-        (unwrap_or (refusal asked) (settled (state weights need asked rest) (weight (has_granted asked) weights)))
-        verdicts.Waiting))
-        (cond (is_light weights need asked) (prefix weights need asked rest) (cond n (take 1 rest) [])) []) noted
+    (unwrap_or (refusal asked) (settled (state weights need asked rest) (weight (has_granted asked) weights)))
+    verdicts.Waiting))
+    (cond (is_light weights need asked) (prefix weights need asked rest) (cond n (take 1 rest) [])) []) noted
     ∙ light rest (is_light weights need asked) refl where
       light : (sites : List ℕ) (t : Bool) → is_light weights need asked ≡ t
           → cond t (prefix weights need asked sites) [] ≡ prefix weights need asked sites
@@ -35,17 +33,19 @@ awaited weights need asked rest noted =
 by_tests : (turns : ℕ) (weights : List ℕ) (need : ℕ) (asked : List Asked) (rest : List ℕ) (waits light noted : Bool)
     → is_light weights need asked ≡ light
     → ((site : ℕ) (sites : List ℕ) → rest ≡ site ∷ sites
-        → IsWanted turns (state weights need (with_site asked site) sites))
+    → IsWanted turns (state weights need (with_site asked site) sites))
     → turn_by waits light noted (state weights need asked rest) (asking_in_turn turns)
-        ≡ (wanted_by waits light noted (state weights need asked rest),
-          asking_all (state weights need asked rest) (wanted_by waits light noted (state weights need asked rest)))
+    ≡ (
+      wanted_by waits light noted (state weights need asked rest),
+      asking_all (state weights need asked rest) (wanted_by waits light noted (state weights need asked rest)),
+    )
 by_tests turns weights need asked rest false light noted heavy more = refl
 by_tests turns weights need asked [] true true noted heavy more = refl
 by_tests turns weights need asked (site ∷ sites) true true noted heavy more =
     let after : RoundState = state weights need (with_site asked site) sites in
     let next : IsWanted turns after = more site sites refl in
     let same : wanted after ≡ prefix weights need (with_site asked site) sites =
-            awaited weights need (with_site asked site) sites (unknown asked site) in
+    awaited weights need (with_site asked site) sites (unknown asked site) in
     let here : cond (is_light weights need asked) (site ∷ prefix weights need (with_site asked site) sites) [] ≡ site ∷ prefix weights need (with_site asked site) sites = ap (λ t. cond t (site ∷ prefix weights need (with_site asked site) sites) []) heavy in
     ap (λ (p : List ℕ × RoundState). (site ∷ p.0, p.1)) next
     ∙ ap (λ (ss : List ℕ). (site ∷ ss, asking_all after ss)) same
@@ -56,10 +56,10 @@ by_tests turns weights need asked (site ∷ sites) true false true heavy more =
     let after : RoundState = state weights need (with_site asked site) sites in
     let next : IsWanted turns after = more site sites refl in
     let same : wanted after ≡ [] =
-            awaited weights need (with_site asked site) sites (unknown asked site)
-              ∙ none sites (stays_heavy weights need asked site heavy) in
+    awaited weights need (with_site asked site) sites (unknown asked site)
+    ∙ none sites (stays_heavy weights need asked site heavy) in
     ap (λ (p : List ℕ × RoundState). (site ∷ p.0, p.1)) next
-        ∙ ap (λ (ss : List ℕ). (site ∷ ss, asking_all after ss)) same where
+    ∙ ap (λ (ss : List ℕ). (site ∷ ss, asking_all after ss)) same where
       none : (ss : List ℕ) → is_light weights need (with_site asked site) ≡ false
           → prefix weights need (with_site asked site) ss ≡ []
       none [] is = refl
@@ -72,11 +72,11 @@ nothing_left (site ∷ sites) h = absurd (omega arith)
 no_rest : (weights : List ℕ) (need : ℕ) (asked : List Asked) → wanted (state weights need asked []) ≡ []
 no_rest weights need asked =
     by (is_waiting (verdict (state weights need asked []))) (is_light weights need asked) (all_noted asked) where
-  by : (waits light noted : Bool) → wanted_by waits light noted (state weights need asked []) ≡ []
-  by false light noted = refl
-  by true true noted = refl
-  by true false true = refl
-  by true false false = refl
+      by : (waits light noted : Bool) → wanted_by waits light noted (state weights need asked []) ≡ []
+      by false light noted = refl
+      by true true noted = refl
+      by true false true = refl
+      by true false false = refl
 
 shorter : (turns : ℕ) (site : ℕ) (sites rest : List ℕ) → length rest ≤ suc turns → rest ≡ site ∷ sites
     → length sites ≤ turns
@@ -89,9 +89,9 @@ one_by_one_in zero weights need asked rest few =
     (ap (λ (ss : List ℕ). (ss, asking_all (state weights need asked []) ss)) (sym (no_rest weights need asked)))
 one_by_one_in (suc turns) weights need asked rest few =
     by_tests turns weights need asked rest (is_waiting (verdict (state weights need asked rest)))
-        (is_light weights need asked) (all_noted asked) refl
+    (is_light weights need asked) (all_noted asked) refl
     (λ site sites is. one_by_one_in turns weights need (with_site asked site) sites
-        (shorter turns site sites rest few is))
+    (shorter turns site sites rest few is))
 
 pub one_by_one : (turns : ℕ) (r : RoundState) → length r.rest ≤ turns
     → asking_in_turn turns r ≡ (wanted r, asking_all r (wanted r))
@@ -107,10 +107,10 @@ range_more site end low =
 
 weighing_step : (weights xs : List ℕ) (site end : ℕ) (t : Bool) → nat_lt 0 (slice_index weights site) ≡ t → site < end
     → cond t (xs ++ site ∷ []) xs ++ weighing weights (range_with_len (site + 1) (end - (site + 1)))
-        ≡ xs ++ weighing weights (range_with_len site (end - site))
+    ≡ xs ++ weighing weights (range_with_len site (end - site))
 weighing_step weights xs site end t is low =
     by t ∙ ap (λ u. xs ++ cond u (site ∷ rest) rest) (sym is)
-        ∙ ap (λ ns. xs ++ weighing weights ns) (sym (range_more site end low)) where
+    ∙ ap (λ ns. xs ++ weighing weights ns) (sym (range_more site end low)) where
       rest : List ℕ
       rest = weighing weights (range_with_len (site + 1) (end - (site + 1)))
 
@@ -131,16 +131,16 @@ sites_push items a = map-append (λ (x : Asked). x.site) items (a ∷ [])
 pub weighing_on : (weights : List ℕ) (items : List Asked) (a : Asked) (site end : ℕ) → a.site ≡ site
     → 0 < slice_index weights site → site < end
     → map (λ (x : Asked). x.site) (items ++ a ∷ []) ++ weighing weights (range_with_len (site + 1) (end - (site + 1)))
-        ≡ map (λ (x : Asked). x.site) items ++ weighing weights (range_with_len site (end - site))
+    ≡ map (λ (x : Asked). x.site) items ++ weighing weights (range_with_len site (end - site))
 weighing_on weights items a site end same some low =
     ap (λ ns. ns ++ weighing weights (range_with_len (site + 1) (end - (site + 1))))
-        (sites_push items a ∙ ap (λ n. map (λ (x : Asked). x.site) items ++ n ∷ []) same)
+    (sites_push items a ∙ ap (λ n. map (λ (x : Asked). x.site) items ++ n ∷ []) same)
     ∙ weighing_step weights (map (λ (x : Asked). x.site) items) site end true
-        (is_positive (slice_index weights site) some) low
+    (is_positive (slice_index weights site) some) low
 
 pub weighing_past : (weights : List ℕ) (items : List Asked) (site end : ℕ) → slice_index weights site ≤ 0 → site < end
     → map (λ (x : Asked). x.site) items ++ weighing weights (range_with_len (site + 1) (end - (site + 1)))
-        ≡ map (λ (x : Asked). x.site) items ++ weighing weights (range_with_len site (end - site))
+    ≡ map (λ (x : Asked). x.site) items ++ weighing weights (range_with_len site (end - site))
 weighing_past weights items site end none low =
     weighing_step weights (map (λ (x : Asked). x.site) items) site end false (is_zero (slice_index weights site) none)
     low
@@ -150,15 +150,15 @@ weighing_past weights items site end none low =
 pub note_some : (weights : List ℕ) (need : ℕ) (sites : List Asked) (n p site : ℕ) (standing : Standing) → p < n
     → p ≡ place_in site (take n sites)
     → state weights need (take n (set sites p (record { site = site; standing = Some standing })))
-        (map (λ (a : Asked). a.site) (drop n (set sites p (record { site = site; standing = Some standing }))))
+    (map (λ (a : Asked). a.site) (drop n (set sites p (record { site = site; standing = Some standing }))))
     ≡ state weights need (note_in site standing (take n sites)) (map (λ (a : Asked). a.site) (drop n sites))
 note_some weights need sites n p site standing low place =
     let front : take n (set sites p (record { site = site; standing = Some standing })) ≡ note_in site standing (take n sites) =
     take-set-lt n sites p (record { site = site; standing = Some standing }) low
     ∙ ap (λ k. set (take n sites) k (record { site = site; standing = Some standing })) place
-        ∙ sym (note_put site standing (take n sites)) in
+    ∙ sym (note_put site standing (take n sites)) in
     let back : drop n (set sites p (record { site = site; standing = Some standing })) ≡ drop n sites =
-            drop-set-lt n sites p (record { site = site; standing = Some standing }) low in
+    drop-set-lt n sites p (record { site = site; standing = Some standing }) low in
     λ i. state weights need (front i) (map (λ (a : Asked). a.site) (back i))
 
 pub note_none : (weights : List ℕ) (need : ℕ) (sites : List Asked) (n p site : ℕ) (standing : Standing) (rest : List ℕ)
@@ -169,7 +169,7 @@ note_none weights need sites n p site standing rest past place =
     let same : note_in site standing (take n sites) ≡ take n sites =
     note_put site standing (take n sites)
     ∙ ap (λ k. set (take n sites) k (record { site = site; standing = Some standing })) (sym place)
-        ∙ set_past (take n sites) p (record { site = site; standing = Some standing }) (omega arith) in
+    ∙ set_past (take n sites) p (record { site = site; standing = Some standing }) (omega arith) in
     λ i. state weights need (sym same i) rest
 
 -- a round over no site

@@ -1,14 +1,12 @@
 -- A met round weighs what is needed; one site more weighs no less.
-use Rattle.std.proofs.Common.{◌≡◌, ℕ, suc, ◌+◌, ◌-◌, ◌≤◌, ◌==◌}
-use Rattle.std.proofs.Common.{◌||◌, ◌&&◌, nat_lt, nat_le, Bool, true, false, cond, List, ◌∷◌, ◌++◌, Option, Some}
-use Rattle.std.proofs.Common.{None, unwrap_or, length, take, set, refl, ◌∙◌, ap, arith}
+use Rattle.std.proofs.Common.{◌≡◌, ℕ, suc, ◌+◌, ◌-◌, ◌≤◌, ◌==◌, ◌||◌, ◌&&◌, nat_lt, nat_le, Bool, true, false, cond}
+use Rattle.std.proofs.Common.{List, ◌∷◌, ◌++◌, Option, Some, None, unwrap_or, length, take, set, refl, ◌∙◌, ap, arith}
 use Rattle.std.specs.Option.{option_or}
 use Rattle.std.proofs.lemmas.Bool.Decides.{nat_tests}
 use Rattle.std.proofs.lemmas.List.Folds.{list_any-append, list_all-append}
-use Rattle.qc_plan.specs.Names.{RoundState, all_noted, asking_all, asking_first, asking_in_turn, asking_on}
-use Rattle.qc_plan.specs.Names.{clash_at, closed_at, first, first_clash, first_closed, has_granted, is_asked}
-use Rattle.qc_plan.specs.Names.{note_in, place_in, prefix, refusal}
-use Rattle.qc_plan.specs.Names.{verdict, wanted, weight}
+use Rattle.qc_plan.specs.Names.{RoundState, all_noted, asking_all, asking_first, asking_in_turn, asking_on, clash_at}
+use Rattle.qc_plan.specs.Names.{closed_at, first, first_clash, first_closed, has_granted, is_asked, note_in, place_in}
+use Rattle.qc_plan.specs.Names.{prefix, refusal, verdict, wanted, weight}
 use Rattle.qc_plan.specs.declared.standing.Asked.{Asked}
 use Rattle.qc_plan.specs.declared.standing.Standing.{Standing}
 use Rattle.qc_plan.specs.declared.standing.Standing.TheVariants as standings
@@ -23,7 +21,7 @@ note_put site standing (a ∷ rest) = by (a.site == site) (note_put site standin
   by : (t : Bool)
       → note_in site standing rest ≡ set rest (place_in site rest) (record { site = site; standing = Some standing })
       → cond t (record { site = site; standing = Some standing } ∷ rest) (a ∷ note_in site standing rest)
-          ≡ set (a ∷ rest) (cond t 0 (suc (place_in site rest))) (record { site = site; standing = Some standing })
+      ≡ set (a ∷ rest) (cond t 0 (suc (place_in site rest))) (record { site = site; standing = Some standing })
   by true more = refl
   by false more = ap (λ (more : List Asked). a ∷ more) more
 
@@ -70,7 +68,7 @@ clash_nowhere (a ∷ rest) =
 
 met_by : (noted enough last : Bool) (refused : Option Verdict) (got need : ℕ) → IsNoMet refused
     → cond noted (unwrap_or refused (cond enough verdicts.Met (cond last (verdicts.Short got need) verdicts.Waiting)))
-        verdicts.Waiting ≡ verdicts.Met → enough ≡ true
+    verdicts.Waiting ≡ verdicts.Met → enough ≡ true
 met_by false enough last refused got need free is = absurd (cc)
 met_by true true last refused got need free is = refl
 met_by true false true None got need free is = absurd (cc)
@@ -84,10 +82,10 @@ enough_weighs need got is = grind (arith, nat_tests)
 pub met_weighs : (r : RoundState) → verdict r ≡ verdicts.Met → r.need ≤ weight (has_granted r.asked) r.weights
 met_weighs r is =
     let refused : IsNoMet (refusal r.asked) =
-            or_no (first_closed r.asked) (first_clash r.asked) (closed_nowhere r.asked) (clash_nowhere r.asked) in
+    or_no (first_closed r.asked) (first_clash r.asked) (closed_nowhere r.asked) (clash_nowhere r.asked) in
     enough_weighs r.need (weight (has_granted r.asked) r.weights)
     (met_by (all_noted r.asked) (nat_le r.need (weight (has_granted r.asked) r.weights)) (length r.rest == 0)
-        (refusal r.asked) (weight (has_granted r.asked) r.weights) r.need refused is)
+    (refusal r.asked) (weight (has_granted r.asked) r.weights) r.need refused is)
 
 -- more sites weigh no less
 
@@ -95,12 +93,12 @@ weight_mono : (ws : List ℕ) (a b : ℕ → Bool) → ((k : ℕ) → a k ≡ tr
 weight_mono [] a b more = omega arith
 weight_mono (w ∷ ws) a b more =
     by (a 0) (b 0) (more 0) (weight_mono ws (λ k. a (suc k)) (λ k. b (suc k)) (λ k. more (suc k))) where
-  by : (x y : Bool) → (x ≡ true → y ≡ true) → weight (λ k. a (suc k)) ws ≤ weight (λ k. b (suc k)) ws
-      → cond x w 0 + weight (λ k. a (suc k)) ws ≤ cond y w 0 + weight (λ k. b (suc k)) ws
-  by true true here rest = omega arith
-  by true false here rest = let never : false ≡ true = here refl in absurd (cc)
-  by false true here rest = omega arith
-  by false false here rest = omega arith
+      by : (x y : Bool) → (x ≡ true → y ≡ true) → weight (λ k. a (suc k)) ws ≤ weight (λ k. b (suc k)) ws
+          → cond x w 0 + weight (λ k. a (suc k)) ws ≤ cond y w 0 + weight (λ k. b (suc k)) ws
+      by true true here rest = omega arith
+      by true false here rest = let never : false ≡ true = here refl in absurd (cc)
+      by false true here rest = omega arith
+      by false false here rest = omega arith
 
 -- a site that was asked just now
 
@@ -152,4 +150,4 @@ wanted_by waits light noted r =
 abbrev pub turn_by : Bool → Bool → Bool → RoundState → (RoundState → List ℕ × RoundState) → List ℕ × RoundState
 turn_by waits light noted r more =
     asking_on r (cond (waits && (light || noted)) (first r.rest) None)
-        (cond (waits && (light || noted)) (asking_first r r.rest) r) more
+    (cond (waits && (light || noted)) (asking_first r r.rest) r) more

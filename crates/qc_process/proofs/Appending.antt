@@ -1,7 +1,6 @@
 -- What a store's record came to, and its actor's post.
 use Rattle.std.proofs.Common.{◌≡◌, ℕ, ◌+◌, Bool, true, List, [], ◌∷◌, ◌++◌, Option, Some, None, refl, sym, ◌∙◌, ap}
-use Rattle.std.proofs.Common.{subst}
-use Rattle.std.proofs.Common.{append_assoc, option_map}
+use Rattle.std.proofs.Common.{subst, append_assoc, option_map}
 use Rattle.qc_decl.specs.declared.declaration.Declaration.{Declaration}
 use Rattle.qc_journal.specs.Names.{Rests}
 use Rattle.qc_msg.specs.Names.{Entry, fell, posted, posted_as, sents, told, wrote}

@@ -1,6 +1,6 @@
 -- A store that was begun, and one whose open journal is given up.
-use Rattle.std.proofs.Common.{◌≡◌, ℕ, ◌≤◌, Bool, true, List, [], ◌∷◌, Option, Some, None, IsSome, length}
-use Rattle.std.proofs.Common.{refl, sym, ◌∙◌, ap, arith, subst, Err}
+use Rattle.std.proofs.Common.{◌≡◌, ℕ, ◌≤◌, Bool, true, List, [], ◌∷◌, Option, Some, None, IsSome, length, refl, sym}
+use Rattle.std.proofs.Common.{◌∙◌, ap, arith, subst, Err}
 use Rattle.qc_decl.specs.declared.declaration.Declaration.{Declaration}
 use Rattle.qc_journal.specs.Names.{IsNoJournal, JournalRose, Rests}
 use Rattle.qc_journal.specs.declared.fault.JournalFault.{JournalFault}

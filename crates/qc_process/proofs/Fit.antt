@@ -1,8 +1,7 @@
 -- Records that all fit are few and of declared clients; and where one is read that doesn't fit.
 use Rattle.std.proofs.Common.{◌≡◌, inl, inr, ℕ, zero, suc, ◌+◌, ◌<◌, ◌≤◌, Bool, true, false, ◌&&◌, nat_lt, List, []}
-use Rattle.std.proofs.Common.{◌∷◌, ◌++◌}
-use Rattle.std.proofs.Common.{Vec, length, drop, get_or, refl, sym, ◌∙◌, ap, subst, arith, ltb-true, append_assoc}
-use Rattle.std.proofs.Common.{length-append}
+use Rattle.std.proofs.Common.{◌∷◌, ◌++◌, Vec, length, drop, get_or, refl, sym, ◌∙◌, ap, subst, arith, ltb-true}
+use Rattle.std.proofs.Common.{append_assoc, length-append}
 use Rattle.std.specs.declared.alloc.Global.{Global}
 use Rattle.qc_decl.specs.Names.{IsAccepted, is_site, most_clients}
 use Rattle.qc_decl.specs.declared.declaration.Declaration.{Declaration}

@@ -1,7 +1,6 @@
 -- A store's journal is opened again, and given up.
 use Rattle.std.proofs.Common.{◌≡◌, ℕ, ◌+◌, ◌≤◌, Bool, true, false, ◌&&◌, List, [], ◌∷◌, ◌++◌, Option, Some, None}
-use Rattle.std.proofs.Common.{IsSome}
-use Rattle.std.proofs.Common.{inl, inr, length, option_to_list, refl, sym, ◌∙◌, subst, arith}
+use Rattle.std.proofs.Common.{IsSome, inl, inr, length, option_to_list, refl, sym, ◌∙◌, subst, arith}
 use Rattle.qc_decl.specs.declared.declaration.Declaration.{Declaration}
 use Rattle.qc_fit.specs.Names.{fits}
 use Rattle.qc_journal.specs.Names.{Holds, Rests}

@@ -1,7 +1,6 @@
 -- A process goes on with its history.
 use Rattle.std.proofs.Common.{◌≡◌, ◌≢◌, ℕ, ◌==◌, Bool, List, [], ◌∷◌, ◌++◌, Option, None, refl, sym, ◌∙◌, ap}
-use Rattle.std.proofs.Common.{append_assoc, cond, true, false}
-use Rattle.std.proofs.Common.{append-nil}
+use Rattle.std.proofs.Common.{append_assoc, cond, true, false, append-nil}
 use Rattle.qc_core.specs.Names.{ActorMove, actor_after}
 use Rattle.qc_core.specs.declared.actor.Actor.TheVariants.{Down}
 use Rattle.qc_core.proofs.LivesOfActors.{falls as after_fall}

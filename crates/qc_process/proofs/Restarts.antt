@@ -1,8 +1,7 @@
 -- A journal that was opened gives its actor, or is given up.
 use Rattle.std.proofs.Common.{◌≡◌, inl, inr, ℕ, ◌-◌, ◌^◌, ◌≤◌, ◌<◌, Bool, true, false, List, [], ◌∷◌, ◌++◌, Option}
-use Rattle.std.proofs.Common.{Some, None, IsSome}
-use Rattle.std.proofs.Common.{Result, Ok, Err, Vec, IfOk, OnErr, IfSome, length, option_to_list, refl, sym, ◌∙◌, ap}
-use Rattle.std.proofs.Common.{subst, arith, if◌then◌else◌}
+use Rattle.std.proofs.Common.{Some, None, IsSome, Result, Ok, Err, Vec, IfOk, OnErr, IfSome, length, option_to_list}
+use Rattle.std.proofs.Common.{refl, sym, ◌∙◌, ap, subst, arith, if◌then◌else◌}
 use Rattle.std.specs.declared.alloc.AllocError.{AllocError}
 use Rattle.std.specs.declared.alloc.Global.{Global}
 use Rattle.qc_core.proofs.ByNumber.{rises_by}

@@ -1,7 +1,6 @@
 -- What is known of an actor's store and of its process after a history. `tells` is true only where the disk tells.
 use Rattle.std.specs.Prelude.{◌≡◌, ℕ, ◌+◌, ◌^◌, ◌≤◌, Bool, true, false, List, [], Option, Some, None, IsSome, length}
-use Rattle.std.specs.Prelude.{map}
-use Rattle.std.specs.Prelude.{option_map}
+use Rattle.std.specs.Prelude.{map, option_map}
 use Rattle.qc_core.specs.Names.{actor_after}
 use Rattle.qc_decl.specs.declared.declaration.Declaration.{Declaration}
 use Rattle.qc_journal.specs.Names.{Rests}

@@ -1,7 +1,7 @@
 -- The account of one actor's disk in a history: the fault that is armed for it, and the falls in which that can't have
 -- acted. It is `tally` (`Spent`) for one actor alone, so a disk's owner can keep it.
-use Rattle.std.specs.Prelude.{◌≡◌, ℕ, zero, suc, ◌+◌, ◌<◌, ◌==◌, nat_le, Bool, ◌&&◌, if◌then◌else◌}
-use Rattle.std.specs.Prelude.{List, ◌++◌, Option, Some, None, fold}
+use Rattle.std.specs.Prelude.{◌≡◌, ℕ, zero, suc, ◌+◌, ◌<◌, ◌==◌, nat_le, Bool, ◌&&◌, if◌then◌else◌, List, ◌++◌, Option}
+use Rattle.std.specs.Prelude.{Some, None, fold}
 use Rattle.std.specs.List.{AllByRecursion as Every}
 use Rattle.qc_msg.specs.Names.{Entry}
 use Rattle.qc_msg.specs.declared.step.Fall.{Fall}

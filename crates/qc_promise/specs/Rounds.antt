@@ -1,7 +1,7 @@
 -- How far a command has come: a half of a `do` is a round over the sites that it asked, a commit a vote of
 -- participants.
-use Rattle.std.specs.Prelude.{ℕ, ◌+◌, ◌==◌, ◌&&◌, Bool, List, [], ◌∷◌, ◌++◌, drop, filter, length, map}
-use Rattle.std.specs.Prelude.{is_some, slice_get, unwrap_or, Option, Some, None, option_map, option_and_then}
+use Rattle.std.specs.Prelude.{ℕ, ◌+◌, ◌==◌, ◌&&◌, Bool, List, [], ◌∷◌, ◌++◌, drop, filter, length, map, is_some}
+use Rattle.std.specs.Prelude.{slice_get, unwrap_or, Option, Some, None, option_map, option_and_then}
 use Rattle.std.specs.List.{list_all}
 use Rattle.std.specs.Option.{option_map_or, option_or}
 use Rattle.qc_entry.specs.declared.line.Line.{Line}

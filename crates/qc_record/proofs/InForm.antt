@@ -1,6 +1,6 @@
 -- A record has a spelling exactly where its numbers are in their ranges and its lists in their orders.
-use Rattle.std.proofs.Common.{◌≡◌, ◌↔◌, inl, inr, ℕ, ◌-◌, ◌^◌, ◌<◌, Bool, true, false, ◌==◌, nat_eq}
-use Rattle.std.proofs.Common.{nat_lt, List, ◌∷◌, length, Some, None, refl, sym, ap, ◌∙◌, arith}
+use Rattle.std.proofs.Common.{◌≡◌, ◌↔◌, inl, inr, ℕ, ◌-◌, ◌^◌, ◌<◌, Bool, true, false, ◌==◌, nat_eq, nat_lt, List, ◌∷◌}
+use Rattle.std.proofs.Common.{length, Some, None, refl, sym, ap, ◌∙◌, arith}
 use Rattle.std.proofs.lemmas.Bool.Decides.{nat_tests}
 use Rattle.std.specs.Cmp.{nat_cmp_is}
 use Rattle.std.specs.Ordering.{nat_cmp, ordering_then}
@@ -15,17 +15,15 @@ use Rattle.qc_list.specs.Names.{IsBelowAll}
 use Rattle.qc_msg.specs.declared.record.Record.{Record}
 use Rattle.qc_msg.specs.declared.record.Record.TheVariants as records
 use Rattle.qc_record.specs.Names.{AreLines, AreLocks, AreOps, AreOwns, IsInForm, IsLine, IsLock, IsLockBelow, IsOp}
-use Rattle.qc_record.specs.Names.{IsOwn, IsOwnBelow, IsStart, Rises, from_client, from_event}
-use Rattle.qc_record.specs.Names.{from_life, from_number, from_object, from_op, greatest_clock, is_legal}
-use Rattle.qc_record.specs.Names.{items_are_legal, line_form, lines_form, lock_form}
-use Rattle.qc_record.specs.Names.{locks_form, op_form, ops_form, own_form, owns_form}
-use Rattle.qc_record.specs.Names.{start_form, within}
+use Rattle.qc_record.specs.Names.{IsOwn, IsOwnBelow, IsStart, Rises, from_client, from_event, from_life, from_number}
+use Rattle.qc_record.specs.Names.{from_object, from_op, greatest_clock, is_legal, items_are_legal, line_form}
+use Rattle.qc_record.specs.Names.{lines_form, lock_form, locks_form, op_form, ops_form, own_form, owns_form, start_form}
+use Rattle.qc_record.specs.Names.{within}
 use Rattle.qc_record.proofs.Cuts.{both_true}
 use Rattle.qc_record.proofs.Exact.{same_number}
 use Rattle.qc_record.proofs.Exactness.{true_both}
 use Rattle.qc_record.proofs.Logs.{Rise, rise, equal, flat, ascends}
-use Rattle.qc_record.proofs.Ranges.{ranged, in_range, at_most, fall, last}
-use Rattle.qc_record.proofs.Ranges.{each_of, rises_of, legal_of}
+use Rattle.qc_record.proofs.Ranges.{ranged, in_range, at_most, fall, last, each_of, rises_of, legal_of}
 use Rattle.qc_record.proofs.LinesInForm.{tx_of, of_tx, lock_of, lock_above, of_lock, of_lock_above, own_of, own_above}
 use Rattle.qc_record.proofs.LinesInForm.{of_own, of_own_above, op_of, of_ops, line_of, free_event, free_object, free_op}
 use Rattle.qc_record.proofs.LinesInForm.{free_number, free_life, free_client, own_stamp, of_line}
@@ -106,10 +104,10 @@ locks_of : (xs : List ReadLock) → locks_form.is_legal xs ≡ true → AreLocks
 locks_of xs e =
     let b = both_true (within 0 (2 ^ 16 - 1) (length xs)) (items_are_legal lock_form None xs) e in
     record {
-          few = (ranged 0 (2 ^ 16 - 1) (length xs) b.0).1;
-          each_is = each_of lock_form IsLock lock_of None xs b.1;
-          rise = rises_of lock_form IsLockBelow lock_above xs b.1
-        }
+      few = (ranged 0 (2 ^ 16 - 1) (length xs) b.0).1;
+      each_is = each_of lock_form IsLock lock_of None xs b.1;
+      rise = rises_of lock_form IsLockBelow lock_above xs b.1;
+    }
 
 of_locks : (xs : List ReadLock) → AreLocks xs → locks_form.is_legal xs ≡ true
 of_locks xs h =
@@ -120,10 +118,10 @@ owns_of : (xs : List OwnLine) → owns_form.is_legal xs ≡ true → AreOwns xs
 owns_of xs e =
     let b = both_true (within 0 16 (length xs)) (items_are_legal own_form None xs) e in
     record {
-          few = (ranged 0 16 (length xs) b.0).1;
-          each_is = each_of own_form IsOwn own_of None xs b.1;
-          rise = rises_of own_form IsOwnBelow own_above xs b.1
-        }
+      few = (ranged 0 16 (length xs) b.0).1;
+      each_is = each_of own_form IsOwn own_of None xs b.1;
+      rise = rises_of own_form IsOwnBelow own_above xs b.1;
+    }
 
 of_owns : (xs : List OwnLine) → AreOwns xs → owns_form.is_legal xs ≡ true
 of_owns xs h =
@@ -134,10 +132,10 @@ lines_of : (xs : List Line) → lines_form.is_legal xs ≡ true → AreLines xs
 lines_of xs e =
     let b = both_true (within 0 (2 ^ 32 - 1) (length xs)) (items_are_legal line_form None xs) e in
     record {
-          few = (ranged 0 (2 ^ 32 - 1) (length xs) b.0).1;
-          each_is = each_of line_form IsLine line_of None xs b.1;
-          rise = ascends None xs b.1
-        }
+      few = (ranged 0 (2 ^ 32 - 1) (length xs) b.0).1;
+      each_is = each_of line_form IsLine line_of None xs b.1;
+      rise = ascends None xs b.1;
+    }
 
 of_lines : (xs : List Line) → AreLines xs → lines_form.is_legal xs ≡ true
 of_lines xs h =
@@ -160,17 +158,17 @@ start_of epoch clock lines e =
     let b = both_true _ _ e in
     let c = both_true _ _ b.1 in
     record {
-          epoch_is = ranged 1 8 epoch b.0;
-          clock_is = (ranged 0 greatest_clock clock c.0).1;
-          lines_are = lines_of lines c.1
-        }
+      epoch_is = ranged 1 8 epoch b.0;
+      clock_is = (ranged 0 greatest_clock clock c.0).1;
+      lines_are = lines_of lines c.1;
+    }
 
 of_start : (epoch clock : ℕ) (lines : List Line) → IsStart epoch clock lines
     → start_form.is_legal (epoch, (clock, lines)) ≡ true
 of_start epoch clock lines h =
     true_both _ _ (in_range 1 8 epoch h.epoch_is)
     (true_both _ _ (in_range 0 greatest_clock clock (at_most greatest_clock clock h.clock_is))
-      (of_lines lines h.lines_are))
+    (of_lines lines h.lines_are))
 
 form_of : (rec : Record) → is_legal rec ≡ true → IsInForm rec
 form_of records.Life e = tt
@@ -180,12 +178,12 @@ form_of (records.Prepare p) e =
     let k = both_true _ _ b.1 in
     let o = both_true _ _ k.1 in
     record {
-          tx = tx_of p.tx t.0;
-          epoch = ranged 1 8 p.epoch b.0;
-          locks = locks_of p.locks k.0;
-          own = owns_of p.own o.0;
-          lines = lines_of p.lines o.1
-        }
+      tx = tx_of p.tx t.0;
+      epoch = ranged 1 8 p.epoch b.0;
+      locks = locks_of p.locks k.0;
+      own = owns_of p.own o.0;
+      lines = lines_of p.lines o.1;
+    }
 form_of (records.Done tx clock) e = let b = both_true _ _ e in (tx_of tx b.0, ranged 1 greatest_clock clock b.1)
 form_of (records.Close epoch) e = ranged 1 8 epoch e
 form_of (records.Install epoch clock lines) e = start_of epoch clock lines e
@@ -194,11 +192,11 @@ form_of (records.Commit c) e =
     let t = both_true _ _ s.1 in
     let k = both_true _ _ t.1 in
     record {
-          stamp = same_number c.stamp.client c.tx.client s.0;
-          tx = tx_of c.tx t.0;
-          clock = ranged 1 greatest_clock c.stamp.clock k.0;
-          ops = ops_of c.ops k.1
-        }
+      stamp = same_number c.stamp.client c.tx.client s.0;
+      tx = tx_of c.tx t.0;
+      clock = ranged 1 greatest_clock c.stamp.clock k.0;
+      ops = ops_of c.ops k.1;
+    }
 form_of (records.Decide epoch clock lines) e = start_of epoch clock lines e
 
 of_form : (rec : Record) → IsInForm rec → is_legal rec ≡ true
@@ -206,7 +204,7 @@ of_form records.Life h = refl
 of_form (records.Prepare p) h =
     true_both _ _ (of_tx p.tx h.tx)
     (true_both _ _ (in_range 1 8 p.epoch h.epoch)
-      (true_both _ _ (of_locks p.locks h.locks) (true_both _ _ (of_owns p.own h.own) (of_lines p.lines h.lines))))
+    (true_both _ _ (of_locks p.locks h.locks) (true_both _ _ (of_owns p.own h.own) (of_lines p.lines h.lines))))
 of_form (records.Done tx clock) h = true_both _ _ (of_tx tx h.0) (in_range 1 greatest_clock clock h.1)
 of_form (records.Close epoch) h = in_range 1 8 epoch h
 of_form (records.Install epoch clock lines) h = of_start epoch clock lines h
@@ -214,8 +212,8 @@ of_form (records.Commit c) h =
     let same = h.stamp in
     let own : (c.stamp.client == c.tx.client) ≡ true = grind (arith, nat_tests, same) in
     true_both _ _ own
-        (true_both _ _ (of_tx c.tx h.tx)
-          (true_both _ _ (in_range 1 greatest_clock c.stamp.clock h.clock) (ops_are c.ops h.ops)))
+    (true_both _ _ (of_tx c.tx h.tx)
+    (true_both _ _ (in_range 1 greatest_clock c.stamp.clock h.clock) (ops_are c.ops h.ops)))
 of_form (records.Decide epoch clock lines) h = of_start epoch clock lines h
 
 pub legal_is : (rec : Record) → (is_legal rec ≡ true) ↔ IsInForm rec

@@ -1,18 +1,15 @@
 -- Locks, own lines, operations and lines have a spelling exactly where their numbers are in their ranges.
-use Rattle.std.proofs.Common.{◌≡◌, ℕ, ◌-◌, ◌^◌, true, not, ◌==◌, ◌&&◌, ◌||◌}
-use Rattle.std.proofs.Common.{List, ◌∷◌, Option, Some, None, refl, arith}
+use Rattle.std.proofs.Common.{◌≡◌, ℕ, ◌-◌, ◌^◌, true, not, ◌==◌, ◌&&◌, ◌||◌, List, ◌∷◌, Option, Some, None, refl, arith}
 use Rattle.std.proofs.lemmas.Bool.Decides.{nat_tests}
 use Rattle.std.specs.List.{AllByRecursion as Every}
 use Rattle.qc_entry.specs.declared.line.Line.{Line}
 use Rattle.qc_entry.specs.declared.line.Op.{Op}
 use Rattle.qc_entry.specs.declared.line.OwnLine.{OwnLine}
 use Rattle.qc_entry.specs.declared.line.ReadLock.{ReadLock}
-use Rattle.qc_record.specs.Names.{IsLine, IsLock, IsLockBelow, IsOp}
-use Rattle.qc_record.specs.Names.{IsOwn, IsOwnBelow, IsResponse, IsTx, climbs, from_client, from_event}
-use Rattle.qc_record.specs.Names.{from_life, from_number, from_object, from_op, greatest_clock, is_legal, is_own_stamp}
-use Rattle.qc_record.specs.Names.{is_response, items_are_legal, line_form, lock_floor, lock_form}
-use Rattle.qc_record.specs.Names.{op_form, own_floor, own_form, response_form}
-use Rattle.qc_record.specs.Names.{tied, tops, tx_form, within}
+use Rattle.qc_record.specs.Names.{IsLine, IsLock, IsLockBelow, IsOp, IsOwn, IsOwnBelow, IsResponse, IsTx, climbs}
+use Rattle.qc_record.specs.Names.{from_client, from_event, from_life, from_number, from_object, from_op, greatest_clock}
+use Rattle.qc_record.specs.Names.{is_legal, is_own_stamp, is_response, items_are_legal, line_form, lock_floor}
+use Rattle.qc_record.specs.Names.{lock_form, op_form, own_floor, own_form, response_form, tied, tops, tx_form, within}
 use Rattle.qc_record.proofs.Cuts.{both_true}
 use Rattle.qc_record.proofs.Exact.{same_number}
 use Rattle.qc_record.proofs.Exactness.{true_both}
@@ -28,10 +25,10 @@ tx_of tx e =
     let b = both_true _ _ e in
     let c = both_true _ _ b.1 in
     record {
-          client = (ranged 0 15 tx.client b.0).1;
-          life = ranged 1 (2 ^ 32 - 1) tx.life c.0;
-          number = ranged 1 (2 ^ 32 - 1) tx.number c.1
-        }
+      client = (ranged 0 15 tx.client b.0).1;
+      life = ranged 1 (2 ^ 32 - 1) tx.life c.0;
+      number = ranged 1 (2 ^ 32 - 1) tx.number c.1;
+    }
 
 pub of_tx : (tx : TxId) → IsTx tx → tx_form.is_legal tx ≡ true
 of_tx tx h =
@@ -44,9 +41,9 @@ pub lock_of : (before : Option ReadLock) (l : ReadLock) → (lock_form before).i
 lock_of before l e =
     let b = both_true (climbs 0 15 (lock_floor before) l.object) (tops 0 31 (tied (lock_floor before) l.object) l.inv) e in
     record {
-          object = (climb_range 0 15 l.object (lock_floor before) b.0).1;
-          inv = (top_range 0 31 l.inv (tied (lock_floor before) l.object) b.1).1
-        }
+      object = (climb_range 0 15 l.object (lock_floor before) b.0).1;
+      inv = (top_range 0 31 l.inv (tied (lock_floor before) l.object) b.1).1;
+    }
 
 pub lock_above : (a l : ReadLock) → (lock_form (Some a)).is_legal l ≡ true → IsLockBelow a l
 lock_above a l e = rise 0 15 a.object l.object (a.inv ∷ []) (λ f. tops 0 31 f l.inv) e (λ h. last_of 0 31 a.inv l.inv h)
@@ -60,7 +57,7 @@ pub of_lock_above : (a l : ReadLock) → IsLock a → IsLock l → IsLockBelow a
 of_lock_above a l ha h below =
     let inv = at_most 31 l.inv h.inv in
     fall 0 15 a.object l.object (a.inv ∷ []) (λ f. tops 0 31 f l.inv) (at_most 15 l.object h.object) below
-        (free_top 0 31 l.inv inv) (λ up. last 0 31 a.inv l.inv inv up)
+    (free_top 0 31 l.inv inv) (λ up. last 0 31 a.inv l.inv inv up)
 
 -- own lines
 
@@ -69,10 +66,10 @@ own_of before o e =
     let b = both_true (tops 1 16 (own_floor before) o.op) (within 0 15 o.object && within 0 63 o.event) e in
     let c = both_true (within 0 15 o.object) (within 0 63 o.event) b.1 in
     record {
-          op = top_range 1 16 o.op (own_floor before) b.0;
-          object = (ranged 0 15 o.object c.0).1;
-          event = (ranged 0 63 o.event c.1).1
-        }
+      op = top_range 1 16 o.op (own_floor before) b.0;
+      object = (ranged 0 15 o.object c.0).1;
+      event = (ranged 0 63 o.event c.1).1;
+    }
 
 pub own_above : (a o : OwnLine) → (own_form (Some a)).is_legal o ≡ true → IsOwnBelow a o
 own_above a o e =
@@ -145,7 +142,7 @@ line_of before l e =
           record {
             client = (climb_range 0 15 l.tx.client _ k.0).1;
             life = climb_range 1 (2 ^ 32 - 1) l.tx.life _ i.0;
-            number = climb_range 1 (2 ^ 32 - 1) l.tx.number _ n.0
+            number = climb_range 1 (2 ^ 32 - 1) l.tx.number _ n.0;
           };
       op = climb_range 1 16 l.op _ o.0;
       object = (climb_range 0 15 l.object _ j.0).1;

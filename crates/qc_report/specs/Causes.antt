@@ -5,8 +5,8 @@ use Rattle.qc_outside.specs.declared.rack.RackFault.TheVariants as racks
 use Rattle.qc_outside.specs.declared.shelf.ShelfFault.{ShelfFault}
 use Rattle.qc_outside.specs.declared.shelf.ShelfFault.TheVariants as faults
 use Rattle.qc_report.specs.declared.cause.Cause.{Cause}
-use Rattle.qc_report.specs.declared.cause.Cause.TheVariants.{Done, Usage, Shelf, Declaration, Script}
-use Rattle.qc_report.specs.declared.cause.Cause.TheVariants.{Rack, Sink, Full, OutOfMemory}
+use Rattle.qc_report.specs.declared.cause.Cause.TheVariants.{Done, Usage, Shelf, Declaration, Script, Rack, Sink, Full}
+use Rattle.qc_report.specs.declared.cause.Cause.TheVariants.{OutOfMemory}
 use Rattle.qc_msg.specs.declared.step.Quantity.{Quantity}
 use Rattle.qc_msg.specs.declared.step.Quantity.TheVariants.{Steps, Operations, Carried}
 use Rattle.qc_report.specs.Declarations.{status_of_refused, refused_text, no_memory_text}

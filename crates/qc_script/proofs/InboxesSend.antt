@@ -1,6 +1,6 @@
 -- What the inboxes of two actors have in common, as messages are sent.
-use Rattle.std.proofs.Common.{◌≡◌, ℕ, ◌+◌, ◌-◌, ◌<◌, ◌==◌, ◌&&◌, Bool, true, false, if◌then◌else◌, List, ◌∷◌}
-use Rattle.std.proofs.Common.{length, Option, Some, None, refl, ap, sym, subst, ◌∙◌}
+use Rattle.std.proofs.Common.{◌≡◌, ℕ, ◌+◌, ◌-◌, ◌<◌, ◌==◌, ◌&&◌, Bool, true, false, if◌then◌else◌, List, ◌∷◌, length}
+use Rattle.std.proofs.Common.{Option, Some, None, refl, ap, sym, subst, ◌∙◌}
 use Rattle.std.specs.Option.{option_map_or}
 use Rattle.std.proofs.lemmas.Bool.{eqb-false, eqb-true}
 use Rattle.std.proofs.lemmas.List.{get_or-set_other, get_or-set_same, length-set}
@@ -12,11 +12,9 @@ use Rattle.qc_msg.specs.declared.message.Message.{Message}
 use Rattle.qc_msg.specs.declared.message.Message.TheVariants as messages
 use Rattle.qc_msg.specs.declared.step.Control.{Control}
 use Rattle.qc_script.specs.declared.script.PhaseLines.{PhaseLines}
-use Rattle.qc_script.specs.Names.{Inbox, acting, answers_by, comes, comes_at_once, comes_with}
-use Rattle.qc_script.specs.Names.{count_of, emptied}
-use Rattle.qc_script.specs.Names.{goes, goes_with, has_request, is_request, is_up}
-use Rattle.qc_script.specs.Names.{one_more, opened, opened_by, phase_begun, request_answered}
-use Rattle.qc_script.specs.Names.{request_sent, with_copies}
+use Rattle.qc_script.specs.Names.{Inbox, acting, answers_by, comes, comes_at_once, comes_with, count_of, emptied, goes}
+use Rattle.qc_script.specs.Names.{goes_with, has_request, is_request, is_up, one_more, opened, opened_by, phase_begun}
+use Rattle.qc_script.specs.Names.{request_answered, request_sent, with_copies}
 
 -- another inbox with the same cuts, control lines and counts
 pub record Keeps (i j : Inbox) : Type 0 where
@@ -97,14 +95,14 @@ comes_with_does : (up : Bool) (i : Inbox) (e : Envelope) (f : Fate)
     → Sends i (comes_with up i e f) (one_more i.from_each e.from) i.to_each
 comes_with_does up i e f =
     let after : Keeps (with_copies up i e f) (answers_by (with_copies up i e f) e.message f) =
-            answers_keep (with_copies up i e f) e.message f in
+    answers_keep (with_copies up i e f) e.message f in
     record {
-          cuts = after.cuts;
-          up = after.up;
-          controls = after.controls;
-          from_each = after.from_each;
-          to_each = after.to_each
-        }
+      cuts = after.cuts;
+      up = after.up;
+      controls = after.controls;
+      from_each = after.from_each;
+      to_each = after.to_each;
+    }
 
 comes_does : (links : List Link) (a : ℕ) (i : Inbox) (e : Envelope)
     → Sends i (comes links a i e) (if e.to == a then one_more i.from_each e.from else i.from_each) i.to_each
@@ -112,8 +110,8 @@ comes_does links a i e = by (e.to == a)
   where
     by : (t : Bool)
         → Sends i
-          (if t then comes_with (is_up i.up a) i e (fate links i.cuts e.from e.to (count_of i.from_each e.from + 1))
-            else i) (if t then one_more i.from_each e.from else i.from_each) i.to_each
+        (if t then comes_with (is_up i.up a) i e (fate links i.cuts e.from e.to (count_of i.from_each e.from + 1))
+        else i) (if t then one_more i.from_each e.from else i.from_each) i.to_each
     by true = comes_with_does (is_up i.up a) i e (fate links i.cuts e.from e.to (count_of i.from_each e.from + 1))
     by false = record { cuts = refl; up = refl; controls = refl; from_each = refl; to_each = refl }
 
@@ -122,17 +120,17 @@ goes_with_does i e f = by (is_request e.message)
   where
     by : (t : Bool)
         → Sends i
-          (if t then request_sent (record i { to_each = one_more i.to_each e.to }) e.number e.to f else
-            (record i { to_each = one_more i.to_each e.to })) i.from_each (one_more i.to_each e.to)
+        (if t then request_sent (record i { to_each = one_more i.to_each e.to }) e.number e.to f else
+        (record i { to_each = one_more i.to_each e.to })) i.from_each (one_more i.to_each e.to)
     by true =
         let after : Keeps (record i { to_each = one_more i.to_each e.to }) (request_sent (record i { to_each = one_more i.to_each e.to }) e.number e.to f) = sent_keeps (record i { to_each = one_more i.to_each e.to }) e.number e.to f in
         record {
-              cuts = after.cuts;
-              up = after.up;
-              controls = after.controls;
-              from_each = after.from_each;
-              to_each = after.to_each
-            }
+          cuts = after.cuts;
+          up = after.up;
+          controls = after.controls;
+          from_each = after.from_each;
+          to_each = after.to_each;
+        }
     by false = record { cuts = refl; up = refl; controls = refl; from_each = refl; to_each = refl }
 
 goes_does : (links : List Link) (a : ℕ) (i : Inbox) (e : Envelope)
@@ -141,16 +139,16 @@ goes_does links a i e = by (e.from == a)
   where
     by : (t : Bool)
         → Sends i (if t then goes_with i e (fate links i.cuts e.from e.to (count_of i.to_each e.to + 1)) else i)
-          i.from_each (if t then one_more i.to_each e.to else i.to_each)
+        i.from_each (if t then one_more i.to_each e.to else i.to_each)
     by true = goes_with_does i e (fate links i.cuts e.from e.to (count_of i.to_each e.to + 1))
     by false = record { cuts = refl; up = refl; controls = refl; from_each = refl; to_each = refl }
 
 pub sends_does : (links : List Link) (a : ℕ) (i : Inbox) (e : Envelope)
     → Sends i (goes links a (comes links a i e) e) (if e.to == a then one_more i.from_each e.from else i.from_each)
-        (if e.from == a then one_more i.to_each e.to else i.to_each)
+    (if e.from == a then one_more i.to_each e.to else i.to_each)
 sends_does links a i e =
     let first : Sends i (comes links a i e) (if e.to == a then one_more i.from_each e.from else i.from_each) i.to_each =
-            comes_does links a i e in
+    comes_does links a i e in
     let second : Sends (comes links a i e) (goes links a (comes links a i e) e) (comes links a i e).from_each (if e.from == a then one_more (comes links a i e).to_each e.to else (comes links a i e).to_each) =
     goes_does links a (comes links a i e) e in
     record {
@@ -215,11 +213,11 @@ pub phases_both : (a b : ℕ) (i j : Inbox) (phase : Option PhaseLines) → InCo
 phases_both a b i j None common = common
 phases_both a b i j (Some phase) common =
     opened_both a b _ _
-        (record {
-            cuts = common.cuts;
-            up = common.up;
-            controls = refl;
-            from_length = common.from_length;
-            to_length = common.to_length;
-            count = common.count
-          })
+    (record {
+      cuts = common.cuts;
+      up = common.up;
+      controls = refl;
+      from_length = common.from_length;
+      to_length = common.to_length;
+      count = common.count;
+    })

@@ -1,6 +1,6 @@
 -- What a word may be in the place where it stands: a number, an actor, a link's end, an ordinal, a rule, a name.
-use Rattle.std.specs.Prelude.{ℕ, Bool, false, ◌==◌, ◌&&◌, if◌then◌else◌, List, [], ◌∷◌, codes, length}
-use Rattle.std.specs.Prelude.{Option, Some, None, option_map, option_and_then}
+use Rattle.std.specs.Prelude.{ℕ, Bool, false, ◌==◌, ◌&&◌, if◌then◌else◌, List, [], ◌∷◌, codes, length, Option, Some}
+use Rattle.std.specs.Prelude.{None, option_map, option_and_then}
 use Rattle.std.specs.Str.{bytes_eq}
 use Rattle.qc_link.specs.declared.rule.Rule.{Rule}
 use Rattle.qc_link.specs.declared.rule.Rule.TheVariants.{Drop, Twice, Late, Again}

@@ -1,8 +1,8 @@
 -- What waits for an actor after a history: copies of messages, requests of its own that are lost, and commands. Links
 -- drop, repeat and delay messages; a fall takes away what waits for the actor that falls, and each request to it that
 -- has no answer is lost.
-use Rattle.std.specs.Prelude.{ℕ, ◌+◌, ◌-◌, ◌==◌, ◌&&◌, Bool, true, false, not, if◌then◌else◌, List, [], ◌∷◌, ◌++◌}
-use Rattle.std.specs.Prelude.{drop, filter, fold, get_or, map, replicate, set, slice_get}
+use Rattle.std.specs.Prelude.{ℕ, ◌+◌, ◌-◌, ◌==◌, ◌&&◌, Bool, true, false, not, if◌then◌else◌, List, [], ◌∷◌, ◌++◌, drop}
+use Rattle.std.specs.Prelude.{filter, fold, get_or, map, replicate, set, slice_get}
 use Rattle.std.specs.Option.{option_map_or}
 use Rattle.qc_link.specs.Names.{fate, most_actors, no_cuts, with_cut, without_cut}
 use Rattle.qc_link.specs.declared.plan.Link.{Link}

@@ -1,6 +1,5 @@
 -- What a site may become and do: one case for each row.
-use Rattle.std.proofs.Common.{◌≡◌, ℕ, nat_le, true, false, List, Some}
-use Rattle.std.proofs.Common.{refl, ◌∙◌}
+use Rattle.std.proofs.Common.{◌≡◌, ℕ, nat_le, true, false, List, Some, refl, ◌∙◌}
 use Rattle.qc_stamp.specs.declared.stamp.Stamp.{Stamp}
 use Rattle.qc_stamp.specs.declared.stamp.TxId.{TxId}
 use Rattle.qc_entry.specs.declared.line.Line.{Line}
@@ -18,11 +17,8 @@ use Rattle.qc_msg.specs.declared.message.Want.TheVariants.{Read, Append, Prepare
 use Rattle.qc_msg.specs.declared.record.Record.TheVariants as records
 use Rattle.qc_msg.specs.declared.turn.Turn.{Turn}
 use Rattle.qc_msg.specs.Names.{epoch_length}
-use Rattle.qc_site.specs.Names.{SiteMove, SiteState, answers, appends, closed}
-use Rattle.qc_site.specs.Names.{closes_in, dropped, installed, installs}
-use Rattle.qc_site.specs.Names.{installs_in, is_final, joins, moved}
-use Rattle.qc_site.specs.Names.{promise_of, promised, reads}
-use Rattle.qc_site.specs.Names.{recording, site_at}
+use Rattle.qc_site.specs.Names.{SiteMove, SiteState, answers, appends, closed, closes_in, dropped, installed, installs}
+use Rattle.qc_site.specs.Names.{installs_in, is_final, joins, moved, promise_of, promised, reads, recording, site_at}
 use Rattle.qc_site.proofs.RequestCases.{never, choose, request_cases, read_cases, append_cases, prepare_cases}
 use Rattle.qc_site.proofs.RequestCases.{join_cases, close_cases}
 
@@ -35,36 +31,36 @@ pub install_cases : (P : SiteMove → Type 0) (s : SiteState) (from number k clo
 install_cases P s from number k clock lines told made =
     choose P (nat_le k s.epoch) _ _ (λ is. told says.Installed)
     (λ later. choose P (nat_le (epoch_length lines) most_record_bytes) _ _ (made later)
-        (λ long. told (says.Behind s.epoch)))
+    (λ long. told (says.Behind s.epoch)))
 
 -- the state alone: as it was, or changed by a grant, a promise or a decision, or as an epoch is closed or begun
 pub state_cases : (P : SiteState → Type 0) (decl : Declaration) (s : SiteState) (from number : ℕ) (message : Message)
     → P s
     → ((tx : TxId) (epoch life object inv : ℕ) → message ≡ messages.Request tx epoch life (Read object inv)
-        → P (reads s from number tx object inv).site)
+    → P (reads s from number tx object inv).site)
     →
-        ((tx : TxId) (epoch life object : ℕ) (view : List Line) (own : List OwnLine)
-          → message ≡ messages.Request tx epoch life (Append object view own)
-          → P (appends s from number tx view own).site)
+    ((tx : TxId) (epoch life object : ℕ) (view : List Line) (own : List OwnLine)
+    → message ≡ messages.Request tx epoch life (Append object view own)
+    → P (appends s from number tx view own).site)
     → ((tx : TxId) → P (promised s (promise_of s tx)))
     → ((tx : TxId) (verdict : Outcome) → message ≡ messages.Decision tx verdict → is_final verdict ≡ true
-        → P (dropped s tx))
+    → P (dropped s tx))
     → ((tx : TxId) (stamp : Stamp) (p : Prepared) → message ≡ messages.Decision tx (Committed stamp)
-        → P (joins s tx stamp (Some p)).site)
+    → P (joins s tx stamp (Some p)).site)
     → ((k : ℕ) → message ≡ messages.Close k → P (closed s k))
     → ((k clock : ℕ) (lines : List Line) → message ≡ messages.Install k clock lines → nat_le k s.epoch ≡ false
-        → P (installed s k clock lines))
+    → P (installed s k clock lines))
     → P (site_at decl s from number message).site
 state_cases P decl s from number (messages.Request tx epoch life (Read object inv)) same read append promise drop join
     close install =
     request_cases (λ m. P m.site) decl s from number tx epoch life (Read object inv) same (λ fault is. same)
     (λ is. read_cases (λ m. P m.site) decl s from number tx object inv (λ free. read tx epoch life object inv refl)
-        (λ c clash. same))
+    (λ c clash. same))
 state_cases P decl s from number (messages.Request tx epoch life (Append object view own)) same read append promise drop
     join close install =
     request_cases (λ m. P m.site) decl s from number tx epoch life (Append object view own) same (λ fault is. same)
     (λ is. append_cases (λ m. P m.site) decl s from number tx object view own
-        (λ free. append tx epoch life object view own refl) (λ c clash. same))
+    (λ free. append tx epoch life object view own refl) (λ c clash. same))
 state_cases P decl s from number (messages.Request tx epoch life Prepare) same read append promise drop join close
     install =
     request_cases (λ m. P m.site) decl s from number tx epoch life Prepare same (λ fault is. same)
@@ -82,22 +78,22 @@ state_cases P decl s from number (messages.Close k) same read append promise dro
     close_cases (λ m. P m.site) s from number k (λ answer. same) (λ near later. close k refl)
 state_cases P decl s from number (messages.Install k clock lines) same read append promise drop join close install =
     install_cases (λ m. P m.site) s from number k clock lines (λ answer. same)
-        (λ later fits. install k clock lines refl later)
+    (λ later fits. install k clock lines refl later)
 
 -- the same where the turn begins no epoch
 pub lasting_cases : (P : SiteState → Type 0) (decl : Declaration) (s : SiteState) (from number : ℕ) (message : Message)
     → P s
     → ((tx : TxId) (epoch life object inv : ℕ) → message ≡ messages.Request tx epoch life (Read object inv)
-        → P (reads s from number tx object inv).site)
+    → P (reads s from number tx object inv).site)
     →
-        ((tx : TxId) (epoch life object : ℕ) (view : List Line) (own : List OwnLine)
-          → message ≡ messages.Request tx epoch life (Append object view own)
-          → P (appends s from number tx view own).site)
+    ((tx : TxId) (epoch life object : ℕ) (view : List Line) (own : List OwnLine)
+    → message ≡ messages.Request tx epoch life (Append object view own)
+    → P (appends s from number tx view own).site)
     → ((tx : TxId) → P (promised s (promise_of s tx)))
     → ((tx : TxId) (verdict : Outcome) → message ≡ messages.Decision tx verdict → is_final verdict ≡ true
-        → P (dropped s tx))
+    → P (dropped s tx))
     → ((tx : TxId) (stamp : Stamp) (p : Prepared) → message ≡ messages.Decision tx (Committed stamp)
-        → P (joins s tx stamp (Some p)).site)
+    → P (joins s tx stamp (Some p)).site)
     → ((k : ℕ) → message ≡ messages.Close k → P (closed s k))
     → installs_in (site_at decl s from number message).turn ≡ false
     → P (site_at decl s from number message).site
@@ -107,10 +103,10 @@ lasting_cases P decl s from number message same read append promise drop join cl
         → P (site_at decl s from number m).site
     others m is never =
         state_cases P decl s from number m same
-            (λ tx epoch life object inv this. read tx epoch life object inv (is ∙ this))
-            (λ tx epoch life object view own this. append tx epoch life object view own (is ∙ this))
+        (λ tx epoch life object inv this. read tx epoch life object inv (is ∙ this))
+        (λ tx epoch life object view own this. append tx epoch life object view own (is ∙ this))
         promise (λ tx verdict this. drop tx verdict (is ∙ this)) (λ tx stamp p this. join tx stamp p (is ∙ this))
-            (λ k this. close k (is ∙ this)) (λ k clock lines this later. absurd (never k clock lines this))
+        (λ k this. close k (is ∙ this)) (λ k clock lines this later. absurd (never k clock lines this))
 
     by : (m : Message) → message ≡ m → installs_in (site_at decl s from number m).turn ≡ false
         → P (site_at decl s from number m).site
@@ -124,7 +120,7 @@ lasting_cases P decl s from number message same read append promise drop join cl
     by (messages.Close k) is lasts = others (messages.Close k) is (λ n clock lines this. let none : ⊥ = cc in none)
     by (messages.Install k clock lines) is lasts =
         install_cases (λ m. installs_in m.turn ≡ false → P m.site) s from number k clock lines (λ answer none. same)
-            (λ later fits none. absurd (let clash : ⊥ = cc in clash)) lasts
+        (λ later fits none. absurd (let clash : ⊥ = cc in clash)) lasts
 
 -- and where it closes none either
 
@@ -134,16 +130,16 @@ IsSteady turn = (closes_in turn ≡ false) × (installs_in turn ≡ false)
 pub steady_cases : (P : SiteState → Type 0) (decl : Declaration) (s : SiteState) (from number : ℕ) (message : Message)
     → P s
     → ((tx : TxId) (epoch life object inv : ℕ) → message ≡ messages.Request tx epoch life (Read object inv)
-        → P (reads s from number tx object inv).site)
+    → P (reads s from number tx object inv).site)
     →
-        ((tx : TxId) (epoch life object : ℕ) (view : List Line) (own : List OwnLine)
-          → message ≡ messages.Request tx epoch life (Append object view own)
-          → P (appends s from number tx view own).site)
+    ((tx : TxId) (epoch life object : ℕ) (view : List Line) (own : List OwnLine)
+    → message ≡ messages.Request tx epoch life (Append object view own)
+    → P (appends s from number tx view own).site)
     → ((tx : TxId) → P (promised s (promise_of s tx)))
     → ((tx : TxId) (verdict : Outcome) → message ≡ messages.Decision tx verdict → is_final verdict ≡ true
-        → P (dropped s tx))
+    → P (dropped s tx))
     → ((tx : TxId) (stamp : Stamp) (p : Prepared) → message ≡ messages.Decision tx (Committed stamp)
-        → P (joins s tx stamp (Some p)).site)
+    → P (joins s tx stamp (Some p)).site)
     → IsSteady (site_at decl s from number message).turn
     → P (site_at decl s from number message).site
 steady_cases P decl s from number message same read append promise drop join = by message refl
@@ -152,10 +148,10 @@ steady_cases P decl s from number message same read append promise drop join = b
         → IsSteady (site_at decl s from number m).turn → P (site_at decl s from number m).site
     others m is never steady =
         lasting_cases P decl s from number m same
-            (λ tx epoch life object inv this. read tx epoch life object inv (is ∙ this))
-            (λ tx epoch life object view own this. append tx epoch life object view own (is ∙ this))
+        (λ tx epoch life object inv this. read tx epoch life object inv (is ∙ this))
+        (λ tx epoch life object view own this. append tx epoch life object view own (is ∙ this))
         promise (λ tx verdict this. drop tx verdict (is ∙ this)) (λ tx stamp p this. join tx stamp p (is ∙ this))
-            (λ k this. absurd (never k this)) steady.1
+        (λ k this. absurd (never k this)) steady.1
 
     by : (m : Message) → message ≡ m → IsSteady (site_at decl s from number m).turn
         → P (site_at decl s from number m).site
@@ -168,6 +164,6 @@ steady_cases P decl s from number message same read append promise drop join = b
     by (messages.Ask tx) is steady = same
     by (messages.Close k) is steady =
         close_cases (λ m. closes_in m.turn ≡ false → P m.site) s from number k (λ answer none. same)
-            (λ near later none. absurd (let clash : ⊥ = cc in clash)) steady.0
+        (λ near later none. absurd (let clash : ⊥ = cc in clash)) steady.0
     by (messages.Install k clock lines) is steady =
         others (messages.Install k clock lines) is (λ n this. let none : ⊥ = cc in none) steady

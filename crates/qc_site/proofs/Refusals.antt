@@ -20,9 +20,9 @@ use Rattle.qc_msg.specs.declared.message.Want.TheVariants.{Read, Append, Prepare
 use Rattle.qc_msg.specs.declared.turn.Turn.{Turn}
 use Rattle.qc_site.specs.Names.{SiteMove, SiteState, answer_of, answers, clashing, fault_of, grants, grants_in, passed}
 use Rattle.qc_site.specs.Names.{refuses_in, relation_at, site_at, site_on}
-use Rattle.qc_site.proofs.RequestCases.{append_cases, close_cases, fault_grants_not, fault_is, never}
+use Rattle.qc_site.proofs.RequestCases.{append_cases, close_cases, fault_grants_not, fault_is, never, join_cases}
+use Rattle.qc_site.proofs.RequestCases.{prepare_cases, read_cases, request_cases}
 use Rattle.qc_site.proofs.Cases.{install_cases}
-use Rattle.qc_site.proofs.RequestCases.{join_cases, prepare_cases, read_cases, request_cases}
 
 -- what is granted conflicts with nothing
 

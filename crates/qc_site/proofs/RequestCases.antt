@@ -19,10 +19,10 @@ use Rattle.qc_msg.specs.declared.message.Want.TheVariants.{Read, Append}
 use Rattle.qc_msg.specs.declared.record.Record.TheVariants as records
 use Rattle.qc_msg.specs.Names.{epoch_length, quiet}
 use Rattle.qc_site.specs.Names.{SiteMove, SiteState, answers, appends, appends_by, clashing, closed, closed_fault}
-use Rattle.qc_site.specs.Names.{closes, dropped, fault_of, finishes, grants, installed, installs}
-use Rattle.qc_site.specs.Names.{is_closed_for, is_grant, is_prepared, joins, moved}
-use Rattle.qc_site.specs.Names.{names_declared, prepare_length, prepared_of, prepares, promise_of, promised, reads}
-use Rattle.qc_site.specs.Names.{reads_by, recording, relation_at, requested, shut_answer, site_at, votes}
+use Rattle.qc_site.specs.Names.{closes, dropped, fault_of, finishes, grants, installed, installs, is_closed_for}
+use Rattle.qc_site.specs.Names.{is_grant, is_prepared, joins, moved, names_declared, prepare_length, prepared_of}
+use Rattle.qc_site.specs.Names.{prepares, promise_of, promised, reads, reads_by, recording, relation_at, requested}
+use Rattle.qc_site.specs.Names.{shut_answer, site_at, votes}
 
 -- what a test that came out otherwise would show
 pub never : {A : Type 0} → false ≡ true → A
@@ -36,7 +36,7 @@ choose P false m n first second = second refl
 -- what refuses a request by its epoch or life
 pub fault_cases : (P : Option Answer → Type 0) (s : SiteState) (epoch life : ℕ)
     → P None → P (Some (says.Behind s.epoch)) → ((other : ℕ) → P (Some (says.Closed other)))
-        → P (Some (says.Restarted s.life))
+    → P (Some (says.Restarted s.life))
     → P (fault_of s epoch life)
 fault_cases P s epoch life none behind closed restarted =
     choose P (nat_lt s.epoch epoch) _ _ (λ is. behind)
@@ -81,7 +81,7 @@ pub read_cases : (P : SiteMove → Type 0) (decl : Declaration) (s : SiteState) 
     (object inv : ℕ)
     → (read_clash (relation_at decl object) s.held tx object inv ≡ None → P (reads s from number tx object inv))
     → ((c : Conflict) → read_clash (relation_at decl object) s.held tx object inv ≡ Some c
-        → P (moved s (clashing decl from number c)))
+    → P (moved s (clashing decl from number c)))
     → P (grants decl s from number tx (Read object inv))
 read_cases P decl s from number tx object inv free clash =
     by (read_clash (relation_at decl object) s.held tx object inv) refl
@@ -95,7 +95,7 @@ pub append_cases : (P : SiteMove → Type 0) (decl : Declaration) (s : SiteState
     (object : ℕ) (view : List Line) (own : List OwnLine)
     → (append_clash (relation_at decl object) s.held tx own ≡ None → P (appends s from number tx view own))
     → ((c : Conflict) → append_clash (relation_at decl object) s.held tx own ≡ Some c
-        → P (moved s (clashing decl from number c)))
+    → P (moved s (clashing decl from number c)))
     → P (grants decl s from number tx (Append object view own))
 append_cases P decl s from number tx object view own free clash =
     by (append_clash (relation_at decl object) s.held tx own) refl
@@ -113,15 +113,15 @@ unrefuted false is = sym is
 pub prepare_cases : (P : SiteMove → Type 0) (s : SiteState) (from number : ℕ) (tx : TxId)
     → P (moved s (answers from number says.Stale))
     → (is_held s.held tx ≡ true → is_prepared s.prepared tx ≡ true
-        → P (moved s (answers from number (says.Yes s.clock))))
+    → P (moved s (answers from number (says.Yes s.clock))))
     → (is_held s.held tx ≡ true → is_prepared s.prepared tx ≡ false
-        → P (moved (promised s (promise_of s tx)) (votes s from number (promise_of s tx))))
+    → P (moved (promised s (promise_of s tx)) (votes s from number (promise_of s tx))))
     → P (prepares s from number tx)
 prepare_cases P s from number tx stale stands made =
     choose P (not (is_held s.held tx)) _ _ (λ is. stale)
     (λ is. choose P (is_prepared s.prepared tx) _ _ (stands (unrefuted (is_held s.held tx) is))
     (λ apart. choose P (nat_le (prepare_length (promise_of s tx)) most_record_bytes) _ _
-        (λ fits. made (unrefuted (is_held s.held tx) is) apart) (λ long. stale)))
+    (λ fits. made (unrefuted (is_held s.held tx) is) apart) (λ long. stale)))
 
 pub join_cases : (P : SiteMove → Type 0) (s : SiteState) (tx : TxId) (stamp : Stamp)
     → (prepared_of s.prepared tx ≡ None → P (moved (dropped s tx) quiet))
@@ -143,7 +143,7 @@ pub close_rows : (P : SiteMove → Type 0) (s : SiteState) (from number k : ℕ)
 close_rows P s from number k behind closed again made =
     choose P (nat_lt (s.epoch + 1) k) _ _ (λ is. behind)
     (λ near. choose P (nat_le k s.epoch) _ _ (λ is. closed)
-        (λ later. choose P (is_closed_for k s.closed_for) _ _ (λ is. again) (λ first. made)))
+    (λ later. choose P (is_closed_for k s.closed_for) _ _ (λ is. again) (λ first. made)))
 
 pub install_rows : (P : SiteMove → Type 0) (s : SiteState) (from number k clock : ℕ) (lines : List Line)
     → P (moved s (answers from number says.Installed))
@@ -152,13 +152,13 @@ pub install_rows : (P : SiteMove → Type 0) (s : SiteState) (from number k cloc
     → P (installs s from number k clock lines)
 install_rows P s from number k clock lines known long made =
     choose P (nat_le k s.epoch) _ _ (λ is. known)
-        (λ later. choose P (nat_le (epoch_length lines) most_record_bytes) _ _ (λ fits. made) (λ is. long))
+    (λ later. choose P (nat_le (epoch_length lines) most_record_bytes) _ _ (λ fits. made) (λ is. long))
 
 -- a Close: it is answered and no more, or the site closes
 pub close_cases : (P : SiteMove → Type 0) (s : SiteState) (from number k : ℕ)
     → ((answer : Answer) → P (moved s (answers from number answer)))
     → (nat_lt (s.epoch + 1) k ≡ false → nat_le k s.epoch ≡ false
-        → P (moved (closed s k) (recording from number (records.Close k) (shut_answer (closed s k)))))
+    → P (moved (closed s k) (recording from number (records.Close k) (shut_answer (closed s k)))))
     → P (closes s from number k)
 close_cases P s from number k told made =
     choose P (nat_lt (s.epoch + 1) k) _ _ (λ is. told (says.Behind s.epoch))

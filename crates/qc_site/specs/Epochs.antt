@@ -1,6 +1,6 @@
 -- How a site closes its epoch for the next one, and begins another.
-use Rattle.std.specs.Prelude.{ℕ, ◌+◌, ◌==◌, max, nat_lt, nat_le, Bool, false, if◌then◌else◌}
-use Rattle.std.specs.Prelude.{List, [], fold, Option, Some, None}
+use Rattle.std.specs.Prelude.{ℕ, ◌+◌, ◌==◌, max, nat_lt, nat_le, Bool, false, if◌then◌else◌, List, [], fold, Option}
+use Rattle.std.specs.Prelude.{Some, None}
 use Rattle.std.specs.declared.cmp.Ordering.{Ordering}
 use Rattle.std.specs.Ordering.{on}
 use Rattle.qc_list.specs.Names.{inserted}

@@ -1,6 +1,6 @@
 -- What a site promises of a transaction that is to commit, and what it does as the verdict comes (presumed abort).
-use Rattle.std.specs.Prelude.{ℕ, nat_le, Bool, if◌then◌else◌, not, List, [], ◌∷◌, ◌++◌, fold}
-use Rattle.std.specs.Prelude.{filter, Option, Some, None, is_some}
+use Rattle.std.specs.Prelude.{ℕ, nat_le, Bool, if◌then◌else◌, not, List, [], ◌∷◌, ◌++◌, fold, filter, Option, Some}
+use Rattle.std.specs.Prelude.{None, is_some}
 use Rattle.std.specs.List.{find}
 use Rattle.qc_stamp.specs.declared.stamp.Stamp.{Stamp}
 use Rattle.qc_stamp.specs.declared.stamp.TxId.{TxId}

@@ -1,6 +1,6 @@
 -- The arms of one actor among those of all: what waits in its disk's account, or none.
-use Rattle.std.proofs.Common.{◌≡◌, ℕ, ◌+◌, ◌==◌, Bool, true, false, not, List, [], ◌∷◌, filter}
-use Rattle.std.proofs.Common.{map, cond, Option, Some, None, refl, sym, ◌∙◌, ap, if◌then◌else◌}
+use Rattle.std.proofs.Common.{◌≡◌, ℕ, ◌+◌, ◌==◌, Bool, true, false, not, List, [], ◌∷◌, filter, map, cond, Option, Some}
+use Rattle.std.proofs.Common.{None, refl, sym, ◌∙◌, ap, if◌then◌else◌}
 use Rattle.std.proofs.lemmas.Bool.{eqb-true, eqb-false, eq-eqb, ne_eqb}
 use Rattle.qc_promise.specs.Names.{Arm, Calls, DiskArm, waiting_after, with_calls}
 

@@ -1,6 +1,6 @@
 -- The account goes on with calls, falls and arms.
-use Rattle.std.proofs.Common.{◌≡◌, ℕ, ◌+◌, ◌-◌, ◌<◌, ◌≤◌, nat_le, Bool, true, false, ◌&&◌, Option, Some, None, inl}
-use Rattle.std.proofs.Common.{inr, refl, sym, ◌∙◌, ap, subst, arith, if◌then◌else◌}
+use Rattle.std.proofs.Common.{◌≡◌, ℕ, ◌+◌, ◌-◌, ◌<◌, ◌≤◌, nat_le, Bool, true, false, ◌&&◌, Option, Some, None, inl, inr}
+use Rattle.std.proofs.Common.{refl, sym, ◌∙◌, ap, subst, arith, if◌then◌else◌}
 use Rattle.std.proofs.lemmas.Bool.{le-leb}
 use Rattle.qc_outside.specs.Names.{Armed, Fuse, HasFaulted, HasPassed, IsArmedAfter, KeepsArm, Rose}
 use Rattle.qc_outside.specs.declared.disk.ArmKind.{ArmKind}

@@ -3,7 +3,7 @@ use Rattle.std.proofs.Common.{◌≡◌, ◌≤◌, ℕ, Bool, true, false, List
 use Rattle.std.proofs.Common.{ap, sym, subst, ◌∙◌}
 use Rattle.std.specs.Option.{option_map_or}
 use Rattle.std.specs.Result.{IsErrAnd}
-use Rattle.std.specs.Prelude.{if◌then◌else◌}
+use Rattle.std.specs.Prelude.{if◌then◌else◌, length}
 use Rattle.qc_accept.specs.Names.{accepted}
 use Rattle.qc_accept.specs.declared.fault.DeclFault.{DeclFault}
 use Rattle.qc_decl.specs.Names.{built_in_of}
@@ -12,7 +12,6 @@ use Rattle.qc_outside.specs.Names.{Answer, Files, IsTaken}
 use Rattle.qc_outside.specs.declared.shelf.ShelfFault.TheVariants as faults
 use Rattle.qc_report.specs.declared.cause.Cause.{Cause}
 use Rattle.qc_report.specs.declared.cause.Cause.TheVariants as causes
-use Rattle.std.specs.Prelude.{length}
 use Rattle.qc_top.specs.Names.{AreAnswers, Caused, Gives, GivesSource, IsAnswerFor, IsShort, bytes_of, is_built_in}
 use Rattle.qc_top.specs.Names.{most_script_bytes, script_file, spelled_in, ◌>>=◌}
 use Rattle.qc_words.specs.Names.{AskedOf}

@@ -1,6 +1,5 @@
 -- What a call has to do: what its words come to, by what the shelf answered for the files that they name.
-use Rattle.std.specs.Prelude.{◌≡◌, ℕ, Bool, true, false, List, Result, Ok, Err, IsOk}
-use Rattle.std.specs.Prelude.{if◌then◌else◌, ◌⊎◌}
+use Rattle.std.specs.Prelude.{◌≡◌, ℕ, Bool, true, false, List, Result, Ok, Err, IsOk, if◌then◌else◌, ◌⊎◌}
 use Rattle.std.specs.Option.{option_map_or}
 use Rattle.qc_accept.specs.Names.{accepted}
 use Rattle.qc_accept.specs.declared.fault.DeclFault.{DeclFault}

@@ -1,5 +1,6 @@
 -- A young client stays young over any input, and its calls ask no more.
-use Rattle.std.proofs.Common.{◌≡◌, ℕ, ◌+◌, ◌^◌, ◌<◌, ◌≤◌, ◌==◌, Bool, true, false, cond, List, [], length, Option, Some, None, is_some, Result, Ok, Err, IfOk, OnOk, refl, sym, subst, arith}
+use Rattle.std.proofs.Common.{◌≡◌, ℕ, ◌+◌, ◌^◌, ◌<◌, ◌≤◌, ◌==◌, Bool, true, false, cond, List, [], length, Option, Some}
+use Rattle.std.proofs.Common.{None, is_some, Result, Ok, Err, IfOk, OnOk, refl, sym, subst, arith}
 use Rattle.qc_decl.specs.declared.declaration.Declaration.{Declaration}
 use Rattle.qc_decl.specs.Names.{IsAccepted, append_need_of}
 use Rattle.qc_stamp.specs.declared.clock.Clock.{Clock}

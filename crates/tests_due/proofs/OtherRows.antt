@@ -4,8 +4,7 @@ use Rattle.qc_decl.specs.Names.{actors, three}
 use Rattle.qc_msg.specs.Names.{deeds}
 use Rattle.qc_promise.specs.Names.{AreRepliesDue, Due}
 use Rattle.tests_due.proofs.Orders.{by_turns_where_placed, mailed_where_shown}
-use Rattle.tests_due.proofs.Owed.{all_due_where_shown}
-use Rattle.tests_due.proofs.Owed.{due_where_shown}
+use Rattle.tests_due.proofs.Owed.{all_due_where_shown, due_where_shown}
 use Rattle.tests_due.proofs.Sites.{sites_due_where_posted}
 use Rattle.tests_due.specs.LaterRows as later_rows
 use Rattle.tests_due.specs.LongTransaction as long_transaction

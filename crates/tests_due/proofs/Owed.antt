@@ -1,5 +1,6 @@
 -- All deeds of a client are due where two lists are equal: what is due of each, and what is there.
-use Rattle.std.proofs.Common.{◌≡◌, ℕ, zero, suc, ◌<◌, ◌==◌, Bool, true, false, List, [], ◌∷◌, Option, Some, None, is_some, refl, ap, subst, sym, arith}
+use Rattle.std.proofs.Common.{◌≡◌, ℕ, zero, suc, ◌<◌, ◌==◌, Bool, true, false, List, [], ◌∷◌, Option, Some, None}
+use Rattle.std.proofs.Common.{is_some, refl, ap, subst, sym, arith}
 use Rattle.std.proofs.lemmas.Bool.{eqb-false, eqb-true}
 use Rattle.qc_decl.specs.Names.{client_actor}
 use Rattle.qc_decl.specs.declared.declaration.Declaration.{Declaration}

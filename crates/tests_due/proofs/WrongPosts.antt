@@ -4,8 +4,8 @@ use Rattle.qc_decl.specs.Names.{three}
 use Rattle.qc_msg.specs.declared.message.Answer.{Answer}
 use Rattle.qc_msg.specs.Names.{deeds}
 use Rattle.qc_promise.specs.Names.{AreDue}
-use Rattle.tests_due.proofs.SitePlaces.{clock_granted, count_records, count_sends}
-use Rattle.tests_due.proofs.SitePlaces.{first_answer, lines_granted, own_promised, site_due_at}
+use Rattle.tests_due.proofs.SitePlaces.{clock_granted, count_records, count_sends, first_answer, lines_granted}
+use Rattle.tests_due.proofs.SitePlaces.{own_promised, site_due_at}
 use Rattle.qc_msg.specs.declared.message.Answer.TheVariants as answers
 use Rattle.tests_due.specs.WrongPosts as wrong_posts
 

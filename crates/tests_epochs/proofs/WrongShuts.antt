@@ -4,8 +4,8 @@ use Rattle.qc_msg.specs.Names.{deeds}
 use Rattle.tests_due.proofs.SitePlaces.{count_records, site_due_at}
 use Rattle.tests_epochs.specs.Declarations.{three_epochs}
 use Rattle.tests_epochs.specs.Whole.{IsSiteDueIn}
-use Rattle.tests_epochs.proofs.Parts.{clock_told, first_promise, is_closed_told}
-use Rattle.tests_epochs.proofs.Parts.{lines_installed, lines_told, promises_told}
+use Rattle.tests_epochs.proofs.Parts.{clock_told, first_promise, is_closed_told, lines_installed, lines_told}
+use Rattle.tests_epochs.proofs.Parts.{promises_told}
 use Rattle.tests_epochs.specs.WrongShuts as wrong_shuts
 
 promises_by_their_coming_differs : ◌≡◌ {A = ℕ} 2 0 → ⊥

@@ -5,8 +5,8 @@ use Rattle.qc_decl.specs.declared.declaration.Declaration.{Declaration}
 use Rattle.qc_decl.specs.Names.{row}
 use Rattle.qc_msg.specs.Names.{Entry, marked}
 use Rattle.tests_histories.specs.Words.{tx, stamp, operation, commit, declaration, kind, plan}
-use Rattle.qc_msg.specs.declared.step.Step.TheVariants.{Phase, Cut, Heal, Called, Got}
-use Rattle.qc_msg.specs.declared.step.Step.TheVariants.{Lost, Wrote, Sent, Told, Fell, Rose}
+use Rattle.qc_msg.specs.declared.step.Step.TheVariants.{Phase, Cut, Heal, Called, Got, Lost, Wrote, Sent, Told, Fell}
+use Rattle.qc_msg.specs.declared.step.Step.TheVariants.{Rose}
 use Rattle.tests_epochs.specs.Words.{tx_in}
 use Rattle.qc_msg.specs.declared.message.Answer.TheVariants as answers
 use Rattle.qc_msg.specs.declared.step.Command.TheVariants as commands

@@ -4,10 +4,10 @@ use Rattle.std.specs.Prelude.{List, [], ◌∷◌, Some}
 use Rattle.qc_decl.specs.declared.declaration.Declaration.{Declaration}
 use Rattle.qc_decl.specs.Names.{row}
 use Rattle.qc_msg.specs.Names.{Entry, marked}
-use Rattle.tests_histories.specs.Words.{tx, stamp, line, own_line, operation, read_lock}
-use Rattle.tests_histories.specs.Words.{prepare, commit, declaration, kind, pair, plan}
-use Rattle.qc_msg.specs.declared.step.Step.TheVariants.{Phase, Cut, Heal, Called, Got, Lost}
-use Rattle.qc_msg.specs.declared.step.Step.TheVariants.{Wrote, Sent, Told, Armed, Fell, Rose}
+use Rattle.tests_histories.specs.Words.{tx, stamp, line, own_line, operation, read_lock, prepare, commit, declaration}
+use Rattle.tests_histories.specs.Words.{kind, pair, plan}
+use Rattle.qc_msg.specs.declared.step.Step.TheVariants.{Phase, Cut, Heal, Called, Got, Lost, Wrote, Sent, Told, Armed}
+use Rattle.qc_msg.specs.declared.step.Step.TheVariants.{Fell, Rose}
 use Rattle.qc_msg.specs.declared.message.Answer.TheVariants as answers
 use Rattle.qc_msg.specs.declared.step.Command.TheVariants as commands
 use Rattle.qc_msg.specs.declared.reply.Half.TheVariants as halves

@@ -1,5 +1,6 @@
 -- What a schedule makes is a run with falls, and where nothing is left to do, a whole one.
-use Rattle.std.proofs.Common.{◌≡◌, ℕ, ◌+◌, ◌==◌, ◌&&◌, nat_lt, Bool, true, false, cond, List, [], ◌∷◌, ◌++◌, length, Option, Some, None, is_some, refl, ap, sym, subst, ◌∙◌}
+use Rattle.std.proofs.Common.{◌≡◌, ℕ, ◌+◌, ◌==◌, ◌&&◌, nat_lt, Bool, true, false, cond, List, [], ◌∷◌, ◌++◌, length}
+use Rattle.std.proofs.Common.{Option, Some, None, is_some, refl, ap, sym, subst, ◌∙◌}
 use Rattle.std.specs.Prelude.{option_and_then, replicate, slice_get}
 use Rattle.std.proofs.lemmas.Bool.{eqb-true, ltb-true}
 use Rattle.std.proofs.lemmas.List.{length-replicate, length-set}
@@ -23,9 +24,14 @@ use Rattle.qc_promise.specs.Names.{journal_of}
 use Rattle.qc_script.specs.declared.script.Script.{Script}
 use Rattle.qc_script.specs.Names.{begins, control, controls_left, damaged, falls, phase, phase_of, posts, ready, rises}
 use Rattle.qc_script.specs.Names.{takes, unopened}
-use Rattle.tests_runs.specs.Perform.{Stage, ended, is_over, is_quiet, may_begin, none_left, nothing_done, taken_by, with_step, with_taken}
-use Rattle.tests_runs.proofs.Sound.{all_closed, first_of_both, no_controls, none_open, quiet_below, quiet_closed, second_of_both}
-use Rattle.tests_falls.specs.Perform.{Move, Begins, Acts, Takes, Posts, Rises, Unopened, acted_by, are_fit, ending_so, given_back, is_by_disk, moved, moved_on, posted_by, restarted, rises_by, risen_with, run_with_falls, turn_in, unopened_by, where_recorded, with_fall, with_posted, with_rise}
+use Rattle.tests_runs.specs.Perform.{Stage, ended, is_over, is_quiet, may_begin, none_left, nothing_done, taken_by}
+use Rattle.tests_runs.specs.Perform.{with_step, with_taken}
+use Rattle.tests_runs.proofs.Sound.{all_closed, first_of_both, no_controls, none_open, quiet_below, quiet_closed}
+use Rattle.tests_runs.proofs.Sound.{second_of_both}
+use Rattle.tests_falls.specs.Perform.{Move, Begins, Acts, Takes, Posts, Rises, Unopened, acted_by, are_fit, ending_so}
+use Rattle.tests_falls.specs.Perform.{given_back, is_by_disk, moved, moved_on, posted_by, restarted, rises_by}
+use Rattle.tests_falls.specs.Perform.{risen_with, run_with_falls, turn_in, unopened_by, where_recorded, with_fall}
+use Rattle.tests_falls.specs.Perform.{with_posted, with_rise}
 use Rattle.tests_falls.proofs.KeptRecords.{KeptFrom, all_kept, kept_both, post_kept, rise_kept}
 use Rattle.tests_falls.specs.Whole.{IsRun, IsWholeRun}
 

@@ -1,8 +1,8 @@
 -- A run with falls made by a schedule: whoever is named takes what is ready for it, or posts the turn of its conduct,
 -- whose record ends as the schedule says; the controller begins the next phase; the first control line that is left
 -- acts. A move that no run has there ends it.
-use Rattle.std.specs.Prelude.{ℕ, ◌+◌, ◌&&◌, Bool, true, false, cond, List, [], ◌∷◌, ◌++◌, length, slice_set}
-use Rattle.std.specs.Prelude.{Option, Some, None, is_some, option_and_then, option_map, option_to_list, slice_get}
+use Rattle.std.specs.Prelude.{ℕ, ◌+◌, ◌&&◌, Bool, true, false, cond, List, [], ◌∷◌, ◌++◌, length, slice_set, Option}
+use Rattle.std.specs.Prelude.{Some, None, is_some, option_and_then, option_map, option_to_list, slice_get}
 use Rattle.qc_core.specs.Names.{turn_with_falls}
 use Rattle.qc_decl.specs.declared.declaration.Declaration.{Declaration}
 use Rattle.qc_fit.specs.Names.{fits}

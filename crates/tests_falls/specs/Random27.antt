@@ -4,10 +4,10 @@ use Rattle.std.specs.Prelude.{List, [], ◌∷◌, Some, None, false}
 use Rattle.qc_decl.specs.declared.declaration.Declaration.{Declaration}
 use Rattle.qc_decl.specs.Names.{row}
 use Rattle.qc_msg.specs.Names.{Entry, marked}
-use Rattle.tests_histories.specs.Words.{tx, stamp, line, own_line, operation, read_lock}
-use Rattle.tests_histories.specs.Words.{prepare, commit, declaration, kind, pair, plan}
-use Rattle.qc_msg.specs.declared.step.Step.TheVariants.{Phase, Cut, Called, Got, Lost}
-use Rattle.qc_msg.specs.declared.step.Step.TheVariants.{Wrote, Sent, Told, Armed, Fell, Rose}
+use Rattle.tests_histories.specs.Words.{tx, stamp, line, own_line, operation, read_lock, prepare, commit, declaration}
+use Rattle.tests_histories.specs.Words.{kind, pair, plan}
+use Rattle.qc_msg.specs.declared.step.Step.TheVariants.{Phase, Cut, Called, Got, Lost, Wrote, Sent, Told, Armed, Fell}
+use Rattle.qc_msg.specs.declared.step.Step.TheVariants.{Rose}
 use Rattle.qc_msg.specs.declared.turn.Appended.TheVariants.{Done, Stopped}
 use Rattle.tests_falls.specs.Words.{tx_in}
 use Rattle.tests_falls.specs.Perform.{Move, Begins, Acts, Takes, Posts, Rises}

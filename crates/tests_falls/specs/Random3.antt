@@ -3,8 +3,8 @@ use Rattle.std.specs.Prelude.{List, [], ◌∷◌, Some, None, true, false}
 use Rattle.qc_decl.specs.declared.declaration.Declaration.{Declaration}
 use Rattle.qc_decl.specs.Names.{row}
 use Rattle.qc_msg.specs.Names.{Entry, marked}
-use Rattle.tests_histories.specs.Words.{tx, stamp, own_line, operation, read_lock}
-use Rattle.tests_histories.specs.Words.{prepare, commit, declaration, kind, pair, plan}
+use Rattle.tests_histories.specs.Words.{tx, stamp, own_line, operation, read_lock, prepare, commit, declaration, kind}
+use Rattle.tests_histories.specs.Words.{pair, plan}
 use Rattle.qc_msg.specs.declared.step.Step.TheVariants.{Phase, Called, Got, Wrote, Sent, Told, Armed, Fell, Rose}
 use Rattle.qc_msg.specs.declared.turn.Appended.TheVariants.{Done, Stopped}
 use Rattle.tests_falls.specs.Perform.{Move, Begins, Acts, Takes, Posts, Rises}

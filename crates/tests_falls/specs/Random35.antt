@@ -4,10 +4,9 @@ use Rattle.std.specs.Prelude.{List, [], ◌∷◌, Some, None, true, false}
 use Rattle.qc_decl.specs.declared.declaration.Declaration.{Declaration}
 use Rattle.qc_decl.specs.Names.{row}
 use Rattle.qc_msg.specs.Names.{Entry, marked}
-use Rattle.tests_histories.specs.Words.{tx, stamp, operation, read_lock, prepare}
-use Rattle.tests_histories.specs.Words.{commit, declaration, kind, pair, plan}
-use Rattle.qc_msg.specs.declared.step.Step.TheVariants.{Phase, Cut, Heal, Called, Got, Lost}
-use Rattle.qc_msg.specs.declared.step.Step.TheVariants.{Wrote, Sent, Told, Armed, Fell, Rose}
+use Rattle.tests_histories.specs.Words.{tx, stamp, operation, read_lock, prepare, commit, declaration, kind, pair, plan}
+use Rattle.qc_msg.specs.declared.step.Step.TheVariants.{Phase, Cut, Heal, Called, Got, Lost, Wrote, Sent, Told, Armed}
+use Rattle.qc_msg.specs.declared.step.Step.TheVariants.{Fell, Rose}
 use Rattle.qc_msg.specs.declared.turn.Appended.TheVariants.{Done, Stopped}
 use Rattle.tests_falls.specs.Words.{tx_in}
 use Rattle.tests_falls.specs.Perform.{Move, Begins, Acts, Takes, Posts, Rises, Unopened}

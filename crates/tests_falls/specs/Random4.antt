@@ -3,8 +3,7 @@ use Rattle.std.specs.Prelude.{List, [], ◌∷◌, None, false}
 use Rattle.qc_decl.specs.declared.declaration.Declaration.{Declaration}
 use Rattle.qc_decl.specs.Names.{row}
 use Rattle.qc_msg.specs.Names.{Entry, marked}
-use Rattle.tests_histories.specs.Words.{tx, stamp, operation, read_lock, prepare}
-use Rattle.tests_histories.specs.Words.{commit, declaration, kind, pair, plan}
+use Rattle.tests_histories.specs.Words.{tx, stamp, operation, read_lock, prepare, commit, declaration, kind, pair, plan}
 use Rattle.qc_msg.specs.declared.step.Step.TheVariants.{Phase, Cut, Called, Got, Wrote, Sent, Told, Fell, Rose}
 use Rattle.qc_msg.specs.declared.turn.Appended.TheVariants.{Done}
 use Rattle.tests_falls.specs.Perform.{Move, Begins, Acts, Takes, Posts, Rises}

@@ -1,5 +1,6 @@
 -- What a schedule makes is a run, and where nothing is left to do, a whole one.
-use Rattle.std.proofs.Common.{◌≡◌, ℕ, zero, suc, ◌+◌, ◌<◌, ◌≤◌, ◌==◌, ◌&&◌, not, nat_lt, Bool, true, false, cond, List, [], ◌∷◌, length, Option, Some, None, refl, ap, subst, ◌∙◌, arith}
+use Rattle.std.proofs.Common.{◌≡◌, ℕ, zero, suc, ◌+◌, ◌<◌, ◌≤◌, ◌==◌, ◌&&◌, not, nat_lt, Bool, true, false, cond, List}
+use Rattle.std.proofs.Common.{[], ◌∷◌, length, Option, Some, None, refl, ap, subst, ◌∙◌, arith}
 use Rattle.std.specs.Prelude.{is_none, option_map, option_and_then, replicate, slice_get, slice_set}
 use Rattle.std.specs.List.{list_all, range_with_len}
 use Rattle.std.proofs.lemmas.Bool.{eqb-false, eqb-true, ltb-true}
@@ -17,7 +18,9 @@ use Rattle.qc_script.specs.declared.script.Script.{Script}
 use Rattle.qc_script.specs.Names.{Runs, controls_left, phase_of, ready, step_of_control}
 use Rattle.qc_script.specs.Runs.{begins, takes, posts, phase, control}
 use Rattle.tests_histories.specs.Play.{Move, Takes, Posts, Acts}
-use Rattle.tests_runs.specs.Perform.{Stage, acted_by, ended, is_over, is_quiet, may_begin, moved, moved_on, next_control, none_left, nothing_done, posted_by, run_by, taken_by, with_posted, with_step, with_taken}
+use Rattle.tests_runs.specs.Perform.{Stage, acted_by, ended, is_over, is_quiet, may_begin, moved, moved_on}
+use Rattle.tests_runs.specs.Perform.{next_control, none_left, nothing_done, posted_by, run_by, taken_by, with_posted}
+use Rattle.tests_runs.specs.Perform.{with_step, with_taken}
 use Rattle.tests_runs.specs.Whole.{IsWholeRun}
 
 -- tests

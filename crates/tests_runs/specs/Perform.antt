@@ -1,8 +1,8 @@
 -- A run made by a schedule: whoever is named takes what is ready for it, or posts the turn of its conduct; the
 -- controller begins the next phase, or carries out the next control line. A move that no run has there ends it.
 use Rattle.std.specs.Prelude.{ℕ, ◌+◌, ◌==◌, ◌&&◌, nat_lt, not, Bool, true, false, cond, List, [], ◌∷◌, ◌++◌, length}
-use Rattle.std.specs.Prelude.{replicate, slice_get, slice_set, filter, is_none, is_some, unwrap_or}
-use Rattle.std.specs.Prelude.{Option, Some, None, option_map, option_and_then}
+use Rattle.std.specs.Prelude.{replicate, slice_get, slice_set, filter, is_none, is_some, unwrap_or, Option, Some, None}
+use Rattle.std.specs.Prelude.{option_map, option_and_then}
 use Rattle.std.specs.List.{list_all, range_with_len}
 use Rattle.std.specs.Option.{option_map_or}
 use Rattle.qc_core.specs.Names.{turn_after}

@@ -1,6 +1,8 @@
 -- Records, logs and verdicts of every run: records are apart, logs hold just their operations and are closed, verdicts agree,
 -- and a record follows what its client had seen.
-use Rattle.std.proofs.Common.{◌≡◌, ◌≢◌, ℕ, zero, suc, ◌<◌, ◌≤◌, ◌+◌, false, IsTrue, ◌⊎◌, ◌↔◌, inl, inr, List, [], ◌∷◌, ◌++◌, map, length, slice_get, Option, Some, None, IsSome, refl, sym, ap, ◌∙◌, subst, arith}
+use Rattle.std.proofs.Common.{◌≡◌, ◌≢◌, ℕ, zero, suc, ◌<◌, ◌≤◌, ◌+◌, false, IsTrue, ◌⊎◌, ◌↔◌, inl, inr, List, [], ◌∷◌}
+use Rattle.std.proofs.Common.{◌++◌, map, length, slice_get, Option, Some, None, IsSome, refl, sym, ap, ◌∙◌, subst}
+use Rattle.std.proofs.Common.{arith}
 use Rattle.std.specs.Prelude.{option_and_then}
 use Rattle.std.specs.Option.{option_map_or}
 use Rattle.std.proofs.lemmas.List.{length-append}
@@ -46,7 +48,13 @@ pub record IsThere (ds : List Executed) (d : Executed) (from : ℕ) : Type 0 whe
 
 there : (ds earlier : List Executed) → AreInOrder earlier ds → (d : Executed) → In d ds → IsThere ds d (length earlier)
 there [] earlier o d h = absurd h
-there (e ∷ es) earlier o d (inl same) = record { at = 0; numbered = (let n : e.number ≡ suc (length earlier) = o.0.numbered in let m : d.number ≡ e.number = ap (λ (x : Executed). x.number) same in omega arith); found = ap (λ (x : Executed). Some x.op) (sym same) }
+there (e ∷ es) earlier o d (inl same) =
+    record {
+      at = 0;
+      numbered = (let n : e.number ≡ suc (length earlier) = o.0.numbered in
+          let m : d.number ≡ e.number = ap (λ (x : Executed). x.number) same in omega arith);
+      found = ap (λ (x : Executed). Some x.op) (sym same);
+    }
 there (e ∷ es) earlier o d (inr h) =
     let r = there es (earlier ++ e ∷ []) o.1 d h in
     let l = length-append earlier (e ∷ []) in
@@ -64,17 +72,24 @@ module _ (decl : Declaration) (accepted : IsAccepted decl) where
     pub records_are_apart : AreApart (state acts).records
     records_are_apart = record {
       stamps = λ c d hc hd same. by c d hc hd same;
-      transactions = λ c d hc hd same. let x : Committed c ≡ Committed d = sym (wl.written c hc) ∙ ap (state acts).status same ∙ wl.written d hd in cc;
+      transactions =
+          λ c d hc hd same. let x : Committed c
+          ≡ Committed d = sym (wl.written c hc) ∙ ap (state acts).status same ∙ wl.written d hd in cc;
     }
       where
         by : (c d : CommitRecord) → In c (state acts).records → In d (state acts).records → c.stamp ≡ d.stamp → c ≡ d
         by c d hc hd same = elim (tx_cases c.tx d.tx) [
-          | inl e ↦ let x : Committed c ≡ Committed d = sym (wl.written c hc) ∙ ap (state acts).status e ∙ wl.written d hd in cc
-          | inr ne ↦ absurd (wl.apart c.tx d.tx c d (committed_record ((state acts).status c.tx) c (wl.written c hc)) (committed_record ((state acts).status d.tx) d (wl.written d hd)) ne same)
+          | inl e ↦
+              let x : Committed c ≡ Committed d = sym (wl.written c hc) ∙ ap (state acts).status e ∙ wl.written d hd in
+              cc
+          | inr ne ↦
+              absurd (wl.apart c.tx d.tx c d (committed_record ((state acts).status c.tx) c (wl.written c hc))
+              (committed_record ((state acts).status d.tx) d (wl.written d hd)) ne same)
         ]
 
     -- a line that is closed at is an operation of a record
-    logged : (log : List Line) (l : Line) → IsClosedAt decl (state acts).status (state acts).executed log l → IsLogged decl (state acts).records l
+    logged : (log : List Line) (l : Line) → IsClosedAt decl (state acts).status (state acts).executed log l
+        → IsLogged decl (state acts).records l
     logged log l f =
         let r = wl.record_of l.tx f.commit (committed_record ((state acts).status l.tx) f.commit f.committed) in
         let t = there ((state acts).executed l.tx) [] (ll.order l.tx) f.operation f.listed in
@@ -107,12 +122,14 @@ module _ (decl : Declaration) (accepted : IsAccepted decl) where
         resp_of (Some r) h = (r, refl)
 
     -- a log that is one of these
-    on_log : {log known : List Line} → log ≡ known → ((l : Line) → In l known → IsClosedAt decl (state acts).status (state acts).executed known l)
+    on_log : {log known : List Line} → log ≡ known
+        → ((l : Line) → In l known → IsClosedAt decl (state acts).status (state acts).executed known l)
         → (l : Line) → In l log → IsClosedAt decl (state acts).status (state acts).executed log l
     on_log is each l h = subst (λ (x : List Line). IsClosedAt decl (state acts).status (state acts).executed x l) (sym is) (each l (subst (λ (x : List Line). In l x) is h))
 
     -- a log is closed at each of its lines
-    closed_at : (log : List Line) → IsLogOf (state acts) log → (l : Line) → In l log → IsClosedAt decl (state acts).status (state acts).executed log l
+    closed_at : (log : List Line) → IsLogOf (state acts) log → (l : Line) → In l log
+        → IsClosedAt decl (state acts).status (state acts).executed log l
     closed_at log (OfSite site is) l h = on_log is ((ll.sites site).volatile) l h
     closed_at log (OfGrant g i is) l h = on_log is ((ll.granted g i).volatile) l h
     closed_at log (OfSnapshot s i is) l h = on_log is ((ll.snapshots s i).volatile) l h

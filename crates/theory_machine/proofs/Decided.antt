@@ -1,6 +1,7 @@
 -- What a decided log and clock have of the transactions of earlier epochs: the sites that closed an epoch meet each of its
 -- quorums, so the log has each committed line on which something depends, or the clock has passed the reader's stamp.
-use Rattle.std.proofs.Common.{◌≡◌, ◌≢◌, ℕ, zero, suc, ◌<◌, ◌≤◌, Bool, true, false, IsTrue, ◌⊎◌, inl, inr, List, [], ◌∷◌, ◌++◌, length, Some, None, IsSome, refl, sym, ap, ◌∙◌, subst, arith, append-nil}
+use Rattle.std.proofs.Common.{◌≡◌, ◌≢◌, ℕ, zero, suc, ◌<◌, ◌≤◌, Bool, true, false, IsTrue, ◌⊎◌, inl, inr, List, [], ◌∷◌}
+use Rattle.std.proofs.Common.{◌++◌, length, Some, None, IsSome, refl, sym, ap, ◌∙◌, subst, arith, append-nil}
 use Rattle.std.proofs.lemmas.Bool.{cases_eq}
 use Rattle.qc_stamp.specs.declared.stamp.Stamp.{Stamp}
 use Rattle.qc_stamp.specs.declared.stamp.TxId.{TxId}
@@ -23,7 +24,8 @@ use Rattle.theory_machine.specs.Names.{NotBegun, Own, Promise, Site, Snapshot, S
 use Rattle.theory_machine.specs.Names.{after_deed, done_records, empty_site, epoch_from, read_lock, shut_from}
 use Rattle.theory_machine.specs.Names.{site_after, site_from, state, weights_of}
 use Rattle.theory_machine.proofs.SiteOrder.{after_append, laws_after, logged_from}
-use Rattle.theory_machine.proofs.Epochs.{epoch-append, installed, none_between, rising-left, rising-right, shut-append, still_shut, prepared_or_done}
+use Rattle.theory_machine.proofs.Epochs.{epoch-append, installed, none_between, rising-left, rising-right, shut-append}
+use Rattle.theory_machine.proofs.Epochs.{still_shut, prepared_or_done}
 use Rattle.theory_machine.proofs.Keeps.{laws}
 use Rattle.theory_machine.proofs.LogKeeps.{log_laws}
 use Rattle.theory_machine.proofs.Grants.{between, holds_granted, site_laws, spares_front}
@@ -73,7 +75,9 @@ module _ (decl : Declaration) (accepted : IsAccepted decl) (acts : List Act) (ru
     pub later : List Deed
     pub within : (state acts).deeds g.site ≡ sn.before ++ later
 
-  pub past : (g : Granted) (sn : Snapshot) → In g (state acts).counted → ((k : CountedLaw ((state acts).deeds g.site) ((state acts).life g.site) ((state acts).status g.tx) (state acts).votes g) → SparesUntilDone g.tx false k.post)
+  pub past : (g : Granted) (sn : Snapshot) → In g (state acts).counted
+      → ((k : CountedLaw ((state acts).deeds g.site) ((state acts).life g.site) ((state acts).status g.tx)
+      (state acts).votes g) → SparesUntilDone g.tx false k.post)
       → In sn (state acts).snapshots → sn.site ≡ g.site → epoch_from 1 sn.before ≡ g.epoch → IsPast g sn
   past g sn hg spares hs site epoch =
       let k = wl.counted g hg in
@@ -81,7 +85,9 @@ module _ (decl : Declaration) (accepted : IsAccepted decl) (acts : List Act) (ru
       let whole : (state acts).deeds g.site ≡ sn.before ++ r.0 = ap (state acts).deeds (sym site) ∙ r.1 in
       by k r.0 whole (fronts g.before sn.before (Grants g.tx g.items g.view) k.post r.0 (sym k.split ∙ whole))
     where
-      by : (k : CountedLaw ((state acts).deeds g.site) ((state acts).life g.site) ((state acts).status g.tx) (state acts).votes g) (later : List Deed) → (state acts).deeds g.site ≡ sn.before ++ later
+      by :
+          (k : CountedLaw ((state acts).deeds g.site) ((state acts).life g.site) ((state acts).status g.tx)
+          (state acts).votes g) (later : List Deed) → (state acts).deeds g.site ≡ sn.before ++ later
           → Fronts g.before sn.before (Grants g.tx g.items g.view) k.post later → IsPast g sn
       by k later whole (Within m b s) = record {
         since = m;
@@ -89,46 +95,67 @@ module _ (decl : Declaration) (accepted : IsAccepted decl) (acts : List Act) (ru
         spared = spares_left g.tx m later (subst (λ (ds : List Deed). SparesUntilDone g.tx false ds) s (spares k));
         none = between g.before (Grants g.tx g.items g.view) m g.epoch (subst (λ (ds : List Deed). HasRisingEpochs 1 ds) b (rising-left sn.before later 1 (subst (λ (ds : List Deed). HasRisingEpochs 1 ds) whole (wl.rising g.site)))) tt
             (wl.facts g (wl.known g hg)).current (ap (epoch_from 1) (sym b) ∙ epoch);
-        shut = sym (ap (λ (t : Bool). shut_from t m) (wl.facts g (wl.known g hg)).unshut) ∙ sym (shut-append g.before (Grants g.tx g.items g.view ∷ m) false) ∙ ap (shut_from false) (sym b) ∙ (wl.answers sn hs).shut;
+        shut =
+            sym (ap (λ (t : Bool). shut_from t m) (wl.facts g (wl.known g hg)).unshut)
+            ∙ sym (shut-append g.before (Grants g.tx g.items g.view ∷ m) false) ∙ ap (shut_from false) (sym b)
+            ∙ (wl.answers sn hs).shut;
         later = later;
         within = whole;
       }
       by k later whole (Before m b) =
-          let r1 : HasRisingEpochs 1 (sn.before ++ m) = subst (λ (ds : List Deed). HasRisingEpochs 1 ds) b (rising-left g.before (Grants g.tx g.items g.view ∷ k.post) 1 (subst (λ (ds : List Deed). HasRisingEpochs 1 ds) k.split (wl.rising g.site))) in
-          let same : epoch_from (epoch_from 1 sn.before) m ≡ epoch_from 1 sn.before = sym (epoch-append sn.before m 1) ∙ ap (epoch_from 1) (sym b) ∙ (wl.facts g (wl.known g hg)).current ∙ sym epoch in
+          let r1 : HasRisingEpochs 1 (sn.before ++ m) =
+          subst (λ (ds : List Deed). HasRisingEpochs 1 ds) b
+          (rising-left g.before (Grants g.tx g.items g.view ∷ k.post) 1
+          (subst (λ (ds : List Deed). HasRisingEpochs 1 ds) k.split (wl.rising g.site))) in
+          let same : epoch_from (epoch_from 1 sn.before) m ≡ epoch_from 1 sn.before =
+          sym (epoch-append sn.before m 1) ∙ ap (epoch_from 1) (sym b) ∙ (wl.facts g (wl.known g hg)).current
+          ∙ sym epoch in
           let none : HaveNoInstall m = none_between m (epoch_from 1 sn.before) (rising-right sn.before m 1 r1) same in
-          let shut : shut_from false g.before ≡ true = ap (shut_from false) b ∙ shut-append sn.before m false ∙ ap (λ (t : Bool). shut_from t m) (wl.answers sn hs).shut ∙ still_shut m none in
+          let shut : shut_from false g.before ≡ true =
+          ap (shut_from false) b ∙ shut-append sn.before m false
+          ∙ ap (λ (t : Bool). shut_from t m) (wl.answers sn hs).shut ∙ still_shut m none in
           let open_ : shut_from false g.before ≡ false = (wl.facts g (wl.known g hg)).unshut in
           absurd (let never : ⊥ = cc in never)
 
   -- it has it prepared, or its Done
-  pub tells : (g : Granted) (sn : Snapshot) (item : Item) → In g (state acts).counted → In item g.items → (p : IsPast g sn) → IsPreparedWith g.tx item (site_after sn.before) ⊎ HasDone g.tx false p.since
+  pub tells : (g : Granted) (sn : Snapshot) (item : Item) → In g (state acts).counted → In item g.items
+      → (p : IsPast g sn) → IsPreparedWith g.tx item (site_after sn.before) ⊎ HasDone g.tx false p.since
   tells g sn item hg hi p =
       let eq : site_after sn.before ≡ site_from (after_deed (site_after g.before) (Grants g.tx g.items g.view)) p.since = ap site_after p.is ∙ after_append g.before (Grants g.tx g.items g.view ∷ p.since) empty_site in
-      elim (prepared_or_done p.since g.tx item (after_deed (site_after g.before) (Grants g.tx g.items g.view)) (holds_granted g item (wl.counted g hg).fresh hi) p.spared p.none p.shut) [
+      elim (prepared_or_done p.since g.tx item (after_deed (site_after g.before) (Grants g.tx g.items g.view))
+      (holds_granted g item (wl.counted g hg).fresh hi) p.spared p.none p.shut) [
         | inl t ↦ inl (subst (λ (x : Site). IsPreparedWith g.tx item x) (sym eq) t)
         | inr d ↦ inr d
       ]
 
   -- the Done in the snapshot's past has the record's stamp
-  done_stamp : (g : Granted) (c : CommitRecord) (sn : Snapshot) → (state acts).status g.tx ≡ Committed c → (p : IsPast g sn) → (d : HasDone g.tx false p.since) → c.stamp ≡ d.stamp
+  done_stamp : (g : Granted) (c : CommitRecord) (sn : Snapshot) → (state acts).status g.tx ≡ Committed c
+      → (p : IsPast g sn) → (d : HasDone g.tx false p.since) → c.stamp ≡ d.stamp
   done_stamp g c sn sg p d =
       stamp_of decl acts run g.tx c sg g.site d.stamp
-      (subst (λ (ds : List Deed). In (LearnsCommit g.tx d.stamp) ds) (sym (p.within ∙ ap (λ (ds : List Deed). ds ++ p.later) p.is))
+      (subst (λ (ds : List Deed). In (LearnsCommit g.tx d.stamp) ds)
+      (sym (p.within ∙ ap (λ (ds : List Deed). ds ++ p.later) p.is))
       (In-first (LearnsCommit g.tx d.stamp) (g.before ++ Grants g.tx g.items g.view ∷ p.since) p.later
-      (In-second (LearnsCommit g.tx d.stamp) g.before (Grants g.tx g.items g.view ∷ p.since) (inr (ended decl acts run p.since g.tx d)))))
+      (In-second (LearnsCommit g.tx d.stamp) g.before (Grants g.tx g.items g.view ∷ p.since)
+      (inr (ended decl acts run p.since g.tx d)))))
 
   -- the verdict on a committed transaction that a snapshot had prepared
-  verdict : (tx : TxId) (c : CommitRecord) (d : Decision) (p : Promise) → (state acts).status tx ≡ Committed c → p.tx ≡ tx → IsResolved (state acts).verdicts d p
+  verdict : (tx : TxId) (c : CommitRecord) (d : Decision) (p : Promise) → (state acts).status tx ≡ Committed c
+      → p.tx ≡ tx → IsResolved (state acts).verdicts d p
       → ((o : OwnLine) → In (Own o) p.items → In (committed_line c.stamp tx o) d.log) × (c.stamp.clock ≤ d.clock)
   verdict tx c d p is its (inl r) =
-      let k : IsOutcome ((state acts).status tx) (Some r.0) = subst (λ (t : TxId). IsOutcome ((state acts).status t) (Some r.0)) its (wl.verdicts (record { tx = p.tx; stamp = Some r.0 }) r.1) in
+      let k : IsOutcome ((state acts).status tx) (Some r.0) =
+      subst (λ (t : TxId). IsOutcome ((state acts).status t) (Some r.0)) its
+      (wl.verdicts (record { tx = p.tx; stamp = Some r.0 }) r.1) in
       let s : c.stamp ≡ r.0 = subst (λ (x : Status). IsOutcome x (Some r.0)) is k in (
-        λ o h. subst (λ (t : TxId). In (committed_line c.stamp t o) d.log) its (subst (λ (x : Stamp). In (committed_line x p.tx o) d.log) (sym s) (r.2 o h)),
+        λ o h. subst (λ (t : TxId). In (committed_line c.stamp t o) d.log) its
+            (subst (λ (x : Stamp). In (committed_line x p.tx o) d.log) (sym s) (r.2 o h)),
         subst (λ (x : Stamp). x.clock ≤ d.clock) (sym s) r.3,
       )
   verdict tx c d p is its (inr r) =
-      absurd (subst (λ (x : Status). IsOutcome x None) is (subst (λ (t : TxId). IsOutcome ((state acts).status t) None) its (wl.verdicts (record { tx = p.tx; stamp = None }) r)))
+      absurd (subst (λ (x : Status). IsOutcome x None) is
+      (subst (λ (t : TxId). IsOutcome ((state acts).status t) None) its
+      (wl.verdicts (record { tx = p.tx; stamp = None }) r)))
 
   -- what a site has of its epoch's Decide record
   pub record IsOfEpoch (before : List Deed) (k : ℕ) : Type 0 where
@@ -141,7 +168,8 @@ module _ (decl : Declaration) (accepted : IsAccepted decl) (acts : List Act) (ru
     pub deed : In (Installs k clock log) before
     pub clock_is : by.clock ≡ clock
 
-  pub of_epoch : (site k : ℕ) (before later : List Deed) → (state acts).deeds site ≡ before ++ later → epoch_from 1 before ≡ k → 1 < k → IsOfEpoch before k
+  pub of_epoch : (site k : ℕ) (before later : List Deed) → (state acts).deeds site ≡ before ++ later
+      → epoch_from 1 before ≡ k → 1 < k → IsOfEpoch before k
   of_epoch site k before later split epoch less =
       let i = installed before empty_site 1 k (record { less = λ l h. h; prepared = λ p h. h }) (rising-left before later 1 (subst (λ (ds : List Deed). HasRisingEpochs 1 ds) split (wl.rising site))) epoch less in
       let d = wl.installed site k i.clock i.log (subst (λ (ds : List Deed). In (Installs k i.clock i.log) ds) (sym split) (In-first (Installs k i.clock i.log) before later i.stands)) in
@@ -168,7 +196,8 @@ module _ (decl : Declaration) (accepted : IsAccepted decl) (acts : List Act) (ru
 
   -- the lines of earlier epochs on which something depends are in a decided log
   pub kept_lines : (n : ℕ) (d : Decision) → d.epoch ≤ n → In d (state acts).decided → (u : TxId) (c : CommitRecord) (a : Executed) → (state acts).status u ≡ Committed c → In a ((state acts).executed u) → IsSome a.op.resp
-      → IsDependedOn decl a.op.object a.event → (state acts).epoch u < d.epoch → In (committed_line c.stamp u (own_line a)) d.log
+      → IsDependedOn decl a.op.object a.event → (state acts).epoch u < d.epoch
+      → In (committed_line c.stamp u (own_line a)) d.log
   kept_lines zero d small hd u c a su ha some dep less = absurd (omega arith)
   kept_lines (suc n) d small hd u c a su ha some dep less = by (suc_of d.epoch (omega arith)) (kept_lines n)
     where

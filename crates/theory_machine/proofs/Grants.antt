@@ -1,17 +1,16 @@
 -- Two grants of one epoch at a site; and what a fresh grant holds.
-use Rattle.std.proofs.Common.{◌≡◌, ◌≢◌, ℕ, Bool, true, false, cond, ◌||◌, inl, inr, List}
-use Rattle.std.proofs.Common.{◌∷◌, ◌++◌, Option, Some, None, IsSome, refl, sym, ap, ◌∙◌, subst, true≢false}
+use Rattle.std.proofs.Common.{◌≡◌, ◌≢◌, ℕ, Bool, true, false, cond, ◌||◌, inl, inr, List, ◌∷◌, ◌++◌, Option, Some, None}
+use Rattle.std.proofs.Common.{IsSome, refl, sym, ap, ◌∙◌, subst, true≢false}
 use Rattle.qc_stamp.specs.declared.stamp.Stamp.{Stamp}
 use Rattle.qc_stamp.specs.declared.stamp.TxId.{TxId}
 use Rattle.qc_list.specs.Names.{In}
 use Rattle.qc_list.proofs.Members.{In-first, In-second}
 use Rattle.qc_stamp.specs.Names.{same_tx}
-use Rattle.theory_machine.specs.Names.{Closes, Deed, Granted, Grants}
-use Rattle.theory_machine.specs.Names.{HasRisingEpochs, HaveNoInstall, Holds, Installs, Item}
-use Rattle.theory_machine.specs.Names.{LearnsAbort, LearnsCommit, Prepares, Promise, Rises, Site, SiteLaws}
-use Rattle.theory_machine.specs.Names.{SparesUntilDone, after_commit, after_deed, after_prepare}
-use Rattle.theory_machine.specs.Names.{done_record, done_records, each_held, empty_site, epoch_from, items_of}
-use Rattle.theory_machine.specs.Names.{promise_of, site_after, site_from}
+use Rattle.theory_machine.specs.Names.{Closes, Deed, Granted, Grants, HasRisingEpochs, HaveNoInstall, Holds, Installs}
+use Rattle.theory_machine.specs.Names.{Item, LearnsAbort, LearnsCommit, Prepares, Promise, Rises, Site, SiteLaws}
+use Rattle.theory_machine.specs.Names.{SparesUntilDone, after_commit, after_deed, after_prepare, done_record}
+use Rattle.theory_machine.specs.Names.{done_records, each_held, empty_site, epoch_from, items_of, promise_of}
+use Rattle.theory_machine.specs.Names.{site_after, site_from}
 use Rattle.theory_machine.proofs.Names.{tx_test}
 use Rattle.qc_stamp.proofs.Orders.{same_tx_is}
 use Rattle.theory_machine.proofs.SiteLists.{items_of-append, items_of-each_held, in_dropped, not_found}
@@ -78,9 +77,10 @@ none_after_prepare : (tx t : TxId) (o : Option Promise) (s : Site) → (t ≢ tx
 none_after_prepare tx t (Some p) s ne a b = (a, b)
 none_after_prepare tx t None s ne a b = (
   λ p h. elim h [ inl same ↦ λ e. ne (sym (ap (λ (x : Promise). x.tx) same) ∙ e) | inr old ↦ a p old ],
-  λ p h. elim h
-      [ inl same ↦ λ e. ne (sym (ap (λ (x : Promise). x.tx) same) ∙ e) | inr old ↦ b p (in_dropped p t s.promises old).0
-        ],
+  λ p h. elim h [
+    | inl same ↦ λ e. ne (sym (ap (λ (x : Promise). x.tx) same) ∙ e)
+    | inr old ↦ b p (in_dropped p t s.promises old).0
+  ],
 )
 
 none_after_commit : (tx t : TxId) (stamp : Stamp) (o : Option Promise) (s : Site) → HasNone tx s.prepared
@@ -97,8 +97,8 @@ none_after tx (Grants t items view ∷ ds) s never a b =
     none_after tx ds (after_deed s (Grants t items view)) (λ h. never (inr h)) a b
 none_after tx (Prepares t ∷ ds) s never a b =
     let r =
-            none_after_prepare tx t (promise_of t s.prepared) s
-              (λ e. never (inl (ap (λ (x : TxId). Prepares x) (sym e)))) a b in
+    none_after_prepare tx t (promise_of t s.prepared) s
+    (λ e. never (inl (ap (λ (x : TxId). Prepares x) (sym e)))) a b in
     none_after tx ds (after_deed s (Prepares t)) (λ h. never (inr h)) r.0 r.1
 none_after tx (LearnsCommit t stamp ∷ ds) s never a b =
     let r = none_after_commit tx t stamp (promise_of t s.prepared) s a b in
@@ -126,7 +126,7 @@ holds_granted g item fresh h = record {
       subst (λ (xs : List Item). In item xs)
       (sym (items_of-append g.tx (each_held g.tx g.items) (site_after g.before).held))
       (In-first item (items_of g.tx (each_held g.tx g.items)) (items_of g.tx (site_after g.before).held)
-          (subst (λ (xs : List Item). In item xs) (sym (items_of-each_held g.tx g.items)) h));
+      (subst (λ (xs : List Item). In item xs) (sym (items_of-each_held g.tx g.items)) h));
   phase =
       find_none g.tx (site_after g.before).prepared
       (none_after g.tx g.before empty_site fresh (λ p k. absurd k) (λ p k. absurd k));

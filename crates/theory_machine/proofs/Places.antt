@@ -57,7 +57,8 @@ at_from (e ∷ es) earlier o front small d (inl same) =
         | inr here ↦ elim here [
           | inl is ↦ let x : a.number ≡ e.number = ap (λ (y : Executed). y.number) is in absurd (omega arith)
           | inr later ↦ let x : length (earlier ++ e ∷ []) < a.number = above es (earlier ++ e ∷ []) o.1 a later in
-              let y = one_more earlier e in let z : e.number ≡ suc (length earlier) = o.0.numbered in absurd (omega arith)
+              let y = one_more earlier e in
+              let z : e.number ≡ suc (length earlier) = o.0.numbered in absurd (omega arith)
         ]
       ];
       one = λ a h l. elim (in_split a earlier (e ∷ es) h) [
@@ -66,7 +67,8 @@ at_from (e ∷ es) earlier o front small d (inl same) =
         | inr here ↦ elim here [
           | inl is ↦ is
           | inr later ↦ let x : length (earlier ++ e ∷ []) < a.number = above es (earlier ++ e ∷ []) o.1 a later in
-              let y = one_more earlier e in let z : e.number ≡ suc (length earlier) = o.0.numbered in absurd (omega arith)
+              let y = one_more earlier e in
+              let z : e.number ≡ suc (length earlier) = o.0.numbered in absurd (omega arith)
         ]
       ];
     })

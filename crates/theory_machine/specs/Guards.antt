@@ -24,29 +24,26 @@ use Rattle.theory_machine.specs.Site.{Item, Lock, Own, Promise, Installs, epoch_
 use Rattle.theory_machine.specs.Site.{empty_site, done_records}
 use Rattle.theory_machine.specs.Asked.{Guard, Asked, every_guard, AnswersFromView, InvocationIsDeclared}
 use Rattle.theory_machine.specs.Asked.{OperationsAreNumbered, OwnLinesAreKept, ViewWasShown, ViewIsWhole}
-use Rattle.theory_machine.specs.Asked.{ReadQuorumIsMet}
-use Rattle.theory_machine.specs.Asked.{AppendCarriesView, AppendCarriesOnlyOwnLines, AppendCarriesEarlierLines}
-use Rattle.theory_machine.specs.Asked.{GrantTellsEpoch, GrantsUnlessClosed, GrantPassesInstalls, GrantsWithoutConflict}
-use Rattle.theory_machine.specs.Asked.{GrantPassesDone, GrantPassesLines, SnapshotIsOfClosed, SnapshotPassesDone}
-use Rattle.theory_machine.specs.Asked.{SnapshotPassesInstalls, MergesEveryEntry, DecidePassesCommitted, DecidesByPlan}
-use Rattle.theory_machine.specs.Asked.{DecidesFromSnapshots, DecidesNextEpoch, ClosesEnough, ClosedSitesAnswered}
-use Rattle.theory_machine.specs.Asked.{ResolvesPrepared, MergesLogs, MergesOnlyCommitted, DecidePassesSnapshots}
-use Rattle.theory_machine.specs.Asked.{CommitsWhenVoting, AllHaveVoted, StampIsItsClients, StampPassesClock}
-use Rattle.theory_machine.specs.Asked.{RecordHasOperations, BeginsOnce, BeginsInPlannedEpoch, OperatesWhileActive}
-use Rattle.theory_machine.specs.Asked.{ChoosesOneAtATime, ChosenHasResponse, AppendsWhatIsChosen, AppendQuorumIsMet}
-use Rattle.theory_machine.specs.Asked.{AbsentHasNoResponse, GrantTellsDeeds, GrantTellsLife, GrantsWhatWasRequested}
-use Rattle.theory_machine.specs.Asked.{CountsWhatWasGranted, CountsWhileActive, CountsInItsEpoch, PreparesOnce}
-use Rattle.theory_machine.specs.Asked.{PreparesWhenExecuted, VotesWhenAsked, VotesInGrantedLife}
-use Rattle.theory_machine.specs.Asked.{RecordsPrepareWhenAsked}
-use Rattle.theory_machine.specs.Asked.{AbortsBeforeRecord, RisesWithNoneRunning, RisesPastRecords}
-use Rattle.theory_machine.specs.Asked.{LearnsWhatWasAnnounced}
+use Rattle.theory_machine.specs.Asked.{ReadQuorumIsMet, AppendCarriesView, AppendCarriesOnlyOwnLines}
+use Rattle.theory_machine.specs.Asked.{AppendCarriesEarlierLines, GrantTellsEpoch, GrantsUnlessClosed}
+use Rattle.theory_machine.specs.Asked.{GrantPassesInstalls, GrantsWithoutConflict, GrantPassesDone, GrantPassesLines}
+use Rattle.theory_machine.specs.Asked.{SnapshotIsOfClosed, SnapshotPassesDone, SnapshotPassesInstalls, MergesEveryEntry}
+use Rattle.theory_machine.specs.Asked.{DecidePassesCommitted, DecidesByPlan, DecidesFromSnapshots, DecidesNextEpoch}
+use Rattle.theory_machine.specs.Asked.{ClosesEnough, ClosedSitesAnswered, ResolvesPrepared, MergesLogs}
+use Rattle.theory_machine.specs.Asked.{MergesOnlyCommitted, DecidePassesSnapshots, CommitsWhenVoting, AllHaveVoted}
+use Rattle.theory_machine.specs.Asked.{StampIsItsClients, StampPassesClock, RecordHasOperations, BeginsOnce}
+use Rattle.theory_machine.specs.Asked.{BeginsInPlannedEpoch, OperatesWhileActive, ChoosesOneAtATime, ChosenHasResponse}
+use Rattle.theory_machine.specs.Asked.{AppendsWhatIsChosen, AppendQuorumIsMet, AbsentHasNoResponse, GrantTellsDeeds}
+use Rattle.theory_machine.specs.Asked.{GrantTellsLife, GrantsWhatWasRequested, CountsWhatWasGranted, CountsWhileActive}
+use Rattle.theory_machine.specs.Asked.{CountsInItsEpoch, PreparesOnce, PreparesWhenExecuted, VotesWhenAsked}
+use Rattle.theory_machine.specs.Asked.{VotesInGrantedLife, RecordsPrepareWhenAsked, AbortsBeforeRecord}
+use Rattle.theory_machine.specs.Asked.{RisesWithNoneRunning, RisesPastRecords, LearnsWhatWasAnnounced}
 use Rattle.theory_machine.specs.Asked.{SnapshotTellsDeeds, InstallsWhatWasDecided, InstallsLaterEpoch}
 use Rattle.theory_machine.specs.State.{Status, NotBegun, Active, Voting, Pending, Committed, AppendRequest, Granted}
 use Rattle.theory_machine.specs.State.{Verdict, Snapshot, Decision, State}
 use Rattle.theory_machine.specs.Acts.{Act, Begin, Choose, SendAppend, Execute, ExecuteAbsent, Grant, Count, Prepare}
-use Rattle.theory_machine.specs.Acts.{Vote}
-use Rattle.theory_machine.specs.Acts.{PrepareLost, Commit, CommitUnknown, Recover, Abort, RiseClient, Announce, Learn}
-use Rattle.theory_machine.specs.Acts.{Rise, Close, TakeSnapshot, Decide, Install, state}
+use Rattle.theory_machine.specs.Acts.{Vote, PrepareLost, Commit, CommitUnknown, Recover, Abort, RiseClient, Announce}
+use Rattle.theory_machine.specs.Acts.{Learn, Rise, Close, TakeSnapshot, Decide, Install, state}
 
 -- the operation's Read round is met: it comes next in its transaction, its view is all that the transaction was shown
 -- of the object, and its reply is one that the view allows

@@ -8,8 +8,7 @@ use Rattle.qc_list.specs.Names.{In}
 use Rattle.theory_onecopy.specs.Names.{committed_line}
 use Rattle.qc_stamp.specs.Names.{same_tx}
 use Rattle.theory_machine.specs.Site.{Item, Promise, Deed, Grants, Prepares, LearnsCommit, LearnsAbort, Closes}
-use Rattle.theory_machine.specs.Site.{Installs}
-use Rattle.theory_machine.specs.Site.{Rises, Site, items_of, promise_of, site_from}
+use Rattle.theory_machine.specs.Site.{Installs, Rises, Site, items_of, promise_of, site_from}
 
 -- records give what stands in the log, and a promise by which a transaction is prepared is kept
 pub record SiteLaws (s : Site) : Type 0 where

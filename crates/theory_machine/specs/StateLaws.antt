@@ -13,12 +13,10 @@ use Rattle.qc_list.specs.Names.{In}
 use Rattle.theory_onecopy.specs.Names.{Executed}
 use Rattle.qc_stamp.specs.Names.{same_tx}
 use Rattle.theory_machine.specs.Site.{Promise, Deed, Grants, Prepares, LearnsCommit, LearnsAbort, Closes, Installs}
-use Rattle.theory_machine.specs.Site.{Rises}
-use Rattle.theory_machine.specs.Site.{epoch_from, site_after}
+use Rattle.theory_machine.specs.Site.{Rises, epoch_from, site_after}
 use Rattle.theory_machine.specs.SiteLaws.{SparesUntilDone}
 use Rattle.theory_machine.specs.State.{Status, NotBegun, Voting, Committed, Aborted, Decision, Granted, Snapshot}
-use Rattle.theory_machine.specs.State.{YesVote}
-use Rattle.theory_machine.specs.State.{Verdict, State}
+use Rattle.theory_machine.specs.State.{YesVote, Verdict, State}
 use Rattle.theory_machine.specs.Guards.{MaySnapshot, IsResolved, HasRecord, MayPrepare, MayGrant, IsLive, op_of}
 
 -- a verdict is the status, which is final

@@ -99,7 +99,8 @@ module _ (decl : Declaration) (all : List Placed) (v : AreFromViews decl all) wh
               ∙ ap (λ x. committed_line s.by.stamp x (own_line s.by.operation)) (sym s.next.tx) in
               record {
                 by = s.by;
-                listed = in_front s.by s.listed (op_first (line_of s.by) (line_of b) s.next.stamp s.next.tx s.next.number);
+                listed =
+                    in_front s.by s.listed (op_first (line_of s.by) (line_of b) s.next.stamp s.next.tx s.next.number);
                 object = s.next.object;
                 some = s.some;
                 is = is;
@@ -154,7 +155,9 @@ module _ (decl : Declaration) (all : List Placed) (v : AreFromViews decl all) wh
             (λ same. not_stamp_less b.stamp (subst (λ (z : Stamp). stamp_cmp z b.stamp ≡ Less) same less)) e s d) [
               | inl there ↦ In-first (line_of c) b.operation.view
                   (map (λ (x : OwnLine). committed_line b.stamp b.tx x) b.operation.own) there
-              | inr wrong ↦ let le : c.stamp.clock ≤ b.stamp.clock = earlier_clocks c b (inl less) in absurd (omega arith)
+              | inr wrong ↦
+                  let le : c.stamp.clock ≤ b.stamp.clock = earlier_clocks c b (inl less) in
+                  absurd (omega arith)
             ]
         by (inr mine) = own_in c h (record { stamp = mine.0; tx = mine.1; number = mine.2; object = e }) s
 

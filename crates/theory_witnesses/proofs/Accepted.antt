@@ -1,24 +1,24 @@
 -- The declarations of the runs keep the rules: their relations are exact by certificates, and their quorums meet.
-use Rattle.std.proofs.Common.{◌≡◌, ◌<◌, ◌≤◌, ℕ, zero, suc, List, ◌∷◌, length, Option, Some, None, option_map}
-use Rattle.std.proofs.Common.{refl, subst, arith, slice_get}
+use Rattle.std.proofs.Common.{◌≡◌, ◌<◌, ◌≤◌, ℕ, zero, suc, List, ◌∷◌, length, Option, Some, None, option_map, refl}
+use Rattle.std.proofs.Common.{subst, arith, slice_get}
 use Rattle.qc_cert.proofs.Faultless.{inductive}
 use Rattle.qc_cert.proofs.Walk.{exact}
 use Rattle.qc_cert.specs.Names.{triple}
 use Rattle.qc_cert.specs.declared.triple.Triple.{Triple}
 use Rattle.qc_decl.specs.Names.{AreNames, AreThresholds, HasNames, HasThresholds, IsAccepted, IsGood, IsRight}
-use Rattle.qc_decl.specs.Names.{greatest_threshold, greatest_weight, kind_at, most_epochs, most_objects}
-use Rattle.qc_decl.specs.Names.{most_sites, register_kind, register_names}
+use Rattle.qc_decl.specs.Names.{greatest_threshold, greatest_weight, kind_at, most_epochs, most_objects, most_sites}
+use Rattle.qc_decl.specs.Names.{register_kind, register_names}
 use Rattle.qc_decl.specs.declared.declaration.KindNames.{KindNames}
 use Rattle.qc_table.specs.Names.{events_of}
 use Rattle.std.specs.Prelude.{All, codes, option_and_then, take}
 use Rattle.qc_decl.specs.declared.declaration.Declaration.{Declaration}
 use Rattle.qc_plan.specs.declared.plan.Plan.{Plan}
 use Rattle.theory_witnesses.proofs.Finding.{at_most, below, both, proof_of, same_number}
-use Rattle.theory_witnesses.specs.Names.{extra_kind, extra_store, latch_kind, latch_names, latch_store}
-use Rattle.theory_witnesses.specs.Names.{moving_register, store, three_in_two_epochs, ticket_kind, ticket_names}
-use Rattle.theory_witnesses.specs.Names.{ticket_store, two_registers}
+use Rattle.theory_witnesses.specs.Names.{extra_kind, extra_store, latch_kind, latch_names, latch_store, moving_register}
+use Rattle.theory_witnesses.specs.Names.{store, three_in_two_epochs, ticket_kind, ticket_names, ticket_store}
+use Rattle.theory_witnesses.specs.Names.{two_registers}
 use Rattle.qc_table.specs.declared.kind.Kind.{Kind}
-use Rattle.theory_witnesses.proofs.RelationsRight.{register_right, latch_right, unfolding, ticket_right, good_plan}
+use Rattle.theory_witnesses.proofs.RelationsRight.{register_right, latch_right, ticket_right, good_plan}
 use Rattle.theory_witnesses.proofs.RelationsRight.{each_place, each_item, names_found, parts_found, IsThreshold}
 use Rattle.theory_witnesses.proofs.RelationsRight.{IsWeight}
 
@@ -50,7 +50,7 @@ module _ (actors : ℕ) (kind : Kind) (names : KindNames) (objects : List ℕ) (
     where
       made : (length lists ≡ length objects)
           × (((place : ℕ) (list : List ℕ) → slice_get lists place ≡ Some list → length list ≡ places kind)
-              × All (All IsThreshold) lists)
+          × All (All IsThreshold) lists)
           → AreThresholds decl places lists
       made f = record {
         objects = f.0;
@@ -64,7 +64,7 @@ module _ (actors : ℕ) (kind : Kind) (names : KindNames) (objects : List ℕ) (
   all_thresholds_found typed plan =
       option_map made (both (each_item IsWeight (λ n. at_most n greatest_weight) plan.weights) (both
       (thresholds_found typed (λ k. k.table.invs) plan.initial)
-          (thresholds_found typed (λ k. length (events_of k.table.rows)) plan.last)))
+      (thresholds_found typed (λ k. length (events_of k.table.rows)) plan.last)))
     where
       made : All IsWeight plan.weights × (AreThresholds decl (λ k. k.table.invs) plan.initial
           × AreThresholds decl (λ k. length (events_of k.table.rows)) plan.last) → HasThresholds decl plan
@@ -82,11 +82,11 @@ module _ (actors : ℕ) (kind : Kind) (names : KindNames) (objects : List ℕ) (
   abbrev few_found : Option AreFew
   few_found = option_map made (both (both (below 0 actors) (at_most actors most_sites)) (both
       (both (below 0 (length objects)) (at_most (length objects) most_objects))
-          (both (below 0 (length plans)) (at_most (length plans) most_epochs))))
+      (both (below 0 (length plans)) (at_most (length plans) most_epochs))))
     where
       made : ((0 < actors) × (actors ≤ most_sites))
           × (((0 < length objects) × (length objects ≤ most_objects))
-            × ((0 < length plans) × (length plans ≤ most_epochs)))
+          × ((0 < length plans) × (length plans ≤ most_epochs)))
           → AreFew
       made f = record {
         some_actor = (f.0).0;
@@ -198,7 +198,7 @@ unfolding register_triples
 extra_right =
     record {
       sound = register_right.sound;
-      exact = exact extra_kind register_triples (inductive extra_kind register_triples register_right.sound refl)
+      exact = exact extra_kind register_triples (inductive extra_kind register_triples register_right.sound refl);
     }
 
 pub extra_store_accepted : IsAccepted extra_store

@@ -1,13 +1,12 @@
 -- The relations of the runs' declarations are exact by certificates, and their plans are good.
-use Rattle.std.proofs.Common.{true, ◌≡◌, ◌≤◌, ℕ, zero, suc, List, ◌∷◌, length, Option, Some, None, option_map}
-use Rattle.std.proofs.Common.{refl, subst, arith, slice_get}
+use Rattle.std.proofs.Common.{true, ◌≡◌, ◌≤◌, ℕ, zero, suc, List, ◌∷◌, length, Option, Some, None, option_map, refl}
+use Rattle.std.proofs.Common.{subst, arith, slice_get}
 use Rattle.qc_cert.proofs.Faultless.{inductive}
 use Rattle.qc_cert.proofs.Walk.{exact}
 use Rattle.qc_cert.specs.Names.{triple}
 use Rattle.qc_cert.specs.declared.triple.Triple.{Triple}
 use Rattle.qc_decl.proofs.BuiltInRules.{three_accepted}
-use Rattle.qc_decl.specs.Names.{AreNames, HasNames, IsGood, IsRight}
-use Rattle.qc_decl.specs.Names.{greatest_threshold, greatest_weight, is_name}
+use Rattle.qc_decl.specs.Names.{AreNames, HasNames, IsGood, IsRight, greatest_threshold, greatest_weight, is_name}
 use Rattle.qc_decl.specs.Names.{register_kind}
 use Rattle.qc_decl.proofs.Places.{all_differ, differ}
 use Rattle.qc_decl.specs.declared.declaration.KindNames.{KindNames}
@@ -22,8 +21,7 @@ use Rattle.qc_plan.specs.declared.fault.PlanFault.{PlanFault}
 use Rattle.qc_plan.specs.declared.plan.Plan.{Plan}
 use Rattle.theory_witnesses.proofs.Cases.{none_some, one_some}
 use Rattle.theory_witnesses.proofs.Finding.{at_most, both, is_true, same_number}
-use Rattle.theory_witnesses.specs.Names.{latch, latch_kind}
-use Rattle.theory_witnesses.specs.Names.{ticket, ticket_kind}
+use Rattle.theory_witnesses.specs.Names.{latch, latch_kind, ticket, ticket_kind}
 use Rattle.qc_table.specs.declared.kind.Kind.{Kind}
 
 pub register_right : IsRight register_kind
@@ -39,7 +37,7 @@ latch_sound =
       invs = omega arith;
       resps = omega arith;
       begins = omega arith;
-      faultless = refl
+      faultless = refl;
     }
 
 -- where view and log differ, what misses is the Arm, or both the Arm and its Fire
@@ -51,7 +49,7 @@ unfolding latch_triples
 latch_right =
     record {
       sound = latch_sound;
-      exact = exact latch_kind latch_triples (inductive latch_kind latch_triples latch_sound refl)
+      exact = exact latch_kind latch_triples (inductive latch_kind latch_triples latch_sound refl);
     }
 
 ticket_sound : IsSound ticket
@@ -64,7 +62,7 @@ ticket_sound =
       invs = omega arith;
       resps = omega arith;
       begins = omega arith;
-      faultless = refl
+      faultless = refl;
     }
 
 ticket_triples : List Triple
@@ -75,7 +73,7 @@ unfolding ticket_triples
 ticket_right =
     record {
       sound = ticket_sound;
-      exact = exact ticket_kind ticket_triples (inductive ticket_kind ticket_triples ticket_sound refl)
+      exact = exact ticket_kind ticket_triples (inductive ticket_kind ticket_triples ticket_sound refl);
     }
 
 abbrev no_fault : (o : Option PlanFault) → Option (o ≡ None)
@@ -87,17 +85,17 @@ abbrev pub good_plan : (decl : Declaration) (plan : Plan) → Option (IsGood dec
 good_plan decl plan =
     option_map made
     (both (same_number (length plan.weights) decl.sites)
-      (both (at_most (length plan.initial) (length decl.objects))
-        (both (at_most (length plan.last) (length decl.objects)) (no_fault (fault_of plan decl.kinds decl.objects)))))
+    (both (at_most (length plan.initial) (length decl.objects))
+    (both (at_most (length plan.last) (length decl.objects)) (no_fault (fault_of plan decl.kinds decl.objects)))))
   where
     made : (length plan.weights ≡ decl.sites)
         × ((length plan.initial ≤ length decl.objects)
-          × ((length plan.last ≤ length decl.objects) × (fault_of plan decl.kinds decl.objects ≡ None)))
+        × ((length plan.last ≤ length decl.objects) × (fault_of plan decl.kinds decl.objects ≡ None)))
         → IsGood decl plan
     made f =
         record {
           weights = f.0;
-          admitted = plan_proofs.admitted plan decl.kinds decl.objects ((f.1).0) (((f.1).1).0) (((f.1).1).1)
+          admitted = plan_proofs.admitted plan decl.kinds decl.objects ((f.1).0) (((f.1).1).0) (((f.1).1).1);
         }
 
 -- what holds of each place of a list
@@ -132,7 +130,7 @@ abbrev pub parts_found : (kind : Kind) (names : KindNames) → Option (HasNames 
 parts_found kind names =
     option_map made
     (both (names_found kind.table.states names.states)
-      (both (names_found kind.table.invs names.invs) (names_found kind.table.resps names.resps)))
+    (both (names_found kind.table.invs names.invs) (names_found kind.table.resps names.resps)))
   where
     made : AreNames kind.table.states names.states
         × (AreNames kind.table.invs names.invs × AreNames kind.table.resps names.resps) → HasNames kind names

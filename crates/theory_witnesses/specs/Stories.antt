@@ -5,8 +5,8 @@ use Rattle.qc_entry.specs.declared.line.OwnLine.{OwnLine}
 use Rattle.qc_stamp.specs.declared.stamp.Stamp.{Stamp}
 use Rattle.qc_stamp.specs.declared.stamp.TxId.{TxId}
 use Rattle.theory_witnesses.specs.Moves.{Call, Move, announces, begins, chooses, closes, commits, counts, decides}
-use Rattle.theory_witnesses.specs.Moves.{executes}
-use Rattle.theory_witnesses.specs.Moves.{grants_append, grants_read, installs, learns, prepares, sends, tells, votes}
+use Rattle.theory_witnesses.specs.Moves.{executes, grants_append, grants_read, installs, learns, prepares, sends, tells}
+use Rattle.theory_witnesses.specs.Moves.{votes}
 
 -- transactions of three clients
 abbrev pub first : TxId

@@ -9,11 +9,9 @@ use Rattle.theory_onecopy.specs.Names.{sorted}
 use Rattle.theory_machine.specs.Names.{IsAllowed, IsRun, state}
 use Rattle.theory_witnesses.specs.Moves.{Move, acts_of, aborts, announces, begins, chooses, closes, decides, executes}
 use Rattle.theory_witnesses.specs.Moves.{falls_committing, grants_append, grants_read, installs, learns, prepares}
-use Rattle.theory_witnesses.specs.Moves.{recovers}
-use Rattle.theory_witnesses.specs.Moves.{rises, rises_at, sends, tells, votes}
+use Rattle.theory_witnesses.specs.Moves.{recovers, rises, rises_at, sends, tells, votes}
 use Rattle.theory_witnesses.specs.Stories.{appends_at, commits_at, ends_at, first, locks, reads, reads_one, second}
-use Rattle.theory_witnesses.specs.Stories.{second_again}
-use Rattle.theory_witnesses.specs.Stories.{stamp_of, third, writes_one}
+use Rattle.theory_witnesses.specs.Stories.{second_again, stamp_of, third, writes_one}
 use Rattle.qc_stamp.specs.declared.stamp.TxId.{TxId}
 
 -- the declaration is accepted, the story is a run, and just these records were written, in the order of their stamps

@@ -1,7 +1,6 @@
-use Rattle.std.proofs.Common.{◌≡◌, ap, arith, length}
+use Rattle.std.proofs.Common.{◌≡◌, ap, arith, length, None}
 use Rattle.qc_table.specs.declared.row.Event.{Event}
 use Rattle.qc_table.specs.Names.{ranked, with_event}
-use Rattle.std.proofs.Common.{None}
 use Rattle.qc_table.proofs.Few.{too_many}
 use Rattle.qc_table.proofs.rows.events.Goals as goal
 

@@ -1,5 +1,4 @@
-use Rattle.std.proofs.Common.{◌∙◌, sym, subst}
-use Rattle.std.proofs.Common.{List}
+use Rattle.std.proofs.Common.{◌∙◌, sym, subst, List}
 use Rattle.qc_msg.specs.Names.{Entry}
 use Rattle.qc_fabric.specs.Names.{ArmsNoneBehind}
 use Rattle.qc_pass.specs.Names.{ends}
