@@ -4,11 +4,11 @@ use Rattle.std.proofs.Common.{Some, None, refl, sym, ap, subst}
 use Rattle.std.specs.Prelude.{is_some}
 use Rattle.std.specs.List.{AllByRecursion as Every}
 use Rattle.qc_decl.specs.declared.declaration.Declaration.{Declaration}
-use Rattle.qc_decl.specs.Names.{append_need_of, most_transaction_operations, read_need_of}
+use Rattle.qc_decl.specs.Vocabulary.{append_need_of, most_transaction_operations, read_need_of}
 use Rattle.qc_stamp.specs.declared.stamp.TxId.{TxId}
 use Rattle.qc_plan.specs.declared.standing.Verdict.{Verdict}
 use Rattle.qc_plan.specs.declared.standing.Verdict.TheVariants as verdicts
-use Rattle.qc_plan.specs.Names.{RoundState, note, verdict}
+use Rattle.qc_plan.specs.Vocabulary.{RoundState, note, verdict}
 use Rattle.qc_msg.specs.declared.begun.Begun.{Begun}
 use Rattle.qc_msg.specs.declared.call.Call.{Call}
 use Rattle.qc_msg.specs.declared.message.Answer.{Answer}
@@ -23,21 +23,22 @@ use Rattle.qc_msg.specs.declared.step.Input.{Input}
 use Rattle.qc_msg.specs.declared.step.Input.TheVariants as inputs
 use Rattle.qc_msg.specs.declared.turn.Posting.{Posting}
 use Rattle.qc_msg.specs.declared.turn.Turn.{Turn}
-use Rattle.qc_msg.specs.Names.{decisions, quiet, site_called, telling, without_call}
+use Rattle.qc_msg.specs.Vocabulary.{decisions, quiet, site_called, telling, without_call}
 use Rattle.qc_commit.specs.declared.desk.Voting.{Voting}
 use Rattle.qc_commit.specs.Conduct as desks
 use Rattle.qc_commit.specs.declared.desk.Desk.{Desk}
-use Rattle.qc_commit.specs.Names.{DeskMove}
+use Rattle.qc_commit.specs.Vocabulary.{DeskMove}
 use Rattle.qc_front.specs.declared.doing.Doing.{Doing}
 use Rattle.qc_front.specs.declared.doing.Doing.TheVariants.{Idle, Reading, Appending}
 use Rattle.qc_front.specs.declared.front.Front.{Front}
 use Rattle.qc_front.specs.declared.transaction.Transaction.{Transaction}
-use Rattle.qc_front.specs.Names.{aborts, answer_of, answered, append_by, appended_with, begins, gives_up, is_request}
-use Rattle.qc_front.specs.Names.{learns, moved, performs, read_by, read_with, reads, round_for, standing_of}
+use Rattle.qc_front.specs.Vocabulary.{aborts, answer_of, answered, append_by, appended_with, begins, gives_up}
+use Rattle.qc_front.specs.Vocabulary.{is_request, learns, moved, performs, read_by, read_with, reads, round_for}
+use Rattle.qc_front.specs.Vocabulary.{standing_of}
 use Rattle.qc_front.specs.Conduct as fronts
 use Rattle.qc_client.specs.declared.client.Client.{Client}
 use Rattle.qc_client.specs.Client as clients
-use Rattle.qc_client.specs.Names.{answered_by, called, client_takes, commits, heard}
+use Rattle.qc_client.specs.Vocabulary.{answered_by, called, client_takes, commits, heard}
 use Rattle.laws_turns.proofs.HandMoves.{IsHandMove, prepare-it, vote-it}
 
 -- a message that asks nothing of a site

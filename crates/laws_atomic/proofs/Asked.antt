@@ -3,25 +3,25 @@ use Rattle.std.proofs.Common.{◌≡◌, ℕ, zero, suc, ◌==◌, Bool, false, 
 use Rattle.std.proofs.Common.{slice_get, refl, sym, ap, ◌∙◌, subst}
 use Rattle.std.specs.List.{filter_map}
 use Rattle.std.proofs.lemmas.List.Elements.{filter_map-append}
-use Rattle.qc_list.specs.Names.{In}
+use Rattle.qc_list.specs.Vocabulary.{In}
 use Rattle.qc_list.proofs.Members.{In-first, In-last, In-unfiltered}
 use Rattle.theory_onecopy.proofs.Lists.{Mapped, in_split, map_in}
-use Rattle.qc_core.specs.Names.{IsLawful}
+use Rattle.qc_core.specs.Vocabulary.{IsLawful}
 use Rattle.qc_decl.specs.declared.declaration.Declaration.{Declaration}
 use Rattle.qc_msg.specs.declared.step.Command.{Command}
 use Rattle.qc_msg.specs.declared.step.Input.TheVariants as inputs
 use Rattle.qc_msg.specs.declared.step.Step.TheVariants as steps
-use Rattle.qc_msg.specs.Names.{Entry, Takes, deeds, marked}
+use Rattle.qc_msg.specs.Vocabulary.{Entry, Takes, deeds, marked}
 use Rattle.qc_msg.proofs.Growth.{deeds-taken}
-use Rattle.qc_script.specs.Names.{Runs, commands_for, inbox, phase_of, ready}
+use Rattle.qc_script.specs.Vocabulary.{Runs, commands_for, inbox, phase_of, ready}
 use Rattle.qc_script.specs.Runs.{takes}
 use Rattle.qc_script.specs.declared.script.CommandLine.{CommandLine}
 use Rattle.qc_script.specs.declared.script.PhaseLines.{PhaseLines}
 use Rattle.qc_script.specs.declared.script.Script.{Script}
 use Rattle.laws_turns.proofs.Calling.{run_asked}
-use Rattle.laws_turns.specs.Names.{asked_in_all, asked_until, call_in, calls_of}
-use Rattle.laws_refinement.specs.Names.{IsNamed}
-use Rattle.laws_atomic.specs.Names.{AreNamed}
+use Rattle.laws_turns.specs.Vocabulary.{asked_in_all, asked_until, call_in, calls_of}
+use Rattle.laws_refinement.specs.Vocabulary.{IsNamed}
+use Rattle.laws_atomic.specs.Vocabulary.{AreNamed}
 
 -- a command that phases ask has a line in one of them
 record Asks (c : Command) (phases : List PhaseLines) : Type 0 where

@@ -2,11 +2,11 @@
 -- in its first life and epoch.
 use Rattle.std.specs.Prelude.{◌≡◌, ℕ, true, refl}
 use Rattle.qc_decl.specs.declared.declaration.Declaration.{Declaration}
-use Rattle.qc_decl.specs.Names.{is_client, is_site}
+use Rattle.qc_decl.specs.Vocabulary.{is_client, is_site}
 use Rattle.qc_msg.specs.declared.step.Input.{Input}
-use Rattle.qc_client.specs.Names.{client_takes}
-use Rattle.qc_site.specs.Names.{SiteState, site_takes}
-use Rattle.laws_refinement.specs.Names.{MayCome, MayCommand, Net, Reaches, after_client, after_site, first_net}
+use Rattle.qc_client.specs.Vocabulary.{client_takes}
+use Rattle.qc_site.specs.Vocabulary.{SiteState, site_takes}
+use Rattle.laws_refinement.specs.Vocabulary.{MayCome, MayCommand, Net, Reaches, after_client, after_site, first_net}
 use Rattle.laws_refinement.specs.Net as nets
 use Rattle.laws_refinement.proofs.Machine.{put_one}
 use Rattle.laws_atomic.proofs.FirstSites.{IsAtFirst, IsCalmGiven, at_first}

@@ -1,17 +1,17 @@
 -- In a net in which nobody falls and no epoch is closed, each grant is of the first epoch, and of the life in which its
 -- site is.
 use Rattle.std.proofs.Common.{◌≡◌, ℕ, suc, ◌<◌, ◌≤◌, inl, inr, List, [], ◌∷◌, ◌++◌, sym, ap, ◌∙◌, subst, arith}
-use Rattle.qc_list.specs.Names.{In}
+use Rattle.qc_list.specs.Vocabulary.{In}
 use Rattle.qc_decl.specs.declared.declaration.Declaration.{Declaration}
-use Rattle.theory_machine.specs.Names.{Abort, Act, Announce, Begin, Choose, Close, Commit, CommitUnknown, Count, Decide}
-use Rattle.theory_machine.specs.Names.{Deed, Execute, ExecuteAbsent, Grant, Granted, GrantedLaw, Grants}
-use Rattle.theory_machine.specs.Names.{HasRisingEpochs, Install, IsAllowed, IsRun, Learn, Prepare, PrepareLost, Recover}
-use Rattle.theory_machine.specs.Names.{Rise, RiseClient, SendAppend, State, StateLaws, TakeSnapshot, Vote, after_act}
-use Rattle.theory_machine.specs.Names.{epoch_from, state}
+use Rattle.theory_machine.specs.Vocabulary.{Abort, Act, Announce, Begin, Choose, Close, Commit, CommitUnknown, Count}
+use Rattle.theory_machine.specs.Vocabulary.{Decide, Deed, Execute, ExecuteAbsent, Grant, Granted, GrantedLaw, Grants}
+use Rattle.theory_machine.specs.Vocabulary.{HasRisingEpochs, Install, IsAllowed, IsRun, Learn, Prepare, PrepareLost}
+use Rattle.theory_machine.specs.Vocabulary.{Recover, Rise, RiseClient, SendAppend, State, StateLaws, TakeSnapshot, Vote}
+use Rattle.theory_machine.specs.Vocabulary.{after_act, epoch_from, state}
 use Rattle.theory_machine.proofs.Epochs.{epoch-append, rising-left, rising-right, upward}
 use Rattle.theory_machine.proofs.Keeps.{laws}
 use Rattle.theory_machine.proofs.Names.{put_case}
-use Rattle.laws_refinement.specs.Names.{Mirrors, Net, SiteMirrors}
+use Rattle.laws_refinement.specs.Vocabulary.{Mirrors, Net, SiteMirrors}
 use Rattle.laws_atomic.proofs.Calm.{IsCalm, all_first, all_up}
 
 -- the machine's lives begin with 1, and each grant is of one

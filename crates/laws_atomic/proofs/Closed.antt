@@ -2,20 +2,20 @@
 -- invocation depends.
 use Rattle.std.proofs.Common.{◌≡◌, ℕ, true, List, refl, subst}
 use Rattle.qc_stamp.specs.declared.stamp.TxId.{TxId}
-use Rattle.qc_list.specs.Names.{In}
+use Rattle.qc_list.specs.Vocabulary.{In}
 use Rattle.qc_entry.specs.declared.line.Line.{Line}
 use Rattle.qc_entry.specs.declared.line.OwnLine.{OwnLine}
 use Rattle.qc_decl.specs.declared.declaration.Declaration.{Declaration}
-use Rattle.qc_decl.specs.Names.{IsAccepted, is_site}
+use Rattle.qc_decl.specs.Vocabulary.{IsAccepted, is_site}
 use Rattle.qc_msg.specs.declared.message.Envelope.{Envelope}
 use Rattle.qc_msg.specs.declared.message.Message.{Message}
 use Rattle.qc_msg.specs.declared.message.Message.TheVariants as messages
 use Rattle.qc_msg.specs.declared.message.Want.TheVariants.{Append}
-use Rattle.theory_onecopy.specs.Names.{IsClosedLog, IsLogged}
-use Rattle.theory_machine.specs.Names.{OfAppend, OfSite, site_after, state}
+use Rattle.theory_onecopy.specs.Vocabulary.{IsClosedLog, IsLogged}
+use Rattle.theory_machine.specs.Vocabulary.{OfAppend, OfSite, site_after, state}
 use Rattle.theory_machine.proofs.ClaimLaws as claims
-use Rattle.laws_refinement.specs.Names.{Backed, Net, Reaches, Refines, SiteMirrors, own_items}
-use Rattle.qc_site.specs.Names.{known}
+use Rattle.laws_refinement.specs.Vocabulary.{Backed, Net, Reaches, Refines, SiteMirrors, own_items}
+use Rattle.qc_site.specs.Vocabulary.{known}
 use Rattle.laws_refinement.proofs.Refining.{nets_refine}
 
 module _ (decl : Declaration) (accepted : IsAccepted decl) (net : Net) (reached : Reaches decl net) where

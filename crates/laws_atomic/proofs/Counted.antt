@@ -5,14 +5,14 @@ use Rattle.std.proofs.Common.{None, option_map, refl, sym, ap, ◌∙◌, subst,
 use Rattle.std.specs.Prelude.{is_none}
 use Rattle.std.specs.List.{find}
 use Rattle.qc_stamp.specs.declared.stamp.TxId.{TxId}
-use Rattle.qc_list.specs.Names.{In}
+use Rattle.qc_list.specs.Vocabulary.{In}
 use Rattle.qc_entry.specs.declared.line.Line.{Line}
 use Rattle.qc_msg.specs.declared.message.Answer.{Answer}
 use Rattle.qc_msg.specs.declared.message.Answer.TheVariants as answers
 use Rattle.qc_msg.specs.declared.message.Want.{Want}
 use Rattle.qc_msg.specs.declared.message.Want.TheVariants.{Read, Append, Prepare}
-use Rattle.qc_promise.specs.Names.{Account, ClientRequest, Current, counted, counted_for, granted, is_append, is_open}
-use Rattle.qc_promise.specs.Names.{is_prepare, lived, promised, taken_for, told_by, with_read}
+use Rattle.qc_promise.specs.Vocabulary.{Account, ClientRequest, Current, counted, counted_for, granted, is_append}
+use Rattle.qc_promise.specs.Vocabulary.{is_open, is_prepare, lived, promised, taken_for, told_by, with_read}
 use Rattle.laws_due.proofs.OpenRequests.{IsFound, found}
 
 -- the name of the begun transaction

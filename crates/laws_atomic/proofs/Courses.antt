@@ -5,10 +5,10 @@ use Rattle.std.specs.Prelude.{is_some}
 use Rattle.std.specs.List.{AllByRecursion as Every}
 use Rattle.std.proofs.lemmas.List.Sums.{fold-append}
 use Rattle.qc_stamp.specs.declared.stamp.TxId.{TxId}
-use Rattle.qc_list.specs.Names.{In}
+use Rattle.qc_list.specs.Vocabulary.{In}
 use Rattle.qc_list.proofs.Members.{In-second}
 use Rattle.qc_decl.specs.declared.declaration.Declaration.{Declaration}
-use Rattle.qc_decl.specs.Names.{is_client}
+use Rattle.qc_decl.specs.Vocabulary.{is_client}
 use Rattle.qc_entry.specs.declared.record.Commit.{Commit}
 use Rattle.qc_msg.specs.declared.record.Record.{Record}
 use Rattle.qc_msg.specs.declared.record.Record.TheVariants as records
@@ -16,13 +16,13 @@ use Rattle.qc_msg.specs.declared.reply.Reply.{Reply}
 use Rattle.qc_msg.specs.declared.step.Input.{Input}
 use Rattle.qc_msg.specs.declared.turn.Posting.{Posting}
 use Rattle.qc_msg.specs.declared.turn.Turn.{Turn}
-use Rattle.qc_msg.specs.Names.{Deed, Sends, Takes, Writes, quiet, sends_of, tells_of, turn_deeds, writes_of}
-use Rattle.qc_client.specs.Names.{ClientMove, client_after, client_does, client_takes, moved, new_client}
-use Rattle.qc_core.specs.Names.{Acts, IsLawful, MayTake, posts, starts, takes}
-use Rattle.qc_promise.specs.Names.{Account, AreRightFrom, Sight, Status, account_at, account_sent, account_taken}
-use Rattle.qc_promise.specs.Names.{new_account, no_sight, running_row, sight, sight_sent, sight_taken, status_at}
+use Rattle.qc_msg.specs.Vocabulary.{Deed, Sends, Takes, Writes, quiet, sends_of, tells_of, turn_deeds, writes_of}
+use Rattle.qc_client.specs.Vocabulary.{ClientMove, client_after, client_does, client_takes, moved, new_client}
+use Rattle.qc_core.specs.Vocabulary.{Acts, IsLawful, MayTake, posts, starts, takes}
+use Rattle.qc_promise.specs.Vocabulary.{Account, AreRightFrom, Sight, Status, account_at, account_sent, account_taken}
+use Rattle.qc_promise.specs.Vocabulary.{new_account, no_sight, running_row, sight, sight_sent, sight_taken, status_at}
 use Rattle.qc_promise.specs.Status as statuses
-use Rattle.laws_due.specs.Names.{AreByRows, Ties}
+use Rattle.laws_due.specs.Vocabulary.{AreByRows, Ties}
 use Rattle.laws_due.proofs.Commands.{lawful_turn, may_give}
 use Rattle.laws_due.proofs.Courses.{clients_due, clients_tied, turns_tell}
 use Rattle.laws_atomic.proofs.Alone.{AsksNothing, IsAlone, replies_alone}

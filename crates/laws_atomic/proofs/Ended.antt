@@ -1,11 +1,11 @@
 -- A reply is due only where no request of the command is open.
-use Rattle.std.proofs.Common.{◌≡◌, ℕ, ◌==◌, ◌&&◌, nat_le, Bool, true, false, cond, List, filter, length, map, Option}
-use Rattle.std.proofs.Common.{Some, None, refl, sym, ap, ◌∙◌, subst}
+use Rattle.std.proofs.Common.{[], ◌≡◌, ℕ, ◌==◌, ◌&&◌, nat_le, Bool, true, false, cond, List, filter, length, map}
+use Rattle.std.proofs.Common.{Option, Some, None, refl, sym, ap, ◌∙◌, subst}
 use Rattle.std.specs.Prelude.{is_some, option_and_then}
 use Rattle.std.specs.List.{AllByRecursion as Every, find, list_all}
-use Rattle.qc_list.specs.Names.{In}
+use Rattle.qc_list.specs.Vocabulary.{In}
 use Rattle.qc_list.proofs.Members.{In-filter, every-In}
-use Rattle.qc_decl.specs.Names.{append_need_of, most_transaction_operations, read_need_of}
+use Rattle.qc_decl.specs.Vocabulary.{append_need_of, most_transaction_operations, read_need_of}
 use Rattle.qc_decl.specs.declared.declaration.Declaration.{Declaration}
 use Rattle.qc_msg.specs.declared.message.Answer.{Answer}
 use Rattle.qc_msg.specs.declared.message.Want.{Want}
@@ -14,13 +14,13 @@ use Rattle.qc_msg.specs.declared.reply.Reply.TheVariants as replies
 use Rattle.qc_msg.specs.declared.reply.AbortCause.TheVariants as causes
 use Rattle.qc_msg.specs.declared.step.Command.{Command}
 use Rattle.qc_msg.specs.declared.step.Command.TheVariants as commands
-use Rattle.qc_plan.specs.Names.{RoundState, all_noted, verdict}
-use Rattle.qc_promise.specs.Names.{Account, ClientRequest, Current, answer_of, answer_row, append_row, are_votes_in}
-use Rattle.qc_promise.specs.Names.{asked_by, counted, counted_for, first_against, is_append, is_open, is_prepare}
-use Rattle.qc_promise.specs.Names.{is_read, participants, read_row, requests_for, round_of, row_of, running_row}
-use Rattle.qc_promise.specs.Names.{taken_for, told_by, vote_row}
+use Rattle.qc_plan.specs.Vocabulary.{RoundState, all_noted, verdict}
+use Rattle.qc_promise.specs.Vocabulary.{Account, ClientRequest, Current, answer_of, answer_row, append_row}
+use Rattle.qc_promise.specs.Vocabulary.{are_votes_in, asked_by, counted, counted_for, first_against, is_append, is_open}
+use Rattle.qc_promise.specs.Vocabulary.{is_prepare, is_read, participants, read_row, requests_for, round_of, row_of}
+use Rattle.qc_promise.specs.Vocabulary.{running_row, taken_for, told_by, vote_row}
 use Rattle.qc_entry.specs.declared.line.Op.{Op}
-use Rattle.laws_due.specs.Names.{IsDo, IsOpenIn}
+use Rattle.laws_due.specs.Vocabulary.{IsDo, IsOpenIn}
 use Rattle.laws_due.proofs.Halves.{waiting_verdict}
 use Rattle.laws_due.proofs.Nothing.{do_row_is}
 use Rattle.laws_due.proofs.OpenRequests.{IsFound, every_taken, found}

@@ -1,14 +1,14 @@
 -- A site that takes neither a Close nor an Install stays in its first life and epoch.
 use Rattle.std.proofs.Common.{◌≡◌, ℕ, List, [], ◌∷◌, fold, None, refl, subst}
 use Rattle.std.specs.List.{AllByRecursion as Every}
-use Rattle.qc_stamp.specs.Names.{first_life}
+use Rattle.qc_stamp.specs.Vocabulary.{first_life}
 use Rattle.qc_decl.specs.declared.declaration.Declaration.{Declaration}
 use Rattle.qc_msg.specs.declared.message.Message.{Message}
 use Rattle.qc_msg.specs.declared.message.Message.TheVariants as messages
 use Rattle.qc_msg.specs.declared.step.Input.{Input}
 use Rattle.qc_msg.specs.declared.step.Input.TheVariants as inputs
-use Rattle.qc_msg.specs.Names.{Deed, Falls, Rises, Sends, Takes, Tells, Writes, first_epoch, quiet}
-use Rattle.qc_site.specs.Names.{SiteMove, SiteState, moved, new_site, passed, site_after, site_does, site_takes}
+use Rattle.qc_msg.specs.Vocabulary.{Deed, Falls, Rises, Sends, Takes, Tells, Writes, first_epoch, quiet}
+use Rattle.qc_site.specs.Vocabulary.{SiteMove, SiteState, moved, new_site, passed, site_after, site_does, site_takes}
 use Rattle.qc_site.proofs.Cases.{state_cases}
 
 -- the site of this number in its first life and epoch, which it hasn't closed

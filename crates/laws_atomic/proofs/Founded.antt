@@ -2,7 +2,7 @@
 -- requests that were granted.
 use Rattle.std.proofs.Common.{◌≡◌, ℕ, false, List, ◌++◌}
 use Rattle.qc_stamp.specs.declared.stamp.TxId.{TxId}
-use Rattle.qc_list.specs.Names.{In}
+use Rattle.qc_list.specs.Vocabulary.{In}
 use Rattle.qc_list.proofs.Members.{In-first}
 use Rattle.qc_entry.specs.declared.line.Line.{Line}
 use Rattle.qc_entry.specs.declared.record.Commit.{Commit}
@@ -12,8 +12,8 @@ use Rattle.qc_msg.specs.declared.message.Message.TheVariants.{Answer, Request}
 use Rattle.qc_msg.specs.declared.message.Want.{Want}
 use Rattle.qc_msg.specs.declared.record.Record.TheVariants as records
 use Rattle.qc_msg.specs.declared.step.Input.TheVariants as inputs
-use Rattle.qc_msg.specs.Names.{Deed, Sends, Takes, Writes}
-use Rattle.qc_promise.specs.Names.{is_prepare}
+use Rattle.qc_msg.specs.Vocabulary.{Deed, Sends, Takes, Writes}
+use Rattle.qc_promise.specs.Vocabulary.{is_prepare}
 use Rattle.laws_atomic.proofs.Seeing.{IsUpTo}
 
 pub record AreFounded (commits : List Commit) (ds : List Deed) : Type 0 where

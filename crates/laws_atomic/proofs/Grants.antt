@@ -1,9 +1,9 @@
 -- Grants of every net that may come about: a grant's clock has passed its lines, and it answers a request that asked
 -- for no promise.
 use Rattle.std.proofs.Common.{◌≡◌, ◌≤◌, ℕ, false, List, refl, subst, arith}
-use Rattle.qc_list.specs.Names.{In}
+use Rattle.qc_list.specs.Vocabulary.{In}
 use Rattle.qc_entry.specs.declared.line.Line.{Line}
-use Rattle.qc_decl.specs.Names.{IsAccepted}
+use Rattle.qc_decl.specs.Vocabulary.{IsAccepted}
 use Rattle.qc_decl.specs.declared.declaration.Declaration.{Declaration}
 use Rattle.qc_msg.specs.declared.message.Answer.TheVariants.{Granted}
 use Rattle.qc_msg.specs.declared.message.Envelope.{Envelope}
@@ -11,10 +11,10 @@ use Rattle.qc_msg.specs.declared.message.Message.{Message}
 use Rattle.qc_msg.specs.declared.message.Message.TheVariants.{Answer}
 use Rattle.qc_msg.specs.declared.message.Want.{Want}
 use Rattle.qc_msg.specs.declared.message.Want.TheVariants.{Read, Append, Prepare}
-use Rattle.qc_promise.specs.Names.{is_prepare}
-use Rattle.theory_machine.specs.Names.{state}
+use Rattle.qc_promise.specs.Vocabulary.{is_prepare}
+use Rattle.theory_machine.specs.Vocabulary.{state}
 use Rattle.theory_machine.proofs.Keeps.{laws}
-use Rattle.laws_refinement.specs.Names.{Backed, IsGrantTo, IsGrantable, Net, Reaches, Refines}
+use Rattle.laws_refinement.specs.Vocabulary.{Backed, IsGrantTo, IsGrantable, Net, Reaches, Refines}
 use Rattle.laws_refinement.proofs.Refining.{nets_refine}
 
 pub no_promise : (want : Want) → IsGrantable want → is_prepare want ≡ false

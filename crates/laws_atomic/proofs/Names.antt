@@ -6,17 +6,17 @@ use Rattle.std.specs.Str.{bytes_eq}
 use Rattle.std.proofs.lemmas.List.Quantifiers.{position-Some}
 use Rattle.qc_list.proofs.Members.{every-In}
 use Rattle.qc_table.specs.declared.kind.Kind.{Kind}
-use Rattle.qc_decl.specs.Names.{IsAccepted, inv_named, place_of}
+use Rattle.qc_decl.specs.Vocabulary.{IsAccepted, inv_named, place_of}
 use Rattle.qc_decl.specs.declared.declaration.Declaration.{Declaration}
 use Rattle.qc_decl.specs.declared.declaration.KindNames.{KindNames}
 use Rattle.qc_msg.specs.declared.step.Command.{Command}
 use Rattle.qc_msg.specs.declared.step.Command.TheVariants.{Begin, Do, Commit, Abort, Epoch}
-use Rattle.qc_script.specs.Names.{IsAskedFor, IsCommandFor, IsPhaseFor, IsScriptFor}
+use Rattle.qc_script.specs.Vocabulary.{IsAskedFor, IsCommandFor, IsPhaseFor, IsScriptFor}
 use Rattle.qc_script.specs.declared.script.Script.{Script}
 use Rattle.laws_turns.proofs.Places.{slice_get-within}
-use Rattle.laws_refinement.specs.Names.{IsNamed, IsNamedAt, IsPlanned}
+use Rattle.laws_refinement.specs.Vocabulary.{IsNamed, IsNamedAt, IsPlanned}
 use Rattle.qc_plan.specs.declared.plan.Plan.{Plan}
-use Rattle.laws_atomic.specs.Names.{AreNamed}
+use Rattle.laws_atomic.specs.Vocabulary.{AreNamed}
 
 module _ (decl : Declaration) (accepted : IsAccepted decl) where
   -- an invocation that has a name is its type's

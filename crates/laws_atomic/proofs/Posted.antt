@@ -16,12 +16,12 @@ use Rattle.qc_msg.specs.declared.step.Step.{Step}
 use Rattle.qc_msg.specs.declared.step.Step.TheVariants as steps
 use Rattle.qc_msg.specs.declared.turn.Posting.{Posting}
 use Rattle.qc_msg.specs.declared.turn.Turn.{Turn}
-use Rattle.qc_msg.specs.Names.{Deed, Entry, Sends, Takes, by, commit_in, commit_of, marked, posted, quiet, sends_of}
-use Rattle.qc_msg.specs.Names.{sents, step_of, tells_of, told, turn_deeds, writes_of, written, wrote}
-use Rattle.qc_script.specs.Names.{step_of_control}
-use Rattle.qc_client.specs.Names.{ClientMove, client_after, client_does, moved as client_moved, new_client}
-use Rattle.qc_site.specs.Names.{SiteMove, moved as site_moved, new_site, site_after, site_does, site_takes}
-use Rattle.laws_refinement.specs.Names.{commits_in, sent_all}
+use Rattle.qc_msg.specs.Vocabulary.{Deed, Entry, Sends, Takes, by, commit_in, commit_of, marked, posted, quiet}
+use Rattle.qc_msg.specs.Vocabulary.{sends_of, sents, step_of, tells_of, told, turn_deeds, writes_of, written, wrote}
+use Rattle.qc_script.specs.Vocabulary.{step_of_control}
+use Rattle.qc_client.specs.Vocabulary.{ClientMove, client_after, client_does, moved as client_moved, new_client}
+use Rattle.qc_site.specs.Vocabulary.{SiteMove, moved as site_moved, new_site, site_after, site_does, site_takes}
+use Rattle.laws_refinement.specs.Vocabulary.{commits_in, sent_all}
 
 -- a site
 

@@ -1,25 +1,25 @@
 -- So each run of a script is a net's, and what every net keeps, every run keeps.
 use Rattle.std.proofs.Common.{◌≡◌, ℕ, Bool, true, false, List, [], Some, slice_get, sym, subst}
-use Rattle.qc_list.specs.Names.{In}
+use Rattle.qc_list.specs.Vocabulary.{In}
 use Rattle.qc_entry.specs.declared.line.Line.{Line}
 use Rattle.qc_entry.specs.declared.line.OwnLine.{OwnLine}
 use Rattle.qc_entry.specs.declared.record.Commit.{Commit as CommitRecord}
-use Rattle.qc_core.specs.Names.{IsLawful}
-use Rattle.qc_decl.specs.Names.{IsAccepted, is_site}
+use Rattle.qc_core.specs.Vocabulary.{IsLawful}
+use Rattle.qc_decl.specs.Vocabulary.{IsAccepted, is_site}
 use Rattle.qc_decl.specs.declared.declaration.Declaration.{Declaration}
 use Rattle.qc_msg.specs.declared.message.Envelope.{Envelope}
 use Rattle.qc_msg.specs.declared.message.Message.TheVariants.{Decision, Request}
 use Rattle.qc_msg.specs.declared.message.Outcome.{Outcome}
 use Rattle.qc_msg.specs.declared.message.Want.TheVariants.{Append}
-use Rattle.qc_msg.specs.Names.{Entry, deeds, mail, written}
-use Rattle.theory_onecopy.specs.Names.{AreApart, IsClosedLog, IsLogged, OneCopy, sorted}
-use Rattle.qc_script.specs.Names.{IsScriptFor, Runs}
+use Rattle.qc_msg.specs.Vocabulary.{Entry, deeds, mail, written}
+use Rattle.theory_onecopy.specs.Vocabulary.{AreApart, IsClosedLog, IsLogged, OneCopy, sorted}
+use Rattle.qc_script.specs.Vocabulary.{IsScriptFor, Runs}
 use Rattle.qc_script.specs.declared.script.Script.{Script}
-use Rattle.qc_site.specs.Names.{SiteState, known, site_after}
+use Rattle.qc_site.specs.Vocabulary.{SiteState, known, site_after}
 use Rattle.qc_stamp.specs.declared.stamp.TxId.{TxId}
-use Rattle.laws_refinement.specs.Names.{IsTrueVerdict, lines_in}
+use Rattle.laws_refinement.specs.Vocabulary.{IsTrueVerdict, lines_in}
 use Rattle.laws_refinement.proofs.NetLaws as nets
-use Rattle.laws_atomic.specs.Names.{IsReached}
+use Rattle.laws_atomic.specs.Vocabulary.{IsReached}
 use Rattle.laws_atomic.proofs.Closed as closed_logs
 use Rattle.laws_atomic.proofs.Calm.{all_up, is_reached}
 use Rattle.laws_atomic.proofs.RunsStand.{runs_stand}

@@ -5,8 +5,8 @@ use Rattle.std.specs.Prelude.{fold, replicate, slice_set}
 use Rattle.std.proofs.lemmas.List.{append-nil}
 use Rattle.std.proofs.lemmas.List.Sums.{fold-append}
 use Rattle.qc_entry.specs.declared.record.Commit.{Commit as CommitRecord}
-use Rattle.qc_core.specs.Names.{IsLawful, MayTake}
-use Rattle.qc_decl.specs.Names.{IsAccepted, actors, controller, is_client, is_site}
+use Rattle.qc_core.specs.Vocabulary.{IsLawful, MayTake}
+use Rattle.qc_decl.specs.Vocabulary.{IsAccepted, actors, controller, is_client, is_site}
 use Rattle.qc_decl.specs.declared.declaration.Declaration.{Declaration}
 use Rattle.qc_msg.specs.declared.message.Envelope.{Envelope}
 use Rattle.qc_msg.specs.declared.step.Command.{Command}
@@ -16,20 +16,20 @@ use Rattle.qc_msg.specs.declared.step.Step.{Step}
 use Rattle.qc_msg.specs.declared.step.Step.TheVariants as steps
 use Rattle.qc_msg.specs.declared.turn.Posting.{Posting}
 use Rattle.qc_msg.specs.declared.turn.Turn.{Turn}
-use Rattle.qc_msg.specs.Names.{Deed, Entry, Takes, WasSentTo, by, commit_in, deeds, envelopes, mail, marked, posted}
-use Rattle.qc_msg.specs.Names.{step_of, written}
+use Rattle.qc_msg.specs.Vocabulary.{Deed, Entry, Takes, WasSentTo, by, commit_in, deeds, envelopes, mail, marked}
+use Rattle.qc_msg.specs.Vocabulary.{posted, step_of, written}
 use Rattle.qc_msg.proofs.GrownMail.{mail-append, mail-posted, mail-taken}
 use Rattle.qc_msg.proofs.DeedsGrow.{deeds-other}
 use Rattle.qc_msg.proofs.Growth.{deeds-posted, deeds-taken}
-use Rattle.qc_script.specs.Names.{IsScriptFor, Runs, phase_of, ready}
+use Rattle.qc_script.specs.Vocabulary.{IsScriptFor, Runs, phase_of, ready}
 use Rattle.qc_script.specs.Runs.{begins, takes, posts, phase, control}
 use Rattle.qc_script.specs.declared.script.Script.{Script}
-use Rattle.qc_client.specs.Names.{ClientMove, client_after, client_takes}
+use Rattle.qc_client.specs.Vocabulary.{ClientMove, client_after, client_takes}
 use Rattle.qc_client.specs.declared.client.Client.{Client}
-use Rattle.qc_front.specs.Names.{is_idle}
+use Rattle.qc_front.specs.Vocabulary.{is_idle}
 use Rattle.qc_front.specs.declared.doing.Doing.{Doing}
 use Rattle.qc_front.specs.declared.doing.Doing.TheVariants.{Idle, Reading, Appending}
-use Rattle.qc_site.specs.Names.{SiteMove, SiteState, site_after, site_takes}
+use Rattle.qc_site.specs.Vocabulary.{SiteMove, SiteState, site_after, site_takes}
 use Rattle.laws_turns.proofs.Acted.{deeds-silent, run_acts}
 use Rattle.laws_turns.proofs.Arrivals.{what_is_ready_was_sent}
 use Rattle.laws_turns.proofs.Numbered.{IsSilent, control_silent, mail-silent, phase_silent}
@@ -38,13 +38,13 @@ use Rattle.laws_turns.proofs.Proper.{run_proper}
 use Rattle.laws_turns.proofs.TurnReplies.{after_taken}
 use Rattle.laws_turns.proofs.Replying.{client_replies}
 use Rattle.laws_turns.proofs.Running.{what_is_ready_may_be_taken}
-use Rattle.laws_turns.specs.Names.{is_waiting}
+use Rattle.laws_turns.specs.Vocabulary.{is_waiting}
 use Rattle.laws_turns.proofs.Waiting.{round_none, votes_none}
-use Rattle.qc_promise.specs.Names.{account, account_at, new_account}
-use Rattle.laws_due.specs.Names.{Ties}
+use Rattle.qc_promise.specs.Vocabulary.{account, account_at, new_account}
+use Rattle.laws_due.specs.Vocabulary.{Ties}
 use Rattle.laws_due.proofs.Courses.{clients_tied}
 use Rattle.laws_due.proofs.AccountDeclared.{asks_declared}
-use Rattle.laws_refinement.specs.Names.{MayCommand, after_client, after_site, commits_in, first_net, sent_all}
+use Rattle.laws_refinement.specs.Vocabulary.{MayCommand, after_client, after_site, commits_in, first_net, sent_all}
 use Rattle.laws_refinement.proofs.Machine.{put_one}
 use Rattle.laws_atomic.proofs.Asked.{ready_named}
 use Rattle.laws_atomic.proofs.Calm as calm

@@ -3,13 +3,14 @@ use Rattle.std.proofs.Common.{◌≡◌, ◌≢◌, ◌≤◌, ◌<◌, ℕ, tru
 use Rattle.std.specs.List.{cons_option}
 use Rattle.qc_stamp.specs.declared.stamp.Stamp.{Stamp}
 use Rattle.qc_stamp.specs.declared.stamp.TxId.{TxId}
-use Rattle.qc_list.specs.Names.{In}
+use Rattle.qc_list.specs.Vocabulary.{In}
 use Rattle.qc_entry.specs.declared.record.Commit.{Commit}
-use Rattle.qc_msg.specs.Names.{Deed}
+use Rattle.qc_msg.specs.Vocabulary.{Deed}
 use Rattle.theory_onecopy.proofs.Orders.{clock_less}
-use Rattle.qc_promise.specs.Names.{Account, HasBefore, Sight, Status, given_up, is_begun, status_sent, status_written}
+use Rattle.qc_promise.specs.Vocabulary.{Account, HasBefore, Sight, Status, given_up, is_begun, status_sent}
+use Rattle.qc_promise.specs.Vocabulary.{status_written}
 use Rattle.qc_promise.specs.Status as statuses
-use Rattle.laws_turns.specs.Names.{written_by}
+use Rattle.laws_turns.specs.Vocabulary.{written_by}
 use Rattle.laws_atomic.proofs.Counted.{IsOpen, name_of}
 
 -- a record of the transaction whose stamp's clock is at most this

@@ -3,33 +3,33 @@ use Rattle.std.proofs.Common.{◌≡◌, ◌≤◌, ℕ, Bool, true, false, List
 use Rattle.std.proofs.Common.{arith}
 use Rattle.qc_stamp.specs.declared.stamp.Stamp.{Stamp}
 use Rattle.qc_stamp.specs.declared.stamp.TxId.{TxId}
-use Rattle.qc_list.specs.Names.{In}
-use Rattle.qc_core.specs.Names.{IsLawful}
-use Rattle.qc_decl.specs.Names.{IsAccepted, client_actor, is_client}
+use Rattle.qc_list.specs.Vocabulary.{In}
+use Rattle.qc_core.specs.Vocabulary.{IsLawful}
+use Rattle.qc_decl.specs.Vocabulary.{IsAccepted, client_actor, is_client}
 use Rattle.qc_decl.specs.declared.declaration.Declaration.{Declaration}
 use Rattle.qc_entry.specs.declared.line.Line.{Line}
 use Rattle.qc_entry.specs.declared.record.Commit.{Commit}
 use Rattle.laws_turns.proofs.Acted.{run_acts}
-use Rattle.laws_turns.specs.Names.{ActsIn}
+use Rattle.laws_turns.specs.Vocabulary.{ActsIn}
 use Rattle.qc_msg.specs.declared.message.Answer.TheVariants.{Granted}
 use Rattle.qc_msg.specs.declared.message.Envelope.{Envelope}
 use Rattle.qc_msg.specs.declared.message.Message.{Message}
 use Rattle.qc_msg.specs.declared.message.Message.TheVariants.{Answer, Request}
 use Rattle.qc_msg.specs.declared.message.Want.{Want}
 use Rattle.qc_msg.specs.declared.step.Input.TheVariants as inputs
-use Rattle.qc_msg.specs.Names.{Entry, Sends, Takes, deeds, written}
-use Rattle.laws_refinement.specs.Names.{IsGrantTo, IsGrantable, Refines, lines_in}
+use Rattle.qc_msg.specs.Vocabulary.{Entry, Sends, Takes, deeds, written}
+use Rattle.laws_refinement.specs.Vocabulary.{IsGrantTo, IsGrantable, Refines, lines_in}
 use Rattle.laws_refinement.proofs.Refining.{nets_refine}
-use Rattle.theory_onecopy.specs.Names.{IsLogged, OneCopy, sorted}
-use Rattle.qc_promise.specs.Names.{Atomic, IsAfterSeen, committed, is_prepare, records}
-use Rattle.theory_machine.specs.Names.{state}
-use Rattle.qc_script.specs.Names.{IsScriptFor, Runs}
+use Rattle.theory_onecopy.specs.Vocabulary.{IsLogged, OneCopy, sorted}
+use Rattle.qc_promise.specs.Vocabulary.{Atomic, IsAfterSeen, committed, is_prepare, records}
+use Rattle.theory_machine.specs.Vocabulary.{state}
+use Rattle.qc_script.specs.Vocabulary.{IsScriptFor, Runs}
 use Rattle.qc_script.specs.declared.script.Script.{Script}
 use Rattle.laws_turns.proofs.DecisionLaws.{moves_on}
 use Rattle.laws_turns.proofs.InRuns.{HasPlace, client_low, run_place}
 use Rattle.laws_turns.proofs.RecordLaws.{apart, dealt, in_listed, told, wrote_own}
 use Rattle.laws_turns.proofs.WrittenDeeds.{written_listed}
-use Rattle.laws_atomic.specs.Names.{IsReached}
+use Rattle.laws_atomic.specs.Vocabulary.{IsReached}
 use Rattle.laws_atomic.proofs.Runs as runs
 use Rattle.laws_atomic.proofs.Courses.{clients_see}
 use Rattle.laws_atomic.proofs.Founded.{AreFounded}

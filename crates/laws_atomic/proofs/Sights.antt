@@ -1,12 +1,12 @@
 -- What a client takes, sends and writes keeps its sight and the account of its deeds in agreement.
-use Rattle.std.proofs.Common.{◌≡◌, ◌≢◌, ◌<◌, ℕ, ◌+◌, Bool, true, false, cond, List, ◌∷◌, ◌++◌, inl, inr, Option, Some}
-use Rattle.std.proofs.Common.{None, option_map, refl, sym, ap, ◌∙◌, subst, arith}
+use Rattle.std.proofs.Common.{[], ◌≡◌, ◌≢◌, ◌<◌, ℕ, ◌+◌, Bool, true, false, cond, List, ◌∷◌, ◌++◌, inl, inr, Option}
+use Rattle.std.proofs.Common.{Some, None, option_map, refl, sym, ap, ◌∙◌, subst, arith}
 use Rattle.std.specs.List.{cons_option}
 use Rattle.qc_stamp.specs.declared.stamp.Stamp.{Stamp}
 use Rattle.qc_stamp.specs.declared.stamp.TxId.{TxId}
-use Rattle.qc_stamp.specs.Names.{same_tx}
+use Rattle.qc_stamp.specs.Vocabulary.{same_tx}
 use Rattle.qc_stamp.proofs.Orders.{same_tx_itself}
-use Rattle.qc_list.specs.Names.{In}
+use Rattle.qc_list.specs.Vocabulary.{In}
 use Rattle.qc_list.proofs.Members.{In-first, In-last, In-more}
 use Rattle.qc_decl.specs.declared.declaration.Declaration.{Declaration}
 use Rattle.qc_entry.specs.declared.record.Commit.{Commit}
@@ -16,12 +16,12 @@ use Rattle.qc_msg.specs.declared.message.Message.TheVariants as messages
 use Rattle.qc_msg.specs.declared.message.Outcome.TheVariants as outcomes
 use Rattle.qc_msg.specs.declared.record.Record.{Record}
 use Rattle.qc_msg.specs.declared.record.Record.TheVariants as records
-use Rattle.qc_msg.specs.Names.{commit_of as commit_in}
-use Rattle.qc_promise.specs.Names.{Account, ClientRequest, Current, HasBefore, IsRecordDue, Sight, Status, account_sent}
-use Rattle.qc_promise.specs.Names.{account_written, given_up, is_begun, running_row, sight_sent, status_sent}
-use Rattle.qc_promise.specs.Names.{status_written}
+use Rattle.qc_msg.specs.Vocabulary.{commit_of as commit_in}
+use Rattle.qc_promise.specs.Vocabulary.{Account, ClientRequest, Current, HasBefore, IsRecordDue, Sight, Status}
+use Rattle.qc_promise.specs.Vocabulary.{account_sent, account_written, given_up, is_begun, running_row, sight_sent}
+use Rattle.qc_promise.specs.Vocabulary.{status_sent, status_written}
 use Rattle.qc_promise.specs.Status as statuses
-use Rattle.laws_due.specs.Names.{IsSendDue}
+use Rattle.laws_due.specs.Vocabulary.{IsSendDue}
 use Rattle.laws_atomic.proofs.Counted.{IsOpen, name_of}
 use Rattle.laws_atomic.proofs.Seeing.{HasCommitted, Sees, is_before, stays_committed}
 use Rattle.laws_atomic.proofs.Stamps.{due_stamp}

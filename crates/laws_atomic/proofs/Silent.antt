@@ -2,9 +2,9 @@
 use Rattle.std.proofs.Common.{◌≡◌, ℕ, Bool, true, false, if◌then◌else◌, not, nat_le, [], Option, Some, None, refl}
 use Rattle.qc_stamp.specs.declared.stamp.TxId.{TxId}
 use Rattle.qc_entry.specs.declared.record.Prepared.{Prepared}
-use Rattle.qc_decl.specs.Names.{most_record_bytes}
+use Rattle.qc_decl.specs.Vocabulary.{most_record_bytes}
 use Rattle.qc_decl.specs.declared.declaration.Declaration.{Declaration}
-use Rattle.qc_lock.specs.Names.{append_clash, is_held, read_clash}
+use Rattle.qc_lock.specs.Vocabulary.{append_clash, is_held, read_clash}
 use Rattle.qc_lock.specs.declared.clash.Clash.{Clash as Conflict}
 use Rattle.qc_msg.specs.declared.message.Answer.{Answer}
 use Rattle.qc_msg.specs.declared.message.Answer.TheVariants as answers
@@ -16,12 +16,12 @@ use Rattle.qc_msg.specs.declared.message.Want.{Want}
 use Rattle.qc_msg.specs.declared.message.Want.TheVariants.{Read, Append, Prepare}
 use Rattle.qc_msg.specs.declared.step.Input.{Input}
 use Rattle.qc_msg.specs.declared.step.Input.TheVariants as inputs
-use Rattle.qc_msg.specs.Names.{quiet}
+use Rattle.qc_msg.specs.Vocabulary.{quiet}
 use Rattle.qc_site.proofs.RequestCases.{close_rows, install_rows}
-use Rattle.qc_site.specs.Names.{SiteMove, SiteState, answers as tells, appends_by, fault_of, finishes, grants}
-use Rattle.qc_site.specs.Names.{is_prepared, joins, moved, names_declared, passed, prepare_length, prepared_of}
-use Rattle.qc_site.specs.Names.{promise_of, promised, reads_by, relation_at, requested, site_at, site_takes, votes}
-use Rattle.laws_refinement.specs.Names.{commits_in}
+use Rattle.qc_site.specs.Vocabulary.{SiteMove, SiteState, answers as tells, appends_by, fault_of, finishes, grants}
+use Rattle.qc_site.specs.Vocabulary.{is_prepared, joins, moved, names_declared, passed, prepare_length, prepared_of}
+use Rattle.qc_site.specs.Vocabulary.{promise_of, promised, reads_by, relation_at, requested, site_at, site_takes, votes}
+use Rattle.laws_refinement.specs.Vocabulary.{commits_in}
 
 abbrev Silent : SiteMove → Type 0
 Silent m = commits_in m.turn.write ≡ []

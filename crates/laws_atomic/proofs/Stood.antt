@@ -4,24 +4,24 @@ use Rattle.std.proofs.Common.{◌≡◌, ◌≢◌, ℕ, ◌-◌, ◌<◌, ◌�
 use Rattle.std.proofs.Common.{Some, slice_get, refl, sym, ap, ◌∙◌, subst, eq-eqb, eqb-true, ltb-true}
 use Rattle.std.specs.Prelude.{fold, slice_set}
 use Rattle.qc_decl.proofs.Clients.{client_past}
-use Rattle.qc_list.specs.Names.{In}
+use Rattle.qc_list.specs.Vocabulary.{In}
 use Rattle.qc_list.proofs.Members.{every-at, every-from_In}
 use Rattle.qc_decl.specs.declared.declaration.Declaration.{Declaration}
-use Rattle.qc_decl.specs.Names.{is_client, is_site}
+use Rattle.qc_decl.specs.Vocabulary.{is_client, is_site}
 use Rattle.qc_msg.specs.declared.message.Envelope.{Envelope}
 use Rattle.qc_msg.specs.declared.message.Message.{Message}
 use Rattle.qc_msg.specs.declared.message.Message.TheVariants as messages
 use Rattle.qc_msg.specs.declared.step.Input.{Input}
 use Rattle.qc_msg.specs.declared.step.Input.TheVariants as inputs
-use Rattle.qc_msg.specs.Names.{Deed, Entry, WasSentTo, deeds, mail, written}
-use Rattle.qc_client.specs.Names.{client_after, client_takes}
+use Rattle.qc_msg.specs.Vocabulary.{Deed, Entry, WasSentTo, deeds, mail, written}
+use Rattle.qc_client.specs.Vocabulary.{client_after, client_takes}
 use Rattle.qc_client.specs.declared.client.Client.{Client}
-use Rattle.qc_site.specs.Names.{SiteState, site_after, site_takes}
-use Rattle.qc_promise.specs.Names.{Account, account, account_at, account_taken, new_account}
+use Rattle.qc_site.specs.Vocabulary.{SiteState, site_after, site_takes}
+use Rattle.qc_promise.specs.Vocabulary.{Account, account, account_at, account_taken, new_account}
 use Rattle.laws_turns.proofs.Places.{slice_get-more, slice_get-set_other, slice_get-set_same}
 use Rattle.laws_turns.proofs.SiteReplies.{IsMailProper, IsProperFrom}
-use Rattle.laws_due.specs.Names.{Ties}
-use Rattle.laws_refinement.specs.Names.{MayCome, MayCommand, Net}
+use Rattle.laws_due.specs.Vocabulary.{Ties}
+use Rattle.laws_refinement.specs.Vocabulary.{MayCome, MayCommand, Net}
 use Rattle.laws_atomic.proofs.Calm.{IsCalm}
 use Rattle.laws_atomic.proofs.FirstSites.{IsCalmGiven, IsCalmMessage}
 

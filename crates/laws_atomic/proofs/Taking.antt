@@ -2,7 +2,7 @@
 -- then, the client waits for nothing.
 use Rattle.std.proofs.Common.{◌≡◌, ℕ, false, List, [], ◌∷◌, ◌++◌, inl, fold, Some, None, refl, sym, ap, ◌∙◌, subst}
 use Rattle.qc_stamp.specs.declared.stamp.TxId.{TxId}
-use Rattle.qc_list.specs.Names.{In}
+use Rattle.qc_list.specs.Vocabulary.{In}
 use Rattle.qc_list.proofs.Members.{In-first, In-last, In-second}
 use Rattle.qc_decl.specs.declared.declaration.Declaration.{Declaration}
 use Rattle.qc_entry.specs.declared.record.Commit.{Commit}
@@ -13,12 +13,12 @@ use Rattle.qc_msg.specs.declared.reply.Reply.{Reply}
 use Rattle.qc_msg.specs.declared.step.Command.TheVariants as commands
 use Rattle.qc_msg.specs.declared.step.Input.{Input}
 use Rattle.qc_msg.specs.declared.step.Input.TheVariants as inputs
-use Rattle.qc_msg.specs.Names.{Deed, Sends, Takes}
+use Rattle.qc_msg.specs.Vocabulary.{Deed, Sends, Takes}
 use Rattle.qc_client.specs.declared.client.Client.{Client}
-use Rattle.qc_front.specs.Names.{is_request}
-use Rattle.qc_promise.specs.Names.{Account, ClientRequest, IsFreeFor, Sight, Status, account_at, account_taken, counted}
-use Rattle.qc_promise.specs.Names.{new_account, running_row, sight_sent, sight_taken}
-use Rattle.laws_due.specs.Names.{IsAwaited, Ties, appends, reads, rests, votes}
+use Rattle.qc_front.specs.Vocabulary.{is_request}
+use Rattle.qc_promise.specs.Vocabulary.{Account, ClientRequest, IsFreeFor, Sight, Status, account_at, account_taken}
+use Rattle.qc_promise.specs.Vocabulary.{counted, new_account, running_row, sight_sent, sight_taken}
+use Rattle.laws_due.specs.Vocabulary.{IsAwaited, Ties, appends, reads, rests, votes}
 use Rattle.laws_due.proofs.Awaited.{open_awaited}
 use Rattle.laws_atomic.proofs.Counted.{IsOpen, counts}
 use Rattle.laws_atomic.proofs.Waiting.{Goes, goes_of, unwritten_of}

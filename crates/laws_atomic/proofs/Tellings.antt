@@ -3,8 +3,8 @@ use Rattle.std.proofs.Common.{◌≡◌, ◌≢◌, ◌≤◌, ℕ, ◌+◌, ◌
 use Rattle.std.proofs.Common.{length, Option, Some, None, option_map, option_to_list, refl, sym, ap, ◌∙◌, subst, arith}
 use Rattle.qc_stamp.specs.declared.stamp.Stamp.{Stamp}
 use Rattle.qc_stamp.specs.declared.stamp.TxId.{TxId}
-use Rattle.qc_stamp.specs.Names.{same_tx}
-use Rattle.qc_list.specs.Names.{In}
+use Rattle.qc_stamp.specs.Vocabulary.{same_tx}
+use Rattle.qc_list.specs.Vocabulary.{In}
 use Rattle.qc_decl.specs.declared.declaration.Declaration.{Declaration}
 use Rattle.qc_entry.specs.declared.record.Commit.{Commit}
 use Rattle.qc_msg.specs.declared.reply.Half.{Half}
@@ -13,10 +13,10 @@ use Rattle.qc_msg.specs.declared.reply.Reply.{Reply}
 use Rattle.qc_msg.specs.declared.reply.Reply.TheVariants as replies
 use Rattle.qc_msg.specs.declared.step.Command.{Command}
 use Rattle.qc_msg.specs.declared.step.Command.TheVariants as commands
-use Rattle.qc_promise.specs.Names.{Account, Current, HasBefore, IsReplyDue, IsRightReply, Sight, Status, account_told}
-use Rattle.qc_promise.specs.Names.{answer_of, commit_of, doomed_if, found_absent, given_up, is_append, is_begun}
-use Rattle.qc_promise.specs.Names.{refused, requests_for, responded, running_row, short_of, sight_told, status_told}
-use Rattle.qc_promise.specs.Names.{with_absent, with_response}
+use Rattle.qc_promise.specs.Vocabulary.{Account, Current, HasBefore, IsReplyDue, IsRightReply, Sight, Status}
+use Rattle.qc_promise.specs.Vocabulary.{account_told, answer_of, commit_of, doomed_if, found_absent, given_up}
+use Rattle.qc_promise.specs.Vocabulary.{is_append, is_begun, refused, requests_for, responded, running_row, short_of}
+use Rattle.qc_promise.specs.Vocabulary.{sight_told, status_told, with_absent, with_response}
 use Rattle.qc_promise.specs.Status as statuses
 use Rattle.laws_atomic.proofs.Counted.{name_of}
 use Rattle.laws_atomic.proofs.Seeing.{HasCommitted, IsUpTo, Sees, higher, in_split, stays_committed}

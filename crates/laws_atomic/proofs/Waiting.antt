@@ -1,10 +1,10 @@
 -- What runs, as far as replies wait for its requests: where the client has no open input, it waits for some.
-use Rattle.std.proofs.Common.{◌≡◌, ℕ, ◌==◌, ◌&&◌, Bool, true, false, cond, List, ◌∷◌, inl, inr, filter, length, map}
+use Rattle.std.proofs.Common.{[], ◌≡◌, ℕ, ◌==◌, ◌&&◌, Bool, true, false, cond, List, ◌∷◌, inl, inr, filter, length, map}
 use Rattle.std.proofs.Common.{Option, Some, None, option_map, refl, sym, ap, ◌∙◌}
 use Rattle.std.specs.Prelude.{drop, is_none, is_some}
 use Rattle.std.specs.List.{AllByRecursion as Every, list_all}
-use Rattle.qc_list.specs.Names.{In}
-use Rattle.qc_decl.specs.Names.{first_site, read_need_of}
+use Rattle.qc_list.specs.Vocabulary.{In}
+use Rattle.qc_decl.specs.Vocabulary.{first_site, read_need_of}
 use Rattle.qc_decl.specs.declared.declaration.Declaration.{Declaration}
 use Rattle.qc_msg.specs.declared.message.Answer.{Answer}
 use Rattle.qc_msg.specs.declared.message.Want.{Want}
@@ -12,11 +12,11 @@ use Rattle.qc_msg.specs.declared.message.Want.TheVariants.{Read, Append, Prepare
 use Rattle.qc_msg.specs.declared.step.Command.TheVariants as commands
 use Rattle.qc_plan.specs.declared.standing.Asked.{Asked}
 use Rattle.qc_plan.specs.declared.standing.Verdict.TheVariants as verdicts
-use Rattle.qc_plan.specs.Names.{RoundState, all_noted, start, verdict}
-use Rattle.qc_promise.specs.Names.{Account, ClientRequest, Current, answer_of, asked_by, is_append, is_prepare, is_read}
-use Rattle.qc_promise.specs.Names.{round_of, standing_of, taken_for, weights_of}
+use Rattle.qc_plan.specs.Vocabulary.{RoundState, all_noted, start, verdict}
+use Rattle.qc_promise.specs.Vocabulary.{Account, ClientRequest, Current, answer_of, asked_by, is_append, is_prepare}
+use Rattle.qc_promise.specs.Vocabulary.{is_read, round_of, standing_of, taken_for, weights_of}
 use Rattle.qc_client.specs.declared.client.Client.{Client}
-use Rattle.laws_due.specs.Names.{IsDo, IsOpenIn, IsPrepare, Ties, appends, reads, rests, votes}
+use Rattle.laws_due.specs.Vocabulary.{IsDo, IsOpenIn, IsPrepare, Ties, appends, reads, rests, votes}
 
 abbrev pub NoneOpen : List ClientRequest → Type 0
 NoneOpen qs = (q : ClientRequest) → In q qs → q.taken ≡ None → ⊥

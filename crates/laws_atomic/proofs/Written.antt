@@ -1,12 +1,12 @@
 -- The commit records of deeds, in each of their forms.
 use Rattle.std.proofs.Common.{◌≡◌, List, [], ◌∷◌, ◌⊎◌, inl, inr, fold, Option, Some, None, refl, sym, ap, ◌∙◌, subst}
 use Rattle.std.specs.List.{cons_option}
-use Rattle.qc_list.specs.Names.{In}
+use Rattle.qc_list.specs.Vocabulary.{In}
 use Rattle.qc_entry.specs.declared.record.Commit.{Commit}
 use Rattle.qc_msg.specs.declared.record.Record.{Record}
 use Rattle.qc_msg.specs.declared.record.Record.TheVariants as records
-use Rattle.qc_msg.specs.Names.{Deed, Falls, Rises, Sends, Takes, Tells, Writes, commit_of}
-use Rattle.laws_turns.specs.Names.{written_by, written_in}
+use Rattle.qc_msg.specs.Vocabulary.{Deed, Falls, Rises, Sends, Takes, Tells, Writes, commit_of}
+use Rattle.laws_turns.specs.Vocabulary.{written_by, written_in}
 use Rattle.laws_atomic.proofs.Seeing.{wrote_at}
 
 pub record_is : (w : Record) (c : Commit) → commit_of w ≡ Some c → w ≡ records.Commit c

@@ -3,13 +3,13 @@ use Rattle.std.proofs.Common.{◌≡◌, ◌≢◌, inl, inr, [], ◌∷◌, ref
 use Rattle.std.specs.declared.cmp.Ordering.{Ordering}
 use Rattle.std.specs.declared.cmp.Ordering.TheVariants.{Less, Greater}
 use Rattle.qc_entry.specs.declared.record.Commit.{Commit}
-use Rattle.qc_list.specs.Names.{In}
-use Rattle.qc_promise.specs.Names.{Atomic, HasBefore, IsAfterSeen, committed, seen}
-use Rattle.qc_stamp.specs.Names.{stamp_cmp}
+use Rattle.qc_list.specs.Vocabulary.{In}
+use Rattle.qc_promise.specs.Vocabulary.{Atomic, HasBefore, IsAfterSeen, committed, seen}
+use Rattle.qc_stamp.specs.Vocabulary.{stamp_cmp}
 use Rattle.qc_stamp.specs.declared.stamp.Stamp.{Stamp}
 use Rattle.qc_stamp.specs.declared.stamp.TxId.{TxId}
-use Rattle.laws_atomic.specs.Names.{commit, counting, decl, earlier, falling, first, late, second, stamp, theirs}
-use Rattle.laws_atomic.specs.Names.{unrecorded}
+use Rattle.laws_atomic.specs.Vocabulary.{commit, counting, decl, earlier, falling, first, late, second, stamp, theirs}
+use Rattle.laws_atomic.specs.Vocabulary.{unrecorded}
 
 other_client : theirs ≢ first
 other_client same = let e : theirs.client ≡ first.client = ap (λ (t : TxId). t.client) same in omega arith

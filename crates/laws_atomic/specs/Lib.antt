@@ -1,3 +1,3 @@
 pub mod Reached
 pub mod Wrong
-pub mod Names
+pub mod Vocabulary

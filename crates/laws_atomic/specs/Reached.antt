@@ -1,15 +1,15 @@
 -- A history has a net: what was sent and written there, and what each actor is that has no open input.
 use Rattle.std.specs.Prelude.{◌≡◌, ℕ, ◌-◌, Bool, true, false, List, [], Some, slice_get}
-use Rattle.qc_list.specs.Names.{In}
-use Rattle.qc_decl.specs.Names.{is_client, is_site}
+use Rattle.qc_list.specs.Vocabulary.{In}
+use Rattle.qc_decl.specs.Vocabulary.{is_client, is_site}
 use Rattle.qc_decl.specs.declared.declaration.Declaration.{Declaration}
-use Rattle.qc_msg.specs.Names.{Entry, deeds, mail, written}
+use Rattle.qc_msg.specs.Vocabulary.{Entry, deeds, mail, written}
 use Rattle.qc_script.specs.declared.script.CommandLine.{CommandLine}
 use Rattle.qc_script.specs.declared.script.PhaseLines.{PhaseLines}
 use Rattle.qc_script.specs.declared.script.Script.{Script}
-use Rattle.qc_client.specs.Names.{client_after}
-use Rattle.qc_site.specs.Names.{site_after}
-use Rattle.laws_refinement.specs.Names.{IsNamed, Net, Reaches}
+use Rattle.qc_client.specs.Vocabulary.{client_after}
+use Rattle.qc_site.specs.Vocabulary.{site_after}
+use Rattle.laws_refinement.specs.Vocabulary.{IsNamed, Net, Reaches}
 
 -- each `do` of a script names a declared object, and an invocation of its type, and each `epoch` one that is declared
 abbrev pub AreNamed : Declaration → Script → Type 0

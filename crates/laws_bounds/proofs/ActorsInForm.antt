@@ -5,14 +5,14 @@ use Rattle.std.specs.Prelude.{option_to_list}
 use Rattle.std.specs.List.{AllByRecursion as Every}
 use Rattle.qc_core.proofs.AdminWrites.{admin_written}
 use Rattle.qc_decl.proofs.Clients.{client_below}
-use Rattle.qc_epoch.specs.Names.{admin_takes}
-use Rattle.qc_client.specs.Names.{client_takes}
+use Rattle.qc_epoch.specs.Vocabulary.{admin_takes}
+use Rattle.qc_client.specs.Vocabulary.{client_takes}
 use Rattle.qc_core.specs.declared.actor.Actor.{Actor}
 use Rattle.qc_core.specs.declared.actor.Actor.TheVariants.{Site, Client, Admin, Down}
-use Rattle.qc_core.specs.Names.{ActorMove, actor_does, actor_rises, actor_sends, actor_takes, down_takes, moved}
-use Rattle.qc_core.specs.Names.{new_actor}
+use Rattle.qc_core.specs.Vocabulary.{ActorMove, actor_does, actor_rises, actor_sends, actor_takes, down_takes, moved}
+use Rattle.qc_core.specs.Vocabulary.{new_actor}
 use Rattle.qc_core.proofs.Written.{client_written}
-use Rattle.qc_decl.specs.Names.{IsAccepted, actors, administrator, is_client, is_site}
+use Rattle.qc_decl.specs.Vocabulary.{IsAccepted, actors, administrator, is_client, is_site}
 use Rattle.qc_decl.specs.declared.declaration.Declaration.{Declaration}
 use Rattle.qc_entry.specs.declared.record.Prepared.{Prepared}
 use Rattle.qc_msg.specs.declared.message.Message.{Message}
@@ -20,10 +20,10 @@ use Rattle.qc_msg.specs.declared.record.Record.{Record}
 use Rattle.qc_msg.specs.declared.step.Input.{Input}
 use Rattle.qc_msg.specs.declared.step.Input.TheVariants as inputs
 use Rattle.qc_msg.specs.declared.turn.Turn.{Turn}
-use Rattle.qc_msg.specs.Names.{Deed, Falls, Rises, Sends, Takes, Tells, Writes, quiet}
-use Rattle.qc_recover.specs.Names.{kept_by, most_inquiries}
-use Rattle.qc_site.specs.Names.{in_order, site_takes}
-use Rattle.laws_bounds.specs.Names.{CountsWithin}
+use Rattle.qc_msg.specs.Vocabulary.{Deed, Falls, Rises, Sends, Takes, Tells, Writes, quiet}
+use Rattle.qc_recover.specs.Vocabulary.{kept_by, most_inquiries}
+use Rattle.qc_site.specs.Vocabulary.{in_order, site_takes}
+use Rattle.laws_bounds.specs.Vocabulary.{CountsWithin}
 use Rattle.laws_bounds.proofs.ActorsWithin.{IsOfPost}
 use Rattle.laws_bounds.proofs.AdminsInForm.{AdminInForm, AdminMoveInForm, GivenToldIn, admin_risen_form}
 use Rattle.laws_bounds.proofs.AdminsInForm.{admin_sends_form, admin_takes_form}

@@ -7,26 +7,26 @@ use Rattle.std.proofs.lemmas.Bool.{leb-false, ltb-false, ltb-true}
 use Rattle.qc_list.proofs.Members.{every-append}
 use Rattle.qc_core.proofs.AdminWrites.{admin_written}
 use Rattle.qc_decl.proofs.Clients.{client_below, client_past}
-use Rattle.qc_epoch.specs.Names.{admin_takes}
-use Rattle.qc_client.specs.Names.{client_takes}
+use Rattle.qc_epoch.specs.Vocabulary.{admin_takes}
+use Rattle.qc_client.specs.Vocabulary.{client_takes}
 use Rattle.qc_core.specs.declared.actor.Actor.{Actor}
 use Rattle.qc_core.specs.declared.actor.Actor.TheVariants.{Site, Client, Admin, Down}
-use Rattle.qc_core.specs.Names.{ActorMove, actor_does, actor_rises, actor_sends, actor_takes, down_takes, moved}
-use Rattle.qc_core.specs.Names.{new_actor}
+use Rattle.qc_core.specs.Vocabulary.{ActorMove, actor_does, actor_rises, actor_sends, actor_takes, down_takes, moved}
+use Rattle.qc_core.specs.Vocabulary.{new_actor}
 use Rattle.qc_core.proofs.Written.{client_written}
-use Rattle.qc_decl.specs.Names.{IsAccepted, actors, administrator, client_actor, is_client, is_site}
+use Rattle.qc_decl.specs.Vocabulary.{IsAccepted, actors, administrator, client_actor, is_client, is_site}
 use Rattle.qc_decl.specs.declared.declaration.Declaration.{Declaration}
 use Rattle.qc_entry.specs.declared.record.Prepared.{Prepared}
-use Rattle.qc_fit.specs.Names.{HasPlan}
+use Rattle.qc_fit.specs.Vocabulary.{HasPlan}
 use Rattle.qc_msg.specs.declared.message.Message.{Message}
 use Rattle.qc_msg.specs.declared.record.Record.{Record}
 use Rattle.qc_msg.specs.declared.record.Record.TheVariants as records
 use Rattle.qc_msg.specs.declared.step.Input.{Input}
 use Rattle.qc_msg.specs.declared.step.Input.TheVariants as inputs
 use Rattle.qc_msg.specs.declared.turn.Turn.{Turn}
-use Rattle.qc_msg.specs.Names.{Deed, Falls, Rises, Sends, Takes, Tells, Writes, first_epoch, quiet}
-use Rattle.qc_recover.specs.Names.{kept_by, most_inquiries}
-use Rattle.qc_site.specs.Names.{in_order, site_takes}
+use Rattle.qc_msg.specs.Vocabulary.{Deed, Falls, Rises, Sends, Takes, Tells, Writes, first_epoch, quiet}
+use Rattle.qc_recover.specs.Vocabulary.{kept_by, most_inquiries}
+use Rattle.qc_site.specs.Vocabulary.{in_order, site_takes}
 use Rattle.laws_bounds.proofs.ActorsWithin.{IsOfPost}
 use Rattle.laws_bounds.proofs.AdminsNamed.{AdminMoveNamed, AdminNamed, admin_risen_named, admin_sends_named}
 use Rattle.laws_bounds.proofs.AdminsNamed.{admin_takes_named}

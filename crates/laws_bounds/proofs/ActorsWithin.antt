@@ -5,12 +5,12 @@ use Rattle.std.proofs.Common.{arith}
 use Rattle.std.specs.Prelude.{option_to_list}
 use Rattle.std.specs.List.{AllByRecursion as Every}
 use Rattle.qc_list.proofs.Members.{every-append, every-weaker}
-use Rattle.qc_client.specs.Names.{client_takes, moved as client_moved}
+use Rattle.qc_client.specs.Vocabulary.{client_takes, moved as client_moved}
 use Rattle.qc_core.specs.declared.actor.Actor.{Actor}
 use Rattle.qc_core.specs.declared.actor.Actor.TheVariants.{Site, Client, Admin, Down}
-use Rattle.qc_core.specs.Names.{ActorMove, actor_does, actor_sends, actor_takes, down_takes, moved, new_actor}
+use Rattle.qc_core.specs.Vocabulary.{ActorMove, actor_does, actor_sends, actor_takes, down_takes, moved, new_actor}
 use Rattle.qc_core.proofs.ByNumber.{new_by}
-use Rattle.qc_decl.specs.Names.{is_client, is_site}
+use Rattle.qc_decl.specs.Vocabulary.{is_client, is_site}
 use Rattle.qc_decl.specs.declared.declaration.Declaration.{Declaration}
 use Rattle.qc_msg.specs.declared.message.Message.{Message}
 use Rattle.qc_msg.specs.declared.record.Record.{Record}
@@ -23,15 +23,15 @@ use Rattle.qc_msg.specs.declared.turn.Appended.{Appended}
 use Rattle.qc_msg.specs.declared.turn.Appended.TheVariants.{Done, Failed, Stopped}
 use Rattle.qc_msg.specs.declared.turn.Posting.{Posting}
 use Rattle.qc_msg.specs.declared.turn.Turn.{Turn}
-use Rattle.qc_msg.specs.Names.{Deed, Falls, Rises, Sends, Takes, Tells, Writes, deeds_as, quiet, sends_of, tells_of}
-use Rattle.qc_msg.specs.Names.{writes_of}
-use Rattle.qc_site.specs.Names.{site_takes}
+use Rattle.qc_msg.specs.Vocabulary.{Deed, Falls, Rises, Sends, Takes, Tells, Writes, deeds_as, quiet, sends_of}
+use Rattle.qc_msg.specs.Vocabulary.{tells_of, writes_of}
+use Rattle.qc_site.specs.Vocabulary.{site_takes}
 use Rattle.qc_epoch.specs.Conduct as admins
-use Rattle.laws_turns.specs.Names.{ClientMoveWithin, GivenWithin, SiteMoveWithin}
+use Rattle.laws_turns.specs.Vocabulary.{ClientMoveWithin, GivenWithin, SiteMoveWithin}
 use Rattle.laws_turns.proofs.ClientsWithin.{all_posts-within, client-le, client_takes_within}
 use Rattle.laws_turns.proofs.Greater.{lines-le, sends-le}
 use Rattle.laws_turns.proofs.SitesWithin.{site-le, site_takes_within}
-use Rattle.laws_bounds.specs.Names.{AreWithin, MoveWithin, RecordWithin, StateWithin, TurnWithin}
+use Rattle.laws_bounds.specs.Vocabulary.{AreWithin, MoveWithin, RecordWithin, StateWithin, TurnWithin}
 use Rattle.laws_bounds.proofs.AdminsWithin.{AdminMoveWithin, admin_le, admin_sends_within, admin_takes_within}
 use Rattle.laws_bounds.proofs.ClientWrites.{client_writes_within}
 use Rattle.laws_bounds.proofs.SiteWrites.{WritesWithin, site_writes_within}

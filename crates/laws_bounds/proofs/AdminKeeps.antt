@@ -6,17 +6,18 @@ use Rattle.std.proofs.Common.{cond, is_none, List, [], ◌∷◌, ◌++◌, fold
 use Rattle.std.specs.List.{AllByRecursion as Every}
 use Rattle.std.proofs.lemmas.Bool.{leb-true}
 use Rattle.qc_list.proofs.Members.{every-append}
-use Rattle.qc_decl.specs.Names.{most_record_bytes}
+use Rattle.qc_decl.specs.Vocabulary.{most_record_bytes}
 use Rattle.qc_decl.specs.declared.declaration.Declaration.{Declaration}
 use Rattle.qc_entry.specs.declared.line.Line.{Line}
 use Rattle.qc_entry.specs.declared.record.Prepared.{Prepared}
-use Rattle.qc_epoch.specs.Names.{Admin, AdminMove, Asking, Closing, Decided, Doing, Installing, Question, Resting}
-use Rattle.qc_epoch.specs.Names.{ShutSite, all_taken, clock_in, decision, first_doubt, greatest, in_asked_order}
-use Rattle.qc_epoch.specs.Names.{is_number, is_questioned, merged, most_asks, moved, outcome_in, promised_lines}
-use Rattle.qc_epoch.specs.Names.{questions_of, shut_at, shut_list, stamp_in, stamp_of, standing_of, taken_for}
-use Rattle.qc_epoch.specs.Names.{with_installed, with_promised, with_question, with_questions, with_shut, with_shut_of}
+use Rattle.qc_epoch.specs.Vocabulary.{Admin, AdminMove, Asking, Closing, Decided, Doing, Installing, Question, Resting}
+use Rattle.qc_epoch.specs.Vocabulary.{ShutSite, all_taken, clock_in, decision, first_doubt, greatest, in_asked_order}
+use Rattle.qc_epoch.specs.Vocabulary.{is_number, is_questioned, merged, most_asks, moved, outcome_in, promised_lines}
+use Rattle.qc_epoch.specs.Vocabulary.{questions_of, shut_at, shut_list, stamp_in, stamp_of, standing_of, taken_for}
+use Rattle.qc_epoch.specs.Vocabulary.{with_installed, with_promised, with_question, with_questions, with_shut}
+use Rattle.qc_epoch.specs.Vocabulary.{with_shut_of}
 use Rattle.qc_epoch.specs.Conduct as admins
-use Rattle.qc_msg.specs.Names.{epoch_length, quiet, sending, site_called, telling, without_call}
+use Rattle.qc_msg.specs.Vocabulary.{epoch_length, quiet, sending, site_called, telling, without_call}
 use Rattle.qc_msg.specs.declared.call.Call.{Call}
 use Rattle.qc_msg.specs.declared.message.Answer.{Answer}
 use Rattle.qc_msg.specs.declared.message.Answer.TheVariants as answers
@@ -32,18 +33,18 @@ use Rattle.qc_msg.specs.declared.step.Command.TheVariants as commands
 use Rattle.qc_msg.specs.declared.step.Input.{Input}
 use Rattle.qc_msg.specs.declared.step.Input.TheVariants as inputs
 use Rattle.qc_msg.specs.declared.turn.Posting.{Posting}
-use Rattle.qc_plan.specs.Names.{RoundState, asking_all, note, verdict, wanted}
+use Rattle.qc_plan.specs.Vocabulary.{RoundState, asking_all, note, verdict, wanted}
 use Rattle.qc_plan.specs.declared.standing.Asked.{Asked}
 use Rattle.qc_plan.specs.declared.standing.Verdict.{Verdict as Verdict_of_round}
 use Rattle.qc_plan.specs.declared.standing.Verdict.TheVariants as verdicts
-use Rattle.qc_stamp.specs.Names.{same_tx}
+use Rattle.qc_stamp.specs.Vocabulary.{same_tx}
 use Rattle.qc_stamp.specs.declared.stamp.Stamp.{Stamp}
 use Rattle.qc_stamp.specs.declared.stamp.TxId.{TxId}
 use Rattle.laws_bounds.specs.AdminParts as parts
-use Rattle.qc_admin.specs.Names.{is_unasked}
+use Rattle.qc_admin.specs.Vocabulary.{is_unasked}
 use Rattle.qc_admin.proofs.Numbered.{all_unasked}
-use Rattle.qc_list.specs.Names.{In}
-use Rattle.qc_entry.specs.Names.{union}
+use Rattle.qc_list.specs.Vocabulary.{In}
+use Rattle.qc_entry.specs.Vocabulary.{union}
 use Rattle.qc_msg.specs.declared.record.Record.{Record}
 use Rattle.qc_msg.specs.declared.record.Record.TheVariants as records
 use Rattle.qc_recover.specs.Admins as rulings

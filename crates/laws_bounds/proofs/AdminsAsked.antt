@@ -3,15 +3,15 @@ use Rattle.std.proofs.Common.{◌≡◌, ℕ, ◌+◌, Bool, true, false, cond, 
 use Rattle.std.proofs.Common.{None, slice_get, refl, sym, ap, ◌∙◌, subst, append_assoc, length-append, arith}
 use Rattle.std.specs.List.{AllByRecursion as Every}
 use Rattle.qc_list.proofs.Members.{every-weaker}
-use Rattle.qc_admin.specs.Names.{sent_each}
+use Rattle.qc_admin.specs.Vocabulary.{sent_each}
 use Rattle.qc_core.proofs.AdminTurns.{IsOfAdmin, IsSentByAdmin}
 use Rattle.qc_decl.specs.declared.declaration.Declaration.{Declaration}
 use Rattle.qc_entry.specs.declared.line.Line.{Line}
 use Rattle.qc_entry.specs.declared.record.Prepared.{Prepared}
-use Rattle.qc_epoch.specs.Names.{Admin, AdminMove, Asking, Closing, Decided, Doing, Installing, Question, Resting}
-use Rattle.qc_epoch.specs.Names.{ShutSite, admin_takes, numbered_first, outcome_in, requested, sent_one}
+use Rattle.qc_epoch.specs.Vocabulary.{Admin, AdminMove, Asking, Closing, Decided, Doing, Installing, Question, Resting}
+use Rattle.qc_epoch.specs.Vocabulary.{ShutSite, admin_takes, numbered_first, outcome_in, requested, sent_one}
 use Rattle.laws_turns.proofs.Places.{slice_get-last, slice_get-more}
-use Rattle.qc_msg.specs.Names.{envelopes}
+use Rattle.qc_msg.specs.Vocabulary.{envelopes}
 use Rattle.qc_msg.specs.declared.message.Answer.{Answer}
 use Rattle.qc_msg.specs.declared.message.Answer.TheVariants as answers
 use Rattle.qc_msg.specs.declared.message.Envelope.{Envelope}
@@ -24,7 +24,7 @@ use Rattle.qc_msg.specs.declared.step.Input.TheVariants as inputs
 use Rattle.qc_msg.specs.declared.turn.Posting.{Posting}
 use Rattle.qc_stamp.specs.declared.stamp.TxId.{TxId}
 use Rattle.laws_bounds.specs.AdminParts as parts
-use Rattle.laws_bounds.specs.Names.{AnyNumber, NumberKeeps}
+use Rattle.laws_bounds.specs.Vocabulary.{AnyNumber, NumberKeeps}
 use Rattle.laws_bounds.proofs.AdminKeeps.{AdminMoveKeeps, AreLined, CameKeeps, FirstKeeps, GivenKeeps, Keeping}
 use Rattle.laws_bounds.proofs.AdminKeeps.{ShutCame, admin_keeps, admin_sends_keep, first_unnumbered, questions_in}
 

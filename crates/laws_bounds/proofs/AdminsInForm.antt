@@ -3,11 +3,11 @@
 use Rattle.std.proofs.Common.{◌≡◌, ℕ, ◌≤◌, true, List, [], ◌∷◌, ◌++◌, Option, Some, None, sym, subst}
 use Rattle.std.specs.Prelude.{option_to_list}
 use Rattle.std.specs.List.{AllByRecursion as Every}
-use Rattle.qc_list.specs.Names.{In}
+use Rattle.qc_list.specs.Vocabulary.{In}
 use Rattle.qc_list.proofs.Members.{every-append, every-weaker}
 use Rattle.qc_decl.specs.declared.declaration.Declaration.{Declaration}
 use Rattle.qc_entry.proofs.Union.{ascending-union, every-union}
-use Rattle.qc_epoch.specs.Names.{Admin, AdminMove, Question, admin_takes, is_number, outcome_in, sent_one}
+use Rattle.qc_epoch.specs.Vocabulary.{Admin, AdminMove, Question, admin_takes, is_number, outcome_in, sent_one}
 use Rattle.qc_msg.specs.declared.message.Answer.{Answer}
 use Rattle.qc_msg.specs.declared.message.Answer.TheVariants as answers
 use Rattle.qc_msg.specs.declared.message.Message.{Message}
@@ -19,12 +19,12 @@ use Rattle.qc_msg.specs.declared.step.Command.TheVariants as commands
 use Rattle.qc_msg.specs.declared.step.Input.{Input}
 use Rattle.qc_msg.specs.declared.step.Input.TheVariants as inputs
 use Rattle.qc_msg.specs.declared.turn.Posting.{Posting}
-use Rattle.qc_record.specs.Names.{IsWithin}
-use Rattle.qc_recover.specs.Names.{admin_of}
+use Rattle.qc_record.specs.Vocabulary.{IsWithin}
+use Rattle.qc_recover.specs.Vocabulary.{admin_of}
 use Rattle.qc_site.proofs.Sorted.{ascending-stamped}
 use Rattle.qc_stamp.proofs.Orders.{same_tx_is}
 use Rattle.qc_stamp.specs.declared.stamp.TxId.{TxId}
-use Rattle.laws_bounds.specs.Names.{AdminKeeps, AnyNumber, ToldKeeps}
+use Rattle.laws_bounds.specs.Vocabulary.{AdminKeeps, AnyNumber, ToldKeeps}
 use Rattle.laws_bounds.proofs.AdminKeeps.{AdminMoveKeeps, CameKeeps, GivenKeeps, Keeping, RecordKeeps, SendKeeps}
 use Rattle.laws_bounds.proofs.AdminKeeps.{ShutCame, WriteKeeps, admin_keeps, admin_risen_keeps, admin_sends_keep}
 use Rattle.laws_bounds.proofs.AdminKeeps.{questions_in}

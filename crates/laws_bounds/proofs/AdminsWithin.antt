@@ -4,8 +4,8 @@ use Rattle.std.specs.Prelude.{option_to_list}
 use Rattle.std.specs.List.{AllByRecursion as Every}
 use Rattle.qc_list.proofs.Members.{every-weaker}
 use Rattle.laws_bounds.specs.AdminParts as parts
-use Rattle.laws_bounds.specs.Names.{AdminWithin, AnyEpoch, AnyNumber, AreWithin, ClockWithin, DecidedWithin}
-use Rattle.laws_bounds.specs.Names.{PromiseWithin, TurnWithin, VerdictWithin}
+use Rattle.laws_bounds.specs.Vocabulary.{AdminWithin, AnyEpoch, AnyNumber, AreWithin, ClockWithin, DecidedWithin}
+use Rattle.laws_bounds.specs.Vocabulary.{PromiseWithin, TurnWithin, VerdictWithin}
 use Rattle.laws_bounds.proofs.AdminKeeps.{AdminMoveKeeps, CameKeeps, GivenKeeps, Keeping, SendKeeps, ShutCame}
 use Rattle.laws_bounds.proofs.AdminKeeps.{WriteKeeps, admin_keeps, admin_sends_keep}
 use Rattle.laws_bounds.proofs.RisenWithin.{stamped_within}
@@ -14,10 +14,11 @@ use Rattle.qc_decl.specs.declared.declaration.Declaration.{Declaration}
 use Rattle.qc_entry.specs.declared.line.Line.{Line}
 use Rattle.qc_entry.specs.declared.record.Prepared.{Prepared}
 use Rattle.qc_entry.proofs.Union.{every-union}
-use Rattle.qc_epoch.specs.Names.{Admin, AdminMove, Asking, Closing, Decided, Doing, Installing, Question, Resting}
-use Rattle.qc_epoch.specs.Names.{ShutSite, admin_takes, outcome_in, sent_one}
+use Rattle.qc_epoch.specs.Vocabulary.{Admin, AdminMove, Asking, Closing, Decided, Doing, Installing, Question, Resting}
+use Rattle.qc_epoch.specs.Vocabulary.{ShutSite, admin_takes, outcome_in, sent_one}
 use Rattle.laws_turns.proofs.Greater.{lines-le, promises-le}
-use Rattle.laws_turns.specs.Names.{AnswerWithin, GivenWithin, LinesWithin, MessageWithin, OutcomeWithin, SendsWithin}
+use Rattle.laws_turns.specs.Vocabulary.{AnswerWithin, GivenWithin, LinesWithin, MessageWithin, OutcomeWithin}
+use Rattle.laws_turns.specs.Vocabulary.{SendsWithin}
 use Rattle.qc_msg.specs.declared.message.Answer.{Answer}
 use Rattle.qc_msg.specs.declared.message.Answer.TheVariants as answers
 use Rattle.qc_msg.specs.declared.message.Message.{Message}

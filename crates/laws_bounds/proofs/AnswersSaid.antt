@@ -1,22 +1,22 @@
 -- What a site and a client say of a transaction, as the answer to an Ask about it.
-use Rattle.std.proofs.Common.{◌≡◌, ◌≤◌, ℕ, ◌-◌, true, false, List, ◌∷◌, Some, None, slice_get, refl, sym, ap, subst}
+use Rattle.std.proofs.Common.{[], ◌≡◌, ◌≤◌, ℕ, ◌-◌, true, false, List, ◌∷◌, Some, None, slice_get, refl, sym, ap, subst}
 use Rattle.std.proofs.Common.{arith}
 use Rattle.std.specs.List.{AllByRecursion as Every}
 use Rattle.qc_client.specs.declared.client.Client.{Client}
-use Rattle.qc_client.specs.Names.{is_begun}
+use Rattle.qc_client.specs.Vocabulary.{is_begun}
 use Rattle.qc_client.specs.Conduct as clients
-use Rattle.qc_commit.specs.Names.{known}
+use Rattle.qc_commit.specs.Vocabulary.{known}
 use Rattle.qc_core.specs.declared.actor.Actor.{Actor}
 use Rattle.qc_core.specs.declared.actor.Actor.TheVariants as actors_of
-use Rattle.qc_core.specs.Names.{actor_takes}
+use Rattle.qc_core.specs.Vocabulary.{actor_takes}
 use Rattle.qc_core.proofs.AdminTurns.{no_answers}
 use Rattle.qc_core.proofs.AdminWrites.{admin_written}
 use Rattle.qc_core.proofs.SiteWrites.{IsAnsweredTo, IsAnswerTo}
 use Rattle.qc_core.proofs.Written.{NoAnswer, client_answers, client_written}
 use Rattle.qc_decl.specs.declared.declaration.Declaration.{Declaration}
 use Rattle.qc_entry.specs.declared.record.Prepared.{Prepared}
-use Rattle.qc_epoch.specs.Names.{Admin}
-use Rattle.qc_msg.specs.Names.{WasSentTo, answer_in, quiet}
+use Rattle.qc_epoch.specs.Vocabulary.{Admin}
+use Rattle.qc_msg.specs.Vocabulary.{WasSentTo, answer_in, quiet}
 use Rattle.qc_msg.specs.declared.message.Answer.{Answer}
 use Rattle.qc_msg.specs.declared.message.Answer.TheVariants as answers
 use Rattle.qc_msg.specs.declared.message.Envelope.{Envelope}
@@ -25,8 +25,8 @@ use Rattle.qc_msg.specs.declared.message.Message.TheVariants as messages
 use Rattle.qc_msg.specs.declared.step.Input.{Input}
 use Rattle.qc_msg.specs.declared.step.Input.TheVariants as inputs
 use Rattle.qc_msg.specs.declared.turn.Posting.{Posting}
-use Rattle.qc_promise.specs.Names.{asks_answer}
-use Rattle.qc_site.specs.Names.{AreByClients, site_takes}
+use Rattle.qc_promise.specs.Vocabulary.{asks_answer}
+use Rattle.qc_site.specs.Vocabulary.{AreByClients, site_takes}
 use Rattle.laws_bounds.proofs.ActorsInForm.{StateInForm}
 use Rattle.laws_bounds.proofs.AdminsAsked.{admin_takes_asked}
 use Rattle.laws_bounds.proofs.ClientsInForm.{ClientInForm, known_form, verdict_form}

@@ -4,25 +4,26 @@ use Rattle.std.proofs.Common.{Some, None, slice_get, inl, inr, refl, sym, ap, â—
 use Rattle.std.proofs.Common.{length, arith}
 use Rattle.std.specs.List.{AllByRecursion as Every}
 use Rattle.std.proofs.lemmas.List.Sums.{fold-append}
-use Rattle.qc_list.specs.Names.{In}
+use Rattle.qc_list.specs.Vocabulary.{In}
 use Rattle.qc_list.proofs.Members.{every-In, every-at, every-weaker}
 use Rattle.qc_client.specs.declared.client.Client.{Client}
-use Rattle.qc_client.specs.Names.{is_begun}
+use Rattle.qc_client.specs.Vocabulary.{is_begun}
 use Rattle.qc_client.specs.Conduct as clients
-use Rattle.qc_commit.specs.Names.{known}
+use Rattle.qc_commit.specs.Vocabulary.{known}
 use Rattle.qc_core.specs.declared.actor.Actor.{Actor}
 use Rattle.qc_core.specs.declared.actor.Actor.TheVariants as actors_of
-use Rattle.qc_core.specs.Names.{ActorMove, actor_does, actor_takes, down_takes, moved}
+use Rattle.qc_core.specs.Vocabulary.{ActorMove, actor_does, actor_takes, down_takes, moved}
 use Rattle.qc_core.proofs.AdminTurns.{IsSentByAdmin, no_answers}
 use Rattle.qc_core.proofs.AdminWrites.{admin_written}
 use Rattle.qc_core.proofs.SiteWrites.{IsAnsweredTo, IsAnswerTo}
 use Rattle.qc_core.proofs.Written.{NoAnswer, client_answers, client_written}
 use Rattle.qc_decl.specs.declared.declaration.Declaration.{Declaration}
 use Rattle.qc_entry.specs.declared.record.Prepared.{Prepared}
-use Rattle.qc_epoch.specs.Names.{Admin, Asking, Closing, Doing, Installing, Question, Resting, is_number, outcome_in}
+use Rattle.qc_epoch.specs.Vocabulary.{Admin, Asking, Closing, Doing, Installing, Question, Resting, is_number}
+use Rattle.qc_epoch.specs.Vocabulary.{outcome_in}
 use Rattle.qc_epoch.specs.Conduct as admins
-use Rattle.qc_msg.specs.Names.{Deed, Falls, Rises, Sends, Takes, Tells, WasSentTo, Writes, answer_in, deeds_as}
-use Rattle.qc_msg.specs.Names.{envelopes, quiet, sends_as, sends_of, tells_of, turn_deeds}
+use Rattle.qc_msg.specs.Vocabulary.{Deed, Falls, Rises, Sends, Takes, Tells, WasSentTo, Writes, answer_in, deeds_as}
+use Rattle.qc_msg.specs.Vocabulary.{envelopes, quiet, sends_as, sends_of, tells_of, turn_deeds}
 use Rattle.qc_msg.specs.declared.record.Record.{Record}
 use Rattle.qc_msg.specs.declared.step.Fall.{Fall}
 use Rattle.qc_msg.specs.declared.step.Fall.TheVariants as causes
@@ -38,10 +39,10 @@ use Rattle.qc_msg.specs.declared.step.Input.{Input}
 use Rattle.qc_msg.specs.declared.step.Input.TheVariants as inputs
 use Rattle.qc_msg.specs.declared.turn.Posting.{Posting}
 use Rattle.qc_msg.specs.declared.turn.Turn.{Turn}
-use Rattle.qc_promise.specs.Names.{asks_answer}
-use Rattle.qc_site.specs.Names.{AreByClients, site_takes}
+use Rattle.qc_promise.specs.Vocabulary.{asks_answer}
+use Rattle.qc_site.specs.Vocabulary.{AreByClients, site_takes}
 use Rattle.qc_stamp.specs.declared.stamp.TxId.{TxId}
-use Rattle.laws_bounds.specs.Names.{NumberKeeps}
+use Rattle.laws_bounds.specs.Vocabulary.{NumberKeeps}
 use Rattle.laws_bounds.proofs.ActorsInForm.{IsToldFor, StateInForm}
 use Rattle.laws_bounds.proofs.ActorsWithin.{IsOfPost}
 use Rattle.laws_bounds.proofs.AdminKeeps.{AreLined, questions_in}

@@ -2,15 +2,15 @@
 use Rattle.std.proofs.Common.{◌≡◌, ℕ, ◌==◌, Bool, true, false, cond, List, [], ◌∷◌, filter, map, Some}
 use Rattle.std.specs.List.{AllByRecursion as Every}
 use Rattle.qc_list.proofs.Members.{every-at}
-use Rattle.qc_decl.specs.Names.{IsAccepted}
+use Rattle.qc_decl.specs.Vocabulary.{IsAccepted}
 use Rattle.qc_decl.specs.declared.declaration.Declaration.{Declaration}
 use Rattle.laws_due.proofs.AskedCommands.{asks_all, ready_command}
 use Rattle.qc_msg.specs.declared.message.Envelope.{Envelope}
 use Rattle.qc_msg.specs.declared.step.Command.{Command}
 use Rattle.qc_msg.specs.declared.step.Input.{Input}
 use Rattle.qc_msg.specs.declared.step.Input.TheVariants as inputs
-use Rattle.qc_msg.specs.Names.{Entry, WasSentTo}
-use Rattle.qc_script.specs.Names.{IsCommandFor, IsPhaseFor, IsScriptFor, commands_for, empty_inbox, inbox, ready}
+use Rattle.qc_msg.specs.Vocabulary.{Entry, WasSentTo}
+use Rattle.qc_script.specs.Vocabulary.{IsCommandFor, IsPhaseFor, IsScriptFor, commands_for, empty_inbox, inbox, ready}
 use Rattle.qc_script.specs.declared.script.CommandLine.{CommandLine}
 use Rattle.qc_script.specs.declared.script.Script.{Script}
 use Rattle.laws_bounds.proofs.EventsNamed.{command_named}

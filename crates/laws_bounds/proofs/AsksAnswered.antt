@@ -1,19 +1,20 @@
 -- How a transaction stands is told as the answer to an Ask about it, in form; so what a client tells the administrator
 -- is of the transaction that it was asked about.
-use Rattle.std.proofs.Common.{◌≡◌, ℕ, ◌+◌, ◌-◌, true, List, ◌∷◌, ◌++◌, fold, Option, Some, None, refl, sym, ap, ◌∙◌}
+use Rattle.std.proofs.Common.{[], ◌≡◌, ℕ, ◌+◌, ◌-◌, true, List, ◌∷◌, ◌++◌, fold, Option, Some, None, refl, sym, ap, ◌∙◌}
 use Rattle.std.proofs.Common.{subst, eqb-true, append_assoc, length}
 use Rattle.std.specs.List.{AllByRecursion as Every}
-use Rattle.qc_list.specs.Names.{In}
+use Rattle.qc_list.specs.Vocabulary.{In}
 use Rattle.qc_list.proofs.Members.{every-In, every-at}
 use Rattle.qc_client.specs.declared.client.Client.{Client}
 use Rattle.qc_core.specs.declared.actor.Actor.{Actor}
 use Rattle.qc_core.specs.declared.actor.Actor.TheVariants as actors_of
-use Rattle.qc_core.specs.Names.{ActorMove, actor_does, moved}
+use Rattle.qc_core.specs.Vocabulary.{ActorMove, actor_does, moved}
 use Rattle.qc_core.proofs.AdminTurns.{IsSentByAdmin}
 use Rattle.qc_decl.specs.declared.declaration.Declaration.{Declaration}
-use Rattle.qc_epoch.specs.Names.{Admin, Asking, Closing, Doing, Installing, Question, Resting, is_number, outcome_in}
-use Rattle.qc_msg.specs.Names.{Deed, Falls, Rises, Sends, Takes, Tells, WasSentTo, Writes, deeds_as, envelopes, quiet}
-use Rattle.qc_msg.specs.Names.{sends_as, sends_of, tells_of, turn_deeds}
+use Rattle.qc_epoch.specs.Vocabulary.{Admin, Asking, Closing, Doing, Installing, Question, Resting, is_number}
+use Rattle.qc_epoch.specs.Vocabulary.{outcome_in}
+use Rattle.qc_msg.specs.Vocabulary.{Deed, Falls, Rises, Sends, Takes, Tells, WasSentTo, Writes, deeds_as, envelopes}
+use Rattle.qc_msg.specs.Vocabulary.{quiet, sends_as, sends_of, tells_of, turn_deeds}
 use Rattle.qc_msg.specs.declared.record.Record.{Record}
 use Rattle.qc_msg.specs.declared.step.Fall.{Fall}
 use Rattle.qc_msg.specs.declared.step.Fall.TheVariants as causes
@@ -28,7 +29,7 @@ use Rattle.qc_msg.specs.declared.step.Input.{Input}
 use Rattle.qc_msg.specs.declared.step.Input.TheVariants as inputs
 use Rattle.qc_msg.specs.declared.turn.Turn.{Turn}
 use Rattle.qc_stamp.specs.declared.stamp.TxId.{TxId}
-use Rattle.laws_bounds.specs.Names.{NumberKeeps}
+use Rattle.laws_bounds.specs.Vocabulary.{NumberKeeps}
 use Rattle.laws_bounds.proofs.ActorsInForm.{IsToldFor}
 use Rattle.laws_bounds.proofs.ActorsWithin.{IsOfPost}
 use Rattle.laws_bounds.proofs.AdminKeeps.{AreLined, questions_in}

@@ -4,23 +4,23 @@ use Rattle.std.proofs.Common.{subst}
 use Rattle.std.specs.List.{AllByRecursion as Every}
 use Rattle.qc_core.specs.declared.actor.Actor.{Actor}
 use Rattle.qc_core.specs.declared.actor.Actor.TheVariants as actors_of
-use Rattle.qc_core.specs.Names.{ActorMove, IsLawfulWithFalls, Lives, actor_after, actor_rises, actor_takes, moved}
-use Rattle.qc_core.specs.Names.{new_actor, with_record}
+use Rattle.qc_core.specs.Vocabulary.{ActorMove, IsLawfulWithFalls, Lives, actor_after, actor_rises, actor_takes, moved}
+use Rattle.qc_core.specs.Vocabulary.{new_actor, with_record}
 use Rattle.qc_core.specs.Lives as lives
 use Rattle.qc_core.proofs.AdminTurns.{IsSentByAdmin}
 use Rattle.qc_core.proofs.AdminWrites.{admin_written}
 use Rattle.qc_core.proofs.PostsByTurns.{after_takes, called_turn}
-use Rattle.qc_decl.specs.Names.{is_client, is_site}
+use Rattle.qc_decl.specs.Vocabulary.{is_client, is_site}
 use Rattle.qc_decl.specs.declared.declaration.Declaration.{Declaration}
 use Rattle.qc_entry.specs.declared.record.Prepared.{Prepared}
-use Rattle.qc_msg.specs.Names.{Deed, Takes, quiet}
+use Rattle.qc_msg.specs.Vocabulary.{Deed, Takes, quiet}
 use Rattle.qc_msg.specs.declared.message.Envelope.{Envelope}
 use Rattle.qc_msg.specs.declared.record.Record.{Record}
 use Rattle.qc_msg.specs.declared.step.Input.{Input}
 use Rattle.qc_msg.specs.declared.turn.Turn.{Turn}
 use Rattle.qc_recover.specs.Admins as rulings
-use Rattle.qc_recover.specs.Names.{inquiry, kept_by, most_inquiries}
-use Rattle.qc_site.specs.Names.{in_order}
+use Rattle.qc_recover.specs.Vocabulary.{inquiry, kept_by, most_inquiries}
+use Rattle.qc_site.specs.Vocabulary.{in_order}
 use Rattle.qc_stamp.specs.declared.stamp.TxId.{TxId}
 use Rattle.laws_bounds.proofs.AdminKeeps.{AreLined, questions_in}
 use Rattle.laws_bounds.proofs.AdminsAsked.{any_decided_asked, takes_lined}

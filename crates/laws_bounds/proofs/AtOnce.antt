@@ -3,30 +3,30 @@
 use Rattle.std.proofs.Common.{◌≡◌, ℕ, ◌-◌, Bool, true, false, cond, List, [], ◌∷◌, ◌++◌, fold, Some, slice_get, refl}
 use Rattle.std.proofs.Common.{sym, ap, ◌∙◌}
 use Rattle.std.proofs.lemmas.List.Sums.{fold-append}
-use Rattle.qc_admin.specs.Names.{IsNumberedAtOnce}
+use Rattle.qc_admin.specs.Vocabulary.{IsNumberedAtOnce}
 use Rattle.qc_admin.proofs.AtOnce.{takes_now}
-use Rattle.qc_epoch.specs.Names.{Admin, admin_takes}
+use Rattle.qc_epoch.specs.Vocabulary.{Admin, admin_takes}
 use Rattle.qc_client.specs.declared.client.Client.{Client}
-use Rattle.qc_client.specs.Names.{client_takes}
+use Rattle.qc_client.specs.Vocabulary.{client_takes}
 use Rattle.qc_core.specs.declared.actor.Actor.{Actor}
 use Rattle.qc_core.specs.declared.actor.Actor.TheVariants as actors_of
-use Rattle.qc_core.specs.Names.{ActorMove, IsLawfulWithFalls, MayTake, actor_after, actor_does, actor_rises, actor_sent}
-use Rattle.qc_core.specs.Names.{actor_takes, by_client, down_takes, is_running}
+use Rattle.qc_core.specs.Vocabulary.{ActorMove, IsLawfulWithFalls, MayTake, actor_after, actor_does, actor_rises}
+use Rattle.qc_core.specs.Vocabulary.{actor_sent, actor_takes, by_client, down_takes, is_running}
 use Rattle.qc_core.proofs.PostsByTurns.{after_takes, called_turn}
 use Rattle.qc_core.proofs.ClientLands.{lands}
 use Rattle.qc_core.proofs.ClientStands.{Lands}
 use Rattle.qc_core.proofs.LivesOfActors.{rises as after_rises}
-use Rattle.qc_decl.specs.Names.{IsAccepted, is_client, is_site}
+use Rattle.qc_decl.specs.Vocabulary.{IsAccepted, is_client, is_site}
 use Rattle.qc_decl.specs.declared.declaration.Declaration.{Declaration}
 use Rattle.qc_msg.specs.declared.record.Record.{Record}
 use Rattle.qc_msg.specs.declared.step.Input.{Input}
 use Rattle.qc_msg.specs.declared.turn.Turn.{Turn}
-use Rattle.qc_msg.specs.Names.{Deed, Entry, Rises, deeds, turn_deeds}
-use Rattle.qc_recover.specs.Names.{site_rises}
-use Rattle.qc_script.specs.Names.{RunsWithFalls}
+use Rattle.qc_msg.specs.Vocabulary.{Deed, Entry, Rises, deeds, turn_deeds}
+use Rattle.qc_recover.specs.Vocabulary.{site_rises}
+use Rattle.qc_script.specs.Vocabulary.{RunsWithFalls}
 use Rattle.qc_script.specs.declared.script.Script.{Script}
-use Rattle.qc_site.specs.Names.{site_takes}
-use Rattle.laws_bounds.specs.Names.{AllRiseFit}
+use Rattle.qc_site.specs.Vocabulary.{site_takes}
+use Rattle.laws_bounds.specs.Vocabulary.{AllRiseFit}
 use Rattle.laws_bounds.proofs.Calling.{known_at}
 use Rattle.laws_bounds.proofs.Standing.{IsOpen, IsReady}
 use Rattle.qc_core.proofs.ByNumber.{rises_by}

@@ -3,17 +3,18 @@ use Rattle.std.proofs.Common.{◌≡◌, ℕ, suc, ◌<◌, ◌≤◌, ◌==◌,
 use Rattle.std.proofs.Common.{sym, ap, ◌∙◌, subst, arith, Ok}
 use Rattle.std.specs.Prelude.{IfSome, IsSome, option_map}
 use Rattle.std.proofs.lemmas.Bool.{eqb-false, eqb-true}
-use Rattle.qc_decl.specs.Names.{controller}
+use Rattle.qc_decl.specs.Vocabulary.{controller}
 use Rattle.qc_decl.specs.declared.declaration.Declaration.{Declaration}
-use Rattle.qc_msg.specs.Names.{Entry, own}
-use Rattle.qc_outside.specs.Names.{IsHandedOut, IsPutBack, IsSameElsewhere, Place, Places, Told, as_read, held_after}
+use Rattle.qc_msg.specs.Vocabulary.{Entry, own}
+use Rattle.qc_outside.specs.Vocabulary.{IsHandedOut, IsPutBack, IsSameElsewhere, Place, Places, Told, as_read}
+use Rattle.qc_outside.specs.Vocabulary.{held_after}
 use Rattle.qc_outside.proofs.Kept.{read_is_image}
-use Rattle.qc_promise.specs.Names.{journal_of}
-use Rattle.qc_record.specs.Names.{spelled}
-use Rattle.laws_bounds.specs.Names.{AreBackSoFar, AreHandedOut, HoldJournals, HoldsJournal, JournalIsOn, PlaceHolds}
-use Rattle.laws_bounds.specs.Names.{nobody, place_of, with_visit}
+use Rattle.qc_promise.specs.Vocabulary.{journal_of}
+use Rattle.qc_record.specs.Vocabulary.{spelled}
+use Rattle.laws_bounds.specs.Vocabulary.{AreBackSoFar, AreHandedOut, HoldJournals, HoldsJournal, JournalIsOn}
+use Rattle.laws_bounds.specs.Vocabulary.{PlaceHolds, nobody, place_of, with_visit}
 use Rattle.laws_bounds.proofs.Counted.{visit_other}
-use Rattle.qc_store.specs.Names.{DiskHolds, HoldsBodies}
+use Rattle.qc_store.specs.Vocabulary.{DiskHolds, HoldsBodies}
 
 -- what a place holds after a disk came back to it
 

@@ -2,37 +2,37 @@
 use Rattle.std.proofs.Common.{◌≡◌, ℕ, ◌+◌, ◌-◌, ◌^◌, ◌<◌, ◌≤◌, Bool, true, false, List, [], length, Option, Some, None}
 use Rattle.std.proofs.Common.{slice_get, refl, sym, ap, ◌∙◌, subst, arith}
 use Rattle.std.specs.List.{AllByRecursion as Every}
-use Rattle.qc_list.specs.Names.{In}
+use Rattle.qc_list.specs.Vocabulary.{In}
 use Rattle.qc_list.proofs.Members.{every-In, every-weaker}
-use Rattle.qc_admin.specs.Names.{AdminFits, GivenFits, GoesToActors}
+use Rattle.qc_admin.specs.Vocabulary.{AdminFits, GivenFits, GoesToActors}
 use Rattle.qc_admin.proofs.Fitting.{takes_fit}
 use Rattle.qc_admin.proofs.Receivers.{takes_go}
 use Rattle.qc_client.specs.declared.client.Client.{Client}
-use Rattle.qc_epoch.specs.Names.{Admin, admin_takes, most_asks}
-use Rattle.qc_site.specs.Names.{site_takes}
+use Rattle.qc_epoch.specs.Vocabulary.{Admin, admin_takes, most_asks}
+use Rattle.qc_site.specs.Vocabulary.{site_takes}
 use Rattle.qc_msg.specs.declared.turn.Posting.{Posting}
-use Rattle.qc_client.specs.Names.{client_takes, promise_in, sent, sent_by}
+use Rattle.qc_client.specs.Vocabulary.{client_takes, promise_in, sent, sent_by}
 use Rattle.qc_commit.specs.declared.desk.Voting.{Voting}
 use Rattle.qc_commit.specs.Conduct as desks
 use Rattle.qc_commit.specs.Fits as votes
 use Rattle.qc_core.specs.declared.actor.Actor.{Actor}
 use Rattle.qc_core.specs.declared.actor.Actor.TheVariants as actors_of
-use Rattle.qc_core.specs.Names.{ActorFits, ActorMove, AsksFew, IsFrom, IsLawfulWithFalls, IsShort, MayTake, actor_after}
-use Rattle.qc_core.specs.Names.{actor_takes, is_running, with_record}
+use Rattle.qc_core.specs.Vocabulary.{ActorFits, ActorMove, AsksFew, IsFrom, IsLawfulWithFalls, IsShort, MayTake}
+use Rattle.qc_core.specs.Vocabulary.{actor_after, actor_takes, is_running, with_record}
 use Rattle.qc_core.proofs.PostsByTurns.{after_takes, called_turn}
 use Rattle.qc_core.proofs.ClientLands.{lands}
 use Rattle.qc_core.proofs.ClientReaches.{client_reach}
 use Rattle.qc_core.proofs.ClientStands.{Lands, Stands}
 use Rattle.qc_core.proofs.SiteReaches.{site_reach}
-use Rattle.qc_decl.specs.Names.{IsAccepted, most_clients, most_sites, most_steps}
+use Rattle.qc_decl.specs.Vocabulary.{IsAccepted, most_clients, most_sites, most_steps}
 use Rattle.qc_decl.specs.declared.declaration.Declaration.{Declaration}
-use Rattle.qc_fit.specs.Names.{greatest_clock, most_records}
+use Rattle.qc_fit.specs.Vocabulary.{greatest_clock, most_records}
 use Rattle.qc_front.specs.declared.doing.Doing.{Doing}
 use Rattle.qc_front.specs.declared.doing.Doing.TheVariants.{Idle, Reading, Appending}
 use Rattle.qc_front.specs.Conduct as fronts
 use Rattle.qc_front.specs.Fits as rounds
 use Rattle.qc_front.proofs.Fitting.{fits as front_fits}
-use Rattle.qc_link.specs.Names.{most_actors}
+use Rattle.qc_link.specs.Vocabulary.{most_actors}
 use Rattle.qc_msg.specs.declared.message.Envelope.{Envelope}
 use Rattle.qc_msg.specs.declared.message.Message.{Message}
 use Rattle.qc_msg.specs.declared.message.Message.TheVariants as messages
@@ -40,14 +40,14 @@ use Rattle.qc_msg.specs.declared.record.Record.{Record}
 use Rattle.qc_msg.specs.declared.step.Input.{Input}
 use Rattle.qc_msg.specs.declared.step.Input.TheVariants as inputs
 use Rattle.qc_msg.specs.declared.turn.Turn.{Turn}
-use Rattle.qc_msg.specs.Names.{Deed, Entry, deeds, mail}
+use Rattle.qc_msg.specs.Vocabulary.{Deed, Entry, deeds, mail}
 use Rattle.qc_msg.proofs.GrownMail.{length-mail}
-use Rattle.laws_turns.specs.Names.{MessageWithin}
+use Rattle.laws_turns.specs.Vocabulary.{MessageWithin}
 use Rattle.laws_turns.proofs.DesksWithin.{promised-within}
-use Rattle.qc_script.specs.Names.{RunsWithFalls}
+use Rattle.qc_script.specs.Vocabulary.{RunsWithFalls}
 use Rattle.qc_script.specs.declared.script.Script.{Script}
-use Rattle.laws_bounds.specs.Names.{AllRiseFit, CountsWithin, IsBoundedWithFalls, IsFailedShort, IsTurnShort}
-use Rattle.laws_bounds.specs.Names.{LivesWithin, StateWithin}
+use Rattle.laws_bounds.specs.Vocabulary.{AllRiseFit, CountsWithin, IsBoundedWithFalls, IsFailedShort, IsTurnShort}
+use Rattle.laws_bounds.specs.Vocabulary.{LivesWithin, StateWithin}
 use Rattle.laws_bounds.proofs.CountBounds.{history_counts, history_lives}
 use Rattle.laws_bounds.proofs.FailedSends.{failed_short}
 use Rattle.laws_bounds.proofs.FitBounds.{rise_few, rise_within}

@@ -3,14 +3,14 @@
 use Rattle.std.proofs.Common.{◌≡◌, ◌⊎◌, ℕ, ◌≤◌, Bool, true, false, cond, Option, Some, None, inl, inr, refl, sym, ap}
 use Rattle.std.proofs.Common.{subst}
 use Rattle.std.specs.Prelude.{option_to_list}
-use Rattle.qc_list.specs.Names.{In}
+use Rattle.qc_list.specs.Vocabulary.{In}
 use Rattle.qc_list.proofs.Members.{In-last, every-In}
 use Rattle.qc_client.specs.declared.client.Client.{Client}
-use Rattle.qc_client.specs.Names.{ClientMove, answered, answered_by, by_desk, by_front, called, client_takes, commits}
-use Rattle.qc_client.specs.Names.{heard}
+use Rattle.qc_client.specs.Vocabulary.{ClientMove, answered, answered_by, by_desk, by_front, called, client_takes}
+use Rattle.qc_client.specs.Vocabulary.{commits, heard}
 use Rattle.qc_commit.specs.declared.desk.Voting.{Voting}
 use Rattle.qc_commit.specs.Conduct as desks
-use Rattle.qc_commit.specs.Names.{DeskMove}
+use Rattle.qc_commit.specs.Vocabulary.{DeskMove}
 use Rattle.qc_commit.proofs.Moves.{IsMove, prepare-moves, tx_of, vote-moves}
 use Rattle.qc_core.proofs.Written.{client_written}
 use Rattle.qc_decl.specs.declared.declaration.Declaration.{Declaration}
@@ -29,8 +29,8 @@ use Rattle.qc_msg.specs.declared.step.Input.{Input}
 use Rattle.qc_msg.specs.declared.step.Input.TheVariants as inputs
 use Rattle.qc_msg.specs.declared.turn.Turn.{Turn}
 use Rattle.qc_stamp.specs.declared.stamp.TxId.{TxId}
-use Rattle.laws_turns.specs.Names.{ClientWithin, SendsWithin}
-use Rattle.laws_bounds.specs.Names.{AreWithin}
+use Rattle.laws_turns.specs.Vocabulary.{ClientWithin, SendsWithin}
+use Rattle.laws_bounds.specs.Vocabulary.{AreWithin}
 use Rattle.laws_bounds.proofs.SiteWrites.{WritesWithin}
 
 -- what is written is one of the commit records that the client keeps then

@@ -3,15 +3,15 @@
 use Rattle.std.proofs.Common.{◌≡◌, ◌⊎◌, ℕ, ◌==◌, Bool, true, false, cond, List, [], ◌∷◌, length, map, Option, Some}
 use Rattle.std.proofs.Common.{None, is_some, inl, inr, refl}
 use Rattle.qc_client.specs.declared.client.Client.{Client}
-use Rattle.qc_client.specs.Names.{ClientMove, answered, answered_by, by_desk, by_front, called, client_takes, commits}
-use Rattle.qc_client.specs.Names.{heard, moved, requested, sent_one}
+use Rattle.qc_client.specs.Vocabulary.{ClientMove, answered, answered_by, by_desk, by_front, called, client_takes}
+use Rattle.qc_client.specs.Vocabulary.{commits, heard, moved, requested, sent_one}
 use Rattle.qc_commit.specs.declared.ballot.Ballot.{Ballot}
 use Rattle.qc_commit.specs.declared.desk.Desk.{Desk}
 use Rattle.qc_commit.specs.declared.desk.Voting.{Voting}
 use Rattle.qc_commit.specs.Conduct as desks
-use Rattle.qc_commit.specs.Names.{DeskMove, are_cast, blank, cast, first_against, moved as desk_moved, participants}
-use Rattle.qc_commit.specs.Names.{prepares, vote_of}
-use Rattle.qc_decl.specs.Names.{IsAccepted}
+use Rattle.qc_commit.specs.Vocabulary.{DeskMove, are_cast, blank, cast, first_against, moved as desk_moved}
+use Rattle.qc_commit.specs.Vocabulary.{participants, prepares, vote_of}
+use Rattle.qc_decl.specs.Vocabulary.{IsAccepted}
 use Rattle.qc_decl.specs.declared.declaration.Declaration.{Declaration}
 use Rattle.qc_entry.specs.declared.record.Commit.{Commit}
 use Rattle.qc_front.specs.declared.doing.Doing.{Doing}
@@ -19,7 +19,7 @@ use Rattle.qc_front.specs.declared.doing.Doing.TheVariants.{Idle, Reading, Appen
 use Rattle.qc_front.specs.declared.front.Front.{Front}
 use Rattle.qc_front.specs.declared.transaction.Transaction.{Transaction}
 use Rattle.qc_front.specs.Conduct as fronts
-use Rattle.qc_front.specs.Names.{FrontMove, ended}
+use Rattle.qc_front.specs.Vocabulary.{FrontMove, ended}
 use Rattle.qc_front.proofs.Unwritten.{front_called, front_takes}
 use Rattle.laws_turns.proofs.OwnFronts.{IsOwnTransaction, OwnFront}
 use Rattle.laws_turns.proofs.OwnFronts as own_fronts
@@ -40,7 +40,7 @@ use Rattle.qc_msg.specs.declared.step.Command.{Command}
 use Rattle.qc_msg.specs.declared.step.Command.TheVariants as commands
 use Rattle.qc_msg.specs.declared.step.Input.{Input}
 use Rattle.qc_msg.specs.declared.step.Input.TheVariants as inputs
-use Rattle.qc_msg.specs.Names.{decisions, quiet, sending, site_called, without_call}
+use Rattle.qc_msg.specs.Vocabulary.{decisions, quiet, sending, site_called, without_call}
 use Rattle.laws_bounds.proofs.FrontsNamed.{DoingNamed, FrontMoveNamed, FrontNamed, called_named, takes_named}
 use Rattle.laws_bounds.proofs.TransactionsNamed.{BegunNamed}
 use Rattle.laws_bounds.proofs.Names.{CameNamed, CommandNamed, GivenNamed, MessageNamed, OpsNamed, SendsNamed}

@@ -7,10 +7,10 @@ use Rattle.qc_decl.specs.declared.declaration.Declaration.{Declaration}
 use Rattle.qc_entry.specs.declared.record.Commit.{Commit}
 use Rattle.qc_msg.specs.declared.record.Record.{Record}
 use Rattle.qc_msg.specs.declared.record.Record.TheVariants as records
-use Rattle.qc_recover.specs.Names.{client_of, with_commit}
+use Rattle.qc_recover.specs.Vocabulary.{client_of, with_commit}
 use Rattle.qc_recover.specs.Clients.{Kept, keeps, kept_by, nothing_kept}
 use Rattle.qc_recover.proofs.Lives.{client_lives}
-use Rattle.qc_stamp.specs.Names.{same_tx}
+use Rattle.qc_stamp.specs.Vocabulary.{same_tx}
 use Rattle.laws_bounds.proofs.ClientsInForm.{ClientInForm}
 use Rattle.laws_bounds.proofs.DesksInForm.{CommitsInForm}
 use Rattle.laws_bounds.proofs.Forms.{RecordInForm, StampInForm}

@@ -5,13 +5,13 @@ use Rattle.std.proofs.Common.{Option, Some, None, refl, arith, length-append}
 use Rattle.std.specs.Prelude.{option_to_list, slice_get}
 use Rattle.std.specs.List.{AllByRecursion as Every}
 use Rattle.qc_list.proofs.Members.{every-append}
-use Rattle.qc_client.specs.Names.{client_takes, sent_one}
+use Rattle.qc_client.specs.Vocabulary.{client_takes, sent_one}
 use Rattle.qc_core.specs.declared.actor.Actor.{Actor}
 use Rattle.qc_core.specs.declared.actor.Actor.TheVariants as actors
-use Rattle.qc_core.specs.Names.{ActorMove, actor_after, actor_does, actor_rises, actor_sends, actor_takes, by_client}
-use Rattle.qc_core.specs.Names.{by_site, moved, new_actor}
+use Rattle.qc_core.specs.Vocabulary.{ActorMove, actor_after, actor_does, actor_rises, actor_sends, actor_takes}
+use Rattle.qc_core.specs.Vocabulary.{by_client, by_site, moved, new_actor}
 use Rattle.qc_core.proofs.ByNumber.{new_by, rises_by}
-use Rattle.qc_decl.specs.Names.{is_client, is_site}
+use Rattle.qc_decl.specs.Vocabulary.{is_client, is_site}
 use Rattle.qc_decl.specs.declared.declaration.Declaration.{Declaration}
 use Rattle.qc_msg.specs.declared.message.Envelope.{Envelope}
 use Rattle.qc_msg.specs.declared.message.Message.{Message}
@@ -21,14 +21,14 @@ use Rattle.qc_msg.specs.declared.step.Input.{Input}
 use Rattle.qc_msg.specs.declared.step.Input.TheVariants as inputs
 use Rattle.qc_msg.specs.declared.step.Step.{Step}
 use Rattle.qc_msg.specs.declared.step.Step.TheVariants as steps
-use Rattle.qc_msg.specs.Names.{Deed, Entry, Falls, Rises, Sends, Takes, Tells, Writes, deed_at, deeds, envelope_of}
-use Rattle.qc_msg.specs.Names.{heard as heard_deeds, quiet}
-use Rattle.qc_recover.specs.Names.{client_rises, nothing_kept as no_site, site_rises}
+use Rattle.qc_msg.specs.Vocabulary.{Deed, Entry, Falls, Rises, Sends, Takes, Tells, Writes, deed_at, deeds, envelope_of}
+use Rattle.qc_msg.specs.Vocabulary.{heard as heard_deeds, quiet}
+use Rattle.qc_recover.specs.Vocabulary.{client_rises, nothing_kept as no_site, site_rises}
 use Rattle.qc_recover.specs.Clients.{nothing_kept as no_client}
 use Rattle.qc_recover.proofs.Lives.{client_lives, site_lives}
-use Rattle.qc_site.specs.Names.{SiteState, new_site, passed, site_takes}
+use Rattle.qc_site.specs.Vocabulary.{SiteState, new_site, passed, site_takes}
 use Rattle.qc_site.proofs.Cases.{state_cases}
-use Rattle.laws_bounds.specs.Names.{CountsWithin, LivesWithin, RiseWithFew, risen_at}
+use Rattle.laws_bounds.specs.Vocabulary.{CountsWithin, LivesWithin, RiseWithFew, risen_at}
 use Rattle.laws_bounds.proofs.ClientCounts.{sent_same, takes_steps}
 
 -- deeds whose rises give at most so many records

@@ -3,8 +3,8 @@ use Rattle.std.proofs.Common.{◌≡◌, ℕ, zero, suc, ◌+◌, ◌<◌, ◌�
 use Rattle.std.proofs.Common.{refl, sym, ap, ◌∙◌, subst, arith}
 use Rattle.std.proofs.lemmas.Bool.{eq-eqb, eqb-true, ltb-true}
 use Rattle.std.proofs.lemmas.Bool.Decides.{nat_tests}
-use Rattle.qc_promise.specs.Names.{total_below}
-use Rattle.laws_bounds.specs.Names.{nobody, visits_below, with_visit}
+use Rattle.qc_promise.specs.Vocabulary.{total_below}
+use Rattle.laws_bounds.specs.Vocabulary.{nobody, visits_below, with_visit}
 use Rattle.laws_bounds.proofs.Sums.{total_more, zeros}
 
 pub visit_here : (a : ℕ) (visited : ℕ → Bool) → with_visit visited a a ≡ true

@@ -5,15 +5,16 @@ use Rattle.std.proofs.Common.{Some, None, refl, slice_get, subst, arith}
 use Rattle.std.specs.Prelude.{option_and_then, option_map, position}
 use Rattle.std.proofs.lemmas.Bool.{eqb-false, leb-false}
 use Rattle.std.proofs.lemmas.Option.{slice_get_within}
-use Rattle.qc_decl.specs.Names.{IsAccepted, plan_in, table_at}
+use Rattle.qc_decl.specs.Vocabulary.{IsAccepted, plan_in, table_at}
 use Rattle.qc_plan.specs.declared.plan.Plan.{Plan}
-use Rattle.qc_record.specs.Names.{IsWithin}
+use Rattle.qc_record.specs.Vocabulary.{IsWithin}
 use Rattle.qc_decl.specs.declared.declaration.Declaration.{Declaration}
-use Rattle.qc_fit.specs.Names.{HasEvent, HasInvocation, HasResponse}
-use Rattle.qc_front.specs.Names.{resp_of}
+use Rattle.qc_fit.specs.Vocabulary.{HasEvent, HasInvocation, HasResponse}
+use Rattle.qc_front.specs.Vocabulary.{resp_of}
 use Rattle.qc_msg.specs.declared.step.Command.{Command}
 use Rattle.qc_msg.specs.declared.step.Command.TheVariants.{Abort, Begin, Commit, Do, Epoch}
-use Rattle.qc_table.specs.Names.{IsSound, Rules, events_of, fault_of, first_repeat, is_unknown, most_events, ranked}
+use Rattle.qc_table.specs.Vocabulary.{IsSound, Rules, events_of, fault_of, first_repeat, is_unknown, most_events}
+use Rattle.qc_table.specs.Vocabulary.{ranked}
 use Rattle.qc_table.specs.declared.kind.Kind.{Kind}
 use Rattle.laws_bounds.proofs.EventsNamed.{EventNamed, answer_named}
 use Rattle.laws_bounds.proofs.Names.{CommandNamed}

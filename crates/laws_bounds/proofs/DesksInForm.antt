@@ -8,8 +8,8 @@ use Rattle.qc_commit.specs.declared.ballot.Ballot.{Ballot}
 use Rattle.qc_commit.specs.declared.desk.Desk.{Desk}
 use Rattle.qc_commit.specs.declared.desk.Voting.{Voting}
 use Rattle.qc_commit.specs.Conduct as desks
-use Rattle.qc_commit.specs.Names.{DeskMove, are_cast, blank, cast, first_against, moved, participants, prepares}
-use Rattle.qc_commit.specs.Names.{vote_of}
+use Rattle.qc_commit.specs.Vocabulary.{DeskMove, are_cast, blank, cast, first_against, moved, participants, prepares}
+use Rattle.qc_commit.specs.Vocabulary.{vote_of}
 use Rattle.qc_decl.specs.declared.declaration.Declaration.{Declaration}
 use Rattle.qc_entry.specs.declared.record.Commit.{Commit}
 use Rattle.qc_msg.specs.declared.begun.Begun.{Begun}
@@ -22,8 +22,8 @@ use Rattle.qc_msg.specs.declared.message.Outcome.TheVariants.{Aborted, Committed
 use Rattle.qc_msg.specs.declared.record.Record.{Record}
 use Rattle.qc_msg.specs.declared.record.Record.TheVariants as records
 use Rattle.qc_msg.specs.declared.reply.AbortCause.{AbortCause}
-use Rattle.qc_msg.specs.Names.{decisions, quiet, sending, site_called, without_call}
-use Rattle.qc_record.specs.Names.{IsOp}
+use Rattle.qc_msg.specs.Vocabulary.{decisions, quiet, sending, site_called, without_call}
+use Rattle.qc_record.specs.Vocabulary.{IsOp}
 use Rattle.laws_bounds.proofs.Forms.{OrdinalsInForm, SendsInForm, StampInForm, VerdictInForm}
 use Rattle.laws_bounds.proofs.TransactionsInForm.{BegunInForm}
 

@@ -4,24 +4,24 @@ use Rattle.std.proofs.Common.{slice_get, refl, sym, ap, ◌∙◌, subst, arith,
 use Rattle.std.specs.Prelude.{option_and_then, option_map, unwrap_or}
 use Rattle.std.specs.Str.{bytes_eq}
 use Rattle.std.proofs.lemmas.List.Quantifiers.{position-Some}
-use Rattle.qc_decl.specs.Names.{HasNames, IsAccepted, inv_named, place_of, table_at}
+use Rattle.qc_decl.specs.Vocabulary.{HasNames, IsAccepted, inv_named, place_of, table_at}
 use Rattle.qc_plan.specs.declared.plan.Plan.{Plan}
 use Rattle.qc_decl.specs.declared.declaration.Declaration.{Declaration}
 use Rattle.qc_decl.specs.declared.declaration.KindNames.{KindNames}
-use Rattle.qc_fit.specs.Names.{HasEvent, HasInvocation, HasPlan, HasResponse}
+use Rattle.qc_fit.specs.Vocabulary.{HasEvent, HasInvocation, HasPlan, HasResponse}
 use Rattle.qc_front.specs.declared.transaction.Transaction.{Transaction}
-use Rattle.qc_front.specs.Names.{answer_of, resp_of}
+use Rattle.qc_front.specs.Vocabulary.{answer_of, resp_of}
 use Rattle.laws_turns.proofs.Places.{slice_get-within}
 use Rattle.qc_msg.specs.declared.step.Command.{Command}
 use Rattle.qc_msg.specs.declared.step.Command.TheVariants.{Begin, Do, Commit, Abort, Epoch}
-use Rattle.qc_msg.specs.Names.{first_epoch}
-use Rattle.qc_script.specs.Names.{IsAskedFor, IsInv, IsObject}
-use Rattle.qc_table.specs.Names.{IsLowest, IsSound, Rules, events_of, first_of}
+use Rattle.qc_msg.specs.Vocabulary.{first_epoch}
+use Rattle.qc_script.specs.Vocabulary.{IsAskedFor, IsInv, IsObject}
+use Rattle.qc_table.specs.Vocabulary.{IsLowest, IsSound, Rules, events_of, first_of}
 use Rattle.qc_table.specs.declared.kind.Kind.{Kind}
 use Rattle.qc_table.specs.declared.row.Event.{Event}
 use Rattle.qc_table.proofs.Named.{allowed_within}
 use Rattle.qc_table.proofs.Numbered.{first_lowest, first_within}
-use Rattle.qc_view.specs.Names.{answer_in, state_in}
+use Rattle.qc_view.specs.Vocabulary.{answer_in, state_in}
 use Rattle.qc_view.specs.declared.view.View.{View}
 use Rattle.laws_bounds.proofs.Names.{CommandNamed}
 

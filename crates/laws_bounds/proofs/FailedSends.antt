@@ -3,11 +3,11 @@ use Rattle.std.proofs.Common.{ℕ, ◌<◌, ◌≤◌, List, length, sym, subst,
 use Rattle.std.specs.List.{AllByRecursion as Every}
 use Rattle.qc_core.specs.declared.actor.Actor.{Actor}
 use Rattle.qc_core.specs.declared.actor.Actor.TheVariants.{Site, Client, Admin, Down}
-use Rattle.qc_core.specs.Names.{IsFrom, actor_takes}
+use Rattle.qc_core.specs.Vocabulary.{IsFrom, actor_takes}
 use Rattle.qc_core.proofs.AdminWrites.{admin_written}
 use Rattle.qc_core.proofs.Written.{client_written}
 use Rattle.qc_decl.specs.declared.declaration.Declaration.{Declaration}
-use Rattle.qc_link.specs.Names.{most_actors}
+use Rattle.qc_link.specs.Vocabulary.{most_actors}
 use Rattle.qc_msg.specs.declared.message.Message.{Message}
 use Rattle.qc_msg.specs.declared.message.Message.TheVariants as messages
 use Rattle.qc_msg.specs.declared.message.Outcome.{Outcome}
@@ -17,11 +17,11 @@ use Rattle.qc_msg.specs.declared.message.Want.TheVariants.{Read, Append, Prepare
 use Rattle.qc_msg.specs.declared.step.Input.{Input}
 use Rattle.qc_msg.specs.declared.step.Input.TheVariants as inputs
 use Rattle.qc_msg.specs.declared.turn.Posting.{Posting}
-use Rattle.qc_site.specs.Names.{SiteMove, SiteState, finishes, grants, passed, site_at, site_takes}
+use Rattle.qc_site.specs.Vocabulary.{SiteMove, SiteState, finishes, grants, passed, site_at, site_takes}
 use Rattle.qc_site.proofs.RequestCases.{append_cases, close_rows, install_rows, join_cases, prepare_cases, read_cases}
 use Rattle.qc_site.proofs.RequestCases.{request_cases}
 use Rattle.qc_stamp.specs.declared.stamp.TxId.{TxId}
-use Rattle.laws_bounds.specs.Names.{IsFailedShort}
+use Rattle.laws_bounds.specs.Vocabulary.{IsFailedShort}
 
 module _ (decl : Declaration) (s : SiteState) (from number : ℕ) (low : from < most_actors) where
   abbrev Short : SiteMove → Type 0

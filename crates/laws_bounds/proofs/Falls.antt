@@ -2,16 +2,16 @@
 use Rattle.std.proofs.Common.{◌≡◌, ℕ, zero, suc, ◌+◌, ◌-◌, ◌^◌, ◌<◌, ◌≤◌, Bool, true, false, cond, List, refl, sym, ap}
 use Rattle.std.proofs.Common.{subst, arith, min, nat_lt}
 use Rattle.std.proofs.lemmas.Bool.{ltb-true}
-use Rattle.qc_msg.specs.Names.{Entry}
-use Rattle.qc_outside.specs.Names.{IsKept}
-use Rattle.qc_promise.specs.Names.{AreFallsBelow, IsEverInTime, Spent, disk_account, total_below}
-use Rattle.laws_bounds.specs.Names.{AreFaultsBelow, IsSpentSoFar, falls_of, nobody, with_visit}
+use Rattle.qc_msg.specs.Vocabulary.{Entry}
+use Rattle.qc_outside.specs.Vocabulary.{IsKept}
+use Rattle.qc_promise.specs.Vocabulary.{AreFallsBelow, IsEverInTime, Spent, disk_account, total_below}
+use Rattle.laws_bounds.specs.Vocabulary.{AreFaultsBelow, IsSpentSoFar, falls_of, nobody, with_visit}
 use Rattle.laws_bounds.proofs.Others.{at_least, others_in_time}
 use Rattle.laws_bounds.proofs.RunFaults.{falls_below}
 use Rattle.laws_bounds.proofs.Sums.{zeros}
 use Rattle.laws_bounds.proofs.Counted.{more_visited}
 use Rattle.qc_spent.proofs.Whole.{spent}
-use Rattle.qc_store.specs.Names.{IsCounted}
+use Rattle.qc_store.specs.Vocabulary.{IsCounted}
 
 pub none_spent : (n : ℕ) (h : List Entry) (before : ℕ) → IsSpentSoFar n h nobody before before
 none_spent n h before = record { counted = omega (arith, zeros n) }

@@ -8,11 +8,11 @@ use Rattle.std.proofs.lemmas.List.Sums.{fold-append}
 use Rattle.qc_msg.specs.declared.record.Record.{Record}
 use Rattle.qc_msg.specs.declared.step.Step.{Step}
 use Rattle.qc_msg.specs.declared.step.Step.TheVariants as steps
-use Rattle.qc_msg.specs.Names.{Entry, own}
+use Rattle.qc_msg.specs.Vocabulary.{Entry, own}
 use Rattle.qc_msg.proofs.DeedsGrow.{own-append}
-use Rattle.qc_promise.specs.Names.{IsGivenBack, IsKeptAt, Journal, Kept, journal_of, journal_with, no_journal}
-use Rattle.qc_promise.specs.Names.{pending_with}
-use Rattle.laws_bounds.specs.Names.{RiseWithFew, risen_at}
+use Rattle.qc_promise.specs.Vocabulary.{IsGivenBack, IsKeptAt, Journal, Kept, journal_of, journal_with, no_journal}
+use Rattle.qc_promise.specs.Vocabulary.{pending_with}
+use Rattle.laws_bounds.specs.Vocabulary.{RiseWithFew, risen_at}
 
 abbrev pub HasFew : ℕ → Journal → Type 0
 HasFew n j = length j.records + length (option_to_list j.pending) ≤ n

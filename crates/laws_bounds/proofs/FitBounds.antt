@@ -2,17 +2,17 @@
 use Rattle.std.proofs.Common.{◌≡◌, ℕ, ◌+◌, ◌<◌, ◌≤◌, true, List, [], ◌∷◌, length, arith}
 use Rattle.std.specs.List.{AllByRecursion as Every}
 use Rattle.qc_list.proofs.Members.{every-weaker}
-use Rattle.qc_decl.specs.Names.{IsAccepted, most_clients}
+use Rattle.qc_decl.specs.Vocabulary.{IsAccepted, most_clients}
 use Rattle.qc_decl.specs.declared.declaration.Declaration.{Declaration}
 use Rattle.qc_entry.specs.declared.line.Line.{Line}
-use Rattle.qc_fit.specs.Names.{IsFit, IsLineDeclared, fits, greatest_clock, most_records}
+use Rattle.qc_fit.specs.Vocabulary.{IsFit, IsLineDeclared, fits, greatest_clock, most_records}
 use Rattle.qc_fit.proofs.Words.{as_said}
 use Rattle.qc_msg.specs.declared.record.Record.{Record}
 use Rattle.qc_msg.specs.declared.record.Record.TheVariants as records
-use Rattle.qc_msg.specs.Names.{Entry}
-use Rattle.laws_turns.specs.Names.{LinesWithin}
-use Rattle.laws_bounds.specs.Names.{AllFit, AllRiseFit, AreWithin, IsOfClient, RecordWithin, RiseWithFew, RiseWithin}
-use Rattle.laws_bounds.specs.Names.{risen_at}
+use Rattle.qc_msg.specs.Vocabulary.{Entry}
+use Rattle.laws_turns.specs.Vocabulary.{LinesWithin}
+use Rattle.laws_bounds.specs.Vocabulary.{AllFit, AllRiseFit, AreWithin, IsOfClient, RecordWithin, RiseWithFew}
+use Rattle.laws_bounds.specs.Vocabulary.{RiseWithin, risen_at}
 
 module _ (decl : Declaration) (a : ℕ) where
   fit_of : (before : ℕ) (r : Record) → fits decl a before r ≡ true → IsFit decl a before r

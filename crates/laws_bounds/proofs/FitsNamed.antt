@@ -3,22 +3,22 @@
 use Rattle.std.proofs.Common.{◌≡◌, ◌<◌, ◌≤◌, ℕ, ◌+◌, true, List, [], ◌∷◌, ◌++◌, Bool, arith}
 use Rattle.std.specs.List.{AllByRecursion as Every}
 use Rattle.qc_list.proofs.Members.{every-weaker}
-use Rattle.qc_core.specs.Names.{IsLawfulWithFalls}
-use Rattle.qc_decl.specs.Names.{IsAccepted, actors, administrator}
+use Rattle.qc_core.specs.Vocabulary.{IsLawfulWithFalls}
+use Rattle.qc_decl.specs.Vocabulary.{IsAccepted, actors, administrator}
 use Rattle.qc_decl.specs.declared.declaration.Declaration.{Declaration}
-use Rattle.laws_due.specs.Names.{AsksKnown, IsKnown}
+use Rattle.laws_due.specs.Vocabulary.{AsksKnown, IsKnown}
 use Rattle.qc_entry.specs.declared.line.Line.{Line}
-use Rattle.qc_fit.specs.Names.{IsFit, IsLineDeclared, fits}
+use Rattle.qc_fit.specs.Vocabulary.{IsFit, IsLineDeclared, fits}
 use Rattle.qc_fit.proofs.Words.{as_said}
-use Rattle.qc_msg.specs.Names.{Entry, mail}
+use Rattle.qc_msg.specs.Vocabulary.{Entry, mail}
 use Rattle.qc_msg.specs.declared.message.Envelope.{Envelope}
 use Rattle.qc_msg.specs.declared.message.Message.{Message}
 use Rattle.qc_msg.specs.declared.message.Message.TheVariants as messages
 use Rattle.qc_msg.specs.declared.record.Record.{Record}
 use Rattle.qc_msg.specs.declared.record.Record.TheVariants as records
-use Rattle.qc_script.specs.Names.{IsScriptFor, RunsWithFalls}
+use Rattle.qc_script.specs.Vocabulary.{IsScriptFor, RunsWithFalls}
 use Rattle.qc_script.specs.declared.script.Script.{Script}
-use Rattle.laws_bounds.specs.Names.{AllFit}
+use Rattle.laws_bounds.specs.Vocabulary.{AllFit}
 use Rattle.laws_bounds.proofs.HistoriesNamed.{AllNamed, run_named_by}
 use Rattle.laws_bounds.proofs.Names.{AreNamed, LineNamed, LinesNamed, MailNamed, MessageNamed, RecordNamed}
 

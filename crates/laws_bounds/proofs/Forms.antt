@@ -2,14 +2,14 @@
 -- lines in order; in messages, in what is taken, and in records. `laws_bounds` has how great clocks are.
 use Rattle.std.proofs.Common.{◌≡◌, ℕ, ◌-◌, ◌^◌, ◌≤◌, List, length, Option, Some, None}
 use Rattle.std.specs.List.{AllByRecursion as Every}
-use Rattle.qc_decl.specs.Names.{most_record_bytes}
-use Rattle.qc_entry.specs.Names.{IsAscending}
+use Rattle.qc_decl.specs.Vocabulary.{most_record_bytes}
+use Rattle.qc_entry.specs.Vocabulary.{IsAscending}
 use Rattle.qc_entry.specs.declared.line.Line.{Line}
 use Rattle.qc_entry.specs.declared.record.Commit.{Commit}
 use Rattle.qc_entry.specs.declared.record.Prepared.{Prepared}
-use Rattle.qc_list.specs.Names.{Ascends}
-use Rattle.qc_lock.specs.Names.{lock_cmp, own_cmp}
-use Rattle.qc_msg.specs.Names.{epoch_length, prepare_length}
+use Rattle.qc_list.specs.Vocabulary.{Ascends}
+use Rattle.qc_lock.specs.Vocabulary.{lock_cmp, own_cmp}
+use Rattle.qc_msg.specs.Vocabulary.{epoch_length, prepare_length}
 use Rattle.qc_msg.specs.declared.message.Answer.{Answer}
 use Rattle.qc_msg.specs.declared.message.Answer.TheVariants as answers
 use Rattle.qc_msg.specs.declared.message.Envelope.{Envelope}
@@ -26,7 +26,7 @@ use Rattle.qc_msg.specs.declared.step.Command.TheVariants as commands
 use Rattle.qc_msg.specs.declared.step.Input.{Input}
 use Rattle.qc_msg.specs.declared.step.Input.TheVariants as inputs
 use Rattle.qc_msg.specs.declared.turn.Posting.{Posting}
-use Rattle.qc_record.specs.Names.{IsLock, IsOp, IsOwn, IsTx, IsWithin}
+use Rattle.qc_record.specs.Vocabulary.{IsLock, IsOp, IsOwn, IsTx, IsWithin}
 use Rattle.qc_stamp.specs.declared.stamp.Stamp.{Stamp}
 use Rattle.qc_stamp.specs.declared.stamp.TxId.{TxId}
 

@@ -2,14 +2,14 @@
 use Rattle.std.proofs.Common.{◌≡◌, ℕ, ◌+◌, ◌≤◌, nat_le, Bool, true, false, cond, List, [], length, Option, Some, None}
 use Rattle.std.proofs.Common.{refl, ◌∙◌, arith}
 use Rattle.qc_decl.specs.declared.declaration.Declaration.{Declaration}
-use Rattle.qc_decl.specs.Names.{append_need_of, most_transaction_operations, read_need_of}
+use Rattle.qc_decl.specs.Vocabulary.{append_need_of, most_transaction_operations, read_need_of}
 use Rattle.qc_front.specs.declared.doing.Doing.{Doing}
 use Rattle.qc_front.specs.declared.doing.Doing.TheVariants.{Idle, Reading, Appending}
 use Rattle.qc_front.specs.declared.front.Front.{Front}
 use Rattle.qc_front.specs.declared.transaction.Transaction.{Transaction}
-use Rattle.qc_front.specs.Names.{FrontMove, aborts, answer_of, answered, append_by, appended_with, appending_takes}
-use Rattle.qc_front.specs.Names.{begins, called, commits, gives_up, learns, moved, performs, read_by, read_with}
-use Rattle.qc_front.specs.Names.{reading_takes, reads, round_for, standing_of, takes, takes_in}
+use Rattle.qc_front.specs.Vocabulary.{FrontMove, aborts, answer_of, answered, append_by, appended_with, appending_takes}
+use Rattle.qc_front.specs.Vocabulary.{begins, called, commits, gives_up, learns, moved, performs, read_by, read_with}
+use Rattle.qc_front.specs.Vocabulary.{reading_takes, reads, round_for, standing_of, takes, takes_in}
 use Rattle.qc_msg.specs.declared.call.Call.{Call}
 use Rattle.qc_msg.specs.declared.message.Answer.{Answer}
 use Rattle.qc_msg.specs.declared.message.Answer.TheVariants as answers
@@ -17,8 +17,8 @@ use Rattle.qc_msg.specs.declared.reply.Reply.TheVariants as replies
 use Rattle.qc_msg.specs.declared.reply.AbortCause.TheVariants as causes
 use Rattle.qc_msg.specs.declared.step.Command.{Command}
 use Rattle.qc_msg.specs.declared.step.Command.TheVariants as commands
-use Rattle.qc_msg.specs.Names.{quiet, site_called, telling, without_call}
-use Rattle.qc_plan.specs.Names.{RoundState, note, verdict}
+use Rattle.qc_msg.specs.Vocabulary.{quiet, site_called, telling, without_call}
+use Rattle.qc_plan.specs.Vocabulary.{RoundState, note, verdict}
 use Rattle.qc_plan.specs.declared.standing.Verdict.{Verdict}
 use Rattle.qc_plan.specs.declared.standing.Verdict.TheVariants as verdicts
 

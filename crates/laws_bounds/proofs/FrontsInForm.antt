@@ -2,24 +2,24 @@
 use Rattle.std.proofs.Common.{◌≡◌, ℕ, ◌-◌, ◌^◌, ◌<◌, ◌≤◌, nat_le, Bool, true, false, cond, List, [], length, Option}
 use Rattle.std.proofs.Common.{Some, None, refl, arith}
 use Rattle.std.proofs.lemmas.Bool.{leb-false}
-use Rattle.qc_decl.specs.Names.{append_need_of, most_transaction_operations, read_need_of}
+use Rattle.qc_decl.specs.Vocabulary.{append_need_of, most_transaction_operations, read_need_of}
 use Rattle.qc_decl.specs.declared.declaration.Declaration.{Declaration}
 use Rattle.qc_front.specs.declared.doing.Doing.{Doing}
 use Rattle.qc_front.specs.declared.doing.Doing.TheVariants.{Idle, Reading, Appending}
 use Rattle.qc_front.specs.declared.front.Front.{Front}
 use Rattle.qc_front.specs.declared.transaction.Transaction.{Transaction}
-use Rattle.qc_front.specs.Names.{FrontMove, aborts, answer_of, answered, append_by, begins, called, commits, gives_up}
-use Rattle.qc_front.specs.Names.{moved, performs, read_by, reads, resp_of, round_for}
+use Rattle.qc_front.specs.Vocabulary.{FrontMove, aborts, answer_of, answered, append_by, begins, called, commits}
+use Rattle.qc_front.specs.Vocabulary.{gives_up, moved, performs, read_by, reads, resp_of, round_for}
 use Rattle.qc_msg.specs.declared.call.Call.{Call}
 use Rattle.qc_msg.specs.declared.reply.Reply.TheVariants as replies
 use Rattle.qc_msg.specs.declared.reply.AbortCause.TheVariants as causes
 use Rattle.qc_msg.specs.declared.step.Command.{Command}
 use Rattle.qc_msg.specs.declared.step.Command.TheVariants as commands
-use Rattle.qc_msg.specs.Names.{quiet, telling}
-use Rattle.qc_plan.specs.Names.{RoundState, verdict, wanted}
+use Rattle.qc_msg.specs.Vocabulary.{quiet, telling}
+use Rattle.qc_plan.specs.Vocabulary.{RoundState, verdict, wanted}
 use Rattle.qc_plan.specs.declared.standing.Verdict.{Verdict}
 use Rattle.qc_plan.specs.declared.standing.Verdict.TheVariants as verdicts
-use Rattle.qc_record.specs.Names.{IsWithin}
+use Rattle.qc_record.specs.Vocabulary.{IsWithin}
 use Rattle.laws_bounds.proofs.Forms.{CommandInForm, EventInForm, InvocationInForm}
 use Rattle.laws_bounds.proofs.TransactionsInForm.{TransactionInForm, absent_form, asked_form, doomed_form, event_form}
 use Rattle.laws_bounds.proofs.TransactionsInForm.{no_lines, weaker}

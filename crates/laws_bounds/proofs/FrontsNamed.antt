@@ -2,17 +2,17 @@
 use Rattle.std.proofs.Common.{◌≡◌, ℕ, nat_le, Bool, true, false, cond, List, [], length, Option, Some, None, refl, sym}
 use Rattle.std.proofs.Common.{subst}
 use Rattle.qc_list.proofs.Members.{every-from_In}
-use Rattle.qc_decl.specs.Names.{IsAccepted, append_need_of, most_transaction_operations, read_need_of}
+use Rattle.qc_decl.specs.Vocabulary.{IsAccepted, append_need_of, most_transaction_operations, read_need_of}
 use Rattle.qc_decl.specs.declared.declaration.Declaration.{Declaration}
-use Rattle.qc_fit.specs.Names.{HasInvocation}
+use Rattle.qc_fit.specs.Vocabulary.{HasInvocation}
 use Rattle.qc_front.specs.declared.doing.Doing.{Doing}
 use Rattle.qc_front.specs.declared.doing.Doing.TheVariants.{Idle, Reading, Appending}
 use Rattle.qc_front.specs.declared.front.Front.{Front}
 use Rattle.qc_front.specs.declared.transaction.Transaction.{Transaction}
-use Rattle.qc_front.specs.Names.{AreSent, FrontMove, IsFor, IsSent, aborts, answer_of, answered, append_by}
-use Rattle.qc_front.specs.Names.{appended_with, appending_takes, begins, called, commits, gives_up, learns, moved}
-use Rattle.qc_front.specs.Names.{performs, read_by, read_with, reading_takes, reads, round_for, standing_of, takes}
-use Rattle.qc_front.specs.Names.{takes_in}
+use Rattle.qc_front.specs.Vocabulary.{AreSent, FrontMove, IsFor, IsSent, aborts, answer_of, answered, append_by}
+use Rattle.qc_front.specs.Vocabulary.{appended_with, appending_takes, begins, called, commits, gives_up, learns, moved}
+use Rattle.qc_front.specs.Vocabulary.{performs, read_by, read_with, reading_takes, reads, round_for, standing_of, takes}
+use Rattle.qc_front.specs.Vocabulary.{takes_in}
 use Rattle.qc_front.proofs.Sending.{called_sent, takes_sent}
 use Rattle.qc_msg.specs.declared.call.Call.{Call}
 use Rattle.qc_msg.specs.declared.message.Answer.{Answer}
@@ -25,8 +25,8 @@ use Rattle.qc_msg.specs.declared.reply.AbortCause.TheVariants as causes
 use Rattle.qc_msg.specs.declared.step.Command.{Command}
 use Rattle.qc_msg.specs.declared.step.Command.TheVariants as commands
 use Rattle.qc_msg.specs.declared.turn.Posting.{Posting}
-use Rattle.qc_msg.specs.Names.{quiet, site_called, telling, without_call}
-use Rattle.qc_plan.specs.Names.{RoundState, note, verdict}
+use Rattle.qc_msg.specs.Vocabulary.{quiet, site_called, telling, without_call}
+use Rattle.qc_plan.specs.Vocabulary.{RoundState, note, verdict}
 use Rattle.qc_plan.specs.declared.standing.Verdict.{Verdict}
 use Rattle.qc_plan.specs.declared.standing.Verdict.TheVariants as verdicts
 use Rattle.laws_bounds.proofs.EventsNamed.{EventNamed, answer_named}

@@ -6,8 +6,8 @@ use Rattle.qc_front.specs.declared.doing.Doing.{Doing}
 use Rattle.qc_front.specs.declared.doing.Doing.TheVariants.{Idle, Reading, Appending}
 use Rattle.qc_front.specs.declared.front.Front.{Front}
 use Rattle.qc_front.specs.declared.transaction.Transaction.{Transaction}
-use Rattle.qc_front.specs.Names.{AreSent, FrontMove, IsFor, IsSent, appended_with, appending_takes, called, learns}
-use Rattle.qc_front.specs.Names.{read_with, reading_takes, resp_of, standing_of, takes, takes_in}
+use Rattle.qc_front.specs.Vocabulary.{AreSent, FrontMove, IsFor, IsSent, appended_with, appending_takes, called, learns}
+use Rattle.qc_front.specs.Vocabulary.{read_with, reading_takes, resp_of, standing_of, takes, takes_in}
 use Rattle.qc_front.proofs.Sending.{called_sent, takes_sent}
 use Rattle.qc_msg.specs.declared.message.Answer.{Answer}
 use Rattle.qc_msg.specs.declared.message.Answer.TheVariants as answers
@@ -17,8 +17,8 @@ use Rattle.qc_msg.specs.declared.message.Outcome.{Outcome}
 use Rattle.qc_msg.specs.declared.message.Want.{Want}
 use Rattle.qc_msg.specs.declared.step.Command.{Command}
 use Rattle.qc_msg.specs.declared.turn.Posting.{Posting}
-use Rattle.qc_msg.specs.Names.{site_called, without_call}
-use Rattle.qc_plan.specs.Names.{note, verdict}
+use Rattle.qc_msg.specs.Vocabulary.{site_called, without_call}
+use Rattle.qc_plan.specs.Vocabulary.{note, verdict}
 use Rattle.laws_bounds.proofs.Forms.{CameInForm, CommandInForm, MessageInForm, OrdinalsInForm, SendsInForm}
 use Rattle.laws_bounds.proofs.Forms.{VerdictInForm, WantInForm}
 use Rattle.laws_bounds.proofs.TransactionsInForm.{TransactionInForm, appended_form, log_form, owns_form, read_form}

@@ -8,14 +8,14 @@ use Rattle.qc_entry.specs.declared.line.OwnLine.{OwnLine}
 use Rattle.qc_entry.specs.declared.line.ReadLock.{ReadLock}
 use Rattle.qc_entry.specs.declared.record.Prepared.{Prepared}
 use Rattle.qc_entry.proofs.Union.{every-union}
-use Rattle.qc_list.specs.Names.{inserted}
+use Rattle.qc_list.specs.Vocabulary.{inserted}
 use Rattle.qc_lock.specs.declared.held.Held.{Held}
-use Rattle.qc_lock.specs.Names.{entry_of, held_of, lock_cmp, own_cmp, with_entry, with_held, with_locks, with_owns}
-use Rattle.qc_record.specs.Names.{IsLock, IsOwn, IsTx}
-use Rattle.qc_site.specs.Names.{held_by, holds, lines_of, prepared_of, stamped, with_stamped}
+use Rattle.qc_lock.specs.Vocabulary.{entry_of, held_of, lock_cmp, own_cmp, with_entry, with_held, with_locks, with_owns}
+use Rattle.qc_record.specs.Vocabulary.{IsLock, IsOwn, IsTx}
+use Rattle.qc_site.specs.Vocabulary.{held_by, holds, lines_of, prepared_of, stamped, with_stamped}
 use Rattle.qc_stamp.specs.declared.stamp.Stamp.{Stamp}
 use Rattle.qc_stamp.specs.declared.stamp.TxId.{TxId}
-use Rattle.qc_stamp.specs.Names.{same_tx}
+use Rattle.qc_stamp.specs.Vocabulary.{same_tx}
 use Rattle.qc_stamp.proofs.Orders.{same_tx_is}
 use Rattle.laws_bounds.proofs.HeldNamed.{every-inserted}
 use Rattle.laws_bounds.proofs.Forms.{LineInForm, PromiseInForm, StampInForm}

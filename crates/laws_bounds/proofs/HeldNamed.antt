@@ -3,20 +3,20 @@ use Rattle.std.proofs.Common.{◌≡◌, ℕ, ◌<◌, ◌==◌, ◌&&◌, Bool,
 use Rattle.std.proofs.Common.{Ordering, Less, Equal, Greater, refl, subst, eqb-true}
 use Rattle.std.specs.Prelude.{unwrap_or}
 use Rattle.std.specs.List.{AllByRecursion as Every}
-use Rattle.qc_list.specs.Names.{by_order, inserted}
+use Rattle.qc_list.specs.Vocabulary.{by_order, inserted}
 use Rattle.qc_decl.specs.declared.declaration.Declaration.{Declaration}
 use Rattle.qc_entry.specs.declared.line.Line.{Line}
 use Rattle.qc_entry.specs.declared.line.OwnLine.{OwnLine}
 use Rattle.qc_entry.specs.declared.line.ReadLock.{ReadLock}
 use Rattle.qc_entry.specs.declared.record.Prepared.{Prepared}
 use Rattle.qc_entry.proofs.Union.{every-union}
-use Rattle.qc_fit.specs.Names.{HasEvent, HasInvocation}
+use Rattle.qc_fit.specs.Vocabulary.{HasEvent, HasInvocation}
 use Rattle.qc_lock.specs.declared.held.Held.{Held}
-use Rattle.qc_lock.specs.Names.{entry_of, held_of, lock_cmp, own_cmp, with_entry, with_held, with_locks, with_owns}
-use Rattle.qc_site.specs.Names.{held_by, holds, lines_of, prepared_of, stamped, with_stamped}
+use Rattle.qc_lock.specs.Vocabulary.{entry_of, held_of, lock_cmp, own_cmp, with_entry, with_held, with_locks, with_owns}
+use Rattle.qc_site.specs.Vocabulary.{held_by, holds, lines_of, prepared_of, stamped, with_stamped}
 use Rattle.qc_stamp.specs.declared.stamp.Stamp.{Stamp}
 use Rattle.qc_stamp.specs.declared.stamp.TxId.{TxId}
-use Rattle.qc_stamp.specs.Names.{same_tx}
+use Rattle.qc_stamp.specs.Vocabulary.{same_tx}
 use Rattle.laws_bounds.proofs.Names.{LineNamed, LinesNamed, LocksNamed, OwnsNamed, PromiseNamed}
 
 -- what is put among items in order

@@ -3,13 +3,13 @@ use Rattle.std.proofs.Common.{◌≡◌, ℕ, ◌+◌, ◌≤◌, ◌==◌, Bool
 use Rattle.std.proofs.Common.{ap, ◌∙◌, subst, arith, eqb-true, append_assoc, length-append}
 use Rattle.std.proofs.lemmas.List.Sums.{fold-append}
 use Rattle.qc_list.proofs.Members.{every-append, every-weaker}
-use Rattle.qc_core.specs.Names.{IsLawfulWithFalls, actor_after, actor_does, with_record}
+use Rattle.qc_core.specs.Vocabulary.{IsLawfulWithFalls, actor_after, actor_does, with_record}
 use Rattle.qc_core.proofs.PostsByTurns.{after_takes, called_turn}
 use Rattle.qc_core.proofs.LivesOfActors.{falls as after_falls, rises as after_rises}
-use Rattle.qc_decl.specs.Names.{controller}
+use Rattle.qc_decl.specs.Vocabulary.{controller}
 use Rattle.qc_decl.specs.declared.declaration.Declaration.{Declaration}
-use Rattle.qc_inbox.proofs.FallMail.{ready_sent}
-use Rattle.qc_inbox.proofs.Keeping.{same_mail}
+use Rattle.qc_mailbox.proofs.FallMail.{ready_sent}
+use Rattle.qc_mailbox.proofs.Keeping.{same_mail}
 use Rattle.laws_turns.proofs.Acted.{deeds-silent}
 use Rattle.laws_turns.proofs.Numbered.{IsSilent, mail-silent, phase_silent}
 use Rattle.laws_turns.proofs.Lived.{deeds-fall, deeds-rise, line_silent}
@@ -24,20 +24,20 @@ use Rattle.qc_msg.specs.declared.turn.Appended.{Appended}
 use Rattle.qc_msg.specs.declared.turn.Appended.TheVariants.{Done, Failed, Stopped}
 use Rattle.qc_msg.specs.declared.turn.Posting.{Posting}
 use Rattle.qc_msg.specs.declared.turn.Turn.{Turn}
-use Rattle.qc_msg.specs.Names.{Deed, Entry, WasSentTo, by, deeds, deeds_as, envelopes, mail, marked, posted_as}
-use Rattle.qc_msg.specs.Names.{sends_as, step_of}
+use Rattle.qc_msg.specs.Vocabulary.{Deed, Entry, WasSentTo, by, deeds, deeds_as, envelopes, mail, marked, posted_as}
+use Rattle.qc_msg.specs.Vocabulary.{sends_as, step_of}
 use Rattle.qc_msg.proofs.GrownMail.{mail-append, mail-taken}
 use Rattle.qc_msg.proofs.DeedsGrow.{deeds-other}
 use Rattle.qc_msg.proofs.Growth.{deeds-posted_as, deeds-taken, mail-posted_as}
-use Rattle.qc_promise.specs.Names.{Kept}
-use Rattle.qc_script.specs.Names.{RunsWithFalls, begins, control, damaged, falls, phase, phase_of, posts, rises, takes}
-use Rattle.qc_script.specs.Names.{unopened}
+use Rattle.qc_promise.specs.Vocabulary.{Kept}
+use Rattle.qc_script.specs.Vocabulary.{RunsWithFalls, begins, control, damaged, falls, phase, phase_of, posts, rises}
+use Rattle.qc_script.specs.Vocabulary.{takes, unopened}
 use Rattle.qc_script.specs.declared.script.Script.{Script}
-use Rattle.laws_turns.specs.Names.{MailWithin, MessageWithin, SendsWithin}
+use Rattle.laws_turns.specs.Vocabulary.{MailWithin, MessageWithin, SendsWithin}
 use Rattle.laws_turns.proofs.Bounding.{given-within}
 use Rattle.laws_turns.proofs.Greater.{mail_le}
-use Rattle.laws_bounds.specs.Names.{AllRisen, AreWithin, MoveWithin, PutWithin, RecordWithin, RiseWithin, TurnWithin}
-use Rattle.laws_bounds.specs.Names.{records_at}
+use Rattle.laws_bounds.specs.Vocabulary.{AllRisen, AreWithin, MoveWithin, PutWithin, RecordWithin, RiseWithin}
+use Rattle.laws_bounds.specs.Vocabulary.{TurnWithin, records_at}
 use Rattle.laws_bounds.proofs.ActorsWithin.{deeds_post, down_within, move_le, new_within, posts_within, records_le}
 use Rattle.laws_bounds.proofs.ActorsWithin.{takes_within}
 use Rattle.laws_bounds.proofs.Putting.{back_has, input_puts, line_puts, post_puts, puts_both, risen_all}

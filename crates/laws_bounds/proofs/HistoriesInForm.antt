@@ -5,14 +5,14 @@ use Rattle.std.proofs.Common.{Some, refl, sym, ap, ◌∙◌, subst, eqb-true, a
 use Rattle.std.specs.List.{AllByRecursion as Every}
 use Rattle.std.proofs.lemmas.List.Sums.{fold-append}
 use Rattle.qc_list.proofs.Members.{every-append, every-at}
-use Rattle.qc_core.specs.Names.{IsLawfulWithFalls, actor_after, actor_does, with_record}
+use Rattle.qc_core.specs.Vocabulary.{IsLawfulWithFalls, actor_after, actor_does, with_record}
 use Rattle.qc_core.proofs.PostsByTurns.{after_takes, called_turn}
 use Rattle.qc_core.proofs.LivesOfActors.{falls as after_falls, rises as after_rises}
-use Rattle.qc_decl.specs.Names.{IsAccepted, actors, controller}
-use Rattle.qc_link.specs.Names.{most_actors}
+use Rattle.qc_decl.specs.Vocabulary.{IsAccepted, actors, controller}
+use Rattle.qc_link.specs.Vocabulary.{most_actors}
 use Rattle.qc_decl.specs.declared.declaration.Declaration.{Declaration}
-use Rattle.qc_inbox.proofs.FallMail.{ready_sent}
-use Rattle.qc_inbox.proofs.Keeping.{same_mail}
+use Rattle.qc_mailbox.proofs.FallMail.{ready_sent}
+use Rattle.qc_mailbox.proofs.Keeping.{same_mail}
 use Rattle.laws_turns.proofs.Acted.{deeds-silent}
 use Rattle.laws_turns.proofs.Numbered.{IsSilent, mail-silent, phase_silent}
 use Rattle.laws_turns.proofs.Lived.{deeds-fall, deeds-rise, line_silent, run_lives}
@@ -28,13 +28,13 @@ use Rattle.qc_msg.specs.declared.turn.Appended.{Appended}
 use Rattle.qc_msg.specs.declared.turn.Appended.TheVariants.{Done, Failed, Stopped}
 use Rattle.qc_msg.specs.declared.turn.Posting.{Posting}
 use Rattle.qc_msg.specs.declared.turn.Turn.{Turn}
-use Rattle.qc_msg.specs.Names.{Deed, Entry, WasSentTo, by, deeds, deeds_as, envelopes, mail, marked, posted_as}
-use Rattle.qc_msg.specs.Names.{sends_as, step_of}
+use Rattle.qc_msg.specs.Vocabulary.{Deed, Entry, WasSentTo, by, deeds, deeds_as, envelopes, mail, marked, posted_as}
+use Rattle.qc_msg.specs.Vocabulary.{sends_as, step_of}
 use Rattle.qc_msg.proofs.GrownMail.{mail-append, mail-taken}
 use Rattle.qc_msg.proofs.DeedsGrow.{deeds-other}
 use Rattle.qc_msg.proofs.Growth.{deeds-posted_as, deeds-taken, mail-posted_as}
-use Rattle.qc_script.specs.Names.{IsScriptFor, RunsWithFalls, begins, control, damaged, falls, phase, phase_of, posts}
-use Rattle.qc_script.specs.Names.{ready, rises, takes, unopened}
+use Rattle.qc_script.specs.Vocabulary.{IsScriptFor, RunsWithFalls, begins, control, damaged, falls, phase, phase_of}
+use Rattle.qc_script.specs.Vocabulary.{posts, ready, rises, takes, unopened}
 use Rattle.qc_script.specs.declared.script.Script.{Script}
 use Rattle.laws_bounds.proofs.ActorsWithin.{deeds_post}
 use Rattle.laws_bounds.proofs.AskedNamed.{given_named}

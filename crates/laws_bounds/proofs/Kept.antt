@@ -2,20 +2,20 @@
 use Rattle.std.proofs.Common.{◌≡◌, ℕ, ◌<◌, ◌≤◌, ◌==◌, nat_lt, Bool, true, false, List, [], ◌∷◌, ◌++◌, refl, sym, ap}
 use Rattle.std.proofs.Common.{◌∙◌, subst, arith, append_assoc, append-nil}
 use Rattle.std.proofs.lemmas.Bool.{eq-eqb, ltb-true}
-use Rattle.qc_core.specs.Names.{IsLawfulWithFalls}
+use Rattle.qc_core.specs.Vocabulary.{IsLawfulWithFalls}
 use Rattle.qc_core.proofs.LivesLaws.{journal as journal_is}
-use Rattle.qc_decl.specs.Names.{IsAccepted, actors, most_steps}
+use Rattle.qc_decl.specs.Vocabulary.{IsAccepted, actors, most_steps}
 use Rattle.qc_decl.specs.declared.declaration.Declaration.{Declaration}
 use Rattle.qc_msg.specs.declared.record.Record.{Record}
 use Rattle.qc_msg.specs.declared.step.Step.{Step}
 use Rattle.qc_msg.specs.declared.step.Step.TheVariants as steps
-use Rattle.qc_msg.specs.Names.{Entry, own}
+use Rattle.qc_msg.specs.Vocabulary.{Entry, own}
 use Rattle.qc_msg.proofs.DeedsGrow.{own-append}
-use Rattle.qc_promise.specs.Names.{IsKeptAt, Kept, journal_of}
-use Rattle.qc_script.specs.Names.{IsScriptFor, RunWithFalls, RunsWithFalls}
+use Rattle.qc_promise.specs.Vocabulary.{IsKeptAt, Kept, journal_of}
+use Rattle.qc_script.specs.Vocabulary.{IsScriptFor, RunWithFalls, RunsWithFalls}
 use Rattle.qc_script.specs.declared.script.Script.{Script}
-use Rattle.laws_bounds.specs.Names.{AreControlsBelow, AreFaultsBelow, AreKeptOrMisfits, IsDamagedWithin, IsFaultBelow}
-use Rattle.laws_bounds.specs.Names.{IsKeptOrMisfit, JournalFits}
+use Rattle.laws_bounds.specs.Vocabulary.{AreControlsBelow, AreFaultsBelow, AreKeptOrMisfits, IsDamagedWithin}
+use Rattle.laws_bounds.specs.Vocabulary.{IsFaultBelow, IsKeptOrMisfit, JournalFits}
 use Rattle.laws_bounds.proofs.RecordsFit.{journal_fits}
 use Rattle.laws_bounds.proofs.Cuts.{CutIn, cut_in, every_at_cut, in_first, in_second, none_cut, the_one}
 use Rattle.laws_bounds.proofs.RunFaults.{run_faults}

@@ -1,10 +1,10 @@
 -- What begins something stands behind no more steps than stand before the last that does.
 use Rattle.std.proofs.Common.{◌≡◌, ℕ, ◌<◌, ◌≤◌, Bool, true, false, List, [], ◌∷◌, ◌++◌, length, refl, ap, ◌∙◌, arith}
 use Rattle.std.specs.List.{list_any}
-use Rattle.qc_msg.specs.Names.{Entry}
+use Rattle.qc_msg.specs.Vocabulary.{Entry}
 use Rattle.qc_msg.specs.declared.step.Step.{Step}
 use Rattle.qc_msg.specs.declared.step.Step.TheVariants.{Damaged}
-use Rattle.laws_bounds.specs.Names.{IsDamagedWithin, before_last}
+use Rattle.laws_bounds.specs.Vocabulary.{IsDamagedWithin, before_last}
 
 module _ (begins : Step → Bool) where
   abbrev is_one : Entry → Bool

@@ -6,16 +6,16 @@ use Rattle.std.specs.Prelude.{drop, set, slice_get}
 use Rattle.std.specs.List.{AllByRecursion as Every, fold}
 use Rattle.std.specs.Option.{option_map_or}
 use Rattle.qc_decl.specs.declared.declaration.Declaration.{Declaration}
-use Rattle.qc_inbox.proofs.Sent.{sends_count}
-use Rattle.qc_link.specs.Names.{with_cut, without_cut}
+use Rattle.qc_mailbox.proofs.Sent.{sends_count}
+use Rattle.qc_link.specs.Vocabulary.{with_cut, without_cut}
 use Rattle.qc_list.proofs.Members.{every-at}
-use Rattle.qc_msg.specs.Names.{Entry}
+use Rattle.qc_msg.specs.Vocabulary.{Entry}
 use Rattle.qc_msg.specs.declared.step.Control.{Control}
 use Rattle.qc_msg.specs.declared.step.Step.{Step}
 use Rattle.qc_msg.specs.declared.step.Step.TheVariants as steps
-use Rattle.qc_script.specs.Names.{Inbox, IsControlFor, IsPhaseFor, IsScriptFor, acting, actor_fell, control_acted}
-use Rattle.qc_script.specs.Names.{controls_left, does_nothing, emptied, empty_inbox, inbox_at, is_by_line, is_up}
-use Rattle.qc_script.specs.Names.{opened, opened_by, phase_begun, requests_to, requests_to_others, with_lost}
+use Rattle.qc_script.specs.Vocabulary.{Inbox, IsControlFor, IsPhaseFor, IsScriptFor, acting, actor_fell, control_acted}
+use Rattle.qc_script.specs.Vocabulary.{controls_left, does_nothing, emptied, empty_inbox, inbox_at, is_by_line, is_up}
+use Rattle.qc_script.specs.Vocabulary.{opened, opened_by, phase_begun, requests_to, requests_to_others, with_lost}
 use Rattle.qc_script.specs.declared.script.PhaseLines.{PhaseLines}
 use Rattle.qc_script.specs.declared.script.Script.{Script}
 

@@ -5,8 +5,8 @@ use Rattle.std.proofs.Common.{ap, subst}
 use Rattle.std.specs.List.{AllByRecursion as Every}
 use Rattle.std.specs.declared.cmp.Ordering.{Ordering}
 use Rattle.std.specs.declared.cmp.Ordering.TheVariants.{Less, Equal, Greater}
-use Rattle.qc_list.specs.Names.{by_order, inserted}
-use Rattle.qc_admin.specs.Names.{AnswerFits, GivenFits, MessageFits}
+use Rattle.qc_list.specs.Vocabulary.{by_order, inserted}
+use Rattle.qc_admin.specs.Vocabulary.{AnswerFits, GivenFits, MessageFits}
 use Rattle.qc_client.specs.declared.client.Client.{Client}
 use Rattle.qc_client.specs.Conduct as clients
 use Rattle.qc_core.proofs.AdminTurns.{no_answers}
@@ -16,7 +16,7 @@ use Rattle.qc_core.proofs.SiteWrites.{IsAnsweredTo, IsAnswerTo}
 use Rattle.qc_core.proofs.Written.{NoAnswer, client_answers, client_written}
 use Rattle.qc_decl.specs.declared.declaration.Declaration.{Declaration}
 use Rattle.qc_entry.specs.declared.record.Prepared.{Prepared}
-use Rattle.qc_epoch.specs.Names.{Admin}
+use Rattle.qc_epoch.specs.Vocabulary.{Admin}
 use Rattle.qc_epoch.specs.Conduct as admins
 use Rattle.qc_msg.specs.declared.message.Answer.{Answer}
 use Rattle.qc_msg.specs.declared.message.Answer.TheVariants as answers
@@ -31,10 +31,10 @@ use Rattle.qc_msg.specs.declared.step.Input.{Input}
 use Rattle.qc_msg.specs.declared.step.Input.TheVariants as inputs
 use Rattle.qc_msg.specs.declared.turn.Posting.{Posting}
 use Rattle.qc_msg.specs.declared.turn.Turn.{Turn}
-use Rattle.qc_msg.specs.Names.{answer_in}
-use Rattle.qc_promise.specs.Names.{asks_answer}
-use Rattle.qc_site.specs.Names.{AreByClients, SiteMove, SiteState, answers as answered_with, finishes, grants, moved}
-use Rattle.qc_site.specs.Names.{passed, promise_cmp, site_at, site_takes}
+use Rattle.qc_msg.specs.Vocabulary.{answer_in}
+use Rattle.qc_promise.specs.Vocabulary.{asks_answer}
+use Rattle.qc_site.specs.Vocabulary.{AreByClients, SiteMove, SiteState, answers as answered_with, finishes, grants}
+use Rattle.qc_site.specs.Vocabulary.{moved, passed, promise_cmp, site_at, site_takes}
 use Rattle.qc_site.proofs.RequestCases.{append_cases, close_rows, fault_is, install_rows, join_cases, prepare_cases}
 use Rattle.qc_site.proofs.RequestCases.{read_cases, request_cases}
 use Rattle.qc_stamp.specs.declared.stamp.TxId.{TxId}

@@ -2,12 +2,12 @@
 use Rattle.std.proofs.Common.{◌≡◌, ℕ, List, [], ◌∷◌, ◌++◌, fold, refl, sym, ap, ◌∙◌, subst, append-nil}
 use Rattle.std.proofs.lemmas.List.Sums.{fold-append}
 use Rattle.qc_decl.specs.declared.declaration.Declaration.{Declaration}
-use Rattle.qc_msg.specs.Names.{Entry, by, own}
+use Rattle.qc_msg.specs.Vocabulary.{Entry, by, own}
 use Rattle.qc_msg.specs.declared.step.Step.{Step}
 use Rattle.qc_msg.specs.declared.step.Step.TheVariants as steps
 use Rattle.qc_msg.proofs.DeedsGrow.{own-append, own-more}
-use Rattle.qc_promise.specs.Names.{AreKept, IsKeptAt, IsOfOthers, Journal, journal_of, journal_with, no_journal}
-use Rattle.laws_bounds.specs.Names.{AreKeptOrMisfits, IsKeptOrMisfit, NextAreKeptOrMisfits}
+use Rattle.qc_promise.specs.Vocabulary.{AreKept, IsKeptAt, IsOfOthers, Journal, journal_of, journal_with, no_journal}
+use Rattle.laws_bounds.specs.Vocabulary.{AreKeptOrMisfits, IsKeptOrMisfit, NextAreKeptOrMisfits}
 use Rattle.laws_bounds.proofs.Cuts.{CutIn, cut_in, in_first, in_second, none_cut}
 
 pub no_misfits : (decl : Declaration) (a : ℕ) → AreKeptOrMisfits decl a []

@@ -1,14 +1,14 @@
 -- The bounds of each run with falls.
 use Rattle.std.proofs.Common.{◌≡◌, ℕ, ◌+◌, Bool, List, [], length, subst, arith}
-use Rattle.qc_core.specs.Names.{IsLawfulWithFalls, actor_after}
+use Rattle.qc_core.specs.Vocabulary.{IsLawfulWithFalls, actor_after}
 use Rattle.qc_decl.specs.declared.declaration.Declaration.{Declaration}
 use Rattle.qc_msg.specs.declared.record.Record.{Record}
-use Rattle.qc_msg.specs.Names.{Entry, deeds}
+use Rattle.qc_msg.specs.Vocabulary.{Entry, deeds}
 use Rattle.qc_msg.proofs.GrownMail.{length-mail}
-use Rattle.qc_promise.specs.Names.{Kept}
-use Rattle.qc_script.specs.Names.{RunsWithFalls}
+use Rattle.qc_promise.specs.Vocabulary.{Kept}
+use Rattle.qc_script.specs.Vocabulary.{RunsWithFalls}
 use Rattle.qc_script.specs.declared.script.Script.{Script}
-use Rattle.laws_bounds.specs.Names.{IsBoundedWithFalls, LivesWithin, RiseWithin}
+use Rattle.laws_bounds.specs.Vocabulary.{IsBoundedWithFalls, LivesWithin, RiseWithin}
 use Rattle.laws_bounds.proofs.CountBounds.{history_lives}
 use Rattle.laws_bounds.proofs.FewRecords.{kept_rise_few}
 use Rattle.laws_bounds.proofs.Histories.{Held, RisesBy, kept_rises_within, rises_within_bound, run_held}

@@ -10,9 +10,9 @@ use Rattle.std.specs.declared.cmp.Ordering.{Ordering}
 use Rattle.std.specs.declared.cmp.Ordering.TheVariants.{Equal, Greater, Less}
 use Rattle.qc_entry.specs.declared.line.OwnLine.{OwnLine}
 use Rattle.qc_entry.specs.declared.line.ReadLock.{ReadLock}
-use Rattle.qc_list.specs.Names.{Ascends, IsBelowAll}
-use Rattle.qc_lock.specs.Names.{lock_cmp, own_cmp}
-use Rattle.qc_record.specs.Names.{IsLockBelow, IsOwn, IsOwnBelow, Rises}
+use Rattle.qc_list.specs.Vocabulary.{Ascends, IsBelowAll}
+use Rattle.qc_lock.specs.Vocabulary.{lock_cmp, own_cmp}
+use Rattle.qc_record.specs.Vocabulary.{IsLockBelow, IsOwn, IsOwnBelow, Rises}
 
 module _ {A : Type 0} (cmp : A → A → Ordering) (Below : A → A → Type 0) where
   -- where the order tells what is below

@@ -4,13 +4,13 @@ use Rattle.std.proofs.Common.{Option, Some, None, refl, sym, ap, subst, arith}
 use Rattle.std.specs.List.{AllByRecursion as Every}
 use Rattle.std.proofs.lemmas.Bool.{eqb-true, ne_eqb}
 use Rattle.std.proofs.lemmas.Bool.Decides.{nat_tests}
-use Rattle.qc_msg.specs.Names.{Entry, own}
+use Rattle.qc_msg.specs.Vocabulary.{Entry, own}
 use Rattle.qc_msg.specs.declared.step.Step.{Step}
 use Rattle.qc_msg.specs.declared.step.Step.TheVariants as steps
-use Rattle.qc_promise.specs.Names.{AreKept, Calls, DiskAccount, DiskArm, IsEverInTime, IsKeptAt, disk_account}
-use Rattle.qc_promise.specs.Names.{disk_account_with, disk_armed, disk_called, disk_fell_by, no_disk_account, of_fall}
-use Rattle.qc_promise.specs.Names.{of_opening, of_reading, of_record, waiting_after}
-use Rattle.laws_bounds.specs.Names.{AreFaultsBelow, IsFaultBelow}
+use Rattle.qc_promise.specs.Vocabulary.{AreKept, Calls, DiskAccount, DiskArm, IsEverInTime, IsKeptAt, disk_account}
+use Rattle.qc_promise.specs.Vocabulary.{disk_account_with, disk_armed, disk_called, disk_fell_by, no_disk_account}
+use Rattle.qc_promise.specs.Vocabulary.{of_fall, of_opening, of_reading, of_record, waiting_after}
+use Rattle.laws_bounds.specs.Vocabulary.{AreFaultsBelow, IsFaultBelow}
 use Rattle.laws_bounds.proofs.Cuts.{every_at_cut, every_front}
 
 pub at_least : (n a : ℕ) → nat_lt a n ≡ false → n ≤ a

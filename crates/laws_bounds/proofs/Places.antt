@@ -1,9 +1,9 @@
 -- Records fit where each one does at its place.
 use Rattle.std.proofs.Common.{◌≡◌, ◌↔◌, ℕ, zero, suc, ◌+◌, true, List, [], ◌∷◌, Some, slice_get, refl, subst, arith}
 use Rattle.qc_decl.specs.declared.declaration.Declaration.{Declaration}
-use Rattle.qc_fit.specs.Names.{fits}
+use Rattle.qc_fit.specs.Vocabulary.{fits}
 use Rattle.qc_msg.specs.declared.record.Record.{Record}
-use Rattle.laws_bounds.specs.Names.{AllFit}
+use Rattle.laws_bounds.specs.Vocabulary.{AllFit}
 
 module _ (decl : Declaration) (a : ℕ) where
   fit_at : (before : ℕ) (rs : List Record) → AllFit decl a before rs → (place : ℕ) (r : Record)

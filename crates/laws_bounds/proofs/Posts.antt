@@ -11,7 +11,7 @@ use Rattle.qc_msg.specs.declared.turn.Appended.{Appended}
 use Rattle.qc_msg.specs.declared.turn.Appended.TheVariants.{Done, Failed, Stopped}
 use Rattle.qc_msg.specs.declared.turn.Posting.{Posting}
 use Rattle.qc_msg.specs.declared.turn.Turn.{Turn}
-use Rattle.qc_msg.specs.Names.{Entry, by, fell, posted_as, sents, step_of, told, wrote}
+use Rattle.qc_msg.specs.Vocabulary.{Entry, by, fell, posted_as, sents, step_of, told, wrote}
 
 -- steps that an input or a post has: nothing of the controller's, no rise and no damage
 abbrev pub IsActing : Step → Type 0

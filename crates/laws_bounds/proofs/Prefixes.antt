@@ -1,7 +1,7 @@
 -- Before each entry that tells of damage stands a run.
 use Rattle.std.proofs.Common.{◌≡◌, ℕ, Bool, List, [], ◌∷◌, ◌++◌, length, Some, sym, ◌∙◌, ap, subst, append-nil}
 use Rattle.std.specs.List.{AllByRecursion as Every}
-use Rattle.qc_decl.specs.Names.{controller}
+use Rattle.qc_decl.specs.Vocabulary.{controller}
 use Rattle.qc_decl.specs.declared.declaration.Declaration.{Declaration}
 use Rattle.qc_msg.specs.declared.record.Record.{Record}
 use Rattle.qc_msg.specs.declared.step.Control.{Control}
@@ -9,9 +9,9 @@ use Rattle.qc_msg.specs.declared.step.Control.TheVariants as controls
 use Rattle.qc_msg.specs.declared.step.Step.{Step}
 use Rattle.qc_msg.specs.declared.step.Step.TheVariants as steps
 use Rattle.qc_msg.specs.declared.turn.Turn.{Turn}
-use Rattle.qc_msg.specs.Names.{Deed, Entry, by, mail, marked, posted_as, step_of}
-use Rattle.qc_script.specs.Names.{RunWithFalls, RunsWithFalls, begins, control, controller_step, damaged, falls, phase}
-use Rattle.qc_script.specs.Names.{posts, rises, takes, unopened}
+use Rattle.qc_msg.specs.Vocabulary.{Deed, Entry, by, mail, marked, posted_as, step_of}
+use Rattle.qc_script.specs.Vocabulary.{RunWithFalls, RunsWithFalls, begins, control, controller_step, damaged, falls}
+use Rattle.qc_script.specs.Vocabulary.{phase, posts, rises, takes, unopened}
 use Rattle.qc_script.specs.declared.script.Script.{Script}
 use Rattle.laws_bounds.proofs.Cuts.{CutIn, cut_in, every_at_cut, in_first, in_second, none_cut, the_one}
 use Rattle.laws_bounds.proofs.Posts.{IsActing, every_by, input_acting, posts_acting}

@@ -18,10 +18,10 @@ use Rattle.qc_msg.specs.declared.turn.Appended.{Appended}
 use Rattle.qc_msg.specs.declared.turn.Appended.TheVariants.{Done, Failed, Stopped}
 use Rattle.qc_msg.specs.declared.turn.Posting.{Posting}
 use Rattle.qc_msg.specs.declared.turn.Turn.{Turn}
-use Rattle.qc_msg.specs.Names.{Entry, by, fell, marked, own, posted_as, sents, step_of, told, wrote}
-use Rattle.qc_promise.specs.Names.{IsGivenBack, Journal, Kept, journal_of, journal_with, no_journal, pending_with}
-use Rattle.qc_script.specs.Names.{controller_step}
-use Rattle.laws_bounds.specs.Names.{AllPut, AllRisen, records_at}
+use Rattle.qc_msg.specs.Vocabulary.{Entry, by, fell, marked, own, posted_as, sents, step_of, told, wrote}
+use Rattle.qc_promise.specs.Vocabulary.{IsGivenBack, Journal, Kept, journal_of, journal_with, no_journal, pending_with}
+use Rattle.qc_script.specs.Vocabulary.{controller_step}
+use Rattle.laws_bounds.specs.Vocabulary.{AllPut, AllRisen, records_at}
 
 module _ (P : ℕ → Record → Type 0) where
   -- a post puts its turn's record there, or leaves it pending

@@ -3,26 +3,26 @@ use Rattle.std.proofs.Common.{◌≡◌, ℕ, ◌+◌, ◌<◌, ◌≤◌, Bool,
 use Rattle.std.proofs.Common.{arith}
 use Rattle.std.specs.Prelude.{option_to_list}
 use Rattle.std.specs.List.{AllByRecursion as Every}
-use Rattle.qc_core.specs.Names.{IsLawfulWithFalls, journal_after, with_record}
+use Rattle.qc_core.specs.Vocabulary.{IsLawfulWithFalls, journal_after, with_record}
 use Rattle.qc_core.proofs.PostsByTurns.{called_turn}
 use Rattle.qc_core.proofs.LivesLaws.{journal as journal_is}
-use Rattle.qc_decl.specs.Names.{IsAccepted, actors, most_steps}
+use Rattle.qc_decl.specs.Vocabulary.{IsAccepted, actors, most_steps}
 use Rattle.qc_decl.specs.declared.declaration.Declaration.{Declaration}
 use Rattle.qc_entry.specs.declared.line.Line.{Line}
-use Rattle.qc_fit.specs.Names.{HasPlan, IsFit, IsLineDeclared, greatest_clock, most_records}
+use Rattle.qc_fit.specs.Vocabulary.{HasPlan, IsFit, IsLineDeclared, greatest_clock, most_records}
 use Rattle.qc_fit.proofs.Words.{as_said}
 use Rattle.qc_msg.specs.declared.record.Record.{Record}
 use Rattle.qc_msg.specs.declared.record.Record.TheVariants as records
 use Rattle.qc_msg.specs.declared.step.Step.{Step}
 use Rattle.qc_msg.specs.declared.step.Step.TheVariants as steps
 use Rattle.qc_msg.specs.declared.turn.Turn.{Turn}
-use Rattle.qc_msg.specs.Names.{Entry, deeds, own}
-use Rattle.qc_promise.specs.Names.{Journal, Kept, journal_of}
-use Rattle.laws_turns.specs.Names.{LinesWithin}
-use Rattle.qc_script.specs.Names.{IsScriptFor, RunsWithFalls}
+use Rattle.qc_msg.specs.Vocabulary.{Entry, deeds, own}
+use Rattle.qc_promise.specs.Vocabulary.{Journal, Kept, journal_of}
+use Rattle.laws_turns.specs.Vocabulary.{LinesWithin}
+use Rattle.qc_script.specs.Vocabulary.{IsScriptFor, RunsWithFalls}
 use Rattle.qc_script.specs.declared.script.Script.{Script}
-use Rattle.laws_bounds.specs.Names.{AllFit, AllPut, AllRiseFit, AreWithin, IsBoundedWithFalls, JournalFits}
-use Rattle.laws_bounds.specs.Names.{RecordWithin, TurnWithin, records_at, risen_at}
+use Rattle.laws_bounds.specs.Vocabulary.{AllFit, AllPut, AllRiseFit, AreWithin, IsBoundedWithFalls, JournalFits}
+use Rattle.laws_bounds.specs.Vocabulary.{RecordWithin, TurnWithin, records_at, risen_at}
 use Rattle.laws_bounds.proofs.FewRecords.{kept_journals_few, kept_rise_few}
 use Rattle.laws_bounds.proofs.ActorsNamed.{TurnNamed}
 use Rattle.laws_bounds.proofs.HistoriesNamed.{AllNamed, run_named, turn_named}

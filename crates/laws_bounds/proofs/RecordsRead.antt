@@ -6,19 +6,19 @@ use Rattle.std.specs.List.{AllByRecursion as Every}
 use Rattle.std.proofs.lemmas.List.{length-append}
 use Rattle.byteorder.specs.Endian.{big_bytes}
 use Rattle.byteorder.specs.Numbers.{length-bytes_high_first}
-use Rattle.qc_decl.specs.Names.{most_record_bytes}
+use Rattle.qc_decl.specs.Vocabulary.{most_record_bytes}
 use Rattle.qc_entry.specs.declared.line.Line.{Line}
 use Rattle.qc_entry.specs.declared.line.Op.{Op}
 use Rattle.qc_list.proofs.Members.{every-weaker}
-use Rattle.qc_msg.specs.Names.{epoch_length, prepare_length}
+use Rattle.qc_msg.specs.Vocabulary.{epoch_length, prepare_length}
 use Rattle.qc_msg.specs.declared.record.Record.{Record}
 use Rattle.qc_msg.specs.declared.record.Record.TheVariants as records
-use Rattle.qc_record.specs.Names.{AreLines, IsInForm, IsLine, IsStart, is_legal, items_spelled, line_form, lines_form}
-use Rattle.qc_record.specs.Names.{op_form, ops_form, spelled}
+use Rattle.qc_record.specs.Vocabulary.{AreLines, IsInForm, IsLine, IsStart, is_legal, items_spelled, line_form}
+use Rattle.qc_record.specs.Vocabulary.{lines_form, op_form, ops_form, spelled}
 use Rattle.qc_record.proofs.InForm.{legal_is}
 use Rattle.qc_record.proofs.Lengths.{prepare_long}
-use Rattle.laws_turns.specs.Names.{LinesWithin}
-use Rattle.laws_bounds.specs.Names.{RecordWithin}
+use Rattle.laws_turns.specs.Vocabulary.{LinesWithin}
+use Rattle.laws_bounds.specs.Vocabulary.{RecordWithin}
 use Rattle.laws_bounds.proofs.Forms.{IsBrief, LineInForm, LinesInForm, RecordInForm, StartInForm}
 use Rattle.laws_bounds.proofs.Orders.{few_owns, locks_ascend, locks_rise, owns_ascend, owns_rise}
 

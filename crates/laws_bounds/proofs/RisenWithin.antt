@@ -5,11 +5,11 @@ use Rattle.std.proofs.Common.{Option, Some, None, arith}
 use Rattle.std.specs.List.{AllByRecursion as Every}
 use Rattle.std.specs.Option.{option_map_or}
 use Rattle.qc_list.proofs.Members.{every-append, every-filter}
-use Rattle.qc_core.specs.Names.{actor_rises}
+use Rattle.qc_core.specs.Vocabulary.{actor_rises}
 use Rattle.qc_core.proofs.ByNumber.{rises_by}
-use Rattle.qc_decl.specs.Names.{is_client, is_site}
+use Rattle.qc_decl.specs.Vocabulary.{is_client, is_site}
 use Rattle.qc_decl.specs.declared.declaration.Declaration.{Declaration}
-use Rattle.qc_entry.specs.Names.{has_line, without}
+use Rattle.qc_entry.specs.Vocabulary.{has_line, without}
 use Rattle.qc_entry.specs.declared.line.Line.{Line}
 use Rattle.qc_entry.specs.declared.line.OwnLine.{OwnLine}
 use Rattle.qc_entry.specs.declared.record.Commit.{Commit}
@@ -18,15 +18,16 @@ use Rattle.qc_entry.proofs.Union.{every-union}
 use Rattle.qc_msg.specs.declared.record.Record.{Record}
 use Rattle.qc_msg.specs.declared.record.Record.TheVariants as records
 use Rattle.qc_recover.specs.Clients as by_client_records
-use Rattle.qc_recover.specs.Names.{Kept, done_lines, done_stamp, inquiry, keeps, kept_by, most_inquiries, nothing_kept}
-use Rattle.qc_site.specs.Names.{in_order, latest, lines_of, prepared_of, stamped, with_stamped, without_prepared}
-use Rattle.qc_epoch.specs.Names.{Decided}
+use Rattle.qc_recover.specs.Vocabulary.{Kept, done_lines, done_stamp, inquiry, keeps, kept_by, most_inquiries}
+use Rattle.qc_recover.specs.Vocabulary.{nothing_kept}
+use Rattle.qc_site.specs.Vocabulary.{in_order, latest, lines_of, prepared_of, stamped, with_stamped, without_prepared}
+use Rattle.qc_epoch.specs.Vocabulary.{Decided}
 use Rattle.qc_recover.specs.Admins as admins
-use Rattle.qc_stamp.specs.Names.{same_tx}
+use Rattle.qc_stamp.specs.Vocabulary.{same_tx}
 use Rattle.qc_stamp.specs.declared.stamp.Stamp.{Stamp}
 use Rattle.qc_stamp.specs.declared.stamp.TxId.{TxId}
-use Rattle.laws_turns.specs.Names.{LinesWithin, PromisesWithin, SendsWithin}
-use Rattle.laws_bounds.specs.Names.{AreWithin, DecidedWithin, MoveWithin, RecordWithin}
+use Rattle.laws_turns.specs.Vocabulary.{LinesWithin, PromisesWithin, SendsWithin}
+use Rattle.laws_bounds.specs.Vocabulary.{AreWithin, DecidedWithin, MoveWithin, RecordWithin}
 
 module _ (bound : ℕ) where
   latest_within : (clock : ℕ) (lines : List Line) → clock ≤ bound → LinesWithin bound lines → latest clock lines ≤ bound

@@ -2,15 +2,15 @@
 use Rattle.std.proofs.Common.{◌≡◌, ℕ, ◌+◌, ◌-◌, ◌^◌, ◌<◌, ◌≤◌, Bool, List, [], ◌∷◌, ◌++◌, length, Option, Some, None}
 use Rattle.std.proofs.Common.{sym, ap, ◌∙◌, subst, arith}
 use Rattle.std.specs.List.{AllByRecursion as Every}
-use Rattle.qc_list.specs.Names.{In}
+use Rattle.qc_list.specs.Vocabulary.{In}
 use Rattle.qc_list.proofs.Members.{every-In, every-append}
-use Rattle.qc_core.specs.Names.{ActorMove, AsksFew, IsLawfulWithFalls, actor_after, actor_rises, with_record}
+use Rattle.qc_core.specs.Vocabulary.{ActorMove, AsksFew, IsLawfulWithFalls, actor_after, actor_rises, with_record}
 use Rattle.qc_core.proofs.PostsByTurns.{called_turn}
 use Rattle.qc_core.proofs.LivesOfActors.{rises as after_rises}
-use Rattle.qc_decl.specs.Names.{IsAccepted, controller, most_clients, most_steps}
+use Rattle.qc_decl.specs.Vocabulary.{IsAccepted, controller, most_clients, most_steps}
 use Rattle.qc_decl.specs.declared.declaration.Declaration.{Declaration}
 use Rattle.qc_entry.specs.declared.record.Prepared.{Prepared}
-use Rattle.qc_fit.specs.Names.{IsFit, most_records}
+use Rattle.qc_fit.specs.Vocabulary.{IsFit, most_records}
 use Rattle.qc_fit.proofs.Words.{as_said}
 use Rattle.qc_msg.specs.declared.record.Record.{Record}
 use Rattle.qc_msg.specs.declared.record.Record.TheVariants as records
@@ -25,12 +25,12 @@ use Rattle.qc_msg.specs.declared.turn.Appended.{Appended}
 use Rattle.qc_msg.specs.declared.turn.Appended.TheVariants.{Done, Failed, Stopped}
 use Rattle.qc_msg.specs.declared.turn.Posting.{Posting}
 use Rattle.qc_msg.specs.declared.turn.Turn.{Turn}
-use Rattle.qc_msg.specs.Names.{Deed, Entry, Rises, by, fell, mail, marked, posted_as, sents, step_of, told, wrote}
+use Rattle.qc_msg.specs.Vocabulary.{Deed, Entry, Rises, by, fell, mail, marked, posted_as, sents, step_of, told, wrote}
 use Rattle.qc_msg.proofs.GrownMail.{length-mail}
-use Rattle.qc_script.specs.Names.{RunsWithFalls, begins, control, controller_step, damaged, falls, phase, posts, rises}
-use Rattle.qc_script.specs.Names.{takes, unopened}
+use Rattle.qc_script.specs.Vocabulary.{RunsWithFalls, begins, control, controller_step, damaged, falls, phase, posts}
+use Rattle.qc_script.specs.Vocabulary.{rises, takes, unopened}
 use Rattle.qc_script.specs.declared.script.Script.{Script}
-use Rattle.laws_bounds.specs.Names.{AllFit, AllRiseFit, IsOfClient, IsRisingShort, PromisesDeclared, risen_at}
+use Rattle.laws_bounds.specs.Vocabulary.{AllFit, AllRiseFit, IsOfClient, IsRisingShort, PromisesDeclared, risen_at}
 use Rattle.laws_bounds.proofs.FitBounds.{fit_clients, fit_few}
 use Rattle.laws_bounds.proofs.RisingTurns.{rising_asks_few, rising_short}
 

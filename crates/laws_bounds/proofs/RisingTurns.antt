@@ -4,24 +4,25 @@ use Rattle.std.proofs.Common.{false, cond, List, [], ◌∷◌, filter, fold, le
 use Rattle.std.proofs.Common.{sym, subst}
 use Rattle.std.specs.List.{AllByRecursion as Every}
 use Rattle.std.proofs.lemmas.List.{length-map}
-use Rattle.qc_list.specs.Names.{by_order, inserted}
+use Rattle.qc_list.specs.Vocabulary.{by_order, inserted}
 use Rattle.qc_list.proofs.Members.{every-In, every-from_In}
-use Rattle.qc_core.specs.Names.{AsksFew, actor_rises}
-use Rattle.qc_decl.specs.Names.{actors, is_client, is_site}
+use Rattle.qc_core.specs.Vocabulary.{AsksFew, actor_rises}
+use Rattle.qc_decl.specs.Vocabulary.{actors, is_client, is_site}
 use Rattle.qc_decl.specs.declared.declaration.Declaration.{Declaration}
 use Rattle.qc_entry.specs.declared.record.Prepared.{Prepared}
 use Rattle.qc_msg.specs.declared.record.Record.{Record}
 use Rattle.qc_msg.specs.declared.record.Record.TheVariants as records
 use Rattle.qc_msg.specs.declared.turn.Posting.{Posting}
-use Rattle.qc_recover.specs.Names.{Kept, inquiries, inquiry, keeps, kept_by, most_inquiries, nothing_kept, with_promise}
-use Rattle.qc_site.specs.Names.{in_order, without_prepared}
+use Rattle.qc_recover.specs.Vocabulary.{Kept, inquiries, inquiry, keeps, kept_by, most_inquiries, nothing_kept}
+use Rattle.qc_recover.specs.Vocabulary.{with_promise}
+use Rattle.qc_site.specs.Vocabulary.{in_order, without_prepared}
 use Rattle.qc_core.proofs.ByNumber.{rises_by}
 use Rattle.qc_recover.proofs.Asked.{first_every}
 use Rattle.qc_site.proofs.InOrder.{In_order_is}
 use Rattle.qc_recover.proofs.Promised.{each_promise}
-use Rattle.qc_stamp.specs.Names.{same_tx, tx_cmp}
+use Rattle.qc_stamp.specs.Vocabulary.{same_tx, tx_cmp}
 use Rattle.qc_stamp.specs.declared.stamp.TxId.{TxId}
-use Rattle.laws_bounds.specs.Names.{IsRisingShort, PromisesDeclared}
+use Rattle.laws_bounds.specs.Vocabulary.{IsRisingShort, PromisesDeclared}
 
 -- how many
 

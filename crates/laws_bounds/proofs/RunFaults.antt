@@ -4,7 +4,7 @@ use Rattle.std.proofs.Common.{◌∙◌, subst, arith}
 use Rattle.std.specs.Prelude.{slice_get}
 use Rattle.std.specs.List.{AllByRecursion as Every}
 use Rattle.qc_list.proofs.Members.{every-append, every-weaker}
-use Rattle.qc_decl.specs.Names.{actors, administrator, controller}
+use Rattle.qc_decl.specs.Vocabulary.{actors, administrator, controller}
 use Rattle.qc_decl.specs.declared.declaration.Declaration.{Declaration}
 use Rattle.laws_turns.proofs.Places.{length-replicate, length-slice_set}
 use Rattle.qc_msg.specs.declared.record.Record.{Record}
@@ -13,13 +13,14 @@ use Rattle.qc_msg.specs.declared.step.Control.TheVariants as controls
 use Rattle.qc_msg.specs.declared.step.Step.{Step}
 use Rattle.qc_msg.specs.declared.step.Step.TheVariants as steps
 use Rattle.qc_msg.specs.declared.turn.Turn.{Turn}
-use Rattle.qc_msg.specs.Names.{Deed, Entry, by, mail, marked, posted_as, step_of}
-use Rattle.qc_promise.specs.Names.{AreFallsBelow, IsFallBelow}
-use Rattle.qc_script.specs.Names.{IsControlFor, IsPhaseFor, IsScriptFor, RunsWithFalls, begins, control}
-use Rattle.qc_script.specs.Names.{controller_step, controls_left, damaged, falls, phase, posts, rises, takes, unopened}
+use Rattle.qc_msg.specs.Vocabulary.{Deed, Entry, by, mail, marked, posted_as, step_of}
+use Rattle.qc_promise.specs.Vocabulary.{AreFallsBelow, IsFallBelow}
+use Rattle.qc_script.specs.Vocabulary.{IsControlFor, IsPhaseFor, IsScriptFor, RunsWithFalls, begins, control}
+use Rattle.qc_script.specs.Vocabulary.{controller_step, controls_left, damaged, falls, phase, posts, rises, takes}
+use Rattle.qc_script.specs.Vocabulary.{unopened}
 use Rattle.qc_script.specs.declared.script.PhaseLines.{PhaseLines}
 use Rattle.qc_script.specs.declared.script.Script.{Script}
-use Rattle.laws_bounds.specs.Names.{AreControlsBelow, AreFaultsBelow, IsControlBelow, IsFaultBelow}
+use Rattle.laws_bounds.specs.Vocabulary.{AreControlsBelow, AreFaultsBelow, IsControlBelow, IsFaultBelow}
 use Rattle.laws_bounds.proofs.SettledLines.{next_line}
 use Rattle.laws_bounds.proofs.Posts.{IsActing, every_by, input_acting, posts_acting}
 

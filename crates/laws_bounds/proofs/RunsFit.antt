@@ -3,21 +3,21 @@
 use Rattle.std.proofs.Common.{◌≡◌, ℕ, ◌+◌, ◌<◌, ◌≤◌, Bool, true, false, List, [], ◌∷◌, ◌++◌, length, Option, Some, None}
 use Rattle.std.proofs.Common.{slice_get, refl, sym, ap, ◌∙◌, subst, arith}
 use Rattle.std.specs.List.{AllByRecursion as Every}
-use Rattle.qc_list.specs.Names.{In}
+use Rattle.qc_list.specs.Vocabulary.{In}
 use Rattle.qc_list.proofs.Members.{every-In, every-append}
-use Rattle.qc_admin.specs.Names.{MessageFits}
+use Rattle.qc_admin.specs.Vocabulary.{MessageFits}
 use Rattle.qc_core.specs.declared.actor.Actor.{Actor}
 use Rattle.qc_core.specs.declared.actor.Actor.TheVariants as actors_of
-use Rattle.qc_core.specs.Names.{ActorMove, IsLawfulWithFalls, actor_after, actor_takes, is_running, with_record}
+use Rattle.qc_core.specs.Vocabulary.{ActorMove, IsLawfulWithFalls, actor_after, actor_takes, is_running, with_record}
 use Rattle.qc_core.proofs.Answers.{answers_rising}
 use Rattle.qc_core.proofs.PostsByTurns.{after_takes, called_turn}
-use Rattle.qc_decl.specs.Names.{IsAccepted, actors, controller}
+use Rattle.qc_decl.specs.Vocabulary.{IsAccepted, actors, controller}
 use Rattle.qc_decl.specs.declared.declaration.Declaration.{Declaration}
-use Rattle.qc_inbox.proofs.Keeping.{same_mail}
-use Rattle.laws_turns.specs.Names.{LivesIn}
+use Rattle.qc_mailbox.proofs.Keeping.{same_mail}
+use Rattle.laws_turns.specs.Vocabulary.{LivesIn}
 use Rattle.laws_turns.proofs.Lived.{deeds-rise, line_silent, run_lives}
 use Rattle.laws_turns.proofs.Numbered.{mail-silent}
-use Rattle.qc_link.specs.Names.{most_actors}
+use Rattle.qc_link.specs.Vocabulary.{most_actors}
 use Rattle.qc_msg.specs.declared.message.Envelope.{Envelope}
 use Rattle.qc_msg.specs.declared.record.Record.{Record}
 use Rattle.qc_msg.specs.declared.step.Fall.TheVariants as causes
@@ -28,13 +28,14 @@ use Rattle.qc_msg.specs.declared.turn.Appended.{Appended}
 use Rattle.qc_msg.specs.declared.turn.Appended.TheVariants.{Done, Failed, Stopped}
 use Rattle.qc_msg.specs.declared.turn.Posting.{Posting}
 use Rattle.qc_msg.specs.declared.turn.Turn.{Turn}
-use Rattle.qc_msg.specs.Names.{Deed, Entry, Rises, by, deeds, envelope_of, envelopes, mail, marked, posted_as, sends_as}
+use Rattle.qc_msg.specs.Vocabulary.{Deed, Entry, Rises, by, deeds, envelope_of, envelopes, mail, marked, posted_as}
+use Rattle.qc_msg.specs.Vocabulary.{sends_as}
 use Rattle.qc_msg.proofs.GrownMail.{mail-append, mail-taken}
 use Rattle.qc_msg.proofs.Growth.{mail-posted_as}
-use Rattle.qc_script.specs.Names.{RunsWithFalls, begins, control, damaged, falls, phase, phase_of, posts, rises, takes}
-use Rattle.qc_script.specs.Names.{unopened}
+use Rattle.qc_script.specs.Vocabulary.{RunsWithFalls, begins, control, damaged, falls, phase, phase_of, posts, rises}
+use Rattle.qc_script.specs.Vocabulary.{takes, unopened}
 use Rattle.qc_script.specs.declared.script.Script.{Script}
-use Rattle.laws_bounds.specs.Names.{AllFit, AllRiseFit, IsSound, risen_at}
+use Rattle.laws_bounds.specs.Vocabulary.{AllFit, AllRiseFit, IsSound, risen_at}
 use Rattle.laws_bounds.proofs.FitBounds.{rise_clients}
 use Rattle.laws_bounds.proofs.MailFits.{SendsFit, TurnFits, admin_fits, client_fits, site_fits, unanswering_fit}
 use Rattle.laws_bounds.proofs.Senders.{AreFrom, AreSound, IsSoundMessage, deeds_sound, run_from}

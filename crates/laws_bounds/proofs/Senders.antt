@@ -5,14 +5,14 @@ use Rattle.std.specs.Prelude.{option_to_list}
 use Rattle.std.specs.List.{AllByRecursion as Every}
 use Rattle.std.proofs.lemmas.Bool.{ltb-true}
 use Rattle.qc_list.proofs.Members.{every-append, every-at}
-use Rattle.qc_admin.specs.Names.{MessageFits}
-use Rattle.qc_core.specs.Names.{IsLawfulWithFalls, actor_after, with_record}
+use Rattle.qc_admin.specs.Vocabulary.{MessageFits}
+use Rattle.qc_core.specs.Vocabulary.{IsLawfulWithFalls, actor_after, with_record}
 use Rattle.qc_decl.proofs.Clients.{client_within}
-use Rattle.qc_decl.specs.Names.{actors, administrator, controller, is_administrator, is_client, is_site}
+use Rattle.qc_decl.specs.Vocabulary.{actors, administrator, controller, is_administrator, is_client, is_site}
 use Rattle.qc_decl.specs.declared.declaration.Declaration.{Declaration}
-use Rattle.qc_inbox.proofs.Keeping.{same_mail}
+use Rattle.qc_mailbox.proofs.Keeping.{same_mail}
 use Rattle.laws_turns.proofs.Numbered.{mail-silent}
-use Rattle.qc_link.specs.Names.{most_actors}
+use Rattle.qc_link.specs.Vocabulary.{most_actors}
 use Rattle.laws_turns.proofs.Lived.{line_silent}
 use Rattle.qc_msg.specs.declared.message.Envelope.{Envelope}
 use Rattle.qc_msg.specs.declared.record.Record.{Record}
@@ -21,14 +21,14 @@ use Rattle.qc_msg.specs.declared.step.Step.{Step}
 use Rattle.qc_msg.specs.declared.step.Step.TheVariants as steps
 use Rattle.qc_msg.specs.declared.turn.Posting.{Posting}
 use Rattle.qc_msg.specs.declared.turn.Turn.{Turn}
-use Rattle.qc_msg.specs.Names.{Deed, Entry, by, deed_at, deeds, envelope_of, envelopes, heard, mail, marked, posted_as}
-use Rattle.qc_msg.specs.Names.{sends_as}
+use Rattle.qc_msg.specs.Vocabulary.{Deed, Entry, by, deed_at, deeds, envelope_of, envelopes, heard, mail, marked}
+use Rattle.qc_msg.specs.Vocabulary.{posted_as, sends_as}
 use Rattle.qc_msg.proofs.GrownMail.{mail-append, mail-taken}
 use Rattle.qc_msg.proofs.Growth.{mail-posted_as}
-use Rattle.qc_script.specs.Names.{RunsWithFalls, begins, control, damaged, falls, phase, phase_of, posts, rises, takes}
-use Rattle.qc_script.specs.Names.{unopened}
+use Rattle.qc_script.specs.Vocabulary.{RunsWithFalls, begins, control, damaged, falls, phase, phase_of, posts, rises}
+use Rattle.qc_script.specs.Vocabulary.{takes, unopened}
 use Rattle.qc_script.specs.declared.script.Script.{Script}
-use Rattle.laws_bounds.specs.Names.{IsOfClient, IsSound, risen_at}
+use Rattle.laws_bounds.specs.Vocabulary.{IsOfClient, IsSound, risen_at}
 
 abbrev pub AreFrom : ℕ → List Envelope → Type 0
 AreFrom n ms = Every (λ (e : Envelope). e.from < n) ms

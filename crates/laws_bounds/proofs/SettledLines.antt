@@ -9,14 +9,14 @@ use Rattle.qc_list.proofs.Members.{every-at, every-weaker}
 use Rattle.qc_msg.specs.declared.step.Control.{Control}
 use Rattle.qc_msg.specs.declared.step.Step.{Step}
 use Rattle.qc_msg.specs.declared.step.Step.TheVariants as steps
-use Rattle.qc_msg.specs.Names.{Entry}
-use Rattle.qc_script.specs.Names.{Inbox, IsControlFor, IsPhaseFor, IsScriptFor, acting, actor_fell, command_called}
-use Rattle.qc_script.specs.Names.{control_acted, controls_left, copy_taken, does_nothing, emptied, empty_inbox}
-use Rattle.qc_script.specs.Names.{inbox_at, is_by_line, is_up, loss_taken, opened, phase_begun, reply_told}
+use Rattle.qc_msg.specs.Vocabulary.{Entry}
+use Rattle.qc_script.specs.Vocabulary.{Inbox, IsControlFor, IsPhaseFor, IsScriptFor, acting, actor_fell, command_called}
+use Rattle.qc_script.specs.Vocabulary.{control_acted, controls_left, copy_taken, does_nothing, emptied, empty_inbox}
+use Rattle.qc_script.specs.Vocabulary.{inbox_at, is_by_line, is_up, loss_taken, opened, phase_begun, reply_told}
 use Rattle.qc_script.specs.declared.script.PhaseLines.{PhaseLines}
 use Rattle.qc_script.specs.declared.script.Script.{Script}
 use Rattle.qc_script.proofs.InboxesSend.{opened_keeps, sends_does}
-use Rattle.laws_bounds.specs.Names.{AreControlsBelow, IsControlBelow}
+use Rattle.laws_bounds.specs.Vocabulary.{AreControlsBelow, IsControlBelow}
 
 -- which of two inboxes, by a test
 by_test : (P : Inbox → Type 0) (t : Bool) (i j : Inbox) → P i → P j → P (if t then i else j)

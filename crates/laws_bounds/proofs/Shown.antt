@@ -4,23 +4,24 @@ use Rattle.std.proofs.Common.{slice_get, refl, sym, ap, ◌∙◌, subst, arith}
 use Rattle.std.specs.List.{AllByRecursion as Every}
 use Rattle.laws_bounds.proofs.Calling.{turn_failed, turn_short}
 use Rattle.laws_bounds.proofs.Rising.{risen_turn_short}
-use Rattle.laws_bounds.specs.Names.{AllFit, AllRiseFit, IsFailedShort, IsRisingShort, IsTurnShort}
-use Rattle.qc_core.specs.Names.{IsLawfulWithFalls}
-use Rattle.qc_decl.specs.Names.{IsAccepted, actors, administrator, controller}
+use Rattle.laws_bounds.specs.Vocabulary.{AllFit, AllRiseFit, IsFailedShort, IsRisingShort, IsTurnShort}
+use Rattle.qc_core.specs.Vocabulary.{IsLawfulWithFalls}
+use Rattle.qc_decl.specs.Vocabulary.{IsAccepted, actors, administrator, controller}
 use Rattle.qc_decl.specs.declared.declaration.Declaration.{Declaration}
-use Rattle.qc_inbox.proofs.Acting.{kept_take}
-use Rattle.qc_inbox.proofs.Controlling.{kept_control, kept_damage, kept_phase}
-use Rattle.qc_inbox.proofs.FallLaws.{may_post, restarts_down}
-use Rattle.qc_inbox.proofs.FallTrays.{kept_fall_by_line, kept_post, kept_rise, up_kept}
-use Rattle.qc_inbox.proofs.Keeping.{kept_begins}
-use Rattle.qc_inbox.specs.Names.{Inboxes, IsKept, after_control, after_fall_by_line, after_phase, after_post_as}
-use Rattle.qc_inbox.specs.Names.{after_rising_as, after_take, empty_inboxes, with_control_gone}
+use Rattle.qc_mailbox.proofs.Acting.{kept_take}
+use Rattle.qc_mailbox.proofs.Controlling.{kept_control, kept_damage, kept_phase}
+use Rattle.qc_mailbox.proofs.FallLaws.{may_post, restarts_down}
+use Rattle.qc_mailbox.proofs.FallTrays.{kept_fall_by_line, kept_post, kept_rise, up_kept}
+use Rattle.qc_mailbox.proofs.Keeping.{kept_begins}
+use Rattle.qc_mailbox.specs.Vocabulary.{Inboxes, IsKept, after_control, after_fall_by_line, after_phase, after_post_as}
+use Rattle.qc_mailbox.specs.Vocabulary.{after_rising_as, after_take, empty_inboxes, with_control_gone}
 use Rattle.laws_turns.proofs.Places.{slice_get-within}
-use Rattle.qc_link.specs.Names.{most_actors}
+use Rattle.qc_link.specs.Vocabulary.{most_actors}
 use Rattle.qc_list.proofs.Members.{every-weaker}
 use Rattle.laws_turns.proofs.Downs.{tells}
 use Rattle.laws_turns.proofs.Lived.{run_long}
-use Rattle.qc_msg.specs.Names.{Deed, Entry, HasRecord, IsByDisk, Rises, by, deeds, mail, marked, posted_as, sends_as}
+use Rattle.qc_msg.specs.Vocabulary.{Deed, Entry, HasRecord, IsByDisk, Rises, by, deeds, mail, marked, posted_as}
+use Rattle.qc_msg.specs.Vocabulary.{sends_as}
 use Rattle.qc_msg.proofs.DeedsGrow.{deeds-append, deeds-rose}
 use Rattle.qc_msg.specs.declared.record.Record.{Record}
 use Rattle.qc_msg.specs.declared.step.Control.{Control}
@@ -32,8 +33,9 @@ use Rattle.qc_msg.specs.declared.turn.Appended.{Appended}
 use Rattle.qc_msg.specs.declared.turn.Appended.TheVariants as ends
 use Rattle.qc_msg.specs.declared.turn.Posting.{Posting}
 use Rattle.qc_msg.specs.declared.turn.Turn.{Turn}
-use Rattle.qc_script.specs.Names.{IsControlFor, IsScriptFor, RunsWithFalls, begins, control, controls_left, damaged}
-use Rattle.qc_script.specs.Names.{falls, inbox, is_by_line, is_up, phase, phase_of, posts, rises, takes, unopened}
+use Rattle.qc_script.specs.Vocabulary.{IsControlFor, IsScriptFor, RunsWithFalls, begins, control, controls_left}
+use Rattle.qc_script.specs.Vocabulary.{damaged, falls, inbox, is_by_line, is_up, phase, phase_of, posts, rises, takes}
+use Rattle.qc_script.specs.Vocabulary.{unopened}
 use Rattle.qc_script.specs.declared.script.PhaseLines.{PhaseLines}
 use Rattle.qc_script.specs.declared.script.Script.{Script}
 use Rattle.laws_bounds.proofs.Lines.{lines_left}

@@ -3,7 +3,7 @@ use Rattle.std.proofs.Common.{ℕ, ◌≤◌, not}
 use Rattle.std.specs.Prelude.{option_to_list}
 use Rattle.qc_list.proofs.Members.{every-filter}
 use Rattle.qc_decl.specs.declared.declaration.Declaration.{Declaration}
-use Rattle.qc_entry.specs.Names.{has_line}
+use Rattle.qc_entry.specs.Vocabulary.{has_line}
 use Rattle.qc_entry.specs.declared.line.Line.{Line}
 use Rattle.qc_msg.specs.declared.message.Message.{Message}
 use Rattle.qc_msg.specs.declared.message.Message.TheVariants as messages
@@ -14,12 +14,12 @@ use Rattle.qc_msg.specs.declared.message.Want.TheVariants.{Read, Append, Prepare
 use Rattle.qc_msg.specs.declared.step.Input.{Input}
 use Rattle.qc_msg.specs.declared.step.Input.TheVariants as inputs
 use Rattle.qc_msg.specs.declared.turn.Turn.{Turn}
-use Rattle.qc_site.specs.Names.{SiteMove, SiteState, finishes, grants, passed, site_at, site_takes}
+use Rattle.qc_site.specs.Vocabulary.{SiteMove, SiteState, finishes, grants, passed, site_at, site_takes}
 use Rattle.qc_site.proofs.RequestCases.{append_cases, close_rows, install_rows, join_cases, prepare_cases, read_cases}
 use Rattle.qc_site.proofs.RequestCases.{request_cases}
 use Rattle.qc_stamp.specs.declared.stamp.TxId.{TxId}
-use Rattle.laws_turns.specs.Names.{GivenWithin, LinesWithin, MessageWithin, OutcomeWithin, SendsWithin, SiteWithin}
-use Rattle.laws_bounds.specs.Names.{AreWithin}
+use Rattle.laws_turns.specs.Vocabulary.{GivenWithin, LinesWithin, MessageWithin, OutcomeWithin, SendsWithin, SiteWithin}
+use Rattle.laws_bounds.specs.Vocabulary.{AreWithin}
 
 pub record WritesWithin (bound : ℕ) (turn : Turn) : Type 0 where
   pub failed_sends : SendsWithin bound turn.failed_sends

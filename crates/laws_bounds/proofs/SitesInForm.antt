@@ -7,15 +7,15 @@ use Rattle.std.specs.List.{AllByRecursion as Every}
 use Rattle.std.proofs.lemmas.Bool.{leb-true, ltb-true}
 use Rattle.qc_list.proofs.Members.{every-append, every-filter}
 use Rattle.qc_list.proofs.Order.{ascends-filter}
-use Rattle.qc_decl.specs.Names.{most_clients, most_record_bytes}
+use Rattle.qc_decl.specs.Vocabulary.{most_clients, most_record_bytes}
 use Rattle.qc_decl.specs.declared.declaration.Declaration.{Declaration}
-use Rattle.qc_entry.specs.Names.{IsAscending, has_line, line_cmp, without}
+use Rattle.qc_entry.specs.Vocabulary.{IsAscending, has_line, line_cmp, without}
 use Rattle.qc_entry.specs.declared.line.Line.{Line}
 use Rattle.qc_entry.specs.declared.record.Prepared.{Prepared}
 use Rattle.qc_entry.proofs.Union.{ascending-union, every-union}
 use Rattle.qc_lock.specs.declared.clash.Clash.{Clash as Conflict}
 use Rattle.qc_lock.specs.declared.held.Held.{Held}
-use Rattle.qc_lock.specs.Names.{held_of, is_held}
+use Rattle.qc_lock.specs.Vocabulary.{held_of, is_held}
 use Rattle.qc_lock.proofs.Order.{sorted-find}
 use Rattle.qc_msg.specs.declared.message.Answer.{Answer}
 use Rattle.qc_msg.specs.declared.message.Answer.TheVariants as says
@@ -25,15 +25,15 @@ use Rattle.qc_msg.specs.declared.message.Outcome.{Outcome}
 use Rattle.qc_msg.specs.declared.message.Outcome.TheVariants.{Committed, Aborted, Active}
 use Rattle.qc_msg.specs.declared.message.Want.{Want}
 use Rattle.qc_msg.specs.declared.message.Want.TheVariants.{Append, Prepare, Read}
-use Rattle.qc_msg.specs.Names.{epoch_length, prepare_length, quiet}
-use Rattle.qc_record.specs.Names.{IsTx, IsWithin}
-use Rattle.qc_site.specs.Names.{IsSiteSorted, SiteMove, SiteState, answers, clashing, closes, dropped, fault_of}
-use Rattle.qc_site.specs.Names.{finishes, grants, installs, is_prepared, known, learned, lines_of, moved}
-use Rattle.qc_site.specs.Names.{names_declared, names_object, prepares, promise_cmp, promise_of, promised, requested}
-use Rattle.qc_site.specs.Names.{shut_answer, site_at, votes}
+use Rattle.qc_msg.specs.Vocabulary.{epoch_length, prepare_length, quiet}
+use Rattle.qc_record.specs.Vocabulary.{IsTx, IsWithin}
+use Rattle.qc_site.specs.Vocabulary.{IsSiteSorted, SiteMove, SiteState, answers, clashing, closes, dropped, fault_of}
+use Rattle.qc_site.specs.Vocabulary.{finishes, grants, installs, is_prepared, known, learned, lines_of, moved}
+use Rattle.qc_site.specs.Vocabulary.{names_declared, names_object, prepares, promise_cmp, promise_of, promised}
+use Rattle.qc_site.specs.Vocabulary.{requested, shut_answer, site_at, votes}
 use Rattle.qc_site.proofs.RequestCases.{append_cases, choose, close_rows, fault_is, join_cases, read_cases}
 use Rattle.qc_stamp.specs.declared.stamp.TxId.{TxId}
-use Rattle.qc_stamp.specs.Names.{same_tx}
+use Rattle.qc_stamp.specs.Vocabulary.{same_tx}
 use Rattle.laws_bounds.proofs.Forms.{AnswerInForm, LineInForm, MessageInForm, OrdinalsInForm, PromiseInForm}
 use Rattle.laws_bounds.proofs.Forms.{SendsInForm, StartInForm, VerdictInForm, WantInForm, WriteInForm}
 use Rattle.laws_bounds.proofs.HeldInForm.{FoundInForm, HeldInForm, every-all_inserted, found_form, has_form, held_form}

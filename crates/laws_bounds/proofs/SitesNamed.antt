@@ -7,14 +7,14 @@ use Rattle.std.specs.List.{AllByRecursion as Every}
 use Rattle.std.proofs.lemmas.Bool.{ltb-true}
 use Rattle.qc_list.proofs.Members.{every-append, every-filter}
 use Rattle.qc_decl.specs.declared.declaration.Declaration.{Declaration}
-use Rattle.qc_entry.specs.Names.{has_line, without}
+use Rattle.qc_entry.specs.Vocabulary.{has_line, without}
 use Rattle.qc_entry.specs.declared.line.Line.{Line}
 use Rattle.qc_entry.specs.declared.record.Prepared.{Prepared}
 use Rattle.qc_entry.proofs.Union.{every-union}
 use Rattle.qc_lock.specs.declared.clash.Clash.{Clash as Conflict}
 use Rattle.qc_lock.specs.declared.held.Held.{Held}
-use Rattle.qc_lock.specs.Names.{held_of}
-use Rattle.qc_fit.specs.Names.{HasPlan}
+use Rattle.qc_lock.specs.Vocabulary.{held_of}
+use Rattle.qc_fit.specs.Vocabulary.{HasPlan}
 use Rattle.qc_msg.specs.declared.message.Answer.{Answer}
 use Rattle.qc_msg.specs.declared.message.Answer.TheVariants as says
 use Rattle.qc_msg.specs.declared.message.Message.{Message}
@@ -25,14 +25,14 @@ use Rattle.qc_msg.specs.declared.message.Want.{Want}
 use Rattle.qc_msg.specs.declared.message.Want.TheVariants.{Append, Prepare, Read}
 use Rattle.qc_msg.specs.declared.step.Input.{Input}
 use Rattle.qc_msg.specs.declared.step.Input.TheVariants as inputs
-use Rattle.qc_msg.specs.Names.{quiet}
-use Rattle.qc_site.specs.Names.{SiteMove, SiteState, answers, clashing, closes, fault_of, finishes, grants, installs}
-use Rattle.qc_site.specs.Names.{known, learned, lines_of, moved, names_declared, names_object, passed, promise_cmp}
-use Rattle.qc_site.specs.Names.{promise_of, requested, shut_answer, site_at, site_takes}
+use Rattle.qc_msg.specs.Vocabulary.{quiet}
+use Rattle.qc_site.specs.Vocabulary.{SiteMove, SiteState, answers, clashing, closes, fault_of, finishes, grants}
+use Rattle.qc_site.specs.Vocabulary.{installs, known, learned, lines_of, moved, names_declared, names_object, passed}
+use Rattle.qc_site.specs.Vocabulary.{promise_cmp, promise_of, requested, shut_answer, site_at, site_takes}
 use Rattle.qc_site.proofs.RequestCases.{append_cases, choose, close_rows, fault_is, install_rows, join_cases}
 use Rattle.qc_site.proofs.RequestCases.{prepare_cases, read_cases}
 use Rattle.qc_stamp.specs.declared.stamp.TxId.{TxId}
-use Rattle.qc_stamp.specs.Names.{same_tx}
+use Rattle.qc_stamp.specs.Vocabulary.{same_tx}
 use Rattle.laws_bounds.proofs.Names.{AnswerNamed, AreNamed, GivenNamed, LineNamed, LinesNamed, MessageNamed}
 use Rattle.laws_bounds.proofs.Names.{PromiseNamed, SendsNamed, WantNamed}
 use Rattle.laws_bounds.proofs.HeldNamed.{FoundNamed, HasNamed, HeldNamed, every-all_inserted, found_named, has_named}

@@ -1,15 +1,15 @@
 -- For each input a site in form, and in order, stays so.
 use Rattle.std.proofs.Common.{◌≤◌}
-use Rattle.qc_decl.specs.Names.{most_clients}
+use Rattle.qc_decl.specs.Vocabulary.{most_clients}
 use Rattle.qc_decl.specs.declared.declaration.Declaration.{Declaration}
-use Rattle.qc_entry.specs.Names.{IsAscending}
+use Rattle.qc_entry.specs.Vocabulary.{IsAscending}
 use Rattle.qc_msg.specs.declared.message.Message.{Message}
 use Rattle.qc_msg.specs.declared.message.Message.TheVariants as messages
 use Rattle.qc_msg.specs.declared.message.Want.{Want}
 use Rattle.qc_msg.specs.declared.message.Want.TheVariants.{Append, Prepare, Read}
 use Rattle.qc_msg.specs.declared.step.Input.{Input}
 use Rattle.qc_msg.specs.declared.step.Input.TheVariants as inputs
-use Rattle.qc_site.specs.Names.{IsMessageSorted, IsSiteSorted, SiteState, passed, site_takes, view_in}
+use Rattle.qc_site.specs.Vocabulary.{IsMessageSorted, IsSiteSorted, SiteState, passed, site_takes, view_in}
 use Rattle.qc_site.proofs.Sorted.{stays_sorted}
 use Rattle.laws_bounds.proofs.Forms.{TakenInForm, MessageInForm, WantInForm}
 use Rattle.laws_bounds.proofs.SitesInForm.{SiteInForm, SiteMoveInForm, at_form, silent}

@@ -4,19 +4,19 @@ use Rattle.std.proofs.Common.{◌≡◌, ◌⊎◌, ℕ, ◌-◌, ◌<◌, Bool,
 use Rattle.std.proofs.Common.{None, inl, inr, refl, sym, ap, ◌∙◌, subst, append_assoc}
 use Rattle.std.specs.List.{AllByRecursion as Every}
 use Rattle.std.proofs.lemmas.List.Sums.{fold-append}
-use Rattle.qc_list.specs.Names.{In}
+use Rattle.qc_list.specs.Vocabulary.{In}
 use Rattle.qc_list.proofs.Members.{In-more, every-In}
 use Rattle.qc_client.specs.declared.client.Client.{Client}
-use Rattle.qc_admin.specs.Names.{AdminFits, AdminHolds, GivenFits, IsNumberedAtOnce}
+use Rattle.qc_admin.specs.Vocabulary.{AdminFits, AdminHolds, GivenFits, IsNumberedAtOnce}
 use Rattle.qc_admin.proofs.AtOnce.{takes_now}
 use Rattle.qc_admin.proofs.Fitting.{sent_fits, takes_fit}
-use Rattle.qc_epoch.specs.Names.{Admin, admin_takes}
-use Rattle.qc_client.specs.Names.{client_takes}
+use Rattle.qc_epoch.specs.Vocabulary.{Admin, admin_takes}
+use Rattle.qc_client.specs.Vocabulary.{client_takes}
 use Rattle.qc_core.specs.declared.actor.Actor.{Actor}
 use Rattle.qc_core.specs.declared.actor.Actor.TheVariants as actors
-use Rattle.qc_core.specs.Names.{ActorMove, IsFrom, IsLawfulWithFalls, Lives, MayTake, actor_after, actor_does}
-use Rattle.qc_core.specs.Names.{actor_rises, actor_takes, by_admin, by_client, down_takes, is_running, new_actor}
-use Rattle.qc_core.specs.Names.{runs_at, runs_given, with_record}
+use Rattle.qc_core.specs.Vocabulary.{ActorMove, IsFrom, IsLawfulWithFalls, Lives, MayTake, actor_after, actor_does}
+use Rattle.qc_core.specs.Vocabulary.{actor_rises, actor_takes, by_admin, by_client, down_takes, is_running, new_actor}
+use Rattle.qc_core.specs.Vocabulary.{runs_at, runs_given, with_record}
 use Rattle.qc_core.specs.Lives as lives
 use Rattle.qc_core.proofs.PostsByTurns.{after_takes, called_turn}
 use Rattle.qc_core.proofs.ClientLands.{lands}
@@ -24,7 +24,7 @@ use Rattle.qc_core.proofs.ClientReaches.{AskedFit, ClientReach, client_reach, ne
 use Rattle.qc_core.proofs.ClientStands.{Lands, Stands, new_stands, runs_told}
 use Rattle.qc_core.proofs.LivesOfActors.{falls as after_falls, rises as after_rises}
 use Rattle.qc_core.proofs.SiteReaches.{IsOfClients, site_reach}
-use Rattle.qc_decl.specs.Names.{IsAccepted, is_client, is_site, most_clients}
+use Rattle.qc_decl.specs.Vocabulary.{IsAccepted, is_client, is_site, most_clients}
 use Rattle.qc_decl.specs.declared.declaration.Declaration.{Declaration}
 use Rattle.qc_entry.specs.declared.record.Prepared.{Prepared}
 use Rattle.qc_msg.specs.declared.record.Record.{Record}
@@ -36,12 +36,12 @@ use Rattle.qc_msg.specs.declared.step.Input.{Input}
 use Rattle.qc_msg.specs.declared.turn.Appended.{Appended}
 use Rattle.qc_msg.specs.declared.turn.Appended.TheVariants.{Done, Failed, Stopped}
 use Rattle.qc_msg.specs.declared.turn.Turn.{Turn}
-use Rattle.qc_msg.specs.Names.{Deed, Falls, Rises, Takes, deeds_as, sends_of, tells_of, turn_deeds}
-use Rattle.qc_recover.specs.Names.{kept_by, site_rises}
+use Rattle.qc_msg.specs.Vocabulary.{Deed, Falls, Rises, Takes, deeds_as, sends_of, tells_of, turn_deeds}
+use Rattle.qc_recover.specs.Vocabulary.{kept_by, site_rises}
 use Rattle.qc_site.proofs.Holders.{clients-promised}
 use Rattle.qc_recover.proofs.Promised.{each_promise}
-use Rattle.qc_site.specs.Names.{AreByClients, site_takes}
-use Rattle.laws_bounds.specs.Names.{IsOfClient, IsSound}
+use Rattle.qc_site.specs.Vocabulary.{AreByClients, site_takes}
+use Rattle.laws_bounds.specs.Vocabulary.{IsOfClient, IsSound}
 use Rattle.qc_core.proofs.ByNumber.{new_by, rises_by}
 use Rattle.laws_bounds.proofs.TurnsPosted.{admin_turn, client_turn, down_turn, runs_event, runs_turn, site_turn}
 

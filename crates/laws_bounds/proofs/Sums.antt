@@ -1,7 +1,7 @@
 -- Sums over the numbers below one, of which one term grows.
 use Rattle.std.proofs.Common.{◌≡◌, ℕ, zero, suc, ◌+◌, ◌<◌, ◌≤◌, ◌==◌, Bool, true, false, refl, subst, arith}
 use Rattle.std.proofs.lemmas.Bool.{eqb-true, eqb-false, ne_eqb}
-use Rattle.qc_promise.specs.Names.{total_below}
+use Rattle.qc_promise.specs.Vocabulary.{total_below}
 
 pub zeros : (n : ℕ) → total_below n (λ a. 0) ≡ 0
 zeros zero = refl

@@ -12,13 +12,13 @@ use Rattle.qc_entry.specs.declared.line.Line.{Line}
 use Rattle.qc_entry.specs.declared.line.Op.{Op}
 use Rattle.qc_entry.proofs.Union.{ascending-union, every-union}
 use Rattle.qc_front.specs.declared.transaction.Transaction.{Transaction}
-use Rattle.qc_front.specs.Names.{appended_with, doomed, lived, next_own, op_of, own_appended, read_with, view_log}
-use Rattle.qc_front.specs.Names.{weighs, with_asked, with_event, with_op, with_view}
+use Rattle.qc_front.specs.Vocabulary.{appended_with, doomed, lived, next_own, op_of, own_appended, read_with, view_log}
+use Rattle.qc_front.specs.Vocabulary.{weighs, with_asked, with_event, with_op, with_view}
 use Rattle.qc_msg.specs.declared.begun.Begun.{Begun}
 use Rattle.qc_msg.specs.declared.message.Answer.{Answer}
 use Rattle.qc_msg.specs.declared.message.Answer.TheVariants as answers
-use Rattle.qc_record.specs.Names.{IsOp, IsOwn}
-use Rattle.qc_view.specs.Names.{empty_view, with_log, with_own}
+use Rattle.qc_record.specs.Vocabulary.{IsOp, IsOwn}
+use Rattle.qc_view.specs.Vocabulary.{empty_view, with_log, with_own}
 use Rattle.qc_view.specs.declared.view.View.{View}
 use Rattle.laws_bounds.proofs.Forms.{CameInForm, EventInForm, InvocationInForm, LineInForm, LinesInForm, OrdinalsInForm}
 

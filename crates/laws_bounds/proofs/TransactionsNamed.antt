@@ -8,14 +8,14 @@ use Rattle.qc_decl.specs.declared.declaration.Declaration.{Declaration}
 use Rattle.qc_entry.specs.declared.line.Line.{Line}
 use Rattle.qc_entry.specs.declared.line.OwnLine.{OwnLine}
 use Rattle.qc_entry.proofs.Union.{every-union}
-use Rattle.qc_fit.specs.Names.{HasEvent, HasInvocation, IsOpDeclared}
+use Rattle.qc_fit.specs.Vocabulary.{HasEvent, HasInvocation, IsOpDeclared}
 use Rattle.qc_front.specs.declared.transaction.Transaction.{Transaction}
-use Rattle.qc_front.specs.Names.{appended_with, lived, next_own, op_of, own_appended, read_with, resp_of, view_log}
-use Rattle.qc_front.specs.Names.{weighs, with_event, with_view}
+use Rattle.qc_front.specs.Vocabulary.{appended_with, lived, next_own, op_of, own_appended, read_with, resp_of, view_log}
+use Rattle.qc_front.specs.Vocabulary.{weighs, with_event, with_view}
 use Rattle.qc_msg.specs.declared.message.Answer.{Answer}
 use Rattle.qc_msg.specs.declared.message.Answer.TheVariants as answers
-use Rattle.qc_plan.specs.Names.{verdict}
-use Rattle.qc_view.specs.Names.{empty_view, with_log, with_own}
+use Rattle.qc_plan.specs.Vocabulary.{verdict}
+use Rattle.qc_view.specs.Vocabulary.{empty_view, with_log, with_own}
 use Rattle.qc_view.specs.declared.view.View.{View}
 use Rattle.laws_bounds.proofs.EventsNamed.{EventNamed}
 use Rattle.laws_bounds.proofs.Names.{CameNamed, LineNamed, LinesNamed, OpsNamed, OwnsNamed}

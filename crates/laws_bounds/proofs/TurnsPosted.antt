@@ -2,10 +2,10 @@
 use Rattle.std.proofs.Common.{◌≡◌, ℕ, ◌+◌, Bool, false, List, [], ◌∷◌, ◌++◌, fold, Option, Some, None, refl, ap, ◌∙◌}
 use Rattle.std.proofs.lemmas.List.Sums.{fold-append}
 use Rattle.laws_due.proofs.Standing.{steady_client}
-use Rattle.qc_client.specs.Names.{ClientMove}
+use Rattle.qc_client.specs.Vocabulary.{ClientMove}
 use Rattle.qc_core.specs.declared.actor.Actor.TheVariants as actors
-use Rattle.qc_core.specs.Names.{ActorMove, actor_does, by_admin, by_client, by_site, is_running, moved, runs_at}
-use Rattle.qc_core.specs.Names.{runs_given}
+use Rattle.qc_core.specs.Vocabulary.{ActorMove, actor_does, by_admin, by_client, by_site, is_running, moved, runs_at}
+use Rattle.qc_core.specs.Vocabulary.{runs_given}
 use Rattle.qc_core.proofs.ActorSent.{does_turn}
 use Rattle.qc_core.proofs.ClientStands.{runs_told, sends_all}
 use Rattle.qc_core.proofs.Steady.{turn_steady}
@@ -15,10 +15,10 @@ use Rattle.qc_msg.specs.declared.reply.Reply.{Reply}
 use Rattle.qc_msg.specs.declared.step.Input.{Input}
 use Rattle.qc_msg.specs.declared.turn.Posting.{Posting}
 use Rattle.qc_msg.specs.declared.turn.Turn.{Turn}
-use Rattle.qc_msg.specs.Names.{Deed, Takes, sends_of, tells_of, turn_deeds, writes_of}
-use Rattle.qc_admin.specs.Names.{sent_each}
-use Rattle.qc_epoch.specs.Names.{AdminMove, sent_one}
-use Rattle.qc_site.specs.Names.{SiteMove}
+use Rattle.qc_msg.specs.Vocabulary.{Deed, Takes, sends_of, tells_of, turn_deeds, writes_of}
+use Rattle.qc_admin.specs.Vocabulary.{sent_each}
+use Rattle.qc_epoch.specs.Vocabulary.{AdminMove, sent_one}
+use Rattle.qc_site.specs.Vocabulary.{SiteMove}
 
 -- whether a command runs, over a turn's deeds
 

@@ -2,19 +2,19 @@
 use Rattle.std.proofs.Common.{◌≡◌, ℕ, ◌+◌, ◌^◌, ◌<◌, ◌≤◌, true, Bool, List, [], length, Option, Some, subst, arith}
 use Rattle.std.specs.Prelude.{option_to_list}
 use Rattle.std.specs.List.{AllByRecursion as Every}
-use Rattle.qc_core.specs.Names.{IsLawfulWithFalls, with_record}
+use Rattle.qc_core.specs.Vocabulary.{IsLawfulWithFalls, with_record}
 use Rattle.qc_core.proofs.PostsByTurns.{called_turn}
-use Rattle.qc_decl.specs.Names.{IsAccepted, most_record_bytes}
+use Rattle.qc_decl.specs.Vocabulary.{IsAccepted, most_record_bytes}
 use Rattle.qc_decl.specs.declared.declaration.Declaration.{Declaration}
-use Rattle.qc_fit.specs.Names.{greatest_clock}
+use Rattle.qc_fit.specs.Vocabulary.{greatest_clock}
 use Rattle.qc_msg.specs.declared.record.Record.{Record}
 use Rattle.qc_msg.specs.declared.turn.Turn.{Turn}
-use Rattle.qc_msg.specs.Names.{Entry, deeds}
-use Rattle.qc_record.specs.Names.{is_legal, spelled}
+use Rattle.qc_msg.specs.Vocabulary.{Entry, deeds}
+use Rattle.qc_record.specs.Vocabulary.{is_legal, spelled}
 use Rattle.qc_record.proofs.InForm.{legal_is}
-use Rattle.qc_script.specs.Names.{IsScriptFor, RunsWithFalls}
+use Rattle.qc_script.specs.Vocabulary.{IsScriptFor, RunsWithFalls}
 use Rattle.qc_script.specs.declared.script.Script.{Script}
-use Rattle.laws_bounds.specs.Names.{AllFit, AreWithin, IsBoundedWithFalls, TurnWithin}
+use Rattle.laws_bounds.specs.Vocabulary.{AllFit, AreWithin, IsBoundedWithFalls, TurnWithin}
 use Rattle.laws_bounds.proofs.ActorsWithin.{records_le}
 use Rattle.laws_bounds.proofs.FitBounds.{fit_few, rise_within}
 use Rattle.laws_bounds.proofs.Needs.{run_bounded}

@@ -4,7 +4,7 @@ use Rattle.std.specs.Prelude.{ℕ, List, Option, Some, None}
 use Rattle.std.specs.List.{AllByRecursion as Every}
 use Rattle.qc_entry.specs.declared.line.Line.{Line}
 use Rattle.qc_entry.specs.declared.record.Prepared.{Prepared}
-use Rattle.qc_epoch.specs.Names.{Admin, Asking, Closing, Decided, Doing, Installing, Question, Resting, ShutSite}
+use Rattle.qc_epoch.specs.Vocabulary.{Admin, Asking, Closing, Decided, Doing, Installing, Question, Resting, ShutSite}
 use Rattle.qc_msg.specs.declared.message.Outcome.{Outcome}
 use Rattle.qc_stamp.specs.declared.stamp.TxId.{TxId}
 

@@ -3,8 +3,8 @@ use Rattle.std.specs.Prelude.{ℕ, ◌≤◌, Option}
 use Rattle.laws_bounds.specs.AdminParts as parts
 use Rattle.laws_bounds.specs.AdminParts.{AnyNumber}
 use Rattle.qc_entry.specs.declared.record.Prepared.{Prepared}
-use Rattle.qc_epoch.specs.Names.{Admin, Decided}
-use Rattle.laws_turns.specs.Names.{LinesWithin, OutcomeWithin}
+use Rattle.qc_epoch.specs.Vocabulary.{Admin, Decided}
+use Rattle.laws_turns.specs.Vocabulary.{LinesWithin, OutcomeWithin}
 use Rattle.qc_msg.specs.declared.message.Outcome.{Outcome}
 use Rattle.qc_stamp.specs.declared.stamp.TxId.{TxId}
 

@@ -3,10 +3,10 @@ use Rattle.std.specs.Prelude.{ℕ, ◌≤◌, [], List, length}
 use Rattle.std.specs.List.{AllByRecursion as Every}
 use Rattle.qc_core.specs.declared.actor.Actor.{Actor}
 use Rattle.qc_core.specs.declared.actor.Actor.TheVariants.{Site, Client, Admin, Down}
-use Rattle.qc_core.specs.Names.{actor_after}
+use Rattle.qc_core.specs.Vocabulary.{actor_after}
 use Rattle.qc_decl.specs.declared.declaration.Declaration.{Declaration}
-use Rattle.qc_msg.specs.Names.{Entry, deeds, mail}
-use Rattle.laws_turns.specs.Names.{MailWithin}
+use Rattle.qc_msg.specs.Vocabulary.{Entry, deeds, mail}
+use Rattle.laws_turns.specs.Vocabulary.{MailWithin}
 use Rattle.laws_bounds.specs.Records.{risen_at}
 use Rattle.laws_bounds.specs.Within.{MoveWithin, PutWithin}
 

@@ -1,18 +1,18 @@
 -- What comes to an actor in a run with falls, and what it posts, as far as its calls rely on it.
 use Rattle.std.specs.Prelude.{◌≡◌, ◌<◌, ◌≤◌, List, [], length}
 use Rattle.std.specs.List.{AllByRecursion as Every}
-use Rattle.qc_admin.specs.Names.{GivenFits}
-use Rattle.qc_core.specs.Names.{IsFrom}
-use Rattle.qc_decl.specs.Names.{actors, most_clients}
+use Rattle.qc_admin.specs.Vocabulary.{GivenFits}
+use Rattle.qc_core.specs.Vocabulary.{IsFrom}
+use Rattle.qc_decl.specs.Vocabulary.{actors, most_clients}
 use Rattle.qc_decl.specs.declared.declaration.Declaration.{Declaration}
-use Rattle.qc_epoch.specs.Names.{most_asks}
-use Rattle.qc_link.specs.Names.{most_actors}
+use Rattle.qc_epoch.specs.Vocabulary.{most_asks}
+use Rattle.qc_link.specs.Vocabulary.{most_actors}
 use Rattle.qc_msg.specs.declared.record.Record.{Record}
 use Rattle.qc_msg.specs.declared.record.Record.TheVariants as records
 use Rattle.qc_msg.specs.declared.turn.Posting.{Posting}
 use Rattle.qc_msg.specs.declared.turn.Turn.{Turn}
-use Rattle.qc_msg.specs.Names.{Deed, Falls, Rises, Sends, Takes, Tells, Writes}
-use Rattle.qc_recover.specs.Names.{most_inquiries}
+use Rattle.qc_msg.specs.Vocabulary.{Deed, Falls, Rises, Sends, Takes, Tells, Writes}
+use Rattle.qc_recover.specs.Vocabulary.{most_inquiries}
 
 -- what a record promises is of a client below the most
 abbrev pub IsOfClient : Record → Type 0

@@ -1,8 +1,8 @@
 -- What a rack counted of the falls of the disks that came back so far.
 use Rattle.std.specs.Prelude.{ℕ, ◌≤◌, Bool, List, cond}
-use Rattle.qc_msg.specs.Names.{Entry}
-use Rattle.qc_outside.specs.Names.{sum_of_faults}
-use Rattle.qc_promise.specs.Names.{disk_account, total_below}
+use Rattle.qc_msg.specs.Vocabulary.{Entry}
+use Rattle.qc_outside.specs.Vocabulary.{sum_of_faults}
+use Rattle.qc_promise.specs.Vocabulary.{disk_account, total_below}
 
 -- the falls of the disks of those below a number that were visited, in which nothing that was armed can have acted
 abbrev pub falls_of : ℕ → List Entry → (ℕ → Bool) → ℕ

@@ -11,4 +11,4 @@ pub mod Limits
 pub mod Visits
 pub mod Falls
 pub mod Places
-pub mod Names
+pub mod Vocabulary

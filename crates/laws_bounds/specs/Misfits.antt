@@ -5,7 +5,7 @@ use Rattle.laws_bounds.specs.Fitting.{JournalFits}
 use Rattle.qc_decl.specs.declared.declaration.Declaration.{Declaration}
 use Rattle.qc_msg.specs.declared.step.Step.{Step}
 use Rattle.qc_msg.specs.declared.step.Step.TheVariants as steps
-use Rattle.qc_promise.specs.Names.{IsGivenBack, Journal, journal_of, journal_with}
+use Rattle.qc_promise.specs.Vocabulary.{IsGivenBack, Journal, journal_of, journal_with}
 
 -- of a step of an actor whose journal is this
 abbrev pub IsKeptOrMisfit : Declaration → ℕ → Journal → Step → Type 0

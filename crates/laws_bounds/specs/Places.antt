@@ -1,12 +1,12 @@
 -- What the places of a rack hold once disks came back: the journals of their actors.
 use Rattle.std.specs.Prelude.{◌≡◌, ℕ, ◌<◌, Bool, true, List, map, Option, Some, None, IfSome, IsSome, option_map}
-use Rattle.qc_decl.specs.Names.{controller}
+use Rattle.qc_decl.specs.Vocabulary.{controller}
 use Rattle.qc_decl.specs.declared.declaration.Declaration.{Declaration}
-use Rattle.qc_msg.specs.Names.{Entry, own}
-use Rattle.qc_outside.specs.Names.{Place, Places, Told}
-use Rattle.qc_promise.specs.Names.{Journal, journal_of}
-use Rattle.qc_record.specs.Names.{spelled}
-use Rattle.qc_store.specs.Names.{DiskHolds, HoldsBodies}
+use Rattle.qc_msg.specs.Vocabulary.{Entry, own}
+use Rattle.qc_outside.specs.Vocabulary.{Place, Places, Told}
+use Rattle.qc_promise.specs.Vocabulary.{Journal, journal_of}
+use Rattle.qc_record.specs.Vocabulary.{spelled}
+use Rattle.qc_store.specs.Vocabulary.{DiskHolds, HoldsBodies}
 
 -- the place of an actor in a folder, or without one
 abbrev pub place_of : Option (List ℕ) → ℕ → Place

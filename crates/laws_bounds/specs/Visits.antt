@@ -1,6 +1,6 @@
 -- Sets of actors' numbers that are visited one by one.
 use Rattle.std.specs.Prelude.{ℕ, ◌==◌, Bool, true, false, cond, if◌then◌else◌}
-use Rattle.qc_promise.specs.Names.{total_below}
+use Rattle.qc_promise.specs.Vocabulary.{total_below}
 
 abbrev pub nobody : ℕ → Bool
 nobody a = false

@@ -3,12 +3,12 @@ use Rattle.std.specs.Prelude.{ℕ, ◌≤◌, List, option_to_list}
 use Rattle.std.specs.List.{AllByRecursion as Every}
 use Rattle.qc_core.specs.declared.actor.Actor.{Actor}
 use Rattle.qc_core.specs.declared.actor.Actor.TheVariants.{Site, Client, Admin, Down}
-use Rattle.qc_core.specs.Names.{ActorMove}
+use Rattle.qc_core.specs.Vocabulary.{ActorMove}
 use Rattle.qc_msg.specs.declared.record.Record.{Record}
 use Rattle.qc_msg.specs.declared.record.Record.TheVariants as records
 use Rattle.qc_msg.specs.declared.turn.Turn.{Turn}
-use Rattle.qc_msg.specs.Names.{Entry}
-use Rattle.laws_turns.specs.Names.{ClientWithin, LinesWithin, SendsWithin, SiteWithin}
+use Rattle.qc_msg.specs.Vocabulary.{Entry}
+use Rattle.laws_turns.specs.Vocabulary.{ClientWithin, LinesWithin, SendsWithin, SiteWithin}
 use Rattle.laws_bounds.specs.AdminWithin.{AdminWithin}
 use Rattle.laws_bounds.specs.Records.{AllPut, AllRisen}
 

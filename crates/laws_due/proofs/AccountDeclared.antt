@@ -8,18 +8,18 @@ use Rattle.std.specs.List.{AllByRecursion as Every}
 use Rattle.std.proofs.lemmas.Bool.{le-ltb}
 use Rattle.std.proofs.lemmas.List.Quantifiers.{position-Some}
 use Rattle.qc_table.specs.declared.kind.Kind.{Kind}
-use Rattle.qc_decl.specs.Names.{IsAccepted, administrator, is_client, kind_at, object_named, plan_in}
+use Rattle.qc_decl.specs.Vocabulary.{IsAccepted, administrator, is_client, kind_at, object_named, plan_in}
 use Rattle.qc_decl.specs.declared.declaration.Declaration.{Declaration}
-use Rattle.laws_turns.specs.Names.{AreAskable, AsksDeclared, IsAskable}
+use Rattle.laws_turns.specs.Vocabulary.{AreAskable, AsksDeclared, IsAskable}
 use Rattle.laws_turns.proofs.Places.{slice_get-within}
 use Rattle.qc_msg.specs.declared.step.Command.{Command}
 use Rattle.qc_msg.specs.declared.step.Command.TheVariants.{Begin, Do, Commit, Abort, Epoch}
 use Rattle.qc_script.proofs.SoundScripts.{script_names}
-use Rattle.qc_script.specs.Names.{IsAskedFor, IsCommandFor, IsPhaseFor, IsScriptFor, script_of}
+use Rattle.qc_script.specs.Vocabulary.{IsAskedFor, IsCommandFor, IsPhaseFor, IsScriptFor, script_of}
 use Rattle.qc_script.specs.declared.script.CommandLine.{CommandLine}
 use Rattle.qc_script.specs.declared.script.PhaseLines.{PhaseLines}
 use Rattle.qc_script.specs.declared.script.Script.{Script}
-use Rattle.laws_due.specs.Names.{AsksEpochs, IsEpoch}
+use Rattle.laws_due.specs.Vocabulary.{AsksEpochs, IsEpoch}
 
 -- the administrator is no client
 no_client : (decl : Declaration) (actor : ℕ) → actor ≡ administrator decl → is_client decl actor ≡ false

@@ -1,20 +1,20 @@
 -- An actor that rises with no epoch without a plan writes and sends none.
-use Rattle.std.proofs.Common.{ℕ, ◌-◌, Bool, true, false, cond, List, ◌∷◌, Option, inl, inr, sym, subst}
+use Rattle.std.proofs.Common.{[], ℕ, ◌-◌, Bool, true, false, cond, List, ◌∷◌, Option, inl, inr, sym, subst}
 use Rattle.std.specs.Prelude.{fold, option_to_list}
 use Rattle.std.specs.List.{AllByRecursion as Every}
-use Rattle.qc_core.specs.Names.{ActorMove, IsLawfulWithFalls, actor_does, actor_rises, actor_sends, actor_takes}
-use Rattle.qc_core.specs.Names.{by_admin, by_client, by_site, moved, new_actor, with_record}
-use Rattle.qc_recover.specs.Names.{admin_rises, client_rises, site_rises}
-use Rattle.qc_epoch.specs.Names.{new_admin}
+use Rattle.qc_core.specs.Vocabulary.{ActorMove, IsLawfulWithFalls, actor_does, actor_rises, actor_sends, actor_takes}
+use Rattle.qc_core.specs.Vocabulary.{by_admin, by_client, by_site, moved, new_actor, with_record}
+use Rattle.qc_recover.specs.Vocabulary.{admin_rises, client_rises, site_rises}
+use Rattle.qc_epoch.specs.Vocabulary.{new_admin}
 use Rattle.laws_turns.proofs.SoundClients.{IsAskableDeed}
 use Rattle.laws_due.proofs.AdminEpochs.{AdminMovePlanned, AdminPlanned, IsPlannedInput, admin_planned, input_planned}
 use Rattle.laws_due.proofs.AdminEpochs.{new_admin_planned, risen_admin_planned, sent_planned}
-use Rattle.qc_client.specs.Names.{client_takes, new_client}
+use Rattle.qc_client.specs.Vocabulary.{client_takes, new_client}
 use Rattle.qc_core.specs.declared.actor.Actor.{Actor}
 use Rattle.qc_core.specs.declared.actor.Actor.TheVariants as actor
 use Rattle.qc_core.proofs.PostsByTurns.{called_turn}
 use Rattle.qc_core.proofs.Written.{client_written}
-use Rattle.qc_decl.specs.Names.{is_client, is_site}
+use Rattle.qc_decl.specs.Vocabulary.{is_client, is_site}
 use Rattle.qc_decl.specs.declared.declaration.Declaration.{Declaration}
 use Rattle.qc_msg.specs.declared.message.Message.{Message}
 use Rattle.qc_msg.specs.declared.record.Record.{Record}
@@ -23,9 +23,9 @@ use Rattle.qc_msg.specs.declared.step.Input.TheVariants as inputs
 use Rattle.qc_msg.specs.declared.turn.Appended.{Appended}
 use Rattle.qc_msg.specs.declared.turn.Appended.TheVariants.{Done, Failed, Stopped}
 use Rattle.qc_msg.specs.declared.turn.Turn.{Turn}
-use Rattle.qc_msg.specs.Names.{Deed, Falls, Rises, Sends, Takes, Tells, Writes, first_epoch, quiet, sends_as}
-use Rattle.qc_site.specs.Names.{new_site}
-use Rattle.laws_due.specs.Names.{IsPlanned, IsRecordPlanned}
+use Rattle.qc_msg.specs.Vocabulary.{Deed, Falls, Rises, Sends, Takes, Tells, Writes, first_epoch, quiet, sends_as}
+use Rattle.qc_site.specs.Vocabulary.{new_site}
+use Rattle.laws_due.specs.Vocabulary.{IsPlanned, IsRecordPlanned}
 use Rattle.laws_due.proofs.Epochs.{DeedPlanned, SitePlanned, TakesPlanned, TellPlanned, TurnPlanned, says_nothing}
 use Rattle.laws_due.proofs.Epochs.{takes_planned, takes_stay_planned}
 use Rattle.laws_due.proofs.ClientEpochs.{client_takes_planned}

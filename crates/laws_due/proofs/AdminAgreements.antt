@@ -7,11 +7,11 @@ use Rattle.std.specs.Option.{option_map_or, option_or}
 use Rattle.std.proofs.lemmas.List.{append-nil}
 use Rattle.std.proofs.lemmas.List.Folds.{find-append}
 use Rattle.qc_stamp.specs.declared.stamp.TxId.{TxId}
-use Rattle.qc_stamp.specs.Names.{same_tx}
+use Rattle.qc_stamp.specs.Vocabulary.{same_tx}
 use Rattle.qc_stamp.proofs.Orders.{other_tx_sym, same_tx_itself}
 use Rattle.qc_msg.specs.declared.message.Answer.{Answer}
-use Rattle.qc_promise.specs.Names.{AdminRequest, AdminWant, Ask, Promised, is_among, is_ask_of}
-use Rattle.qc_epoch.specs.Names.{Question, outcome_in}
+use Rattle.qc_promise.specs.Vocabulary.{AdminRequest, AdminWant, Ask, Promised, is_among, is_ask_of}
+use Rattle.qc_epoch.specs.Vocabulary.{Question, outcome_in}
 use Rattle.laws_due.proofs.AdminQuestions.{AreAbout, AreDistinct, about, asked_of, heard, heard_is, or_parts}
 use Rattle.laws_due.proofs.AdminQuestions.{outcome_of}
 

@@ -7,21 +7,21 @@ use Rattle.std.specs.List.{AllByRecursion as Every}
 use Rattle.std.specs.Option.{option_map_or}
 use Rattle.qc_list.proofs.Members.{every-append}
 use Rattle.qc_stamp.specs.declared.stamp.TxId.{TxId}
-use Rattle.qc_stamp.specs.Names.{same_tx}
+use Rattle.qc_stamp.specs.Vocabulary.{same_tx}
 use Rattle.qc_stamp.proofs.Orders.{same_tx_itself}
 use Rattle.qc_decl.specs.declared.declaration.Declaration.{Declaration}
-use Rattle.qc_decl.specs.Names.{client_actor}
+use Rattle.qc_decl.specs.Vocabulary.{client_actor}
 use Rattle.qc_plan.specs.declared.standing.Verdict.TheVariants as verdicts
-use Rattle.qc_plan.specs.Names.{first, verdict}
+use Rattle.qc_plan.specs.Vocabulary.{first, verdict}
 use Rattle.qc_msg.specs.declared.message.Message.TheVariants as messages
 use Rattle.qc_msg.specs.declared.turn.Posting.{Posting}
-use Rattle.qc_msg.specs.Names.{Deed, Sends, sends_of}
-use Rattle.qc_promise.specs.Names.{AdminAccount, AdminRequest, AreAdminDeedsDue, Ask, Promised, admin_account_at}
-use Rattle.qc_promise.specs.Names.{admin_requested, asks, calls_ask, close_round, closes, commanded, decided_epoch}
-use Rattle.qc_promise.specs.Names.{installs, is_ask, is_close, is_install, is_met, is_this, most_questions}
-use Rattle.qc_promise.specs.Names.{promised_once}
-use Rattle.qc_epoch.specs.Names.{Admin, Asking, ShutSite, doing}
-use Rattle.qc_admin.specs.Names.{sent_each}
+use Rattle.qc_msg.specs.Vocabulary.{Deed, Sends, sends_of}
+use Rattle.qc_promise.specs.Vocabulary.{AdminAccount, AdminRequest, AreAdminDeedsDue, Ask, Promised, admin_account_at}
+use Rattle.qc_promise.specs.Vocabulary.{admin_requested, asks, calls_ask, close_round, closes, commanded, decided_epoch}
+use Rattle.qc_promise.specs.Vocabulary.{installs, is_ask, is_close, is_install, is_met, is_this, most_questions}
+use Rattle.qc_promise.specs.Vocabulary.{promised_once}
+use Rattle.qc_epoch.specs.Vocabulary.{Admin, Asking, ShutSite, doing}
+use Rattle.qc_admin.specs.Vocabulary.{sent_each}
 use Rattle.laws_due.proofs.AdminRequests.{wanting_more, wanting_same}
 use Rattle.laws_due.proofs.AdminCloses.{round_of}
 use Rattle.laws_due.proofs.AdminStages.{Moves}

@@ -5,13 +5,13 @@ use Rattle.std.proofs.Common.{map, Option, Some, None, refl, sym, ap, subst}
 use Rattle.std.specs.Prelude.{is_none, take}
 use Rattle.std.specs.List.{cons_option}
 use Rattle.std.proofs.lemmas.List.{map-append}
-use Rattle.qc_list.specs.Names.{In}
+use Rattle.qc_list.specs.Vocabulary.{In}
 use Rattle.qc_list.proofs.Members.{In-more}
 use Rattle.qc_decl.specs.declared.declaration.Declaration.{Declaration}
-use Rattle.qc_decl.specs.Names.{most_record_bytes, plan_in}
+use Rattle.qc_decl.specs.Vocabulary.{most_record_bytes, plan_in}
 use Rattle.qc_plan.specs.declared.standing.Verdict.{Verdict}
 use Rattle.qc_plan.specs.declared.standing.Verdict.TheVariants as verdicts
-use Rattle.qc_plan.specs.Names.{RoundState, note, verdict, wanted}
+use Rattle.qc_plan.specs.Vocabulary.{RoundState, note, verdict, wanted}
 use Rattle.qc_plan.specs.declared.plan.Plan.{Plan}
 use Rattle.qc_msg.specs.declared.call.Call.{Call}
 use Rattle.qc_msg.specs.declared.message.Answer.{Answer}
@@ -22,15 +22,15 @@ use Rattle.qc_msg.specs.declared.step.Command.{Command}
 use Rattle.qc_msg.specs.declared.step.Command.TheVariants as commands
 use Rattle.qc_msg.specs.declared.step.Input.{Input}
 use Rattle.qc_msg.specs.declared.step.Input.TheVariants as inputs
-use Rattle.qc_msg.specs.Names.{epoch_length, quiet, sending, site_called, with_call, without_call}
-use Rattle.qc_epoch.specs.Names.{Admin, AdminMove, Asking, Closing, Decided, Doing, Installing, Question, Resting}
-use Rattle.qc_epoch.specs.Names.{ShutSite, all_taken, decision, doing, first_doubt, in_asked_order, most_asks, moved}
-use Rattle.qc_epoch.specs.Names.{numbered_first, outcome_in, questions_of, requested, sent_one, standing_of, taken_for}
-use Rattle.qc_epoch.specs.Names.{with_installed, with_shut_of}
+use Rattle.qc_msg.specs.Vocabulary.{epoch_length, quiet, sending, site_called, with_call, without_call}
+use Rattle.qc_epoch.specs.Vocabulary.{Admin, AdminMove, Asking, Closing, Decided, Doing, Installing, Question, Resting}
+use Rattle.qc_epoch.specs.Vocabulary.{ShutSite, all_taken, decision, doing, first_doubt, in_asked_order, most_asks}
+use Rattle.qc_epoch.specs.Vocabulary.{moved, numbered_first, outcome_in, questions_of, requested, sent_one, standing_of}
+use Rattle.qc_epoch.specs.Vocabulary.{taken_for, with_installed, with_shut_of}
 use Rattle.qc_epoch.specs.Conduct as conduct
-use Rattle.qc_script.specs.Names.{is_request}
+use Rattle.qc_script.specs.Vocabulary.{is_request}
 use Rattle.laws_turns.proofs.Fewer.{IsNotFor}
-use Rattle.laws_turns.specs.Names.{IsAnswerTo}
+use Rattle.laws_turns.specs.Vocabulary.{IsAnswerTo}
 use Rattle.qc_msg.specs.declared.reply.Reply.TheVariants as replies
 use Rattle.laws_due.proofs.AdminNumbers.{DoingPlain, IsFresh, all_unnumbered, called_spares, fresh_among, fresh_spares}
 use Rattle.laws_due.proofs.AdminNumbers.{none_numbered, number_if, numbers_in, open_in, open_numbers, spares_then}

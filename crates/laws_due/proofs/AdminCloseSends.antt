@@ -2,15 +2,15 @@
 use Rattle.std.proofs.Common.{◌≡◌, ◌≤◌, ℕ, ◌+◌, Bool, true, false, cond, List, [], ◌∷◌, ◌++◌, length, map, fold, drop}
 use Rattle.std.proofs.Common.{Some, None, refl, sym, ap, ◌∙◌, subst, arith, eq-eqb}
 use Rattle.qc_decl.specs.declared.declaration.Declaration.{Declaration}
-use Rattle.qc_plan.specs.Names.{RoundState, asking_all, first, may_ask, next_site, wanted}
+use Rattle.qc_plan.specs.Vocabulary.{RoundState, asking_all, first, may_ask, next_site, wanted}
 use Rattle.qc_msg.specs.declared.call.Call.{Call}
 use Rattle.qc_msg.specs.declared.message.Message.TheVariants as messages
-use Rattle.qc_msg.specs.Names.{Deed, Sends, sends_of}
-use Rattle.qc_promise.specs.Names.{AdminAccount, AdminRequest, AreAdminDeedsDue, Close, admin_account_at}
-use Rattle.qc_promise.specs.Names.{admin_requested, asks, calls_close, close_round, closes, commanded, decided_epoch}
-use Rattle.qc_promise.specs.Names.{is_ask, is_close, is_install, is_this}
-use Rattle.qc_epoch.specs.Names.{Admin, Closing, ShutSite, close_of, doing}
-use Rattle.qc_admin.specs.Names.{sent_each}
+use Rattle.qc_msg.specs.Vocabulary.{Deed, Sends, sends_of}
+use Rattle.qc_promise.specs.Vocabulary.{AdminAccount, AdminRequest, AreAdminDeedsDue, Close, admin_account_at}
+use Rattle.qc_promise.specs.Vocabulary.{admin_requested, asks, calls_close, close_round, closes, commanded}
+use Rattle.qc_promise.specs.Vocabulary.{decided_epoch, is_ask, is_close, is_install, is_this}
+use Rattle.qc_epoch.specs.Vocabulary.{Admin, Closing, ShutSite, close_of, doing}
+use Rattle.qc_admin.specs.Vocabulary.{sent_each}
 use Rattle.laws_due.proofs.Nexts.{asking_one, first_wanted}
 use Rattle.laws_due.proofs.AdminRequests.{calls_more, open_calls, sites_of, wanting_more, wanting_same}
 use Rattle.laws_due.proofs.AdminCloses.{round_more, round_of}

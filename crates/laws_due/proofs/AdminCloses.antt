@@ -5,22 +5,22 @@ use Rattle.std.proofs.Common.{eq-eqb, inl, inr}
 use Rattle.std.specs.Prelude.{is_some, nat_lt, option_and_then}
 use Rattle.std.specs.Option.{option_map_or}
 use Rattle.std.proofs.lemmas.List.{map-append}
-use Rattle.qc_list.specs.Names.{In}
+use Rattle.qc_list.specs.Vocabulary.{In}
 use Rattle.qc_decl.specs.declared.declaration.Declaration.{Declaration}
-use Rattle.qc_decl.specs.Names.{plan_in}
+use Rattle.qc_decl.specs.Vocabulary.{plan_in}
 use Rattle.qc_plan.specs.declared.plan.Plan.{Plan}
 use Rattle.qc_plan.specs.declared.standing.Standing.TheVariants as standings
 use Rattle.qc_plan.specs.declared.standing.Verdict.{Verdict}
 use Rattle.qc_plan.specs.declared.standing.Verdict.TheVariants as verdicts
-use Rattle.qc_plan.specs.Names.{RoundState, all_noted, clash_at, closed_at, cyclic, has_granted, note, note_in, refusal}
-use Rattle.qc_plan.specs.Names.{settled, start, verdict, weighing, weight, weight_at}
+use Rattle.qc_plan.specs.Vocabulary.{RoundState, all_noted, clash_at, closed_at, cyclic, has_granted, note, note_in}
+use Rattle.qc_plan.specs.Vocabulary.{refusal, settled, start, verdict, weighing, weight, weight_at}
 use Rattle.qc_msg.specs.declared.message.Answer.{Answer}
 use Rattle.qc_msg.specs.declared.message.Answer.TheVariants as answers
-use Rattle.qc_msg.specs.Names.{Shutting, shut_in}
-use Rattle.qc_promise.specs.Names.{AdminRequest, close_asked, fresh_round, standing_for}
-use Rattle.qc_epoch.specs.Names.{standing_of}
+use Rattle.qc_msg.specs.Vocabulary.{Shutting, shut_in}
+use Rattle.qc_promise.specs.Vocabulary.{AdminRequest, close_asked, fresh_round, standing_for}
+use Rattle.qc_epoch.specs.Vocabulary.{standing_of}
 use Rattle.qc_epoch.specs.Conduct as conduct
-use Rattle.laws_due.specs.Names.{AreApart}
+use Rattle.laws_due.specs.Vocabulary.{AreApart}
 use Rattle.qc_front.proofs.Apart.{apart_filter}
 use Rattle.laws_due.proofs.Nexts.{asking_one}
 use Rattle.laws_due.proofs.AdminRequests.{IsCalled, differ, length_taken, numbers_of, others_taken, other_taken}

@@ -6,24 +6,24 @@ use Rattle.std.specs.Prelude.{is_some}
 use Rattle.std.specs.List.{AllByRecursion as Every, list_all}
 use Rattle.std.proofs.lemmas.List.{length-map}
 use Rattle.qc_list.proofs.Members.{In-first}
-use Rattle.qc_msg.specs.Names.{Installing as Started, sending}
+use Rattle.qc_msg.specs.Vocabulary.{Installing as Started, sending}
 use Rattle.qc_decl.specs.declared.declaration.Declaration.{Declaration}
 use Rattle.qc_plan.specs.declared.standing.Asked.{Asked}
 use Rattle.qc_plan.specs.declared.standing.Verdict.{Verdict}
 use Rattle.qc_plan.specs.declared.standing.Verdict.TheVariants as verdicts
-use Rattle.qc_plan.specs.Names.{RoundState, all_noted, asking_all, verdict, wanted}
+use Rattle.qc_plan.specs.Vocabulary.{RoundState, all_noted, asking_all, verdict, wanted}
 use Rattle.qc_msg.specs.declared.call.Call.{Call}
 use Rattle.qc_msg.specs.declared.reply.Half.TheVariants as halves
 use Rattle.qc_msg.specs.declared.reply.Reply.TheVariants as replies
 use Rattle.qc_msg.specs.declared.turn.Posting.{Posting}
-use Rattle.qc_promise.specs.Names.{AdminAccount, AdminRequest, Promised, asks, close_round, close_row, closes}
-use Rattle.qc_promise.specs.Names.{decided_epoch, decided_met, most_questions, promised_once}
-use Rattle.qc_epoch.specs.Names.{Admin, Asking, Closing, Question, ShutSite, ask_of, close_of, doing, in_asked_order}
-use Rattle.qc_epoch.specs.Names.{most_asks, moved, questions_of, settles}
+use Rattle.qc_promise.specs.Vocabulary.{AdminAccount, AdminRequest, Promised, asks, close_round, close_row, closes}
+use Rattle.qc_promise.specs.Vocabulary.{decided_epoch, decided_met, most_questions, promised_once}
+use Rattle.qc_epoch.specs.Vocabulary.{Admin, Asking, Closing, Question, ShutSite, ask_of, close_of, doing}
+use Rattle.qc_epoch.specs.Vocabulary.{in_asked_order, most_asks, moved, questions_of, settles}
 use Rattle.qc_epoch.specs.Conduct as conduct
 use Rattle.qc_epoch.specs.Deciding as deciding
-use Rattle.qc_admin.specs.Names.{sent_each}
-use Rattle.laws_due.specs.Names.{AreApart}
+use Rattle.qc_admin.specs.Vocabulary.{sent_each}
+use Rattle.laws_due.specs.Vocabulary.{AreApart}
 use Rattle.laws_due.proofs.Halves.{waiting_verdict}
 use Rattle.laws_due.proofs.AdminRequests.{all_taken, differ, open_calls, sites_of}
 use Rattle.laws_due.proofs.AdminCloses.{IsOne, one_of, over_taken, round_of, sites_apart}

@@ -6,7 +6,7 @@ use Rattle.std.specs.List.{range_with_len}
 use Rattle.std.specs.Option.{option_or}
 use Rattle.std.proofs.lemmas.List.{length-map}
 use Rattle.qc_decl.specs.declared.declaration.Declaration.{Declaration}
-use Rattle.qc_plan.specs.Names.{RoundState}
+use Rattle.qc_plan.specs.Vocabulary.{RoundState}
 use Rattle.qc_msg.specs.declared.message.Message.{Message}
 use Rattle.qc_msg.specs.declared.message.Message.TheVariants as messages
 use Rattle.qc_msg.specs.declared.reply.Reply.TheVariants as replies
@@ -14,11 +14,11 @@ use Rattle.qc_msg.specs.declared.step.Command.{Command}
 use Rattle.qc_msg.specs.declared.step.Command.TheVariants as commands
 use Rattle.qc_msg.specs.declared.step.Input.{Input}
 use Rattle.qc_msg.specs.declared.step.Input.TheVariants as inputs
-use Rattle.qc_msg.specs.Names.{Installing as Started, epoch_in, quiet}
-use Rattle.qc_promise.specs.Names.{AdminAccount, IsAdminFree, admin_heard, admin_taken, decided_epoch, decided_now}
-use Rattle.qc_promise.specs.Names.{installs, site_set}
-use Rattle.qc_epoch.specs.Names.{Admin, Asking, Closing, Decided, Doing, Installing, Resting, admin_takes, doing}
-use Rattle.qc_epoch.specs.Names.{install_of, install_sends, installing, moved, replies_with}
+use Rattle.qc_msg.specs.Vocabulary.{Installing as Started, epoch_in, quiet}
+use Rattle.qc_promise.specs.Vocabulary.{AdminAccount, IsAdminFree, admin_heard, admin_taken, decided_epoch, decided_now}
+use Rattle.qc_promise.specs.Vocabulary.{installs, site_set}
+use Rattle.qc_epoch.specs.Vocabulary.{Admin, Asking, Closing, Decided, Doing, Installing, Resting, admin_takes, doing}
+use Rattle.qc_epoch.specs.Vocabulary.{install_of, install_sends, installing, moved, replies_with}
 use Rattle.qc_epoch.specs.Conduct as conduct
 use Rattle.laws_due.proofs.AdminCloses.{fresh_is}
 use Rattle.laws_due.proofs.AdminDecisions.{started}

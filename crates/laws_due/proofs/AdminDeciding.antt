@@ -5,22 +5,22 @@ use Rattle.std.specs.Prelude.{is_some}
 use Rattle.std.specs.List.{filter_map, range_with_len}
 use Rattle.std.specs.Option.{option_or}
 use Rattle.std.proofs.lemmas.List.{append-nil, length-map}
-use Rattle.qc_decl.specs.Names.{most_record_bytes}
+use Rattle.qc_decl.specs.Vocabulary.{most_record_bytes}
 use Rattle.qc_decl.specs.declared.declaration.Declaration.{Declaration}
 use Rattle.qc_plan.specs.declared.standing.Verdict.TheVariants as verdicts
-use Rattle.qc_plan.specs.Names.{verdict}
+use Rattle.qc_plan.specs.Vocabulary.{verdict}
 use Rattle.qc_msg.specs.declared.reply.Reply.TheVariants as replies
-use Rattle.qc_msg.specs.Names.{Deed, Installing as Started, epoch_length, sends_of}
-use Rattle.qc_promise.specs.Names.{AdminAccount, AdminRequest, AreAdminDeedsDue, Promised, ToldShut, admin_account_at}
-use Rattle.qc_promise.specs.Names.{admin_due, all_answered, asks, close_round, close_row, closed_sites, closes}
-use Rattle.qc_promise.specs.Names.{decide_due, decide_record, decided_met, decided_now, decided_of, decided_row}
-use Rattle.qc_promise.specs.Names.{decision_due, doubt_row, first_doubt, installs, promised_once, shuts_told, site_set}
-use Rattle.qc_promise.specs.Names.{told_shut}
+use Rattle.qc_msg.specs.Vocabulary.{Deed, Installing as Started, epoch_length, sends_of}
+use Rattle.qc_promise.specs.Vocabulary.{AdminAccount, AdminRequest, AreAdminDeedsDue, Promised, ToldShut}
+use Rattle.qc_promise.specs.Vocabulary.{admin_account_at, admin_due, all_answered, asks, close_round, close_row}
+use Rattle.qc_promise.specs.Vocabulary.{closed_sites, closes, decide_due, decide_record, decided_met, decided_now}
+use Rattle.qc_promise.specs.Vocabulary.{decided_of, decided_row, decision_due, doubt_row, first_doubt, installs}
+use Rattle.qc_promise.specs.Vocabulary.{promised_once, shuts_told, site_set, told_shut}
 use Rattle.qc_promise.specs.AdminRows.{fits_record}
-use Rattle.qc_epoch.specs.Names.{Admin, Decided, Installing, Question, ShutSite, decide_turn, decides, decision}
-use Rattle.qc_epoch.specs.Names.{install_of, install_sends, installing, replies_with, settles, settles_by}
+use Rattle.qc_epoch.specs.Vocabulary.{Admin, Decided, Installing, Question, ShutSite, decide_turn, decides, decision}
+use Rattle.qc_epoch.specs.Vocabulary.{install_of, install_sends, installing, replies_with, settles, settles_by}
 use Rattle.qc_epoch.specs.Deciding as deciding
-use Rattle.qc_admin.specs.Names.{sent_each}
+use Rattle.qc_admin.specs.Vocabulary.{sent_each}
 use Rattle.laws_due.proofs.AdminRequests.{all_taken, open_calls}
 use Rattle.laws_due.proofs.AdminShuts.{shuts_of, to_shut}
 use Rattle.laws_due.proofs.AdminDecisions.{SameDoubt, decision_is, doubt_is, started}

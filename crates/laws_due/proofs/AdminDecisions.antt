@@ -11,17 +11,17 @@ use Rattle.qc_stamp.specs.declared.stamp.Stamp.{Stamp}
 use Rattle.qc_stamp.specs.declared.stamp.TxId.{TxId}
 use Rattle.qc_entry.specs.declared.line.Line.{Line}
 use Rattle.qc_entry.specs.declared.record.Prepared.{Prepared}
-use Rattle.qc_entry.specs.Names.{union}
+use Rattle.qc_entry.specs.Vocabulary.{union}
 use Rattle.qc_msg.specs.declared.message.Outcome.{Outcome}
 use Rattle.qc_msg.specs.declared.message.Outcome.TheVariants.{Committed, Aborted, Active}
-use Rattle.qc_msg.specs.Names.{Installing}
-use Rattle.qc_promise.specs.Names.{AdminAccount, AdminRequest, Promised, ToldShut, all_answered, ask_of, decided_epoch}
-use Rattle.qc_promise.specs.Names.{decision_due, first_doubt, lines_of, most_questions, promised_once, shuts_told}
-use Rattle.qc_promise.specs.Names.{verdict_of, with_told}
+use Rattle.qc_msg.specs.Vocabulary.{Installing}
+use Rattle.qc_promise.specs.Vocabulary.{AdminAccount, AdminRequest, Promised, ToldShut, all_answered, ask_of}
+use Rattle.qc_promise.specs.Vocabulary.{decided_epoch, decision_due, first_doubt, lines_of, most_questions}
+use Rattle.qc_promise.specs.Vocabulary.{promised_once, shuts_told, verdict_of, with_told}
 use Rattle.qc_promise.specs.AdminRounds.{is_final}
 use Rattle.qc_promise.specs.AdminRounds as account
-use Rattle.qc_epoch.specs.Names.{Decided, Question, ShutSite, all_taken, clock_in, decision, greatest, is_settled}
-use Rattle.qc_epoch.specs.Names.{most_asks, promised_lines, stamp_in, stamp_of, with_promised, with_shut}
+use Rattle.qc_epoch.specs.Vocabulary.{Decided, Question, ShutSite, all_taken, clock_in, decision, greatest, is_settled}
+use Rattle.qc_epoch.specs.Vocabulary.{most_asks, promised_lines, stamp_in, stamp_of, with_promised, with_shut}
 use Rattle.qc_epoch.specs.Deciding as deciding
 use Rattle.laws_due.proofs.AdminShuts.{to_shut}
 use Rattle.laws_due.proofs.AdminAgreements.{Agree, is_taken}

@@ -1,26 +1,26 @@
 -- Where nothing is ready for anybody, no input is open and each control line has acted, no command of the administrator
 -- runs. So his commands and replies are in order through his falls.
-use Rattle.std.proofs.Common.{◌≡◌, ◌⊎◌, ℕ, ◌+◌, ◌≤◌, ◌==◌, Bool, true, false, List, ◌∷◌, ◌++◌, length, inl, inr, Option}
-use Rattle.std.proofs.Common.{Some, None, is_some, sym, ap, ◌∙◌, subst, arith}
+use Rattle.std.proofs.Common.{[], ◌≡◌, ◌⊎◌, ℕ, ◌+◌, ◌≤◌, ◌==◌, Bool, true, false, List, ◌∷◌, ◌++◌, length, inl, inr}
+use Rattle.std.proofs.Common.{Option, Some, None, is_some, sym, ap, ◌∙◌, subst, arith}
 use Rattle.std.specs.Prelude.{slice_get}
 use Rattle.std.specs.List.{AllByRecursion as Every}
-use Rattle.qc_list.specs.Names.{In}
+use Rattle.qc_list.specs.Vocabulary.{In}
 use Rattle.qc_core.specs.declared.actor.Actor.{Actor}
 use Rattle.qc_core.specs.declared.actor.Actor.TheVariants as actors
-use Rattle.qc_core.specs.Names.{ActorMove, IsLawfulWithFalls, actor_after, actor_takes, is_running, with_record}
+use Rattle.qc_core.specs.Vocabulary.{ActorMove, IsLawfulWithFalls, actor_after, actor_takes, is_running, with_record}
 use Rattle.qc_core.proofs.AdminTurns.{FaultsAlone}
 use Rattle.qc_core.proofs.AdminWrites.{admin_written}
 use Rattle.qc_core.proofs.ByNumber.{admin_no_client, admin_no_site, admin_risen}
 use Rattle.qc_core.proofs.PostsByTurns.{called_turn}
-use Rattle.qc_decl.specs.Names.{IsAccepted, administrator, controller}
+use Rattle.qc_decl.specs.Vocabulary.{IsAccepted, administrator, controller}
 use Rattle.qc_decl.specs.Actors as numbers
 use Rattle.qc_decl.specs.declared.declaration.Declaration.{Declaration}
-use Rattle.qc_epoch.specs.Names.{Admin}
-use Rattle.laws_turns.specs.Names.{AsksDeclared, IsAtReceiver, IsAwaited, IsQuiet, IsTaken, LivesIn, calls_of}
+use Rattle.qc_epoch.specs.Vocabulary.{Admin}
+use Rattle.laws_turns.specs.Vocabulary.{AsksDeclared, IsAtReceiver, IsAwaited, IsQuiet, IsTaken, LivesIn, calls_of}
 use Rattle.laws_turns.proofs.Lived.{run_lives}
 use Rattle.laws_turns.proofs.SoundClients.{front_part}
-use Rattle.qc_link.specs.Names.{most_actors}
-use Rattle.qc_msg.specs.Names.{Deed, Entry, MayEnd, Rises, Takes, by, deeds, deeds_as, mail, posted_as}
+use Rattle.qc_link.specs.Vocabulary.{most_actors}
+use Rattle.qc_msg.specs.Vocabulary.{Deed, Entry, MayEnd, Rises, Takes, by, deeds, deeds_as, mail, posted_as}
 use Rattle.qc_msg.specs.declared.record.Record.{Record}
 use Rattle.qc_msg.specs.declared.reply.Reply.{Reply}
 use Rattle.qc_msg.specs.declared.step.Command.{Command}
@@ -32,10 +32,10 @@ use Rattle.qc_msg.specs.declared.turn.Appended.{Appended}
 use Rattle.qc_msg.specs.declared.turn.Appended.TheVariants.{Done, Failed, Stopped}
 use Rattle.qc_msg.specs.declared.turn.Turn.{Turn}
 use Rattle.qc_msg.proofs.Growth.{deeds-posted_as}
-use Rattle.qc_promise.specs.Names.{AreAdminDeedsDue, IsAdminDue, new_admin_account}
-use Rattle.qc_script.specs.Names.{RunsWithFalls, controls_left, inbox, phase_of}
+use Rattle.qc_promise.specs.Vocabulary.{AreAdminDeedsDue, IsAdminDue, new_admin_account}
+use Rattle.qc_script.specs.Vocabulary.{RunsWithFalls, controls_left, inbox, phase_of}
 use Rattle.qc_script.specs.declared.script.Script.{Script}
-use Rattle.laws_due.specs.Names.{AreInOrder, AsksEpochs, AsksKnown, IsEpoch}
+use Rattle.laws_due.specs.Vocabulary.{AreInOrder, AsksEpochs, AsksKnown, IsEpoch}
 use Rattle.laws_due.proofs.AdminNumbers.{open_numbers}
 use Rattle.laws_due.proofs.AdminLives.{IsAtInput, admin_lives}
 use Rattle.laws_due.proofs.AdminOpen.{none_commanded}

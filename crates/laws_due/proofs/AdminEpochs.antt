@@ -2,17 +2,17 @@
 use Rattle.std.proofs.Common.{ℕ, ◌+◌, ◌==◌, nat_le, Bool, true, false, cond, List, [], ◌∷◌, length, map, take, Option}
 use Rattle.std.proofs.Common.{Some, None}
 use Rattle.std.specs.List.{AllByRecursion as Every}
-use Rattle.qc_decl.specs.Names.{most_record_bytes}
+use Rattle.qc_decl.specs.Vocabulary.{most_record_bytes}
 use Rattle.qc_decl.specs.declared.declaration.Declaration.{Declaration}
 use Rattle.laws_due.proofs.Epochs.{TellPlanned, TurnPlanned, says_nothing}
-use Rattle.laws_due.specs.Names.{IsPlanned, IsRecordPlanned}
-use Rattle.qc_epoch.specs.Names.{Admin, AdminMove, Asking, Closing, Decided, Doing, Installing, Question, Resting}
-use Rattle.qc_epoch.specs.Names.{ShutSite, all_taken, decision, first_doubt, in_asked_order, most_asks, moved}
-use Rattle.qc_epoch.specs.Names.{new_admin, outcome_in, questions_of, standing_of, taken_for, with_installed}
-use Rattle.qc_epoch.specs.Names.{with_shut_of}
+use Rattle.laws_due.specs.Vocabulary.{IsPlanned, IsRecordPlanned}
+use Rattle.qc_epoch.specs.Vocabulary.{Admin, AdminMove, Asking, Closing, Decided, Doing, Installing, Question, Resting}
+use Rattle.qc_epoch.specs.Vocabulary.{ShutSite, all_taken, decision, first_doubt, in_asked_order, most_asks, moved}
+use Rattle.qc_epoch.specs.Vocabulary.{new_admin, outcome_in, questions_of, standing_of, taken_for, with_installed}
+use Rattle.qc_epoch.specs.Vocabulary.{with_shut_of}
 use Rattle.qc_epoch.specs.Conduct as admins
 use Rattle.laws_turns.proofs.SoundClients.{IsAskableGiven}
-use Rattle.qc_msg.specs.Names.{epoch_length, quiet, sending, site_called, without_call}
+use Rattle.qc_msg.specs.Vocabulary.{epoch_length, quiet, sending, site_called, without_call}
 use Rattle.qc_msg.specs.declared.call.Call.{Call}
 use Rattle.qc_msg.specs.declared.message.Answer.{Answer}
 use Rattle.qc_msg.specs.declared.message.Message.{Message}
@@ -26,10 +26,10 @@ use Rattle.qc_msg.specs.declared.step.Command.{Command}
 use Rattle.qc_msg.specs.declared.step.Command.TheVariants as commands
 use Rattle.qc_msg.specs.declared.step.Input.{Input}
 use Rattle.qc_msg.specs.declared.step.Input.TheVariants as inputs
-use Rattle.qc_plan.specs.Names.{RoundState, note, verdict, wanted}
+use Rattle.qc_plan.specs.Vocabulary.{RoundState, note, verdict, wanted}
 use Rattle.qc_plan.specs.declared.standing.Verdict.{Verdict}
 use Rattle.qc_plan.specs.declared.standing.Verdict.TheVariants as verdicts
-use Rattle.qc_recover.specs.Names.{admin_by}
+use Rattle.qc_recover.specs.Vocabulary.{admin_by}
 use Rattle.qc_recover.specs.Admins.{keeps, kept_by}
 use Rattle.std.specs.Prelude.{◌++◌, fold}
 

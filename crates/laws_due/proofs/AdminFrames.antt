@@ -2,11 +2,11 @@
 use Rattle.std.proofs.Common.{◌≡◌, ◌≢◌, ◌<◌, ◌≤◌, ◌⊎◌, ℕ, suc, ◌+◌, true, List, [], ◌∷◌, ◌++◌, length, Option, Some}
 use Rattle.std.proofs.Common.{None, refl, sym, ap, ◌∙◌, subst, arith, eq-eqb, inl, inr}
 use Rattle.std.specs.List.{AllByRecursion as Every}
-use Rattle.qc_list.specs.Names.{In}
+use Rattle.qc_list.specs.Vocabulary.{In}
 use Rattle.qc_list.proofs.Members.{every-append, every-weaker, In-more}
-use Rattle.qc_plan.specs.Names.{first}
-use Rattle.qc_promise.specs.Names.{AdminAccount, AdminRequest, AdminWant, admin_requested, is_this}
-use Rattle.laws_due.specs.Names.{AreApart}
+use Rattle.qc_plan.specs.Vocabulary.{first}
+use Rattle.qc_promise.specs.Vocabulary.{AdminAccount, AdminRequest, AdminWant, admin_requested, is_this}
+use Rattle.laws_due.specs.Vocabulary.{AreApart}
 use Rattle.laws_due.proofs.AdminRequests.{numbers_of}
 use Rattle.laws_due.proofs.AdminStages.{Numbered}
 

@@ -11,13 +11,13 @@ use Rattle.qc_msg.specs.declared.reply.Reply.{Reply}
 use Rattle.qc_msg.specs.declared.reply.Reply.TheVariants as replies
 use Rattle.qc_msg.specs.declared.turn.Posting.{Posting}
 use Rattle.qc_msg.specs.declared.turn.Turn.{Turn}
-use Rattle.qc_msg.specs.Names.{Deed, quiet, sending, sends_of, turn_deeds}
-use Rattle.qc_promise.specs.Names.{AdminAccount, AdminRequest, AreAdminDeedsDue, IsDecisionMet, admin_account_at}
-use Rattle.qc_promise.specs.Names.{admin_due, admin_ended, closes, decide_due, decide_record, decided_epoch}
-use Rattle.qc_promise.specs.Names.{decided_now, installs, pending_next}
-use Rattle.qc_epoch.specs.Names.{Admin, AdminMove, Asking, Closing, Doing, Installing, Resting, ShutSite, moved}
-use Rattle.qc_epoch.specs.Names.{replies_with}
-use Rattle.qc_admin.specs.Names.{sent_each}
+use Rattle.qc_msg.specs.Vocabulary.{Deed, quiet, sending, sends_of, turn_deeds}
+use Rattle.qc_promise.specs.Vocabulary.{AdminAccount, AdminRequest, AreAdminDeedsDue, IsDecisionMet, admin_account_at}
+use Rattle.qc_promise.specs.Vocabulary.{admin_due, admin_ended, closes, decide_due, decide_record, decided_epoch}
+use Rattle.qc_promise.specs.Vocabulary.{decided_now, installs, pending_next}
+use Rattle.qc_epoch.specs.Vocabulary.{Admin, AdminMove, Asking, Closing, Doing, Installing, Resting, ShutSite, moved}
+use Rattle.qc_epoch.specs.Vocabulary.{replies_with}
+use Rattle.qc_admin.specs.Vocabulary.{sent_each}
 use Rattle.laws_due.proofs.AdminStages.{Base, HasClosed, Stage, Ties, epoch_of}
 use Rattle.std.specs.Option.{option_or}
 use Rattle.laws_due.proofs.AdminFrames.{Frame, later}

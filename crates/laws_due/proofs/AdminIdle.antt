@@ -1,17 +1,17 @@
 -- Where nobody falls the administrator does nothing but take one input, which is due.
 use Rattle.std.proofs.Common.{◌≡◌, ℕ, Bool, false, List, [], ◌∷◌, ◌++◌, Some, slice_get, refl, sym, subst, arith}
-use Rattle.qc_core.specs.Names.{Acts, IsLawful}
+use Rattle.qc_core.specs.Vocabulary.{Acts, IsLawful}
 use Rattle.qc_core.specs.Acts as acts
-use Rattle.qc_decl.specs.Names.{administrator}
+use Rattle.qc_decl.specs.Vocabulary.{administrator}
 use Rattle.qc_decl.specs.declared.declaration.Declaration.{Declaration}
-use Rattle.laws_turns.specs.Names.{ActsIn}
+use Rattle.laws_turns.specs.Vocabulary.{ActsIn}
 use Rattle.laws_turns.proofs.Acted.{has_entry, run_acts}
 use Rattle.laws_turns.proofs.Idle.{no_turn}
 use Rattle.qc_msg.specs.declared.step.Input.{Input}
 use Rattle.qc_msg.specs.declared.step.Input.TheVariants as inputs
-use Rattle.qc_msg.specs.Names.{Deed, Entry, Takes, deeds}
-use Rattle.qc_promise.specs.Names.{IsAdminDue, IsAdminFree, new_admin_account}
-use Rattle.qc_script.specs.Names.{Runs}
+use Rattle.qc_msg.specs.Vocabulary.{Deed, Entry, Takes, deeds}
+use Rattle.qc_promise.specs.Vocabulary.{IsAdminDue, IsAdminFree, new_admin_account}
+use Rattle.qc_script.specs.Vocabulary.{Runs}
 use Rattle.qc_script.specs.declared.script.Script.{Script}
 
 free_at_first : (g : Input) → IsAdminFree new_admin_account g

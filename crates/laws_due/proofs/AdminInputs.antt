@@ -1,11 +1,11 @@
 -- An input of the administrator while he is up, and a command while he is down: what is due of them.
-use Rattle.std.proofs.Common.{◌≡◌, ◌≤◌, ℕ, ◌+◌, ◌==◌, Bool, true, false, cond, List, ◌∷◌, ◌++◌, length, fold, Option}
-use Rattle.std.proofs.Common.{Some, None, is_some, refl, sym, ap, ◌∙◌, subst}
+use Rattle.std.proofs.Common.{[], ◌≡◌, ◌≤◌, ℕ, ◌+◌, ◌==◌, Bool, true, false, cond, List, ◌∷◌, ◌++◌, length, fold}
+use Rattle.std.proofs.Common.{Option, Some, None, is_some, refl, sym, ap, ◌∙◌, subst}
 use Rattle.std.specs.Prelude.{option_and_then}
 use Rattle.qc_core.specs.declared.actor.Actor.{Actor}
-use Rattle.qc_core.specs.Names.{ActorMove, MayTake, actor_after, actor_does, actor_takes, by_admin, is_up}
+use Rattle.qc_core.specs.Vocabulary.{ActorMove, MayTake, actor_after, actor_does, actor_takes, by_admin, is_up}
 use Rattle.qc_core.proofs.Steady.{turn_steady}
-use Rattle.qc_decl.specs.Names.{administrator}
+use Rattle.qc_decl.specs.Vocabulary.{administrator}
 use Rattle.qc_decl.specs.declared.declaration.Declaration.{Declaration}
 use Rattle.qc_msg.specs.declared.record.Record.{Record}
 use Rattle.qc_msg.specs.declared.reply.Reply.TheVariants as replies
@@ -16,12 +16,12 @@ use Rattle.qc_msg.specs.declared.step.Input.{Input}
 use Rattle.qc_msg.specs.declared.step.Input.TheVariants as inputs
 use Rattle.qc_msg.specs.declared.turn.Appended.{Appended}
 use Rattle.qc_msg.specs.declared.turn.Appended.TheVariants.{Done, Failed, Stopped}
-use Rattle.qc_msg.specs.Names.{Deed, Falls, IsByDisk, MayEnd, Takes, Tells, deeds_as, epoch_in, sends_as, sends_of}
-use Rattle.qc_msg.specs.Names.{telling, tells_of, turn_deeds}
-use Rattle.qc_promise.specs.Names.{AdminAccount, AreAdminDeedsDue, IsAdminReplyDue, IsDecisionMet, admin_account_at}
-use Rattle.qc_promise.specs.Names.{admin_due, admin_taken, decided_for, epoch_row, pending_next}
-use Rattle.qc_epoch.specs.Names.{admin_takes}
-use Rattle.qc_admin.specs.Names.{sent_each}
+use Rattle.qc_msg.specs.Vocabulary.{Deed, Falls, IsByDisk, MayEnd, Takes, Tells, deeds_as, epoch_in, sends_as, sends_of}
+use Rattle.qc_msg.specs.Vocabulary.{telling, tells_of, turn_deeds}
+use Rattle.qc_promise.specs.Vocabulary.{AdminAccount, AreAdminDeedsDue, IsAdminReplyDue, IsDecisionMet}
+use Rattle.qc_promise.specs.Vocabulary.{admin_account_at, admin_due, admin_taken, decided_for, epoch_row, pending_next}
+use Rattle.qc_epoch.specs.Vocabulary.{admin_takes}
+use Rattle.qc_admin.specs.Vocabulary.{sent_each}
 use Rattle.laws_due.proofs.Standing.{no_act, none_follows, steady_up}
 use Rattle.laws_due.proofs.AdminStages.{Ties}
 use Rattle.laws_due.proofs.AdminGoes.{Fails, Goes}

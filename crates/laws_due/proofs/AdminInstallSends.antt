@@ -5,15 +5,15 @@ use Rattle.std.specs.Prelude.{is_some}
 use Rattle.std.specs.List.{range_with_len}
 use Rattle.std.specs.Option.{option_map_or}
 use Rattle.qc_decl.specs.declared.declaration.Declaration.{Declaration}
-use Rattle.qc_plan.specs.Names.{first}
+use Rattle.qc_plan.specs.Vocabulary.{first}
 use Rattle.qc_msg.specs.declared.call.Call.{Call}
 use Rattle.qc_msg.specs.declared.message.Message.TheVariants as messages
-use Rattle.qc_msg.specs.Names.{Deed, Installing as Started, Sends, sends_of}
-use Rattle.qc_promise.specs.Names.{AdminAccount, AdminRequest, AreAdminDeedsDue, Install, admin_account_at}
-use Rattle.qc_promise.specs.Names.{admin_requested, asks, calls_install, closes, commanded, decided_now, installs}
-use Rattle.qc_promise.specs.Names.{is_ask, is_close, is_install, is_same_start, same_line}
-use Rattle.qc_epoch.specs.Names.{Admin, Decided, Installing, doing, install_of}
-use Rattle.qc_admin.specs.Names.{sent_each}
+use Rattle.qc_msg.specs.Vocabulary.{Deed, Installing as Started, Sends, sends_of}
+use Rattle.qc_promise.specs.Vocabulary.{AdminAccount, AdminRequest, AreAdminDeedsDue, Install, admin_account_at}
+use Rattle.qc_promise.specs.Vocabulary.{admin_requested, asks, calls_install, closes, commanded, decided_now, installs}
+use Rattle.qc_promise.specs.Vocabulary.{is_ask, is_close, is_install, is_same_start, same_line}
+use Rattle.qc_epoch.specs.Vocabulary.{Admin, Decided, Installing, doing, install_of}
+use Rattle.qc_admin.specs.Vocabulary.{sent_each}
 use Rattle.laws_due.proofs.AdminRequests.{all_taken, calls_more, open_calls, wanting_more, wanting_same}
 use Rattle.laws_due.proofs.AdminDecisions.{started}
 use Rattle.laws_due.proofs.AdminInstalls.{installed_more, installed_of}

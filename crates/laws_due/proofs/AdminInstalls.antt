@@ -5,10 +5,10 @@ use Rattle.std.specs.Option.{option_map_or}
 use Rattle.std.proofs.lemmas.List.Sums.{sum_by-append}
 use Rattle.qc_msg.specs.declared.message.Answer.{Answer}
 use Rattle.qc_msg.specs.declared.message.Answer.TheVariants as answers
-use Rattle.qc_msg.specs.Names.{has_installed}
-use Rattle.qc_promise.specs.Names.{AdminRequest, answer_to, site_set}
-use Rattle.qc_epoch.specs.Names.{with_installed}
-use Rattle.laws_due.specs.Names.{AreApart}
+use Rattle.qc_msg.specs.Vocabulary.{has_installed}
+use Rattle.qc_promise.specs.Vocabulary.{AdminRequest, answer_to, site_set}
+use Rattle.qc_epoch.specs.Vocabulary.{with_installed}
+use Rattle.laws_due.specs.Vocabulary.{AreApart}
 use Rattle.laws_due.proofs.AdminRequests.{IsCalled, numbers_of, others_taken, other_taken, takes, this_taken, took}
 use Rattle.laws_due.proofs.AdminCloses.{in_map}
 

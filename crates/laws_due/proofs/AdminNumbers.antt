@@ -3,12 +3,12 @@ use Rattle.std.proofs.Common.{◌≡◌, ℕ, ◌==◌, not, ◌⊎◌, Bool, tr
 use Rattle.std.proofs.Common.{Option, Some, None, option_map, refl, sym, ap, ◌∙◌, subst, eq-eqb}
 use Rattle.std.specs.Prelude.{is_none}
 use Rattle.std.specs.List.{AllByRecursion as Every, cons_option, find, filter_map}
-use Rattle.qc_list.specs.Names.{In}
+use Rattle.qc_list.specs.Vocabulary.{In}
 use Rattle.qc_msg.specs.declared.call.Call.{Call}
 use Rattle.qc_msg.specs.declared.message.Outcome.{Outcome}
-use Rattle.qc_msg.specs.Names.{site_called, without_call}
-use Rattle.qc_epoch.specs.Names.{Asking, Closing, Doing, Installing, Question, Resting, ShutSite, is_number}
-use Rattle.qc_epoch.specs.Names.{is_questioned, taken_for, with_question, with_questions}
+use Rattle.qc_msg.specs.Vocabulary.{site_called, without_call}
+use Rattle.qc_epoch.specs.Vocabulary.{Asking, Closing, Doing, Installing, Question, Resting, ShutSite, is_number}
+use Rattle.qc_epoch.specs.Vocabulary.{is_questioned, taken_for, with_question, with_questions}
 use Rattle.qc_entry.specs.declared.record.Prepared.{Prepared}
 use Rattle.laws_due.proofs.PlainRounds.{ArePlain}
 

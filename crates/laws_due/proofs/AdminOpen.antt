@@ -4,16 +4,17 @@ use Rattle.std.proofs.Common.{filter, map, take, Option, Some, None, is_none, is
 use Rattle.std.specs.List.{cons_option, list_all}
 use Rattle.std.specs.Prelude.{nat_le, nat_lt, unwrap_or}
 use Rattle.qc_decl.specs.declared.declaration.Declaration.{Declaration}
-use Rattle.qc_epoch.specs.Names.{Admin, Asking, Closing, Doing, Installing, Question, Resting, ShutSite, most_asks}
-use Rattle.qc_epoch.specs.Names.{outcome_in}
+use Rattle.qc_epoch.specs.Vocabulary.{Admin, Asking, Closing, Doing, Installing, Question, Resting, ShutSite, most_asks}
+use Rattle.qc_epoch.specs.Vocabulary.{outcome_in}
 use Rattle.qc_epoch.specs.Deciding as deciding
 use Rattle.qc_msg.specs.declared.call.Call.{Call}
 use Rattle.qc_msg.specs.declared.message.Answer.{Answer}
 use Rattle.qc_plan.specs.declared.standing.Verdict.{Verdict}
 use Rattle.qc_plan.specs.declared.standing.Verdict.TheVariants as verdicts
-use Rattle.qc_plan.specs.Names.{RoundState, all_noted, has_granted, is_asked, is_waiting, prefix, refusal, settled}
-use Rattle.qc_plan.specs.Names.{verdict, wanted, weight}
-use Rattle.qc_promise.specs.Names.{AdminAccount, AdminRequest, Promised, asks, close_round, closes, commanded, installs}
+use Rattle.qc_plan.specs.Vocabulary.{RoundState, all_noted, has_granted, is_asked, is_waiting, prefix, refusal, settled}
+use Rattle.qc_plan.specs.Vocabulary.{verdict, wanted, weight}
+use Rattle.qc_promise.specs.Vocabulary.{AdminAccount, AdminRequest, Promised, asks, close_round, closes, commanded}
+use Rattle.qc_promise.specs.Vocabulary.{installs}
 use Rattle.laws_due.proofs.AdminNumbers.{number_if, numbers_in, open_in, open_numbers}
 use Rattle.laws_due.proofs.AdminCloses.{none_refuses, noted_taken}
 use Rattle.laws_due.proofs.AdminQuestions.{asked_of}

@@ -1,15 +1,15 @@
 -- The administrator's commands are epochs; his replies that are due are told while a command runs, in order.
-use Rattle.std.proofs.Common.{◌≡◌, ℕ, zero, suc, ◌+◌, ◌==◌, Bool, true, false, cond, List, ◌∷◌, ◌++◌, map, filter, take}
-use Rattle.std.proofs.Common.{Option, Some, None, is_some, refl, sym, ap, ◌∙◌, subst}
+use Rattle.std.proofs.Common.{[], ◌≡◌, ℕ, zero, suc, ◌+◌, ◌==◌, Bool, true, false, cond, List, ◌∷◌, ◌++◌, map, filter}
+use Rattle.std.proofs.Common.{take, Option, Some, None, is_some, refl, sym, ap, ◌∙◌, subst}
 use Rattle.std.specs.Prelude.{fold, option_and_then}
 use Rattle.std.specs.List.{AllByRecursion as Every, filter_map}
 use Rattle.std.proofs.lemmas.Bool.{eqb-true}
-use Rattle.qc_decl.specs.Names.{administrator}
+use Rattle.qc_decl.specs.Vocabulary.{administrator}
 use Rattle.qc_decl.specs.declared.declaration.Declaration.{Declaration}
-use Rattle.laws_turns.specs.Names.{asked_in_all, call_in}
+use Rattle.laws_turns.specs.Vocabulary.{asked_in_all, call_in}
 use Rattle.laws_turns.proofs.Mailed.{both_all}
-use Rattle.qc_msg.specs.Names.{Deed, Falls, Rises, Sends, Takes, Tells, Writes, by, deeds_as, epoch_in, sends_of}
-use Rattle.qc_msg.specs.Names.{tells_of, writes_of}
+use Rattle.qc_msg.specs.Vocabulary.{Deed, Falls, Rises, Sends, Takes, Tells, Writes, by, deeds_as, epoch_in, sends_of}
+use Rattle.qc_msg.specs.Vocabulary.{tells_of, writes_of}
 use Rattle.qc_msg.specs.declared.record.Record.{Record}
 use Rattle.qc_msg.specs.declared.reply.Reply.{Reply}
 use Rattle.qc_msg.specs.declared.step.Command.{Command}
@@ -19,11 +19,11 @@ use Rattle.qc_msg.specs.declared.step.Input.TheVariants as inputs
 use Rattle.qc_msg.specs.declared.turn.Appended.TheVariants.{Done}
 use Rattle.qc_msg.specs.declared.turn.Posting.{Posting}
 use Rattle.qc_msg.specs.declared.turn.Turn.{Turn}
-use Rattle.qc_promise.specs.Names.{AdminAccount, AreAdminDeedsDue, admin_account_at, admin_row, pending_next}
-use Rattle.qc_script.specs.Names.{commands_for}
+use Rattle.qc_promise.specs.Vocabulary.{AdminAccount, AreAdminDeedsDue, admin_account_at, admin_row, pending_next}
+use Rattle.qc_script.specs.Vocabulary.{commands_for}
 use Rattle.qc_script.specs.declared.script.CommandLine.{CommandLine}
 use Rattle.qc_script.specs.declared.script.PhaseLines.{PhaseLines}
-use Rattle.laws_due.specs.Names.{AreInOrder, IsEpoch}
+use Rattle.laws_due.specs.Vocabulary.{AreInOrder, IsEpoch}
 use Rattle.laws_due.proofs.AdminRunning.{heard_command, sent_command, written_command}
 use Rattle.laws_due.proofs.Ordered.{sends_ordered}
 

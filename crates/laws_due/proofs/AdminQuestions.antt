@@ -6,20 +6,20 @@ use Rattle.std.specs.List.{filter_map, find, flat_map}
 use Rattle.std.proofs.lemmas.List.{map-append}
 use Rattle.std.proofs.lemmas.List.Sums.{fold-append}
 use Rattle.qc_stamp.specs.declared.stamp.TxId.{TxId}
-use Rattle.qc_stamp.specs.Names.{same_tx}
+use Rattle.qc_stamp.specs.Vocabulary.{same_tx}
 use Rattle.qc_stamp.proofs.Orders.{other_tx_sym}
 use Rattle.qc_entry.specs.declared.record.Prepared.{Prepared}
 use Rattle.qc_msg.specs.declared.message.Answer.{Answer}
 use Rattle.qc_msg.specs.declared.message.Answer.TheVariants as answers
 use Rattle.qc_msg.specs.declared.message.Outcome.{Outcome}
 use Rattle.qc_msg.specs.declared.message.Outcome.TheVariants.{Committed, Aborted, Active}
-use Rattle.qc_msg.specs.Names.{verdict_in}
-use Rattle.qc_promise.specs.Names.{AdminRequest, AdminWant, Ask, Close, Install, Promised, ToldShut, answer_to}
-use Rattle.qc_promise.specs.Names.{is_among, is_ask, is_ask_of, promised_at, stamp_in as stamp_told, told_shut}
-use Rattle.qc_promise.specs.Names.{unless_among}
+use Rattle.qc_msg.specs.Vocabulary.{verdict_in}
+use Rattle.qc_promise.specs.Vocabulary.{AdminRequest, AdminWant, Ask, Close, Install, Promised, ToldShut, answer_to}
+use Rattle.qc_promise.specs.Vocabulary.{is_among, is_ask, is_ask_of, promised_at, stamp_in as stamp_told, told_shut}
+use Rattle.qc_promise.specs.Vocabulary.{unless_among}
 use Rattle.qc_promise.specs.AdminAccounting.{taken_for as account_taken}
-use Rattle.qc_epoch.specs.Names.{Question, is_questioned, numbered_first, outcome_in, questions_of, stamp_in, stamp_of}
-use Rattle.qc_epoch.specs.Names.{taken_for, with_question, with_questions}
+use Rattle.qc_epoch.specs.Vocabulary.{Question, is_questioned, numbered_first, outcome_in, questions_of, stamp_in}
+use Rattle.qc_epoch.specs.Vocabulary.{stamp_of, taken_for, with_question, with_questions}
 use Rattle.laws_due.proofs.AdminRequests.{took, takes, wanting}
 use Rattle.laws_due.proofs.AdminShuts.{to_shut}
 

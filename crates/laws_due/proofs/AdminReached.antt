@@ -4,18 +4,18 @@ use Rattle.std.proofs.Common.{◌≡◌, ℕ, ◌+◌, ◌<◌, ◌≤◌, ◌&&
 use Rattle.std.proofs.Common.{ap, subst, arith}
 use Rattle.std.specs.List.{AllByRecursion as Every}
 use Rattle.std.proofs.lemmas.Bool.{le-leb, lt-ltb}
-use Rattle.qc_list.specs.Names.{In}
+use Rattle.qc_list.specs.Vocabulary.{In}
 use Rattle.qc_list.proofs.Members.{every-In}
 use Rattle.qc_core.specs.declared.actor.Actor.{Actor}
 use Rattle.qc_core.specs.declared.actor.Actor.TheVariants as kinds
-use Rattle.qc_client.specs.Names.{heard}
-use Rattle.qc_core.specs.Names.{IsLawfulWithFalls, actor_after, actor_takes}
+use Rattle.qc_client.specs.Vocabulary.{heard}
+use Rattle.qc_core.specs.Vocabulary.{IsLawfulWithFalls, actor_after, actor_takes}
 use Rattle.qc_core.specs.Lives as lives
-use Rattle.qc_decl.specs.Names.{IsAccepted, actors, administrator, client_actor, is_client}
+use Rattle.qc_decl.specs.Vocabulary.{IsAccepted, actors, administrator, client_actor, is_client}
 use Rattle.qc_decl.specs.declared.declaration.Declaration.{Declaration}
-use Rattle.laws_turns.specs.Names.{IsAtReceiver}
-use Rattle.qc_link.specs.Names.{most_actors}
-use Rattle.qc_msg.specs.Names.{Deed, Entry, by, envelopes, mail, posted_as, sends_as}
+use Rattle.laws_turns.specs.Vocabulary.{IsAtReceiver}
+use Rattle.qc_link.specs.Vocabulary.{most_actors}
+use Rattle.qc_msg.specs.Vocabulary.{Deed, Entry, by, envelopes, mail, posted_as, sends_as}
 use Rattle.qc_msg.specs.declared.message.Envelope.{Envelope}
 use Rattle.qc_msg.specs.declared.message.Message.{Message}
 use Rattle.qc_msg.specs.declared.message.Message.TheVariants as messages
@@ -25,12 +25,12 @@ use Rattle.qc_msg.specs.declared.step.Step.TheVariants as steps
 use Rattle.qc_msg.specs.declared.turn.Posting.{Posting}
 use Rattle.qc_msg.proofs.GrownMail.{mail-append}
 use Rattle.qc_msg.proofs.Growth.{mail-posted_as}
-use Rattle.qc_script.specs.Names.{RunsWithFalls, inbox, is_request, request_numbers}
+use Rattle.qc_script.specs.Vocabulary.{RunsWithFalls, inbox, is_request, request_numbers}
 use Rattle.qc_script.specs.declared.script.Script.{Script}
 use Rattle.qc_site.proofs.RequestCases.{close_cases}
 use Rattle.qc_site.proofs.Cases.{install_cases}
-use Rattle.qc_site.specs.Names.{SiteMove, SiteState, passed, site_at}
-use Rattle.laws_due.specs.Names.{AsksKnown, IsKnown}
+use Rattle.qc_site.specs.Vocabulary.{SiteMove, SiteState, passed, site_at}
+use Rattle.laws_due.specs.Vocabulary.{AsksKnown, IsKnown}
 use Rattle.laws_due.proofs.AdminSends.{GoesHis, post_goes, rise_goes, run_goes}
 use Rattle.laws_due.proofs.AdminSited.{GoWell, GoesWell}
 use Rattle.laws_due.proofs.Places.{apart, few_actors}

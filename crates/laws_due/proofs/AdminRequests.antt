@@ -7,11 +7,11 @@ use Rattle.std.specs.Prelude.{is_none, is_some}
 use Rattle.std.specs.List.{find, list_all}
 use Rattle.std.proofs.lemmas.List.{map-append}
 use Rattle.std.proofs.lemmas.List.Elements.{filter-append}
-use Rattle.qc_list.specs.Names.{In}
+use Rattle.qc_list.specs.Vocabulary.{In}
 use Rattle.qc_msg.specs.declared.call.Call.{Call}
 use Rattle.qc_msg.specs.declared.message.Answer.{Answer}
-use Rattle.qc_msg.specs.Names.{site_called, with_call, without_call}
-use Rattle.qc_promise.specs.Names.{AdminRequest, AdminWant}
+use Rattle.qc_msg.specs.Vocabulary.{site_called, with_call, without_call}
+use Rattle.qc_promise.specs.Vocabulary.{AdminRequest, AdminWant}
 use Rattle.qc_promise.specs.AdminAccounting.{taken_for}
 
 abbrev pub took : AdminRequest → Option Answer → AdminRequest

@@ -1,23 +1,23 @@
 -- Where the administrator stands when no input of his is open: nothing is due that isn't told or written, through his
 -- falls and rises.
-use Rattle.std.proofs.Common.{◌≡◌, ℕ, ◌+◌, Bool, true, false, cond, List, ◌∷◌, ◌++◌, fold, Option, Some, None, refl}
+use Rattle.std.proofs.Common.{[], ◌≡◌, ℕ, ◌+◌, Bool, true, false, cond, List, ◌∷◌, ◌++◌, fold, Option, Some, None, refl}
 use Rattle.std.proofs.Common.{sym, ap, ◌∙◌, subst, append_assoc}
 use Rattle.std.specs.Prelude.{option_and_then}
 use Rattle.std.proofs.lemmas.List.Sums.{fold-append}
 use Rattle.qc_core.specs.declared.actor.Actor.TheVariants as actors
-use Rattle.qc_core.specs.Names.{ActorMove, MayTake, actor_after, actor_does, is_up, moved, new_actor, up_at}
-use Rattle.qc_decl.specs.Names.{administrator}
+use Rattle.qc_core.specs.Vocabulary.{ActorMove, MayTake, actor_after, actor_does, is_up, moved, new_actor, up_at}
+use Rattle.qc_decl.specs.Vocabulary.{administrator}
 use Rattle.qc_decl.specs.declared.declaration.Declaration.{Declaration}
 use Rattle.qc_msg.specs.declared.record.Record.{Record}
 use Rattle.qc_msg.specs.declared.reply.Reply.{Reply}
 use Rattle.qc_msg.specs.declared.step.Input.{Input}
 use Rattle.qc_msg.specs.declared.turn.Posting.{Posting}
 use Rattle.qc_msg.specs.declared.turn.Turn.{Turn}
-use Rattle.qc_msg.specs.Names.{Deed, quiet, sends_of, tells_of, turn_deeds, writes_of}
-use Rattle.qc_promise.specs.Names.{AdminAccount, AreAdminDeedsDue, IsAdminDue, IsAdminInputDue, admin_account}
-use Rattle.qc_promise.specs.Names.{admin_account_at, admin_row, commanded, decided_for, new_admin_account}
-use Rattle.qc_epoch.specs.Names.{Admin, sent_one}
-use Rattle.qc_admin.specs.Names.{sent_each}
+use Rattle.qc_msg.specs.Vocabulary.{Deed, quiet, sends_of, tells_of, turn_deeds, writes_of}
+use Rattle.qc_promise.specs.Vocabulary.{AdminAccount, AreAdminDeedsDue, IsAdminDue, IsAdminInputDue, admin_account}
+use Rattle.qc_promise.specs.Vocabulary.{admin_account_at, admin_row, commanded, decided_for, new_admin_account}
+use Rattle.qc_epoch.specs.Vocabulary.{Admin, sent_one}
+use Rattle.qc_admin.specs.Vocabulary.{sent_each}
 use Rattle.laws_due.proofs.Standing.{Follows}
 use Rattle.laws_due.proofs.AdminStages.{Ties}
 use Rattle.laws_due.proofs.AdminRunning.{ties_row, ties_decided, free_for}

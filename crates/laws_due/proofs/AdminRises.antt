@@ -4,9 +4,9 @@ use Rattle.std.proofs.Common.{◌≡◌, ℕ, Bool, true, false, cond, List, [],
 use Rattle.std.proofs.Common.{option_map, refl, sym, ap, ◌∙◌, subst, append_assoc, eq-eqb}
 use Rattle.std.specs.Option.{option_or}
 use Rattle.std.proofs.lemmas.List.Sums.{fold-append}
-use Rattle.qc_core.specs.Names.{ActorMove, IsLawfulWithFalls, actor_after, by_admin, is_up, with_record}
+use Rattle.qc_core.specs.Vocabulary.{ActorMove, IsLawfulWithFalls, actor_after, by_admin, is_up, with_record}
 use Rattle.qc_core.proofs.ByNumber.{admin_new, admin_no_client, admin_no_site, admin_risen}
-use Rattle.qc_decl.specs.Names.{administrator, is_administrator, is_client, is_site}
+use Rattle.qc_decl.specs.Vocabulary.{administrator, is_administrator, is_client, is_site}
 use Rattle.qc_decl.specs.declared.declaration.Declaration.{Declaration}
 use Rattle.qc_msg.specs.declared.record.Record.{Record}
 use Rattle.qc_msg.specs.declared.record.Record.TheVariants as records
@@ -15,13 +15,13 @@ use Rattle.qc_msg.specs.declared.step.Fall.TheVariants as causes
 use Rattle.qc_msg.specs.declared.turn.Appended.{Appended}
 use Rattle.qc_msg.specs.declared.turn.Appended.TheVariants.{Done, Failed, Stopped}
 use Rattle.qc_msg.specs.declared.turn.Turn.{Turn}
-use Rattle.qc_msg.specs.Names.{Deed, Falls, Installing as Started, IsByDisk, Rises, Writes, decide_in, deeds_as}
-use Rattle.qc_promise.specs.Names.{Act, AdminAccount, AreAdminDeedsDue, IsAdminDue, IsPostOf, Wrote, admin_account}
-use Rattle.qc_promise.specs.Names.{admin_account_at, admin_account_with, fallen_in, pending_next, posted_due}
-use Rattle.qc_promise.specs.Names.{rising_turn}
-use Rattle.qc_recover.specs.Names.{admin_by, admin_rises, epoch_by, rising}
+use Rattle.qc_msg.specs.Vocabulary.{Deed, Falls, Installing as Started, IsByDisk, Rises, Writes, decide_in, deeds_as}
+use Rattle.qc_promise.specs.Vocabulary.{Act, AdminAccount, AreAdminDeedsDue, IsAdminDue, IsPostOf, Wrote, admin_account}
+use Rattle.qc_promise.specs.Vocabulary.{admin_account_at, admin_account_with, fallen_in, pending_next, posted_due}
+use Rattle.qc_promise.specs.Vocabulary.{rising_turn}
+use Rattle.qc_recover.specs.Vocabulary.{admin_by, admin_rises, epoch_by, rising}
 use Rattle.qc_recover.specs.Admins.{keeps, kept_by}
-use Rattle.qc_epoch.specs.Names.{Decided, new_admin}
+use Rattle.qc_epoch.specs.Vocabulary.{Decided, new_admin}
 use Rattle.laws_due.proofs.Standing.{Follows, no_act}
 use Rattle.laws_due.proofs.Fallings.{as_record}
 use Rattle.laws_due.proofs.AdminDecisions.{started}

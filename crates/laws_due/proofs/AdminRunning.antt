@@ -1,9 +1,9 @@
 -- Nothing is due of the administrator at rest; his account has a command just while one runs.
-use Rattle.std.proofs.Common.{◌≡◌, ℕ, ◌==◌, ◌&&◌, Bool, true, false, cond, List, ◌∷◌, length, fold, Option, Some, None}
-use Rattle.std.proofs.Common.{refl, sym, ap, ◌∙◌}
+use Rattle.std.proofs.Common.{[], ◌≡◌, ℕ, ◌==◌, ◌&&◌, Bool, true, false, cond, List, ◌∷◌, length, fold, Option, Some}
+use Rattle.std.proofs.Common.{None, refl, sym, ap, ◌∙◌}
 use Rattle.std.specs.Prelude.{is_some, option_and_then}
 use Rattle.std.specs.Option.{option_map_or}
-use Rattle.qc_core.specs.Names.{MayTake, is_running, runs_at}
+use Rattle.qc_core.specs.Vocabulary.{MayTake, is_running, runs_at}
 use Rattle.qc_decl.specs.declared.declaration.Declaration.{Declaration}
 use Rattle.qc_msg.specs.declared.message.Message.{Message}
 use Rattle.qc_msg.specs.declared.record.Record.{Record}
@@ -11,16 +11,17 @@ use Rattle.qc_msg.specs.declared.reply.Reply.TheVariants as replies
 use Rattle.qc_msg.specs.declared.step.Command.{Command}
 use Rattle.qc_msg.specs.declared.step.Input.{Input}
 use Rattle.qc_msg.specs.declared.step.Input.TheVariants as inputs
-use Rattle.qc_msg.specs.Names.{Answered, Deed, Falls, Installing as Started, Rises, Sends, Takes, Tells, Writes}
-use Rattle.qc_msg.specs.Names.{answer_in, asking_in, closing_in, decide_in, epoch_in, installing_in}
+use Rattle.qc_msg.specs.Vocabulary.{Answered, Deed, Falls, Installing as Started, Rises, Sends, Takes, Tells, Writes}
+use Rattle.qc_msg.specs.Vocabulary.{answer_in, asking_in, closing_in, decide_in, epoch_in, installing_in}
 use Rattle.qc_stamp.specs.declared.stamp.TxId.{TxId}
-use Rattle.qc_promise.specs.Names.{AdminAccount, AdminWant, Ask, Close, Install, IsAdminFree, admin_account}
-use Rattle.qc_promise.specs.Names.{admin_account_at, admin_counted, admin_due, admin_heard, admin_row, admin_sent}
-use Rattle.qc_promise.specs.Names.{admin_written, all_answered, asks, calls_ask, calls_close, calls_install, close_row}
-use Rattle.qc_promise.specs.Names.{closed_sites, closes, commanded, decide_due, decided_for, decided_met, decided_of}
-use Rattle.qc_promise.specs.Names.{decided_row, decision_due, doubt_row, epoch_row, first_doubt, if_called_for}
-use Rattle.qc_promise.specs.Names.{installs, moved_row, new_admin_account, promised_once, site_set}
-use Rattle.qc_epoch.specs.Names.{Admin, Asking, Closing, Doing, Installing, Question, Resting, ShutSite}
+use Rattle.qc_promise.specs.Vocabulary.{AdminAccount, AdminWant, Ask, Close, Install, IsAdminFree, admin_account}
+use Rattle.qc_promise.specs.Vocabulary.{admin_account_at, admin_counted, admin_due, admin_heard, admin_row, admin_sent}
+use Rattle.qc_promise.specs.Vocabulary.{admin_written, all_answered, asks, calls_ask, calls_close, calls_install}
+use Rattle.qc_promise.specs.Vocabulary.{close_row, closed_sites, closes, commanded, decide_due, decided_for}
+use Rattle.qc_promise.specs.Vocabulary.{decided_met, decided_of, decided_row, decision_due, doubt_row, epoch_row}
+use Rattle.qc_promise.specs.Vocabulary.{first_doubt, if_called_for, installs, moved_row, new_admin_account}
+use Rattle.qc_promise.specs.Vocabulary.{promised_once, site_set}
+use Rattle.qc_epoch.specs.Vocabulary.{Admin, Asking, Closing, Doing, Installing, Question, Resting, ShutSite}
 use Rattle.qc_epoch.specs.Deciding as deciding
 use Rattle.laws_due.proofs.AdminRequests.{all_taken}
 use Rattle.laws_due.proofs.AdminDecisions.{answered_is}

@@ -8,14 +8,14 @@ use Rattle.qc_core.proofs.ByNumber.{admin_new, admin_no_client, admin_no_site, a
 use Rattle.qc_core.proofs.PostsByTurns.{called_turn}
 use Rattle.qc_core.specs.declared.actor.Actor.{Actor}
 use Rattle.qc_core.specs.declared.actor.Actor.TheVariants as actors
-use Rattle.qc_core.specs.Names.{ActorMove, IsLawfulWithFalls, actor_does, actor_rises, actor_sends, actor_takes, moved}
-use Rattle.qc_core.specs.Names.{new_actor, with_record}
-use Rattle.qc_decl.specs.Names.{IsAccepted, administrator, controller}
+use Rattle.qc_core.specs.Vocabulary.{ActorMove, IsLawfulWithFalls, actor_does, actor_rises, actor_sends, actor_takes}
+use Rattle.qc_core.specs.Vocabulary.{moved, new_actor, with_record}
+use Rattle.qc_decl.specs.Vocabulary.{IsAccepted, administrator, controller}
 use Rattle.qc_decl.specs.declared.declaration.Declaration.{Declaration}
-use Rattle.qc_epoch.specs.Names.{admin_takes}
+use Rattle.qc_epoch.specs.Vocabulary.{admin_takes}
 use Rattle.laws_turns.proofs.Mailed.{both_all}
-use Rattle.qc_msg.specs.Names.{Deed, Entry, Falls, Rises, Sends, Takes, Tells, Writes, by, deeds, envelopes, mail}
-use Rattle.qc_msg.specs.Names.{marked, posted_as, quiet, sends_as}
+use Rattle.qc_msg.specs.Vocabulary.{Deed, Entry, Falls, Rises, Sends, Takes, Tells, Writes, by, deeds, envelopes, mail}
+use Rattle.qc_msg.specs.Vocabulary.{marked, posted_as, quiet, sends_as}
 use Rattle.qc_msg.specs.declared.message.Envelope.{Envelope}
 use Rattle.qc_msg.specs.declared.message.Message.{Message}
 use Rattle.qc_msg.specs.declared.record.Record.{Record}
@@ -32,8 +32,8 @@ use Rattle.qc_msg.specs.declared.turn.Posting.{Posting}
 use Rattle.qc_msg.specs.declared.turn.Turn.{Turn}
 use Rattle.qc_msg.proofs.GrownMail.{mail-append, mail-taken}
 use Rattle.qc_msg.proofs.Growth.{mail-posted_as}
-use Rattle.qc_script.specs.Names.{RunsWithFalls, begins, control, controller_step, damaged, falls, phase, phase_of}
-use Rattle.qc_script.specs.Names.{posts, rises, takes, unopened}
+use Rattle.qc_script.specs.Vocabulary.{RunsWithFalls, begins, control, controller_step, damaged, falls, phase, phase_of}
+use Rattle.qc_script.specs.Vocabulary.{posts, rises, takes, unopened}
 use Rattle.qc_script.specs.declared.script.Script.{Script}
 use Rattle.laws_due.proofs.AdminSited.{GoWell, GoesWell, IsSited, Sited, sent_sited, takes_sited}
 

@@ -7,13 +7,13 @@ use Rattle.std.specs.Option.{option_or}
 use Rattle.std.proofs.lemmas.List.{append-nil, map-append}
 use Rattle.std.proofs.lemmas.List.Elements.{filter_map-append}
 use Rattle.std.proofs.lemmas.List.Folds.{find-append}
-use Rattle.qc_list.specs.Names.{In}
+use Rattle.qc_list.specs.Vocabulary.{In}
 use Rattle.qc_msg.specs.declared.message.Answer.{Answer}
 use Rattle.qc_msg.specs.declared.message.Answer.TheVariants as answers
-use Rattle.qc_msg.specs.Names.{Shutting, shut_in}
-use Rattle.qc_promise.specs.Names.{AdminRequest, ToldShut, answer_to, close_asked, told_shut}
-use Rattle.qc_epoch.specs.Names.{ShutSite, in_asked_order, shut_at, shut_list, with_shut_of}
-use Rattle.laws_due.specs.Names.{AreApart}
+use Rattle.qc_msg.specs.Vocabulary.{Shutting, shut_in}
+use Rattle.qc_promise.specs.Vocabulary.{AdminRequest, ToldShut, answer_to, close_asked, told_shut}
+use Rattle.qc_epoch.specs.Vocabulary.{ShutSite, in_asked_order, shut_at, shut_list, with_shut_of}
+use Rattle.laws_due.specs.Vocabulary.{AreApart}
 use Rattle.laws_due.proofs.AdminRequests.{IsCalled, differ, numbers_of, others_taken, other_taken, sites_of, takes}
 use Rattle.laws_due.proofs.AdminRequests.{this_taken, took}
 use Rattle.laws_due.proofs.AdminCloses.{in_map}

@@ -4,17 +4,17 @@ use Rattle.std.proofs.Common.{◌≡◌, ℕ, ◌+◌, ◌-◌, ◌<◌, ◌≤�
 use Rattle.std.proofs.Common.{take, Option, Some, None, refl, arith}
 use Rattle.std.specs.Prelude.{nat_le, slice_get}
 use Rattle.std.specs.List.{AllByRecursion as Every}
-use Rattle.qc_decl.specs.Names.{IsAccepted, client_actor, most_record_bytes, plan_in}
+use Rattle.qc_decl.specs.Vocabulary.{IsAccepted, client_actor, most_record_bytes, plan_in}
 use Rattle.qc_decl.specs.declared.declaration.Declaration.{Declaration}
-use Rattle.qc_epoch.specs.Names.{Admin, AdminMove, Asking, Closing, Decided, Doing, Installing, Question, Resting}
-use Rattle.qc_epoch.specs.Names.{ShutSite, admin_takes, all_taken, decision, doing, first_doubt, in_asked_order}
-use Rattle.qc_epoch.specs.Names.{most_asks, new_admin, outcome_in, questions_of, requested, sent_one, standing_of}
-use Rattle.qc_epoch.specs.Names.{taken_for, with_installed, with_shut_of}
+use Rattle.qc_epoch.specs.Vocabulary.{Admin, AdminMove, Asking, Closing, Decided, Doing, Installing, Question, Resting}
+use Rattle.qc_epoch.specs.Vocabulary.{ShutSite, admin_takes, all_taken, decision, doing, first_doubt, in_asked_order}
+use Rattle.qc_epoch.specs.Vocabulary.{most_asks, new_admin, outcome_in, questions_of, requested, sent_one, standing_of}
+use Rattle.qc_epoch.specs.Vocabulary.{taken_for, with_installed, with_shut_of}
 use Rattle.qc_epoch.specs.Admin as epochs
 use Rattle.qc_epoch.specs.Conduct as conduct
 use Rattle.laws_turns.proofs.DeclaredSites.{AreSites, asking_rest, sites_cyclic, sites_filter, sites_range}
 use Rattle.laws_turns.proofs.DeclaredSites.{wanted_sites}
-use Rattle.qc_msg.specs.Names.{epoch_length, quiet, sending, site_called, without_call}
+use Rattle.qc_msg.specs.Vocabulary.{epoch_length, quiet, sending, site_called, without_call}
 use Rattle.qc_msg.specs.declared.call.Call.{Call}
 use Rattle.qc_msg.specs.declared.message.Answer.{Answer}
 use Rattle.qc_msg.specs.declared.message.Message.{Message}
@@ -25,7 +25,7 @@ use Rattle.qc_msg.specs.declared.step.Command.TheVariants as commands
 use Rattle.qc_msg.specs.declared.step.Input.{Input}
 use Rattle.qc_msg.specs.declared.step.Input.TheVariants as inputs
 use Rattle.qc_msg.specs.declared.turn.Posting.{Posting}
-use Rattle.qc_plan.specs.Names.{RoundState, note, verdict, wanted}
+use Rattle.qc_plan.specs.Vocabulary.{RoundState, note, verdict, wanted}
 use Rattle.qc_plan.specs.declared.plan.Plan.{Plan}
 use Rattle.qc_plan.specs.declared.standing.Verdict.{Verdict}
 use Rattle.qc_plan.specs.declared.standing.Verdict.TheVariants as verdicts

@@ -10,26 +10,26 @@ use Rattle.qc_stamp.specs.declared.stamp.Stamp.{Stamp}
 use Rattle.qc_stamp.specs.declared.stamp.TxId.{TxId}
 use Rattle.qc_entry.specs.declared.line.Line.{Line}
 use Rattle.qc_entry.specs.declared.record.Prepared.{Prepared}
-use Rattle.qc_entry.specs.Names.{union}
+use Rattle.qc_entry.specs.Vocabulary.{union}
 use Rattle.qc_decl.specs.declared.declaration.Declaration.{Declaration}
 use Rattle.qc_plan.specs.declared.standing.Verdict.TheVariants as verdicts
-use Rattle.qc_plan.specs.Names.{verdict, wanted}
+use Rattle.qc_plan.specs.Vocabulary.{verdict, wanted}
 use Rattle.qc_msg.specs.declared.call.Call.{Call}
 use Rattle.qc_msg.specs.declared.message.Outcome.{Outcome}
 use Rattle.qc_msg.specs.declared.reply.Reply.TheVariants as replies
 use Rattle.qc_msg.specs.declared.step.Command.{Command}
 use Rattle.qc_msg.specs.declared.step.Command.TheVariants as commands
-use Rattle.qc_msg.specs.Names.{Installing as Started, epoch_in, first_epoch}
-use Rattle.qc_promise.specs.Names.{AdminAccount, AdminRequest, Promised, ToldShut, admin_due, admin_row, all_answered}
-use Rattle.qc_promise.specs.Names.{ask_of, asks, close_round, close_row, closed_sites, closes, commanded, decide_due}
-use Rattle.qc_promise.specs.Names.{decided_epoch, decided_met, decided_now, decision_due, epoch_row, first_doubt}
-use Rattle.qc_promise.specs.Names.{fresh_round, installs, lines_of, most_questions, moved_row, promised_once, site_set}
-use Rattle.qc_promise.specs.Names.{stamp_in, told_shut}
+use Rattle.qc_msg.specs.Vocabulary.{Installing as Started, epoch_in, first_epoch}
+use Rattle.qc_promise.specs.Vocabulary.{AdminAccount, AdminRequest, Promised, ToldShut, admin_due, admin_row}
+use Rattle.qc_promise.specs.Vocabulary.{all_answered, ask_of, asks, close_round, close_row, closed_sites, closes}
+use Rattle.qc_promise.specs.Vocabulary.{commanded, decide_due, decided_epoch, decided_met, decided_now, decision_due}
+use Rattle.qc_promise.specs.Vocabulary.{epoch_row, first_doubt, fresh_round, installs, lines_of, most_questions}
+use Rattle.qc_promise.specs.Vocabulary.{moved_row, promised_once, site_set, stamp_in, told_shut}
 use Rattle.qc_promise.specs.AdminRounds.{is_final}
 use Rattle.qc_promise.specs.AdminRows.{fits_record}
-use Rattle.qc_epoch.specs.Names.{Admin, Asking, Closing, Doing, Installing, Question, Resting, ShutSite}
+use Rattle.qc_epoch.specs.Vocabulary.{Admin, Asking, Closing, Doing, Installing, Question, Resting, ShutSite}
 use Rattle.qc_epoch.specs.Deciding as deciding
-use Rattle.laws_due.specs.Names.{AreApart}
+use Rattle.laws_due.specs.Vocabulary.{AreApart}
 use Rattle.laws_due.proofs.AdminRequests.{all_taken, differ, numbers_of, open_calls, sites_of}
 use Rattle.laws_due.proofs.AdminCloses.{round_of}
 use Rattle.laws_due.proofs.AdminShuts.{AreShut, shuts_of}

@@ -5,9 +5,9 @@ use Rattle.std.proofs.Common.{take, Option, Some, None, option_map, refl, sym, s
 use Rattle.std.specs.Prelude.{is_none, is_some}
 use Rattle.std.specs.List.{AllByRecursion as Every, list_all}
 use Rattle.qc_msg.specs.declared.message.Answer.{Answer}
-use Rattle.qc_promise.specs.Names.{AdminRequest, Promised}
-use Rattle.qc_epoch.specs.Names.{Question, outcome_in}
-use Rattle.laws_due.specs.Names.{AreApart}
+use Rattle.qc_promise.specs.Vocabulary.{AdminRequest, Promised}
+use Rattle.qc_epoch.specs.Vocabulary.{Question, outcome_in}
+use Rattle.laws_due.specs.Vocabulary.{AreApart}
 use Rattle.laws_due.proofs.AdminRequests.{all_taken, map_taken, takes, took}
 use Rattle.laws_due.proofs.AdminStages.{Numbered}
 use Rattle.laws_due.proofs.AdminQuestions.{AreAbout, asked_of}

@@ -5,20 +5,22 @@ use Rattle.std.specs.Prelude.{is_some, ◌^◌}
 use Rattle.std.specs.List.{filter_map}
 use Rattle.std.specs.Option.{option_map_or}
 use Rattle.qc_decl.specs.declared.declaration.Declaration.{Declaration}
-use Rattle.qc_plan.specs.Names.{RoundState, note, verdict, wanted}
+use Rattle.qc_plan.specs.Vocabulary.{RoundState, note, verdict, wanted}
 use Rattle.qc_msg.specs.declared.call.Call.{Call}
 use Rattle.qc_msg.specs.declared.message.Answer.{Answer}
 use Rattle.qc_msg.specs.declared.reply.Reply.TheVariants as replies
-use Rattle.qc_msg.specs.Names.{Installing as Started, has_installed, quiet, site_called, without_call}
-use Rattle.qc_promise.specs.Names.{AdminAccount, AdminRequest, ToldShut, admin_counted, admin_due, asks, close_round}
-use Rattle.qc_promise.specs.Names.{close_row, closed_sites, closes, decide_due, decided_epoch, decided_met, decided_of}
-use Rattle.qc_promise.specs.Names.{decided_row, decision_due, doubt_row, first_doubt, fresh_round, installs, is_ask}
-use Rattle.qc_promise.specs.Names.{is_close, is_install, most_questions, moved_row, promised_once, site_set, told_shut}
-use Rattle.qc_epoch.specs.Names.{Admin, Asking, Closing, Doing, Installing, Question, Resting, ShutSite, doing, moved}
-use Rattle.qc_epoch.specs.Names.{outcome_in, replies_with, standing_of, taken_for, with_installed, with_shut_of}
+use Rattle.qc_msg.specs.Vocabulary.{Installing as Started, has_installed, quiet, site_called, without_call}
+use Rattle.qc_promise.specs.Vocabulary.{AdminAccount, AdminRequest, ToldShut, admin_counted, admin_due, asks}
+use Rattle.qc_promise.specs.Vocabulary.{close_round, close_row, closed_sites, closes, decide_due, decided_epoch}
+use Rattle.qc_promise.specs.Vocabulary.{decided_met, decided_of, decided_row, decision_due, doubt_row, first_doubt}
+use Rattle.qc_promise.specs.Vocabulary.{fresh_round, installs, is_ask, is_close, is_install, most_questions, moved_row}
+use Rattle.qc_promise.specs.Vocabulary.{promised_once, site_set, told_shut}
+use Rattle.qc_epoch.specs.Vocabulary.{Admin, Asking, Closing, Doing, Installing, Question, Resting, ShutSite, doing}
+use Rattle.qc_epoch.specs.Vocabulary.{moved, outcome_in, replies_with, standing_of, taken_for, with_installed}
+use Rattle.qc_epoch.specs.Vocabulary.{with_shut_of}
 use Rattle.qc_epoch.specs.Conduct as conduct
 use Rattle.qc_epoch.specs.Deciding as deciding
-use Rattle.laws_due.specs.Names.{AreApart}
+use Rattle.laws_due.specs.Vocabulary.{AreApart}
 use Rattle.laws_due.proofs.AdminRequests.{IsCalled, all_taken, called, calls_taken, length_taken, none_called}
 use Rattle.laws_due.proofs.AdminRequests.{none_open, map_taken, open_calls, sites_of, takes, taken_already}
 use Rattle.laws_due.proofs.AdminRequests.{wanting_taken}
@@ -38,8 +40,7 @@ use Rattle.laws_due.proofs.AdminAgreements.{agree}
 use Rattle.laws_due.proofs.AdminFrames.{later}
 use Rattle.laws_due.proofs.AdminQuestions.{AreAbout, about_taken, asked_of, asked_taken, promised_distinct, promised_of}
 
-module _ (decl : Declaration) (some : (decl.sites == 0) ≡ false) (first : ℕ) (d : AdminAccount) (m : Admin)
-    (base : Base d m) where
+module _ (decl : Declaration) (some : (decl.sites == 0) ≡ false) (first : ℕ) (d : AdminAccount) (m : Admin) (base : Base d m) where
   -- an answer, or that a request is lost
 
   module _ (number : ℕ) (answer : Option Answer) where
@@ -72,8 +73,7 @@ module _ (decl : Declaration) (some : (decl.sites == 0) ≡ false) (first : ℕ)
 
     -- he closes sites
 
-    closing_takes : (n : ℕ) → n ≤ first → (epoch : ℕ) (calls : List Call) (round : RoundState) (shuts : List ShutSite)
-        → m.doing ≡ Closing epoch calls round shuts
+    closing_takes : (n : ℕ) → n ≤ first → (epoch : ℕ) (calls : List Call) (round : RoundState) (shuts : List ShutSite) → m.doing ≡ Closing epoch calls round shuts
         → IsClosing decl n d epoch calls shuts → round ≡ close_round decl d
         → Goes decl first (admin_counted d number answer)
         (conduct.closing_takes decl m epoch calls round shuts number answer (site_called calls number))

@@ -1,17 +1,17 @@
 -- In each run with falls all that the administrator does is due.
 use Rattle.std.proofs.Common.{◌≡◌, ◌<◌, ◌≤◌, ℕ, ◌==◌, Bool, true, false, List, [], length, Some, slice_get, refl, sym}
 use Rattle.std.proofs.Common.{subst, eqb-true, arith}
-use Rattle.qc_core.specs.Names.{IsLawfulWithFalls, Lives}
-use Rattle.qc_decl.specs.Names.{actors, administrator}
+use Rattle.qc_core.specs.Vocabulary.{IsLawfulWithFalls, Lives}
+use Rattle.qc_decl.specs.Vocabulary.{actors, administrator}
 use Rattle.qc_decl.specs.declared.declaration.Declaration.{Declaration}
 use Rattle.laws_turns.proofs.Places.{slice_get-within}
-use Rattle.qc_link.specs.Names.{most_actors}
-use Rattle.laws_turns.specs.Names.{LivesIn}
+use Rattle.qc_link.specs.Vocabulary.{most_actors}
+use Rattle.laws_turns.specs.Vocabulary.{LivesIn}
 use Rattle.laws_turns.proofs.Lived.{run_lives, run_long}
 use Rattle.qc_msg.specs.declared.record.Record.{Record}
-use Rattle.qc_msg.specs.Names.{Deed, Entry, deeds}
-use Rattle.qc_promise.specs.Names.{IsAdminDue}
-use Rattle.qc_script.specs.Names.{RunsWithFalls}
+use Rattle.qc_msg.specs.Vocabulary.{Deed, Entry, deeds}
+use Rattle.qc_promise.specs.Vocabulary.{IsAdminDue}
+use Rattle.qc_script.specs.Vocabulary.{RunsWithFalls}
 use Rattle.qc_script.specs.declared.script.Script.{Script}
 use Rattle.laws_due.proofs.AdminLives.{admin_due_in}
 

@@ -1,18 +1,18 @@
 -- All is due in a run with falls: by turns, by mail, of each client, of each site and of the administrator.
 use Rattle.std.proofs.Common.{◌≤◌, ℕ, Bool, List}
-use Rattle.qc_core.specs.Names.{IsLawfulWithFalls}
-use Rattle.qc_decl.specs.Names.{IsAccepted, actors}
+use Rattle.qc_core.specs.Vocabulary.{IsLawfulWithFalls}
+use Rattle.qc_decl.specs.Vocabulary.{IsAccepted, actors}
 use Rattle.qc_decl.specs.declared.declaration.Declaration.{Declaration}
-use Rattle.laws_turns.specs.Names.{AsksDeclared, RiseWithOwn}
-use Rattle.qc_link.specs.Names.{most_actors}
+use Rattle.laws_turns.specs.Vocabulary.{AsksDeclared, RiseWithOwn}
+use Rattle.qc_link.specs.Vocabulary.{most_actors}
 use Rattle.laws_turns.proofs.ByMailWithFalls.{run_by_turns, run_mailed}
 use Rattle.laws_turns.proofs.FallServed.{run_due}
 use Rattle.qc_msg.specs.declared.record.Record.{Record}
-use Rattle.qc_msg.specs.Names.{Entry}
-use Rattle.qc_promise.specs.Names.{Due}
-use Rattle.qc_script.specs.Names.{RunsWithFalls}
+use Rattle.qc_msg.specs.Vocabulary.{Entry}
+use Rattle.qc_promise.specs.Vocabulary.{Due}
+use Rattle.qc_script.specs.Vocabulary.{RunsWithFalls}
 use Rattle.qc_script.specs.declared.script.Script.{Script}
-use Rattle.laws_due.specs.Names.{AllRisePlanned}
+use Rattle.laws_due.specs.Vocabulary.{AllRisePlanned}
 use Rattle.laws_due.proofs.Administrators.{run_admin_due}
 use Rattle.laws_due.proofs.Declared.{replies_due}
 

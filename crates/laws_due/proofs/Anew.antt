@@ -20,11 +20,11 @@ use Rattle.qc_msg.specs.declared.reply.Reply.TheVariants as replies
 use Rattle.qc_msg.specs.declared.step.Command.{Command}
 use Rattle.qc_msg.specs.declared.step.Command.TheVariants as commands
 use Rattle.qc_msg.specs.declared.step.Input.TheVariants as inputs
-use Rattle.qc_msg.specs.Names.{Deed, Falls, Rises, Sends, Takes, Tells, Writes}
-use Rattle.qc_promise.specs.Names.{Account, ClientRequest, account_at, account_heard, account_of, account_sent}
-use Rattle.qc_promise.specs.Names.{account_told_in, account_with, account_written, counted, counted_for, found_absent}
-use Rattle.qc_promise.specs.Names.{granted, is_asked_for, is_open, new_account, promised, responded, short_of}
-use Rattle.qc_promise.specs.Names.{taken_for, told_by}
+use Rattle.qc_msg.specs.Vocabulary.{Deed, Falls, Rises, Sends, Takes, Tells, Writes}
+use Rattle.qc_promise.specs.Vocabulary.{Account, ClientRequest, account_at, account_heard, account_of, account_sent}
+use Rattle.qc_promise.specs.Vocabulary.{account_told_in, account_with, account_written, counted, counted_for}
+use Rattle.qc_promise.specs.Vocabulary.{found_absent, granted, is_asked_for, is_open, new_account, promised, responded}
+use Rattle.qc_promise.specs.Vocabulary.{short_of, taken_for, told_by}
 
 granted_client : (d : Account) (site life clock : ℕ) (log : List Line) (w : Want)
     → (granted d site life clock log w).client ≡ d.client

@@ -3,12 +3,12 @@ use Rattle.std.proofs.Common.{◌≡◌, ℕ, ◌+◌, ◌-◌, ◌==◌, ◌⊎
 use Rattle.std.proofs.Common.{[], ◌∷◌, ◌++◌, slice_get, refl, sym, subst}
 use Rattle.std.specs.Prelude.{set}
 use Rattle.std.proofs.lemmas.Bool.{eq-eqb, eqb-true}
-use Rattle.qc_list.specs.Names.{In}
+use Rattle.qc_list.specs.Vocabulary.{In}
 use Rattle.qc_list.proofs.Members.{In-more, In-passes, In-second, In-unfiltered}
 use Rattle.laws_turns.proofs.Answering.{copies_stay, cuts_copies, cuts_unanswered, own_fate, phase_copies}
 use Rattle.laws_turns.proofs.Answering.{phase_unanswered}
 use Rattle.laws_turns.proofs.AwaitedCopies.{at_once}
-use Rattle.qc_link.specs.Names.{fate, with_cut, without_cut}
+use Rattle.qc_link.specs.Vocabulary.{fate, with_cut, without_cut}
 use Rattle.qc_link.specs.declared.rule.Fate.{Fate}
 use Rattle.qc_msg.specs.declared.message.Envelope.{Envelope}
 use Rattle.qc_msg.specs.declared.message.Message.{Message}
@@ -16,11 +16,11 @@ use Rattle.qc_msg.specs.declared.message.Message.TheVariants as messages
 use Rattle.qc_msg.specs.declared.step.Step.{Step}
 use Rattle.qc_msg.specs.declared.step.Step.TheVariants as steps
 use Rattle.qc_script.specs.declared.script.Script.{Script}
-use Rattle.qc_script.specs.Names.{Inbox, SentRequest, actor_fell, answers_by, comes, comes_at_once, comes_with}
-use Rattle.qc_script.specs.Names.{command_called, control_acted, copies_at_once, copy_taken, count_of, emptied, goes}
-use Rattle.qc_script.specs.Names.{goes_with, has_request, inbox_at, is_by_line, is_request, is_up, loss_taken, one_more}
-use Rattle.qc_script.specs.Names.{reply_told, request_answered, request_sent, requests_to, requests_to_others}
-use Rattle.qc_script.specs.Names.{with_copies, with_lost, with_number}
+use Rattle.qc_script.specs.Vocabulary.{Inbox, SentRequest, actor_fell, answers_by, comes, comes_at_once, comes_with}
+use Rattle.qc_script.specs.Vocabulary.{command_called, control_acted, copies_at_once, copy_taken, count_of, emptied}
+use Rattle.qc_script.specs.Vocabulary.{goes, goes_with, has_request, inbox_at, is_by_line, is_request, is_up}
+use Rattle.qc_script.specs.Vocabulary.{loss_taken, one_more, reply_told, request_answered, request_sent, requests_to}
+use Rattle.qc_script.specs.Vocabulary.{requests_to_others, with_copies, with_lost, with_number}
 
 which : {A : Type 0} (P : A → Type 0) (t : Bool) (x y : A) → P x → P y → P (if t then x else y)
 which P true x y here there = here

@@ -1,16 +1,16 @@
 -- An answer that a client takes: its turn is due, and the tie holds after it.
-use Rattle.std.proofs.Common.{◌≡◌, ◌≢◌, ◌≤◌, ◌<◌, ℕ, zero, suc, ◌+◌, ◌-◌, ◌⊎◌, inl, inr, List, ◌∷◌, ◌++◌, map, Option}
-use Rattle.std.proofs.Common.{refl, ap, arith}
+use Rattle.std.proofs.Common.{[], ◌≡◌, ◌≢◌, ◌≤◌, ◌<◌, ℕ, zero, suc, ◌+◌, ◌-◌, ◌⊎◌, inl, inr, List, ◌∷◌, ◌++◌, map}
+use Rattle.std.proofs.Common.{Option, refl, ap, arith}
 use Rattle.std.specs.List.{range_with_len}
-use Rattle.qc_list.specs.Names.{In}
+use Rattle.qc_list.specs.Vocabulary.{In}
 use Rattle.qc_decl.specs.declared.declaration.Declaration.{Declaration}
-use Rattle.qc_plan.specs.Names.{cyclic}
-use Rattle.qc_front.specs.Names.{sites_of}
+use Rattle.qc_plan.specs.Vocabulary.{cyclic}
+use Rattle.qc_front.specs.Vocabulary.{sites_of}
 use Rattle.qc_client.specs.declared.client.Client.{Client}
-use Rattle.qc_client.specs.Names.{answered}
+use Rattle.qc_client.specs.Vocabulary.{answered}
 use Rattle.qc_msg.specs.declared.message.Answer.{Answer}
-use Rattle.qc_promise.specs.Names.{Account, ClientRequest, asked_by, counted}
-use Rattle.laws_due.specs.Names.{AreApart, Goes, Holds}
+use Rattle.qc_promise.specs.Vocabulary.{Account, ClientRequest, asked_by, counted}
+use Rattle.laws_due.specs.Vocabulary.{AreApart, Goes, Holds}
 use Rattle.laws_due.proofs.OpenRequests.{sites_in}
 
 -- the sites in a client's order are apart

@@ -1,8 +1,8 @@
 -- What is asked of a client stands in its inbox, and the command that is ready is among it.
-use Rattle.std.proofs.Common.{◌≡◌, ℕ, ◌+◌, ◌-◌, ◌==◌, ◌&&◌, not, Bool, true, false, cond, if◌then◌else◌, List, ◌∷◌}
+use Rattle.std.proofs.Common.{[], ◌≡◌, ℕ, ◌+◌, ◌-◌, ◌==◌, ◌&&◌, not, Bool, true, false, cond, if◌then◌else◌, List, ◌∷◌}
 use Rattle.std.proofs.Common.{◌++◌, drop, Option, Some, None, slice_get, refl, subst}
 use Rattle.std.specs.Prelude.{fold, set}
-use Rattle.qc_link.specs.Names.{with_cut, without_cut}
+use Rattle.qc_link.specs.Vocabulary.{with_cut, without_cut}
 use Rattle.std.specs.Option.{option_map_or}
 use Rattle.std.specs.List.{AllByRecursion as Every}
 use Rattle.qc_decl.specs.declared.declaration.Declaration.{Declaration}
@@ -17,12 +17,12 @@ use Rattle.qc_msg.specs.declared.step.Input.{Input}
 use Rattle.qc_msg.specs.declared.step.Input.TheVariants as inputs
 use Rattle.qc_msg.specs.declared.step.Step.{Step}
 use Rattle.qc_msg.specs.declared.step.Step.TheVariants as steps
-use Rattle.qc_msg.specs.Names.{Entry}
-use Rattle.qc_script.specs.Names.{Inbox, acting, actor_fell, after_controls, answers_by, comes, command_called}
-use Rattle.qc_script.specs.Names.{command_in, commands_for, control_acted, copy_taken, emptied, first_command}
-use Rattle.qc_script.specs.Names.{first_copy, first_lost, goes, goes_with, inbox_at, is_by_line, is_request, is_up}
-use Rattle.qc_script.specs.Names.{loss_taken, opened, opened_by, phase_begun, ready_in, reply_told, requests_to}
-use Rattle.qc_script.specs.Names.{requests_to_others, takes_commands, with_lost}
+use Rattle.qc_msg.specs.Vocabulary.{Entry}
+use Rattle.qc_script.specs.Vocabulary.{Inbox, acting, actor_fell, after_controls, answers_by, comes, command_called}
+use Rattle.qc_script.specs.Vocabulary.{command_in, commands_for, control_acted, copy_taken, emptied, first_command}
+use Rattle.qc_script.specs.Vocabulary.{first_copy, first_lost, goes, goes_with, inbox_at, is_by_line, is_request, is_up}
+use Rattle.qc_script.specs.Vocabulary.{loss_taken, opened, opened_by, phase_begun, ready_in, reply_told, requests_to}
+use Rattle.qc_script.specs.Vocabulary.{requests_to_others, takes_commands, with_lost}
 use Rattle.qc_script.specs.declared.script.PhaseLines.{PhaseLines}
 use Rattle.qc_script.specs.declared.script.Script.{Script}
 

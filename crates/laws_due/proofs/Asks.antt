@@ -8,9 +8,9 @@ use Rattle.qc_decl.specs.declared.declaration.Declaration.{Declaration}
 use Rattle.qc_msg.specs.declared.message.Message.TheVariants as messages
 use Rattle.qc_msg.specs.declared.message.Want.{Want}
 use Rattle.qc_msg.specs.declared.turn.Posting.{Posting}
-use Rattle.qc_msg.specs.Names.{Deed, Sends, life_of, sends_of}
-use Rattle.qc_promise.specs.Names.{Account, ClientRequest, Current, account_at, command_asks, is_asked_for}
-use Rattle.laws_due.specs.Names.{AreByRows}
+use Rattle.qc_msg.specs.Vocabulary.{Deed, Sends, life_of, sends_of}
+use Rattle.qc_promise.specs.Vocabulary.{Account, ClientRequest, Current, account_at, command_asks, is_asked_for}
+use Rattle.laws_due.specs.Vocabulary.{AreByRows}
 use Rattle.laws_due.proofs.Requests.{request_at, requests_from}
 
 -- a request of the transaction, in its epoch, to a site in the life of its first grant

@@ -3,7 +3,7 @@ use Rattle.std.proofs.Common.{◌≡◌, ◌⊎◌, ℕ, ◌&&◌, Bool, true, f
 use Rattle.std.proofs.Common.{None, refl, sym, ap, ◌∙◌, subst, eq-eqb}
 use Rattle.std.specs.Prelude.{fold, is_none}
 use Rattle.std.specs.List.{find, AllByRecursion as Every}
-use Rattle.qc_list.specs.Names.{In}
+use Rattle.qc_list.specs.Vocabulary.{In}
 use Rattle.qc_list.proofs.Members.{In-more}
 use Rattle.qc_stamp.specs.declared.stamp.TxId.{TxId}
 use Rattle.qc_decl.specs.declared.declaration.Declaration.{Declaration}
@@ -17,11 +17,11 @@ use Rattle.qc_msg.specs.declared.message.Want.TheVariants.{Read, Append, Prepare
 use Rattle.qc_msg.specs.declared.record.Record.{Record}
 use Rattle.qc_msg.specs.declared.record.Record.TheVariants as records
 use Rattle.qc_msg.specs.declared.step.Input.TheVariants as inputs
-use Rattle.qc_msg.specs.Names.{Deed, Falls, Rises, Sends, Takes, Tells, Writes}
-use Rattle.qc_promise.specs.Names.{Account, ClientRequest, account_at, account_heard, account_sent, account_written}
-use Rattle.qc_promise.specs.Names.{counted, counted_for, granted, is_asked_for, is_open, new_account, promised}
-use Rattle.qc_promise.specs.Names.{taken_for, told_by}
-use Rattle.laws_due.specs.Names.{IsAnswerTo, IsAwaited, IsNotFor}
+use Rattle.qc_msg.specs.Vocabulary.{Deed, Falls, Rises, Sends, Takes, Tells, Writes}
+use Rattle.qc_promise.specs.Vocabulary.{Account, ClientRequest, account_at, account_heard, account_sent}
+use Rattle.qc_promise.specs.Vocabulary.{account_written, counted, counted_for, granted, is_asked_for, is_open}
+use Rattle.qc_promise.specs.Vocabulary.{new_account, promised, taken_for, told_by}
+use Rattle.laws_due.specs.Vocabulary.{IsAnswerTo, IsAwaited, IsNotFor}
 
 -- what is told of a request leaves the requests
 

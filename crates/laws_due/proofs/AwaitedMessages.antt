@@ -1,12 +1,12 @@
 -- A request that is awaited stays so through each message that comes or goes; requests to who falls are lost.
-use Rattle.std.proofs.Common.{◌≡◌, ℕ, ◌+◌, ◌-◌, ◌==◌, ◌&&◌, ◌⊎◌, not, Bool, true, false, cond, if◌then◌else◌, inl, inr}
-use Rattle.std.proofs.Common.{List, ◌∷◌, ◌++◌, refl, sym, ap, subst}
+use Rattle.std.proofs.Common.{[], ◌≡◌, ℕ, ◌+◌, ◌-◌, ◌==◌, ◌&&◌, ◌⊎◌, not, Bool, true, false, cond, if◌then◌else◌, inl}
+use Rattle.std.proofs.Common.{inr, List, ◌∷◌, ◌++◌, refl, sym, ap, subst}
 use Rattle.std.specs.Prelude.{set}
 use Rattle.std.proofs.lemmas.Bool.{eqb-false, eqb-true}
 use Rattle.std.proofs.lemmas.List.{get_or-set_other}
-use Rattle.qc_list.specs.Names.{In}
+use Rattle.qc_list.specs.Vocabulary.{In}
 use Rattle.qc_list.proofs.Members.{In-filter, In-first, In-second}
-use Rattle.laws_turns.specs.Names.{HasAnswer, IsAnswerTo, IsAwaited}
+use Rattle.laws_turns.specs.Vocabulary.{HasAnswer, IsAnswerTo, IsAwaited}
 use Rattle.laws_turns.proofs.AwaitedCopies.{at_once, number_added, number_stays}
 use Rattle.qc_link.specs.declared.rule.Fate.{Fate}
 use Rattle.qc_msg.specs.declared.message.Answer.{Answer}
@@ -16,11 +16,11 @@ use Rattle.qc_msg.specs.declared.message.Message.TheVariants as messages
 use Rattle.qc_msg.specs.declared.step.Step.{Step}
 use Rattle.qc_msg.specs.declared.step.Step.TheVariants as steps
 use Rattle.qc_script.specs.declared.script.Script.{Script}
-use Rattle.qc_script.specs.Names.{Inbox, SentRequest, acting, actor_fell, answers_by, comes_at_once, comes_with}
-use Rattle.qc_script.specs.Names.{copies_at_once, emptied, goes_with, has_request, if_up, is_request, is_up, one_more}
-use Rattle.qc_script.specs.Names.{opened, request_answered, request_numbers, request_sent, requests_to}
-use Rattle.qc_script.specs.Names.{requests_to_others, with_copies, with_lost, with_number, without_number}
-use Rattle.qc_script.specs.Names.{without_request}
+use Rattle.qc_script.specs.Vocabulary.{Inbox, SentRequest, acting, actor_fell, answers_by, comes_at_once, comes_with}
+use Rattle.qc_script.specs.Vocabulary.{copies_at_once, emptied, goes_with, has_request, if_up, is_request, is_up}
+use Rattle.qc_script.specs.Vocabulary.{one_more, opened, request_answered, request_numbers, request_sent, requests_to}
+use Rattle.qc_script.specs.Vocabulary.{requests_to_others, with_copies, with_lost, with_number, without_number}
+use Rattle.qc_script.specs.Vocabulary.{without_request}
 use Rattle.qc_script.proofs.InboxesSend.{opened_keeps}
 use Rattle.qc_script.proofs.Requests.{added-number, without-numbers}
 

@@ -1,24 +1,24 @@
 -- In each run with falls each open request of a client that is up is awaited, and each of the administrator: it is lost, or
 -- unanswered, or a copy of an answer is ready.
-use Rattle.std.proofs.Common.{◌≡◌, ℕ, ◌-◌, ◌≤◌, Bool, true, List, refl, sym, ap, ◌∙◌, subst, arith}
-use Rattle.qc_list.specs.Names.{In}
+use Rattle.std.proofs.Common.{[], ◌≡◌, ℕ, ◌-◌, ◌≤◌, Bool, true, List, refl, sym, ap, ◌∙◌, subst, arith}
+use Rattle.qc_list.specs.Vocabulary.{In}
 use Rattle.qc_core.proofs.ByNumber.{admin_new, admin_no_client, admin_no_site, admin_risen}
 use Rattle.qc_core.specs.declared.actor.Actor.{Actor}
 use Rattle.qc_core.specs.declared.actor.Actor.TheVariants as actors
-use Rattle.qc_core.specs.Names.{ActorMove, IsLawfulWithFalls, actor_after, actor_rises, by_admin, new_actor}
+use Rattle.qc_core.specs.Vocabulary.{ActorMove, IsLawfulWithFalls, actor_after, actor_rises, by_admin, new_actor}
 use Rattle.qc_decl.specs.declared.declaration.Declaration.{Declaration}
 use Rattle.qc_decl.specs.Actors as numbers
-use Rattle.qc_decl.specs.Names.{administrator}
-use Rattle.qc_epoch.specs.Names.{Admin, new_admin}
-use Rattle.qc_recover.specs.Names.{admin_rises}
+use Rattle.qc_decl.specs.Vocabulary.{administrator}
+use Rattle.qc_epoch.specs.Vocabulary.{Admin, new_admin}
+use Rattle.qc_recover.specs.Vocabulary.{admin_rises}
 use Rattle.laws_due.proofs.AdminNumbers.{open_numbers}
-use Rattle.laws_turns.specs.Names.{IsAwaited}
-use Rattle.qc_link.specs.Names.{most_actors}
+use Rattle.laws_turns.specs.Vocabulary.{IsAwaited}
+use Rattle.qc_link.specs.Vocabulary.{most_actors}
 use Rattle.qc_msg.specs.declared.record.Record.{Record}
-use Rattle.qc_msg.specs.Names.{Entry, deeds}
+use Rattle.qc_msg.specs.Vocabulary.{Entry, deeds}
 use Rattle.qc_script.proofs.AllUp.{is_up-everybody}
 use Rattle.qc_script.specs.declared.script.Script.{Script}
-use Rattle.qc_script.specs.Names.{Inbox, RunsWithFalls, empty_inbox, everybody, inbox, is_up}
+use Rattle.qc_script.specs.Vocabulary.{Inbox, RunsWithFalls, empty_inbox, everybody, inbox, is_up}
 use Rattle.laws_due.proofs.Covered.{Awaits}
 
 -- and so is each of the administrator

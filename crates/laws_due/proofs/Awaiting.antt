@@ -1,21 +1,21 @@
 -- A request that is awaited stays so through falls of others too: then it is lost, if it went to who falls.
-use Rattle.std.proofs.Common.{◌≡◌, ℕ, ◌+◌, ◌-◌, ◌==◌, ◌⊎◌, Bool, true, false, if◌then◌else◌, inl, inr, List, ◌∷◌, ◌++◌}
-use Rattle.std.proofs.Common.{drop, Option, Some, None, slice_get, refl, sym, ap, ◌∙◌, subst}
+use Rattle.std.proofs.Common.{[], ◌≡◌, ℕ, ◌+◌, ◌-◌, ◌==◌, ◌⊎◌, Bool, true, false, if◌then◌else◌, inl, inr, List, ◌∷◌}
+use Rattle.std.proofs.Common.{◌++◌, drop, Option, Some, None, slice_get, refl, sym, ap, ◌∙◌, subst}
 use Rattle.std.specs.Prelude.{set}
 use Rattle.std.specs.Option.{option_map_or}
-use Rattle.qc_list.specs.Names.{In}
-use Rattle.laws_turns.specs.Names.{IsAwaited}
-use Rattle.qc_link.specs.Names.{fate, with_cut, without_cut}
+use Rattle.qc_list.specs.Vocabulary.{In}
+use Rattle.laws_turns.specs.Vocabulary.{IsAwaited}
+use Rattle.qc_link.specs.Vocabulary.{fate, with_cut, without_cut}
 use Rattle.qc_msg.specs.declared.message.Envelope.{Envelope}
 use Rattle.qc_msg.specs.declared.step.Control.{Control}
 use Rattle.qc_msg.specs.declared.step.Step.{Step}
 use Rattle.qc_msg.specs.declared.step.Step.TheVariants as steps
 use Rattle.qc_script.specs.declared.script.PhaseLines.{PhaseLines}
 use Rattle.qc_script.specs.declared.script.Script.{Script}
-use Rattle.qc_script.specs.Names.{Inbox, acting, actor_fell, comes, comes_with, command_called, commands_for}
-use Rattle.qc_script.specs.Names.{control_acted, copy_taken, count_of, emptied, goes, if_up, inbox_at, is_by_line}
-use Rattle.qc_script.specs.Names.{is_up, loss_taken, opened, opened_by, phase_begun, reply_told, request_numbers}
-use Rattle.qc_script.specs.Names.{requests_to, requests_to_others, with_lost}
+use Rattle.qc_script.specs.Vocabulary.{Inbox, acting, actor_fell, comes, comes_with, command_called, commands_for}
+use Rattle.qc_script.specs.Vocabulary.{control_acted, copy_taken, count_of, emptied, goes, if_up, inbox_at, is_by_line}
+use Rattle.qc_script.specs.Vocabulary.{is_up, loss_taken, opened, opened_by, phase_begun, reply_told, request_numbers}
+use Rattle.qc_script.specs.Vocabulary.{requests_to, requests_to_others, with_lost}
 use Rattle.qc_script.proofs.InboxesSend.{sends_does}
 use Rattle.laws_due.proofs.AwaitedMessages.{lost_stays, parted, answer_second, awaited_if, awaited_more}
 use Rattle.laws_due.proofs.AwaitedMessages.{awaited_comes_with, awaited_goes_with, up_apart, opened_up, up_if, fell_up}

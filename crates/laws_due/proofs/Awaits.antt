@@ -6,11 +6,11 @@ use Rattle.std.specs.Prelude.{is_none}
 use Rattle.std.specs.List.{list_all, AllByRecursion as Every}
 use Rattle.std.specs.Option.{option_or}
 use Rattle.std.proofs.lemmas.Bool.{le-leb}
-use Rattle.qc_list.specs.Names.{In}
+use Rattle.qc_list.specs.Vocabulary.{In}
 use Rattle.qc_list.proofs.Members.{every-filter}
-use Rattle.qc_core.specs.Names.{Acts, IsLawful}
+use Rattle.qc_core.specs.Vocabulary.{Acts, IsLawful}
 use Rattle.qc_decl.specs.declared.declaration.Declaration.{Declaration}
-use Rattle.qc_decl.specs.Names.{append_need_of, is_client, read_need_of}
+use Rattle.qc_decl.specs.Vocabulary.{append_need_of, is_client, read_need_of}
 use Rattle.qc_front.specs.declared.doing.Doing.{Doing}
 use Rattle.qc_front.specs.declared.doing.Doing.TheVariants.{Reading, Appending}
 use Rattle.qc_front.specs.declared.front.Front.{Front}
@@ -23,13 +23,14 @@ use Rattle.qc_msg.specs.declared.message.Answer.{Answer}
 use Rattle.qc_msg.specs.declared.message.Want.{Want}
 use Rattle.qc_msg.specs.declared.reply.Reply.TheVariants as replies
 use Rattle.qc_msg.specs.declared.turn.Turn.{Turn}
-use Rattle.qc_msg.specs.Names.{Deed}
+use Rattle.qc_msg.specs.Vocabulary.{Deed}
 use Rattle.qc_plan.specs.declared.standing.Verdict.TheVariants as verdicts
-use Rattle.qc_plan.specs.Names.{all_noted, first_clash, first_closed, has_granted, refusal, settled, verdict, weight}
-use Rattle.qc_promise.specs.Names.{Account, ClientRequest, Current, answer_of, answer_row, append_row, asked_by}
-use Rattle.qc_promise.specs.Names.{is_append, is_read, read_row, resp_of, round_of, running_row, weights_of}
-use Rattle.laws_due.specs.Names.{Holds, IsDo, IsEnough, IsGranted, IsGrantedDo, IsWaiting, NoneRuns, Ties, appends}
-use Rattle.laws_due.specs.Names.{call_of, calls_in, front_of, reads, rests, votes}
+use Rattle.qc_plan.specs.Vocabulary.{all_noted, first_clash, first_closed, has_granted, refusal, settled, verdict}
+use Rattle.qc_plan.specs.Vocabulary.{weight}
+use Rattle.qc_promise.specs.Vocabulary.{Account, ClientRequest, Current, answer_of, answer_row, append_row, asked_by}
+use Rattle.qc_promise.specs.Vocabulary.{is_append, is_read, read_row, resp_of, round_of, running_row, weights_of}
+use Rattle.laws_due.specs.Vocabulary.{Holds, IsDo, IsEnough, IsGranted, IsGrantedDo, IsWaiting, NoneRuns, Ties, appends}
+use Rattle.laws_due.specs.Vocabulary.{call_of, calls_in, front_of, reads, rests, votes}
 use Rattle.laws_due.proofs.Nothing.{do_row_is, tied_none}
 use Rattle.laws_due.proofs.Courses.{account_of, clients_hold, clients_tied, move_of, turns_tell}
 

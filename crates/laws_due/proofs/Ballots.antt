@@ -4,19 +4,19 @@ use Rattle.std.proofs.Common.{Option, Some, None, option_map, is_some, inl, inr,
 use Rattle.std.specs.Prelude.{slice_get}
 use Rattle.std.specs.List.{list_all, AllByRecursion as Every}
 use Rattle.std.specs.Option.{option_or}
-use Rattle.qc_list.specs.Names.{In}
+use Rattle.qc_list.specs.Vocabulary.{In}
 use Rattle.qc_commit.specs.declared.ballot.Ballot.{Ballot}
 use Rattle.qc_commit.specs.Votes as ballots
-use Rattle.qc_commit.specs.Names.{are_cast, blank, cast, vote_of}
+use Rattle.qc_commit.specs.Vocabulary.{are_cast, blank, cast, vote_of}
 use Rattle.qc_msg.specs.declared.begun.Begun.{Begun}
 use Rattle.qc_msg.specs.declared.message.Answer.{Answer}
 use Rattle.qc_msg.specs.declared.message.Answer.TheVariants as answers
 use Rattle.qc_msg.specs.declared.message.Want.{Want}
 use Rattle.qc_msg.specs.declared.message.Want.TheVariants.{Prepare}
 use Rattle.qc_msg.specs.declared.reply.AbortCause.TheVariants as causes
-use Rattle.qc_msg.specs.Names.{life_of}
-use Rattle.qc_promise.specs.Names.{ClientRequest, Current, against, first_against, is_prepare}
-use Rattle.laws_due.specs.Names.{AreApart, IsPrepare, ballot_of, begun_of}
+use Rattle.qc_msg.specs.Vocabulary.{life_of}
+use Rattle.qc_promise.specs.Vocabulary.{ClientRequest, Current, against, first_against, is_prepare}
+use Rattle.laws_due.specs.Vocabulary.{AreApart, IsPrepare, ballot_of, begun_of}
 use Rattle.laws_due.proofs.OpenRequests.{sites_in}
 use Rattle.laws_due.proofs.Requests.{requests_from}
 

@@ -3,7 +3,7 @@ use Rattle.std.proofs.Common.{◌≡◌, ℕ, ◌==◌, Bool, true, false, cond,
 use Rattle.std.proofs.Common.{Some, None, option_to_list, slice_get, refl, sym, ap, ◌∙◌}
 use Rattle.std.specs.Prelude.{fold, set}
 use Rattle.std.proofs.lemmas.List.Sums.{fold-append}
-use Rattle.qc_core.specs.Names.{AreSteady, is_running, runs_at}
+use Rattle.qc_core.specs.Vocabulary.{AreSteady, is_running, runs_at}
 use Rattle.laws_turns.proofs.Running.{busy_step}
 use Rattle.qc_msg.specs.declared.message.Envelope.{Envelope}
 use Rattle.qc_msg.specs.declared.record.Record.{Record}
@@ -11,11 +11,11 @@ use Rattle.qc_msg.specs.declared.step.Control.{Control}
 use Rattle.qc_msg.specs.declared.step.Fall.{Fall}
 use Rattle.qc_msg.specs.declared.step.Step.{Step}
 use Rattle.qc_msg.specs.declared.step.Step.TheVariants as steps
-use Rattle.qc_msg.specs.Names.{Deed, Entry, Falls, Rises, deed_at, deeds, envelope_of, heard}
-use Rattle.qc_script.specs.Names.{Inbox, acting, actor_fell, control_acted, emptied, empty_inbox, inbox, inbox_at}
-use Rattle.qc_script.specs.Names.{is_by_line, is_up, opened_by, requests_to, requests_to_others, with_lost}
+use Rattle.qc_msg.specs.Vocabulary.{Deed, Entry, Falls, Rises, deed_at, deeds, envelope_of, heard}
+use Rattle.qc_script.specs.Vocabulary.{Inbox, acting, actor_fell, control_acted, emptied, empty_inbox, inbox, inbox_at}
+use Rattle.qc_script.specs.Vocabulary.{is_by_line, is_up, opened_by, requests_to, requests_to_others, with_lost}
 use Rattle.qc_script.specs.declared.script.Script.{Script}
-use Rattle.laws_due.specs.Names.{AreInOrder}
+use Rattle.laws_due.specs.Vocabulary.{AreInOrder}
 use Rattle.laws_due.proofs.Ordered.{order_first, order_second}
 
 mine_up : (mine : Bool) (ds : List Deed) → AreSteady ds → AreSteady (cond mine ds [])

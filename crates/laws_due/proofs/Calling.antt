@@ -8,8 +8,8 @@ use Rattle.std.specs.Option.{option_map_or}
 use Rattle.std.proofs.lemmas.List.{append-nil}
 use Rattle.std.proofs.lemmas.List.Elements.{filter_map-append}
 use Rattle.qc_decl.specs.declared.declaration.Declaration.{Declaration}
-use Rattle.qc_decl.specs.Names.{controller}
-use Rattle.laws_turns.specs.Names.{asked_in_all, asked_until, call_in, calls_of}
+use Rattle.qc_decl.specs.Vocabulary.{controller}
+use Rattle.laws_turns.specs.Vocabulary.{asked_in_all, asked_until, call_in, calls_of}
 use Rattle.laws_turns.proofs.Acted.{deeds-silent}
 use Rattle.laws_turns.proofs.PhaseCalls.{phase_taken}
 use Rattle.laws_turns.proofs.Numbered.{phase_silent}
@@ -21,13 +21,13 @@ use Rattle.qc_msg.specs.declared.step.Input.{Input}
 use Rattle.qc_msg.specs.declared.step.Input.TheVariants as inputs
 use Rattle.qc_msg.specs.declared.step.Step.TheVariants as steps
 use Rattle.qc_msg.specs.declared.turn.Turn.{Turn}
-use Rattle.qc_msg.specs.Names.{Deed, Entry, Takes, by, deeds, mail, marked, posted_as, step_of}
+use Rattle.qc_msg.specs.Vocabulary.{Deed, Entry, Takes, by, deeds, mail, marked, posted_as, step_of}
 use Rattle.qc_msg.proofs.DeedsGrow.{deeds-other}
 use Rattle.qc_msg.proofs.Growth.{deeds-taken}
-use Rattle.qc_script.specs.Names.{Inbox, RunsWithFalls, after_controls, begins, command_called, command_in}
-use Rattle.qc_script.specs.Names.{commands_for, control, damaged, falls, first_command, first_copy, first_lost, inbox}
-use Rattle.qc_script.specs.Names.{phase, phase_begun, phase_of, posts, ready, ready_in, rises, takes, takes_commands}
-use Rattle.qc_script.specs.Names.{unopened}
+use Rattle.qc_script.specs.Vocabulary.{Inbox, RunsWithFalls, after_controls, begins, command_called, command_in}
+use Rattle.qc_script.specs.Vocabulary.{commands_for, control, damaged, falls, first_command, first_copy, first_lost}
+use Rattle.qc_script.specs.Vocabulary.{inbox, phase, phase_begun, phase_of, posts, ready, ready_in, rises, takes}
+use Rattle.qc_script.specs.Vocabulary.{takes_commands, unopened}
 use Rattle.qc_script.specs.declared.script.PhaseLines.{PhaseLines}
 use Rattle.qc_script.specs.declared.script.Script.{Script}
 use Rattle.laws_due.proofs.PlainSteps.{ArePlain, inbox_then, line_plain, opened_left, post_plain}

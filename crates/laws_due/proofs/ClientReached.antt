@@ -2,28 +2,28 @@
 -- client is at its site.
 use Rattle.std.proofs.Common.{◌≡◌, ℕ, ◌<◌, ◌≤◌, Bool, true, List, [], ◌∷◌, refl, sym, subst, arith}
 use Rattle.std.proofs.lemmas.Bool.{lt-ltb}
-use Rattle.qc_list.specs.Names.{In}
+use Rattle.qc_list.specs.Vocabulary.{In}
 use Rattle.qc_list.proofs.Members.{every-In}
 use Rattle.qc_core.specs.declared.actor.Actor.{Actor}
 use Rattle.qc_core.specs.declared.actor.Actor.TheVariants as actor
-use Rattle.qc_core.specs.Names.{IsLawfulWithFalls, MayReach, actor_after, actor_takes, up_at}
+use Rattle.qc_core.specs.Vocabulary.{IsLawfulWithFalls, MayReach, actor_after, actor_takes, up_at}
 use Rattle.qc_core.specs.Lives as lives
-use Rattle.qc_decl.specs.Names.{IsAccepted, actors, is_client}
+use Rattle.qc_decl.specs.Vocabulary.{IsAccepted, actors, is_client}
 use Rattle.qc_decl.specs.declared.declaration.Declaration.{Declaration}
-use Rattle.laws_turns.specs.Names.{AsksDeclared, IsAtReceiver}
+use Rattle.laws_turns.specs.Vocabulary.{AsksDeclared, IsAtReceiver}
 use Rattle.laws_turns.proofs.Rounds.{AreProper, IsProper}
 use Rattle.laws_turns.proofs.SiteReplies.{IsReply}
-use Rattle.qc_link.specs.Names.{most_actors}
+use Rattle.qc_link.specs.Vocabulary.{most_actors}
 use Rattle.qc_msg.specs.declared.message.Envelope.{Envelope}
 use Rattle.qc_msg.specs.declared.message.Message.{Message}
 use Rattle.qc_msg.specs.declared.message.Message.TheVariants as messages
 use Rattle.qc_msg.specs.declared.record.Record.{Record}
 use Rattle.qc_msg.specs.declared.step.Input.TheVariants as inputs
 use Rattle.qc_msg.specs.declared.turn.Posting.{Posting}
-use Rattle.qc_msg.specs.Names.{Deed, Entry, mail, sends_as}
+use Rattle.qc_msg.specs.Vocabulary.{Deed, Entry, mail, sends_as}
 use Rattle.qc_script.specs.declared.script.Script.{Script}
-use Rattle.qc_script.specs.Names.{RunsWithFalls, inbox, is_request, request_numbers}
-use Rattle.qc_site.specs.Names.{SiteState, passed, site_at}
+use Rattle.qc_script.specs.Vocabulary.{RunsWithFalls, inbox, is_request, request_numbers}
+use Rattle.qc_site.specs.Vocabulary.{SiteState, passed, site_at}
 use Rattle.laws_due.proofs.Places.{apart, client_past, client_within, few_actors}
 use Rattle.laws_due.proofs.Proper.{IsOwnProper, post_sends, rise_sends, run_proper}
 use Rattle.laws_due.proofs.Somewhere.{AreToOthers, IsOther}

@@ -1,19 +1,19 @@
 -- In each run with falls all that a client does is due.
 use Rattle.std.proofs.Common.{◌≡◌, ◌<◌, ◌≤◌, ℕ, ◌-◌, ◌&&◌, Bool, true, List, [], length, Some, slice_get, sym, subst}
 use Rattle.std.proofs.Common.{le-leb, lt-ltb, arith}
-use Rattle.qc_core.specs.Names.{IsLawfulWithFalls}
-use Rattle.qc_decl.specs.Names.{actors, administrator, client_actor, is_client}
+use Rattle.qc_core.specs.Vocabulary.{IsLawfulWithFalls}
+use Rattle.qc_decl.specs.Vocabulary.{actors, administrator, client_actor, is_client}
 use Rattle.qc_decl.specs.declared.declaration.Declaration.{Declaration}
 use Rattle.laws_turns.proofs.Places.{slice_get-within}
-use Rattle.qc_link.specs.Names.{most_actors}
-use Rattle.laws_turns.specs.Names.{LivesIn}
+use Rattle.qc_link.specs.Vocabulary.{most_actors}
+use Rattle.laws_turns.specs.Vocabulary.{LivesIn}
 use Rattle.laws_turns.proofs.Lived.{run_lives, run_long}
 use Rattle.qc_msg.specs.declared.record.Record.{Record}
-use Rattle.qc_msg.specs.Names.{Entry, deeds}
-use Rattle.qc_promise.specs.Names.{AreRepliesDue}
-use Rattle.qc_script.specs.Names.{RunsWithFalls}
+use Rattle.qc_msg.specs.Vocabulary.{Entry, deeds}
+use Rattle.qc_promise.specs.Vocabulary.{AreRepliesDue}
+use Rattle.qc_script.specs.Vocabulary.{RunsWithFalls}
 use Rattle.qc_script.specs.declared.script.Script.{Script}
-use Rattle.laws_due.specs.Names.{Declares}
+use Rattle.laws_due.specs.Vocabulary.{Declares}
 use Rattle.laws_due.proofs.Lifelong.{lives_due}
 
 module _ (decl : Declaration) (script : Script) (fits : ℕ → List Record → Type 0) (few : actors decl ≤ most_actors)

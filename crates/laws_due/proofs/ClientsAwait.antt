@@ -1,30 +1,30 @@
 -- In each run with falls each open request of a client that is up is awaited: it is lost, or unanswered, or a copy of
 -- an answer is ready.
-use Rattle.std.proofs.Common.{◌≡◌, ℕ, ◌+◌, ◌-◌, ◌<◌, ◌≤◌, ◌==◌, Bool, true, false, List, ◌∷◌, ◌++◌, length, Some, None}
-use Rattle.std.proofs.Common.{refl, sym, ap, ◌∙◌, subst, eqb-true, arith}
+use Rattle.std.proofs.Common.{[], ◌≡◌, ℕ, ◌+◌, ◌-◌, ◌<◌, ◌≤◌, ◌==◌, Bool, true, false, List, ◌∷◌, ◌++◌, length, Some}
+use Rattle.std.proofs.Common.{None, refl, sym, ap, ◌∙◌, subst, eqb-true, arith}
 use Rattle.std.specs.Prelude.{fold}
 use Rattle.std.proofs.lemmas.List.Sums.{fold-append}
 use Rattle.qc_decl.proofs.Clients.{client_within}
-use Rattle.qc_list.specs.Names.{In}
+use Rattle.qc_list.specs.Vocabulary.{In}
 use Rattle.qc_core.proofs.ByNumber.{client_new, client_risen}
 use Rattle.qc_core.proofs.PostsByTurns.{called_turn}
 use Rattle.qc_core.specs.declared.actor.Actor.{Actor}
 use Rattle.qc_core.specs.declared.actor.Actor.TheVariants as actors
-use Rattle.qc_core.specs.Names.{ActorMove, IsLawfulWithFalls, actor_after, actor_does, actor_rises, moved, new_actor}
-use Rattle.qc_core.specs.Names.{with_record}
+use Rattle.qc_core.specs.Vocabulary.{ActorMove, IsLawfulWithFalls, actor_after, actor_does, actor_rises, moved}
+use Rattle.qc_core.specs.Vocabulary.{new_actor, with_record}
 use Rattle.qc_core.specs.Lives as lives
 use Rattle.qc_core.proofs.LivesOfActors as laws
 use Rattle.qc_decl.specs.declared.declaration.Declaration.{Declaration}
 use Rattle.qc_decl.specs.Actors as numbers
-use Rattle.qc_decl.specs.Names.{controller, is_client}
-use Rattle.qc_recover.specs.Names.{client_rises, rising}
+use Rattle.qc_decl.specs.Vocabulary.{controller, is_client}
+use Rattle.qc_recover.specs.Vocabulary.{client_rises, rising}
 use Rattle.qc_client.specs.declared.client.Client.{Client}
-use Rattle.qc_client.specs.Names.{new_client}
-use Rattle.qc_inbox.proofs.FallLaws.{up_by_deeds}
-use Rattle.qc_inbox.proofs.FallMail.{ready_sent}
-use Rattle.laws_turns.specs.Names.{IsAwaited, open_calls}
+use Rattle.qc_client.specs.Vocabulary.{new_client}
+use Rattle.qc_mailbox.proofs.FallLaws.{up_by_deeds}
+use Rattle.qc_mailbox.proofs.FallMail.{ready_sent}
+use Rattle.laws_turns.specs.Vocabulary.{IsAwaited, open_calls}
 use Rattle.laws_turns.proofs.Acted.{deeds-silent}
-use Rattle.qc_link.specs.Names.{most_actors}
+use Rattle.qc_link.specs.Vocabulary.{most_actors}
 use Rattle.laws_turns.proofs.Downs.{tells, up_is}
 use Rattle.laws_turns.proofs.Lived.{deeds-fall, deeds-rise}
 use Rattle.qc_msg.specs.declared.call.Call.{Call}
@@ -36,14 +36,14 @@ use Rattle.qc_msg.specs.declared.step.Step.TheVariants as steps
 use Rattle.qc_msg.specs.declared.turn.Appended.{Appended}
 use Rattle.qc_msg.specs.declared.turn.Appended.TheVariants.{Done, Failed, Stopped}
 use Rattle.qc_msg.specs.declared.turn.Turn.{Turn}
-use Rattle.qc_msg.specs.Names.{Deed, Entry, Rises, Takes, Writes, by, deeds, deeds_as, mail, marked, posted, posted_as}
-use Rattle.qc_msg.specs.Names.{quiet, step_of, turn_deeds}
+use Rattle.qc_msg.specs.Vocabulary.{Deed, Entry, Rises, Takes, Writes, by, deeds, deeds_as, mail, marked, posted}
+use Rattle.qc_msg.specs.Vocabulary.{posted_as, quiet, step_of, turn_deeds}
 use Rattle.qc_msg.proofs.DeedsGrow.{deeds-other}
 use Rattle.qc_msg.proofs.Growth.{deeds-posted_as, deeds-taken}
 use Rattle.qc_script.proofs.AllUp.{is_up-everybody}
 use Rattle.qc_script.specs.declared.script.Script.{Script}
-use Rattle.qc_script.specs.Names.{Inbox, RunsWithFalls, begins, control, damaged, empty_inbox, everybody, falls, inbox}
-use Rattle.qc_script.specs.Names.{is_up, phase, phase_of, posts, ready, rises, takes, unopened}
+use Rattle.qc_script.specs.Vocabulary.{Inbox, RunsWithFalls, begins, control, damaged, empty_inbox, everybody, falls}
+use Rattle.qc_script.specs.Vocabulary.{inbox, is_up, phase, phase_of, posts, ready, rises, takes, unopened}
 use Rattle.laws_due.proofs.Places.{apart, rose_split}
 use Rattle.laws_due.proofs.Telling.{broken_down}
 use Rattle.laws_due.proofs.Covered.{Awaits, one_step, others_steps, own_take, own_turn, step_in}

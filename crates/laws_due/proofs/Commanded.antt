@@ -1,11 +1,11 @@
 -- In a run with falls each command that is called is one that the script asks of that client.
-use Rattle.std.proofs.Common.{◌≡◌, ℕ, ◌+◌, ◌-◌, ◌==◌, Bool, true, false, cond, List, ◌∷◌, ◌++◌, filter, map, length}
+use Rattle.std.proofs.Common.{[], ◌≡◌, ℕ, ◌+◌, ◌-◌, ◌==◌, Bool, true, false, cond, List, ◌∷◌, ◌++◌, filter, map, length}
 use Rattle.std.proofs.Common.{Option, Some, None, slice_get, refl, subst, eqb-true}
 use Rattle.std.specs.Prelude.{option_to_list}
 use Rattle.std.specs.List.{AllByRecursion as Every}
-use Rattle.qc_decl.specs.Names.{controller}
+use Rattle.qc_decl.specs.Vocabulary.{controller}
 use Rattle.qc_decl.specs.declared.declaration.Declaration.{Declaration}
-use Rattle.laws_turns.specs.Names.{AreAskable, AsksDeclared, IsAskable}
+use Rattle.laws_turns.specs.Vocabulary.{AreAskable, AsksDeclared, IsAskable}
 use Rattle.laws_turns.proofs.Mailed.{all_at, both_all}
 use Rattle.laws_turns.proofs.SoundClients.{IsAskableDeed}
 use Rattle.qc_msg.specs.declared.message.Envelope.{Envelope}
@@ -22,10 +22,10 @@ use Rattle.qc_msg.specs.declared.turn.Appended.{Appended}
 use Rattle.qc_msg.specs.declared.turn.Appended.TheVariants.{Done, Failed, Stopped}
 use Rattle.qc_msg.specs.declared.turn.Posting.{Posting}
 use Rattle.qc_msg.specs.declared.turn.Turn.{Turn}
-use Rattle.qc_msg.specs.Names.{Deed, Entry, by, deed_at, deeds, envelope_of, fell, heard, mail, posted_as, sents}
-use Rattle.qc_msg.specs.Names.{step_of, told, wrote}
-use Rattle.qc_script.specs.Names.{RunsWithFalls, begins, commands_for, control, controller_step, damaged, empty_inbox}
-use Rattle.qc_script.specs.Names.{falls, inbox, phase, posts, ready, rises, takes, unopened}
+use Rattle.qc_msg.specs.Vocabulary.{Deed, Entry, by, deed_at, deeds, envelope_of, fell, heard, mail, posted_as, sents}
+use Rattle.qc_msg.specs.Vocabulary.{step_of, told, wrote}
+use Rattle.qc_script.specs.Vocabulary.{RunsWithFalls, begins, commands_for, control, controller_step, damaged}
+use Rattle.qc_script.specs.Vocabulary.{empty_inbox, falls, inbox, phase, posts, ready, rises, takes, unopened}
 use Rattle.qc_script.specs.declared.script.CommandLine.{CommandLine}
 use Rattle.qc_script.specs.declared.script.PhaseLines.{PhaseLines}
 use Rattle.qc_script.specs.declared.script.Script.{Script}

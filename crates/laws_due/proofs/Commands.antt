@@ -6,9 +6,9 @@ use Rattle.std.specs.List.{find}
 use Rattle.std.proofs.lemmas.Bool.{ltb-true}
 use Rattle.qc_decl.proofs.Clients.{client_past}
 use Rattle.qc_decl.specs.declared.declaration.Declaration.{Declaration}
-use Rattle.qc_decl.specs.Names.{is_client, is_site}
-use Rattle.qc_core.specs.Names.{AreSteady, IsLawful, MayTake, is_running, runs_at}
-use Rattle.qc_client.specs.Names.{client_after}
+use Rattle.qc_decl.specs.Vocabulary.{is_client, is_site}
+use Rattle.qc_core.specs.Vocabulary.{AreSteady, IsLawful, MayTake, is_running, runs_at}
+use Rattle.qc_client.specs.Vocabulary.{client_after}
 use Rattle.qc_entry.specs.declared.line.Line.{Line}
 use Rattle.qc_msg.specs.declared.message.Answer.{Answer}
 use Rattle.qc_msg.specs.declared.message.Answer.TheVariants as answers
@@ -22,11 +22,11 @@ use Rattle.qc_msg.specs.declared.step.Command.{Command}
 use Rattle.qc_msg.specs.declared.step.Input.{Input}
 use Rattle.qc_msg.specs.declared.step.Input.TheVariants as inputs
 use Rattle.qc_msg.specs.declared.turn.Turn.{Turn}
-use Rattle.qc_msg.specs.Names.{Deed, Falls, Rises, Sends, Takes, Tells, Writes}
-use Rattle.qc_promise.specs.Names.{Account, ClientRequest, IsFreeFor, account_at, account_heard, account_sent}
-use Rattle.qc_promise.specs.Names.{account_written, counted, counted_for, granted, is_asked_for, is_open, new_account}
-use Rattle.qc_promise.specs.Names.{promised, taken_for, told_by}
-use Rattle.qc_site.specs.Names.{site_after}
+use Rattle.qc_msg.specs.Vocabulary.{Deed, Falls, Rises, Sends, Takes, Tells, Writes}
+use Rattle.qc_promise.specs.Vocabulary.{Account, ClientRequest, IsFreeFor, account_at, account_heard, account_sent}
+use Rattle.qc_promise.specs.Vocabulary.{account_written, counted, counted_for, granted, is_asked_for, is_open}
+use Rattle.qc_promise.specs.Vocabulary.{new_account, promised, taken_for, told_by}
+use Rattle.qc_site.specs.Vocabulary.{site_after}
 
 granted_command : (d : Account) (site life clock : ℕ) (log : List Line) (w : Want)
     → (granted d site life clock log w).command ≡ d.command

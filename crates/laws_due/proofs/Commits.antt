@@ -1,6 +1,7 @@
 -- A commit: its Prepares, its votes, and its end.
-use Rattle.std.proofs.Common.{◌≡◌, ◌≤◌, ℕ, suc, ◌+◌, ◌==◌, ◌&&◌, Bool, true, false, cond, List, ◌∷◌, ◌++◌, length, map}
-use Rattle.std.proofs.Common.{filter, drop, max, Option, Some, None, is_some, refl, sym, ap, ◌∙◌, subst, eq-eqb, arith}
+use Rattle.std.proofs.Common.{[], ◌≡◌, ◌≤◌, ℕ, suc, ◌+◌, ◌==◌, ◌&&◌, Bool, true, false, cond, List, ◌∷◌, ◌++◌, length}
+use Rattle.std.proofs.Common.{map, filter, drop, max, Option, Some, None, is_some, refl, sym, ap, ◌∙◌, subst, eq-eqb}
+use Rattle.std.proofs.Common.{arith}
 use Rattle.std.specs.List.{list_all}
 use Rattle.std.proofs.lemmas.List.{length-append}
 use Rattle.std.proofs.lemmas.List.Elements.{filter-append}
@@ -9,22 +10,22 @@ use Rattle.qc_decl.specs.declared.declaration.Declaration.{Declaration}
 use Rattle.qc_view.specs.declared.view.View.{View}
 use Rattle.qc_commit.specs.declared.desk.Desk.{Desk}
 use Rattle.qc_commit.specs.declared.desk.Voting.{Voting}
-use Rattle.qc_commit.specs.Names.{blank, moved as desk_moved}
+use Rattle.qc_commit.specs.Vocabulary.{blank, moved as desk_moved}
 use Rattle.qc_commit.specs.Votes as ballots
 use Rattle.qc_front.specs.declared.front.Front.{Front}
 use Rattle.qc_front.specs.declared.transaction.Transaction.{Transaction}
 use Rattle.qc_client.specs.declared.client.Client.{Client}
-use Rattle.qc_client.specs.Names.{by_desk}
+use Rattle.qc_client.specs.Vocabulary.{by_desk}
 use Rattle.qc_msg.specs.declared.begun.Begun.{Begun}
 use Rattle.qc_msg.specs.declared.call.Call.{Call}
 use Rattle.qc_msg.specs.declared.message.Want.TheVariants.{Prepare}
 use Rattle.qc_msg.specs.declared.reply.Reply.TheVariants as replies
 use Rattle.qc_msg.specs.declared.reply.AbortCause.TheVariants as causes
 use Rattle.qc_msg.specs.declared.step.Command.TheVariants as commands
-use Rattle.qc_msg.specs.Names.{calls_from, sending}
-use Rattle.qc_promise.specs.Names.{Account, ClientRequest, Current, command_asks, is_prepare, is_this, participants}
-use Rattle.qc_promise.specs.Names.{view_of, vote_row}
-use Rattle.laws_due.specs.Names.{Goes, IsPrepare, Ties, begun_of, transaction_of}
+use Rattle.qc_msg.specs.Vocabulary.{calls_from, sending}
+use Rattle.qc_promise.specs.Vocabulary.{Account, ClientRequest, Current, command_asks, is_prepare, is_this}
+use Rattle.qc_promise.specs.Vocabulary.{participants, view_of, vote_row}
+use Rattle.laws_due.specs.Vocabulary.{Goes, IsPrepare, Ties, begun_of, transaction_of}
 use Rattle.laws_due.proofs.Asks.{asking}
 use Rattle.laws_due.proofs.Ballots.{dropped_at, dropped_more, new_ballots, new_numbers, new_sites}
 use Rattle.laws_due.proofs.Requests.{calls_new, every_new, request_at, requests_from}

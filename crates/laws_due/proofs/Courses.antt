@@ -3,14 +3,14 @@ use Rattle.std.proofs.Common.{◌≡◌, ℕ, ◌-◌, Bool, true, false, List, 
 use Rattle.std.specs.Prelude.{fold}
 use Rattle.std.proofs.lemmas.List.Sums.{fold-append}
 use Rattle.qc_decl.specs.declared.declaration.Declaration.{Declaration}
-use Rattle.qc_decl.specs.Names.{is_client}
-use Rattle.qc_core.specs.Names.{Acts, AreSteady, IsLawful, MayTake, posts, starts, takes}
-use Rattle.qc_client.specs.Names.{ClientMove, client_after, client_does, client_takes, moved, new_client}
+use Rattle.qc_decl.specs.Vocabulary.{is_client}
+use Rattle.qc_core.specs.Vocabulary.{Acts, AreSteady, IsLawful, MayTake, posts, starts, takes}
+use Rattle.qc_client.specs.Vocabulary.{ClientMove, client_after, client_does, client_takes, moved, new_client}
 use Rattle.qc_msg.specs.declared.step.Input.{Input}
 use Rattle.qc_msg.specs.declared.turn.Turn.{Turn}
-use Rattle.qc_msg.specs.Names.{Deed, Takes, quiet, turn_deeds}
-use Rattle.qc_promise.specs.Names.{Account, IsInputDue, account_at, account_taken, new_account, running_row}
-use Rattle.laws_due.specs.Names.{AreByRows, Goes, Holds, Ties, rests}
+use Rattle.qc_msg.specs.Vocabulary.{Deed, Takes, quiet, turn_deeds}
+use Rattle.qc_promise.specs.Vocabulary.{Account, IsInputDue, account_at, account_taken, new_account, running_row}
+use Rattle.laws_due.specs.Vocabulary.{AreByRows, Goes, Holds, Ties, rests}
 use Rattle.laws_due.proofs.Asks.{due_more}
 use Rattle.laws_due.proofs.Commands.{lawful_turn, may_give}
 use Rattle.laws_due.proofs.Fits.{takes_fit}

@@ -3,16 +3,16 @@
 use Rattle.std.proofs.Common.{◌≡◌, ℕ, ◌+◌, ◌==◌, ◌⊎◌, Bool, true, false, if◌then◌else◌, inl, inr, List, [], ◌∷◌, ◌++◌}
 use Rattle.std.proofs.Common.{drop, Option, Some, None, refl, sym, ◌∙◌, subst, eq-eqb}
 use Rattle.std.specs.Prelude.{fold, set}
-use Rattle.qc_list.specs.Names.{In}
+use Rattle.qc_list.specs.Vocabulary.{In}
 use Rattle.qc_core.specs.declared.actor.Actor.{Actor}
 use Rattle.qc_core.specs.declared.actor.Actor.TheVariants as actors
-use Rattle.qc_core.specs.Names.{ActorMove, actor_does, actor_sends, actor_takes}
+use Rattle.qc_core.specs.Vocabulary.{ActorMove, actor_does, actor_sends, actor_takes}
 use Rattle.qc_decl.specs.declared.declaration.Declaration.{Declaration}
 use Rattle.qc_client.specs.declared.client.Client.{Client}
-use Rattle.qc_client.specs.Names.{client_takes, sent_one}
-use Rattle.qc_epoch.specs.Names.{Admin, admin_takes}
+use Rattle.qc_client.specs.Vocabulary.{client_takes, sent_one}
+use Rattle.qc_epoch.specs.Vocabulary.{Admin, admin_takes}
 use Rattle.qc_epoch.specs.Conduct as admins
-use Rattle.laws_turns.specs.Names.{IsAwaited, open_calls}
+use Rattle.laws_turns.specs.Vocabulary.{IsAwaited, open_calls}
 use Rattle.laws_turns.proofs.Awaiting.{awaited_got, awaited_lost, awaited_request}
 use Rattle.laws_turns.proofs.ReadyFirst.{ready_copy, ready_loss}
 use Rattle.laws_turns.proofs.Fewer.{IsNewCall, IsNotFor, Keeps, sent_calls, takes_keeps}
@@ -26,10 +26,11 @@ use Rattle.qc_msg.specs.declared.step.Step.{Step}
 use Rattle.qc_msg.specs.declared.step.Step.TheVariants as steps
 use Rattle.qc_msg.specs.declared.turn.Posting.{Posting}
 use Rattle.qc_msg.specs.declared.turn.Turn.{Turn}
-use Rattle.qc_msg.specs.Names.{Entry, Sends, by, posted, sends_of, sents, step_of, tells_of, told, turn_deeds}
-use Rattle.qc_msg.specs.Names.{writes_of, wrote}
+use Rattle.qc_msg.specs.Vocabulary.{Entry, Sends, by, posted, sends_of, sents, step_of, tells_of, told, turn_deeds}
+use Rattle.qc_msg.specs.Vocabulary.{writes_of, wrote}
 use Rattle.qc_script.specs.declared.script.Script.{Script}
-use Rattle.qc_script.specs.Names.{Inbox, control_acted, copy_taken, inbox_at, is_request, is_up, loss_taken, ready_in}
+use Rattle.qc_script.specs.Vocabulary.{Inbox, control_acted, copy_taken, inbox_at, is_request, is_up, loss_taken}
+use Rattle.qc_script.specs.Vocabulary.{ready_in}
 use Rattle.laws_due.proofs.AdminCalls.{KeepsCalls, sent_call, takes_keep}
 use Rattle.laws_due.proofs.AdminNumbers.{DoingPlain, open_numbers}
 use Rattle.laws_due.proofs.AwaitedMessages.{KeepsUp}

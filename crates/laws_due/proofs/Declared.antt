@@ -1,16 +1,16 @@
 -- In a run with falls what comes to a client is declared, where nobody rises with an epoch without a plan.
 use Rattle.std.proofs.Common.{◌≤◌, ◌<◌, ℕ, Bool, List, []}
-use Rattle.qc_core.specs.Names.{IsLawfulWithFalls}
-use Rattle.qc_decl.specs.Names.{IsAccepted, actors, client_actor}
+use Rattle.qc_core.specs.Vocabulary.{IsLawfulWithFalls}
+use Rattle.qc_decl.specs.Vocabulary.{IsAccepted, actors, client_actor}
 use Rattle.qc_decl.specs.declared.declaration.Declaration.{Declaration}
-use Rattle.laws_turns.specs.Names.{AsksDeclared}
-use Rattle.qc_link.specs.Names.{most_actors}
+use Rattle.laws_turns.specs.Vocabulary.{AsksDeclared}
+use Rattle.qc_link.specs.Vocabulary.{most_actors}
 use Rattle.qc_msg.specs.declared.record.Record.{Record}
-use Rattle.qc_msg.specs.Names.{Entry, deeds}
-use Rattle.qc_promise.specs.Names.{AreRepliesDue}
-use Rattle.qc_script.specs.Names.{RunsWithFalls}
+use Rattle.qc_msg.specs.Vocabulary.{Entry, deeds}
+use Rattle.qc_promise.specs.Vocabulary.{AreRepliesDue}
+use Rattle.qc_script.specs.Vocabulary.{RunsWithFalls}
 use Rattle.qc_script.specs.declared.script.Script.{Script}
-use Rattle.laws_due.specs.Names.{AllRisePlanned, Declares}
+use Rattle.laws_due.specs.Vocabulary.{AllRisePlanned, Declares}
 use Rattle.laws_due.proofs.Declaring.{all_declared, first_planned}
 use Rattle.laws_due.proofs.PlannedMail.{deeds_planned}
 use Rattle.laws_due.proofs.Clients.{clients_due}

@@ -3,25 +3,25 @@
 use Rattle.std.proofs.Common.{◌≡◌, ℕ, Bool, true, List, [], ◌∷◌, Option, Some, None, is_some, slice_get, refl, ap}
 use Rattle.std.specs.Prelude.{option_and_then, option_map}
 use Rattle.std.specs.List.{AllByRecursion as Every}
-use Rattle.qc_decl.specs.Names.{IsAccepted, kind_at, table_at}
+use Rattle.qc_decl.specs.Vocabulary.{IsAccepted, kind_at, table_at}
 use Rattle.qc_decl.specs.declared.declaration.Declaration.{Declaration}
 use Rattle.qc_msg.specs.declared.message.Message.{Message}
 use Rattle.qc_msg.specs.declared.message.Message.TheVariants as messages
 use Rattle.qc_msg.specs.declared.step.Command.{Command}
 use Rattle.qc_msg.specs.declared.step.Command.TheVariants as commands
 use Rattle.qc_msg.specs.declared.step.Input.TheVariants as inputs
-use Rattle.qc_msg.specs.Names.{Deed, Entry, Falls, Rises, Sends, Takes, Tells, Writes, deeds, first_epoch}
+use Rattle.qc_msg.specs.Vocabulary.{Deed, Entry, Falls, Rises, Sends, Takes, Tells, Writes, deeds, first_epoch}
 use Rattle.qc_plan.specs.declared.plan.Plan.{Plan}
 use Rattle.qc_table.specs.declared.kind.Kind.{Kind}
-use Rattle.qc_core.specs.Names.{IsLawful}
-use Rattle.qc_script.specs.Names.{Runs}
+use Rattle.qc_core.specs.Vocabulary.{IsLawful}
+use Rattle.qc_script.specs.Vocabulary.{Runs}
 use Rattle.qc_script.specs.declared.script.Script.{Script}
-use Rattle.laws_turns.specs.Names.{AsksDeclared, IsAskable}
+use Rattle.laws_turns.specs.Vocabulary.{AsksDeclared, IsAskable}
 use Rattle.laws_turns.proofs.Places.{slice_get-within}
 use Rattle.laws_turns.proofs.SoundClients.{IsAskableDeed, run_askable}
 use Rattle.laws_due.proofs.Epochs.{DeedPlanned, TellsPlanned}
 use Rattle.laws_due.proofs.PlannedMail.{deeds_planned, run_planned}
-use Rattle.laws_due.specs.Names.{ArePlanned, Declares, IsDeclaredCommand, IsDeclaredDeed, IsPlanned, epoch_told}
+use Rattle.laws_due.specs.Vocabulary.{ArePlanned, Declares, IsDeclaredCommand, IsDeclaredDeed, IsPlanned, epoch_told}
 
 module _ (decl : Declaration) (accepted : IsAccepted decl) where
   pub first_planned : IsPlanned decl first_epoch

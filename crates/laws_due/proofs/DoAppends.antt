@@ -1,5 +1,5 @@
 -- A `do` that appends: whatever its round comes to is due.
-use Rattle.std.proofs.Common.{◌≡◌, ℕ, ◌+◌, ◌==◌, ◌&&◌, ◌||◌, not, Bool, true, false, List, ◌∷◌, ◌++◌, length, map}
+use Rattle.std.proofs.Common.{[], ◌≡◌, ℕ, ◌+◌, ◌==◌, ◌&&◌, ◌||◌, not, Bool, true, false, List, ◌∷◌, ◌++◌, length, map}
 use Rattle.std.proofs.Common.{filter, Option, Some, None, refl, sym, ap, ◌∙◌, subst, eq-eqb}
 use Rattle.std.specs.Prelude.{fold}
 use Rattle.std.specs.List.{AllByRecursion as Every}
@@ -8,33 +8,34 @@ use Rattle.std.proofs.lemmas.List.{append-nil, length-map}
 use Rattle.std.proofs.lemmas.List.Elements.{filter-append}
 use Rattle.qc_list.proofs.Members.{every-append}
 use Rattle.qc_decl.specs.declared.declaration.Declaration.{Declaration}
-use Rattle.qc_decl.specs.Names.{append_need_of, read_need_of}
+use Rattle.qc_decl.specs.Vocabulary.{append_need_of, read_need_of}
 use Rattle.qc_entry.specs.declared.line.Line.{Line}
 use Rattle.qc_entry.specs.declared.line.OwnLine.{OwnLine}
 use Rattle.qc_plan.specs.declared.standing.Verdict.{Verdict}
 use Rattle.qc_plan.specs.declared.standing.Verdict.TheVariants as verdicts
-use Rattle.qc_plan.specs.Names.{RoundState, asking_all, verdict, wanted}
+use Rattle.qc_plan.specs.Vocabulary.{RoundState, asking_all, verdict, wanted}
 use Rattle.qc_view.specs.declared.view.View.{View}
 use Rattle.qc_commit.specs.declared.desk.Desk.{Desk}
 use Rattle.qc_front.specs.declared.doing.Doing.{Doing}
 use Rattle.qc_front.specs.declared.doing.Doing.TheVariants.{Idle, Appending}
 use Rattle.qc_front.specs.declared.front.Front.{Front}
 use Rattle.qc_front.specs.declared.transaction.Transaction.{Transaction}
-use Rattle.qc_front.specs.Names.{append_want, with_event}
+use Rattle.qc_front.specs.Vocabulary.{append_want, with_event}
 use Rattle.qc_front.specs.Rounds as fronts
 use Rattle.qc_client.specs.declared.client.Client.{Client}
-use Rattle.qc_client.specs.Names.{by_front}
+use Rattle.qc_client.specs.Vocabulary.{by_front}
 use Rattle.qc_msg.specs.declared.call.Call.{Call}
 use Rattle.qc_msg.specs.declared.message.Want.{Want}
 use Rattle.qc_msg.specs.declared.message.Want.TheVariants.{Append}
 use Rattle.qc_msg.specs.declared.reply.Half.TheVariants as halves
 use Rattle.qc_msg.specs.declared.reply.Reply.TheVariants as replies
 use Rattle.qc_msg.specs.declared.step.Command.TheVariants as commands
-use Rattle.qc_msg.specs.Names.{calls_from, sending, with_site}
-use Rattle.qc_promise.specs.Names.{Account, ClientRequest, Current, answer_of, answer_row, append_row, are_reads_met}
-use Rattle.qc_promise.specs.Names.{asked_by, carries, command_asks, doomed_if, is_append, is_met, is_next_voter}
-use Rattle.qc_promise.specs.Names.{is_read, own_appended, read_row, resp_of, running_row, view_of, with_response}
-use Rattle.laws_due.specs.Names.{Goes, IsOpenIn, Ties, appends, calls_in, front_of, transaction_of}
+use Rattle.qc_msg.specs.Vocabulary.{calls_from, sending, with_site}
+use Rattle.qc_promise.specs.Vocabulary.{Account, ClientRequest, Current, answer_of, answer_row, append_row}
+use Rattle.qc_promise.specs.Vocabulary.{are_reads_met, asked_by, carries, command_asks, doomed_if, is_append, is_met}
+use Rattle.qc_promise.specs.Vocabulary.{is_next_voter, is_read, own_appended, read_row, resp_of, running_row, view_of}
+use Rattle.qc_promise.specs.Vocabulary.{with_response}
+use Rattle.laws_due.specs.Vocabulary.{Goes, IsOpenIn, Ties, appends, calls_in, front_of, transaction_of}
 use Rattle.laws_due.proofs.Halves.{clash_asked, closed_asked, round_asked, round_at, round_from}
 use Rattle.laws_due.proofs.Asks.{asking}
 use Rattle.laws_due.proofs.Requests.{calls_more, calls_new, every_new, request_at, requests_from}

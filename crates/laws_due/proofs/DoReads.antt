@@ -1,37 +1,35 @@
 -- A `do` that reads: whatever its round comes to is due.
-use Rattle.std.proofs.Common.{◌≡◌, ℕ, ◌==◌, ◌&&◌, ◌||◌, not, Bool, true, false, List, ◌∷◌, ◌++◌, length, map}
-use Rattle.std.proofs.Common.{filter, Option, Some, None, refl, sym, ap, ◌∙◌, subst}
-use Rattle.std.proofs.Common.{eq-eqb}
+use Rattle.std.proofs.Common.{[], ◌≡◌, ℕ, ◌==◌, ◌&&◌, ◌||◌, not, Bool, true, false, List, ◌∷◌, ◌++◌, length, map}
+use Rattle.std.proofs.Common.{filter, Option, Some, None, refl, sym, ap, ◌∙◌, subst, eq-eqb}
 use Rattle.std.specs.Prelude.{fold}
 use Rattle.std.specs.List.{AllByRecursion as Every}
 use Rattle.std.proofs.lemmas.List.Elements.{filter-append}
 use Rattle.qc_list.proofs.Members.{every-append, every-weaker}
 use Rattle.qc_decl.specs.declared.declaration.Declaration.{Declaration}
-use Rattle.qc_decl.specs.Names.{append_need_of, read_need_of}
+use Rattle.qc_decl.specs.Vocabulary.{append_need_of, read_need_of}
 use Rattle.qc_plan.specs.declared.standing.Verdict.{Verdict}
 use Rattle.qc_plan.specs.declared.standing.Verdict.TheVariants as verdicts
-use Rattle.qc_plan.specs.Names.{RoundState, asking_all, verdict, wanted}
+use Rattle.qc_plan.specs.Vocabulary.{RoundState, asking_all, verdict, wanted}
 use Rattle.qc_view.specs.declared.view.View.{View}
 use Rattle.qc_commit.specs.declared.desk.Desk.{Desk}
 use Rattle.qc_front.specs.declared.doing.Doing.{Doing}
 use Rattle.qc_front.specs.declared.doing.Doing.TheVariants.{Idle, Reading}
 use Rattle.qc_front.specs.declared.front.Front.{Front}
 use Rattle.qc_front.specs.declared.transaction.Transaction.{Transaction}
-use Rattle.qc_front.specs.Names.{op_of, round_for, with_op}
+use Rattle.qc_front.specs.Vocabulary.{op_of, round_for, with_op}
 use Rattle.qc_front.specs.Rounds as fronts
 use Rattle.qc_client.specs.declared.client.Client.{Client}
-use Rattle.qc_client.specs.Names.{by_front}
+use Rattle.qc_client.specs.Vocabulary.{by_front}
 use Rattle.qc_msg.specs.declared.call.Call.{Call}
 use Rattle.qc_msg.specs.declared.message.Want.{Want}
 use Rattle.qc_msg.specs.declared.message.Want.TheVariants.{Read}
 use Rattle.qc_msg.specs.declared.reply.Half.TheVariants as halves
 use Rattle.qc_msg.specs.declared.reply.Reply.TheVariants as replies
 use Rattle.qc_msg.specs.declared.step.Command.TheVariants as commands
-use Rattle.qc_msg.specs.Names.{calls_from, sending, with_site}
-use Rattle.qc_promise.specs.Names.{Account, ClientRequest, Current, answer_of, answer_row, command_asks}
-use Rattle.qc_promise.specs.Names.{doomed_if, is_append, is_next_voter, is_read, read_row, requests_for}
-use Rattle.qc_promise.specs.Names.{with_absent}
-use Rattle.laws_due.specs.Names.{Goes, IsOpenIn, Ties, calls_in, front_of, reads, transaction_of}
+use Rattle.qc_msg.specs.Vocabulary.{calls_from, sending, with_site}
+use Rattle.qc_promise.specs.Vocabulary.{Account, ClientRequest, Current, answer_of, answer_row, command_asks, doomed_if}
+use Rattle.qc_promise.specs.Vocabulary.{is_append, is_next_voter, is_read, read_row, requests_for, with_absent}
+use Rattle.laws_due.specs.Vocabulary.{Goes, IsOpenIn, Ties, calls_in, front_of, reads, transaction_of}
 use Rattle.laws_due.proofs.DoRows.{IsNext, Runs, due_do, next_one, next_voter, run}
 use Rattle.laws_due.proofs.DoAppends.{appends_go}
 use Rattle.laws_due.proofs.Asks.{asking}

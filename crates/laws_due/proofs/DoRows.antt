@@ -1,25 +1,25 @@
 -- What holds while a `do` runs: its account, the sites that it asks next, and its row where nothing refuses it at once.
-use Rattle.std.proofs.Common.{◌≡◌, ℕ, ◌+◌, ◌&&◌, nat_le, Bool, true, false, cond, List, ◌∷◌, ◌++◌, length, Option, Some}
-use Rattle.std.proofs.Common.{None, refl, ap, ◌∙◌, eq-eqb}
+use Rattle.std.proofs.Common.{[], ◌≡◌, ℕ, ◌+◌, ◌&&◌, nat_le, Bool, true, false, cond, List, ◌∷◌, ◌++◌, length, Option}
+use Rattle.std.proofs.Common.{Some, None, refl, ap, ◌∙◌, eq-eqb}
 use Rattle.std.specs.Ordering.{is_eq}
 use Rattle.std.specs.Cmp.Lexicographic.{pointwise}
 use Rattle.std.proofs.lemmas.Cmp.{tied_itself}
 use Rattle.qc_decl.specs.declared.declaration.Declaration.{Declaration}
-use Rattle.qc_decl.specs.Names.{most_transaction_operations, read_need_of}
+use Rattle.qc_decl.specs.Vocabulary.{most_transaction_operations, read_need_of}
 use Rattle.qc_entry.specs.declared.line.Line.{Line}
 use Rattle.qc_entry.specs.declared.line.OwnLine.{OwnLine}
 use Rattle.qc_entry.proofs.Orders.{line_order}
-use Rattle.qc_plan.specs.Names.{RoundState, next_site, verdict, wanted}
+use Rattle.qc_plan.specs.Vocabulary.{RoundState, next_site, verdict, wanted}
 use Rattle.qc_view.specs.declared.view.View.{View}
 use Rattle.qc_commit.specs.declared.desk.Desk.{Desk}
-use Rattle.qc_front.specs.Names.{RecordsHold}
+use Rattle.qc_front.specs.Vocabulary.{RecordsHold}
 use Rattle.qc_msg.specs.declared.message.Want.{Want}
 use Rattle.qc_msg.specs.declared.reply.Reply.{Reply}
 use Rattle.qc_msg.specs.declared.reply.Reply.TheVariants as replies
 use Rattle.qc_msg.specs.declared.step.Command.TheVariants as commands
-use Rattle.qc_promise.specs.Names.{Account, ClientRequest, Current, carries, is_read, is_this, own_appended, read_row}
-use Rattle.qc_promise.specs.Names.{running_row, same_line, same_own, view_of}
-use Rattle.laws_due.specs.Names.{IsIdleDesk}
+use Rattle.qc_promise.specs.Vocabulary.{Account, ClientRequest, Current, carries, is_read, is_this, own_appended}
+use Rattle.qc_promise.specs.Vocabulary.{read_row, running_row, same_line, same_own, view_of}
+use Rattle.laws_due.specs.Vocabulary.{IsIdleDesk}
 use Rattle.laws_due.proofs.Nexts.{first_wanted}
 use Rattle.laws_due.proofs.Halves.{round_at, round_one}
 use Rattle.laws_due.proofs.Requests.{request_at}

@@ -1,6 +1,6 @@
 -- What is by the rows is due, where the client is up and what comes to it is declared.
-use Rattle.std.proofs.Common.{◌≡◌, ℕ, Bool, true, false, cond, List, ◌∷◌, ◌++◌, Option, Some, None, is_some, refl, sym}
-use Rattle.std.proofs.Common.{ap, ◌∙◌, subst}
+use Rattle.std.proofs.Common.{[], ◌≡◌, ℕ, Bool, true, false, cond, List, ◌∷◌, ◌++◌, Option, Some, None, is_some, refl}
+use Rattle.std.proofs.Common.{sym, ap, ◌∙◌, subst}
 use Rattle.std.specs.Prelude.{fold}
 use Rattle.std.specs.List.{AllByRecursion as Every}
 use Rattle.std.proofs.lemmas.List.{append-nil}
@@ -18,13 +18,13 @@ use Rattle.qc_msg.specs.declared.reply.Reply.TheVariants as replies
 use Rattle.qc_msg.specs.declared.step.Command.{Command}
 use Rattle.qc_msg.specs.declared.step.Command.TheVariants as commands
 use Rattle.qc_msg.specs.declared.step.Input.TheVariants as inputs
-use Rattle.qc_msg.specs.Names.{Deed, Falls, Rises, Sends, Takes, Tells, Writes}
-use Rattle.qc_core.specs.Names.{AreSteady, IsSteady}
-use Rattle.qc_promise.specs.Names.{Account, Current, IsInputDue, IsRecordDue, account_at, answer_of, due, is_asked_for}
-use Rattle.qc_promise.specs.Names.{new_account, pending_next}
+use Rattle.qc_msg.specs.Vocabulary.{Deed, Falls, Rises, Sends, Takes, Tells, Writes}
+use Rattle.qc_core.specs.Vocabulary.{AreSteady, IsSteady}
+use Rattle.qc_promise.specs.Vocabulary.{Account, Current, IsInputDue, IsRecordDue, account_at, answer_of, due}
+use Rattle.qc_promise.specs.Vocabulary.{is_asked_for, new_account, pending_next}
 use Rattle.qc_promise.specs.Accounting as accounting
 use Rattle.qc_promise.specs.Replies as promise
-use Rattle.laws_due.specs.Names.{AreByRows, Declares, IsByRow, IsDeclaredDeed}
+use Rattle.laws_due.specs.Vocabulary.{AreByRows, Declares, IsByRow, IsDeclaredDeed}
 use Rattle.laws_due.proofs.DuesOfDeeds.{IsWithin, due_is, changed, passed, asked, lost, heard}
 
 module _ (decl : Declaration) where

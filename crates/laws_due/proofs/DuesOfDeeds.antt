@@ -18,10 +18,11 @@ use Rattle.qc_msg.specs.declared.reply.Reply.TheVariants as replies
 use Rattle.qc_msg.specs.declared.step.Command.{Command}
 use Rattle.qc_msg.specs.declared.step.Command.TheVariants as commands
 use Rattle.qc_msg.specs.declared.step.Input.TheVariants as inputs
-use Rattle.qc_msg.specs.Names.{Takes}
-use Rattle.qc_promise.specs.Names.{Account, ClientRequest, Current, due, is_declared_for, reply_to, row_of, running_row}
+use Rattle.qc_msg.specs.Vocabulary.{Takes}
+use Rattle.qc_promise.specs.Vocabulary.{Account, ClientRequest, Current, due, is_declared_for, reply_to, row_of}
+use Rattle.qc_promise.specs.Vocabulary.{running_row}
 use Rattle.qc_promise.specs.Accounting as accounting
-use Rattle.laws_due.specs.Names.{IsDeclaredCommand, IsDeclaredDeed, IsPlanned}
+use Rattle.laws_due.specs.Vocabulary.{IsDeclaredCommand, IsDeclaredDeed, IsPlanned}
 
 -- an account of a client that is up, which knows, has begun and runs what is declared
 

@@ -6,15 +6,15 @@ use Rattle.std.specs.Prelude.{is_none, replicate}
 use Rattle.std.specs.List.{list_all}
 use Rattle.qc_decl.proofs.Clients.{client_within}
 use Rattle.qc_client.specs.declared.client.Client.{Client}
-use Rattle.qc_client.specs.Names.{client_after}
+use Rattle.qc_client.specs.Vocabulary.{client_after}
 use Rattle.qc_commit.specs.declared.desk.Desk.{Desk}
 use Rattle.qc_commit.specs.declared.desk.Voting.{Voting}
-use Rattle.qc_core.specs.Names.{Acts, IsLawful, is_running}
+use Rattle.qc_core.specs.Vocabulary.{Acts, IsLawful, is_running}
 use Rattle.qc_decl.specs.declared.declaration.Declaration.{Declaration}
-use Rattle.qc_decl.specs.Names.{IsAccepted, actors, is_client}
+use Rattle.qc_decl.specs.Vocabulary.{IsAccepted, actors, is_client}
 use Rattle.qc_front.specs.Going as going
 use Rattle.qc_front.proofs.Goes.{waits}
-use Rattle.laws_turns.specs.Names.{ActsIn, AsksDeclared, IsClosed, IsQuiet, IsWhole, calls_of, replies_of}
+use Rattle.laws_turns.specs.Vocabulary.{ActsIn, AsksDeclared, IsClosed, IsQuiet, IsWhole, calls_of, replies_of}
 use Rattle.laws_turns.specs.Calls as laws
 use Rattle.laws_turns.proofs.Acted.{has_entry, run_acts}
 use Rattle.laws_turns.proofs.Busy.{run_waits}
@@ -23,11 +23,11 @@ use Rattle.laws_turns.proofs.Ordered.{run_replied}
 use Rattle.laws_turns.proofs.Places.{replicate_at}
 use Rattle.laws_turns.proofs.WholeLaw.{is_whole}
 use Rattle.qc_msg.specs.declared.message.Answer.{Answer}
-use Rattle.qc_msg.specs.Names.{Deed, Entry, deeds}
-use Rattle.qc_promise.specs.Names.{Account, ClientRequest}
+use Rattle.qc_msg.specs.Vocabulary.{Deed, Entry, deeds}
+use Rattle.qc_promise.specs.Vocabulary.{Account, ClientRequest}
 use Rattle.qc_script.specs.declared.script.Script.{Script}
-use Rattle.qc_script.specs.Names.{controls_left, phase_of}
-use Rattle.laws_due.specs.Names.{Holds, Ties, appends, call_of, calls_in, reads, rests, votes}
+use Rattle.qc_script.specs.Vocabulary.{controls_left, phase_of}
+use Rattle.laws_due.specs.Vocabulary.{Holds, Ties, appends, call_of, calls_in, reads, rests, votes}
 use Rattle.laws_due.proofs.Courses.{clients_hold, clients_tied}
 
 -- while a commit waits for votes, one of its requests is open

@@ -4,18 +4,19 @@ use Rattle.std.proofs.Common.{length, map, max, replicate, Option, Some, None, r
 use Rattle.std.specs.Prelude.{slice_get}
 use Rattle.qc_stamp.specs.declared.stamp.TxId.{TxId}
 use Rattle.qc_decl.specs.declared.declaration.Declaration.{Declaration}
-use Rattle.qc_decl.specs.Names.{most_transaction_operations, read_need_of}
+use Rattle.qc_decl.specs.Vocabulary.{most_transaction_operations, read_need_of}
 use Rattle.qc_view.specs.declared.view.View.{View}
-use Rattle.qc_view.specs.Names.{empty_view}
+use Rattle.qc_view.specs.Vocabulary.{empty_view}
 use Rattle.qc_commit.specs.declared.desk.Desk.{Desk}
 use Rattle.qc_commit.specs.Conduct as desks
-use Rattle.qc_commit.specs.Names.{DeskMove, blank, moved as desk_moved, participants as desk_participants, prepares}
+use Rattle.qc_commit.specs.Vocabulary.{DeskMove, blank, moved as desk_moved, participants as desk_participants}
+use Rattle.qc_commit.specs.Vocabulary.{prepares}
 use Rattle.qc_front.specs.declared.doing.Doing.TheVariants.{Idle}
 use Rattle.qc_front.specs.declared.transaction.Transaction.{Transaction}
-use Rattle.qc_front.specs.Names.{RecordsHold, fresh, gives_up, moved as front_moved, performs, reads, round_for}
+use Rattle.qc_front.specs.Vocabulary.{RecordsHold, fresh, gives_up, moved as front_moved, performs, reads, round_for}
 use Rattle.qc_front.specs.Conduct as fronts
 use Rattle.qc_client.specs.declared.client.Client.{Client}
-use Rattle.qc_client.specs.Names.{by_desk, by_front}
+use Rattle.qc_client.specs.Vocabulary.{by_desk, by_front}
 use Rattle.qc_client.specs.Conduct as clients
 use Rattle.qc_msg.specs.declared.message.Outcome.TheVariants as outcomes
 use Rattle.qc_msg.specs.declared.reply.Reply.{Reply}
@@ -23,11 +24,11 @@ use Rattle.qc_msg.specs.declared.reply.Reply.TheVariants as replies
 use Rattle.qc_msg.specs.declared.reply.AbortCause.TheVariants as causes
 use Rattle.qc_msg.specs.declared.step.Command.{Command}
 use Rattle.qc_msg.specs.declared.step.Command.TheVariants as commands
-use Rattle.qc_msg.specs.Names.{quiet, sending, telling}
-use Rattle.qc_plan.specs.Names.{verdict}
-use Rattle.qc_promise.specs.Names.{Account, Current, is_read, new_current, participants, read_row, running_row, view_of}
-use Rattle.qc_promise.specs.Names.{vote_row}
-use Rattle.laws_due.specs.Names.{Goes, IsIdleDesk, Ties, begun_of, rests, transaction_of}
+use Rattle.qc_msg.specs.Vocabulary.{quiet, sending, telling}
+use Rattle.qc_plan.specs.Vocabulary.{verdict}
+use Rattle.qc_promise.specs.Vocabulary.{Account, Current, is_read, new_current, participants, read_row, running_row}
+use Rattle.qc_promise.specs.Vocabulary.{view_of, vote_row}
+use Rattle.laws_due.specs.Vocabulary.{Goes, IsIdleDesk, Ties, begun_of, rests, transaction_of}
 use Rattle.laws_due.proofs.VotesCome.{decides_go, voting_desk}
 use Rattle.laws_due.proofs.Commits.{votes_start}
 use Rattle.laws_due.proofs.DoRows.{run}

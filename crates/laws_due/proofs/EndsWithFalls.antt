@@ -3,19 +3,19 @@
 use Rattle.std.proofs.Common.{◌≡◌, ℕ, zero, suc, ◌+◌, ◌<◌, ◌≤◌, ◌==◌, if◌then◌else◌, ◌⊎◌, Bool, true, false, inl, inr}
 use Rattle.std.proofs.Common.{List, [], ◌∷◌, ◌++◌, length, Option, Some, None, refl, sym, ap, ◌∙◌, subst, arith}
 use Rattle.std.proofs.Common.{slice_get}
-use Rattle.qc_list.specs.Names.{In}
+use Rattle.qc_list.specs.Vocabulary.{In}
 use Rattle.qc_client.specs.declared.client.Client.{Client}
 use Rattle.qc_core.specs.declared.actor.Actor.TheVariants as actors
-use Rattle.qc_core.specs.Names.{IsLawfulWithFalls, actor_after, is_running}
-use Rattle.qc_decl.specs.Names.{IsAccepted, controller, is_client}
+use Rattle.qc_core.specs.Vocabulary.{IsLawfulWithFalls, actor_after, is_running}
+use Rattle.qc_decl.specs.Vocabulary.{IsAccepted, controller, is_client}
 use Rattle.qc_decl.specs.Actors as numbers
 use Rattle.qc_decl.specs.declared.declaration.Declaration.{Declaration}
-use Rattle.qc_inbox.proofs.FallLaws.{lines_close}
-use Rattle.laws_turns.specs.Names.{AsksDeclared, IsAtReceiver, IsAwaited, IsQuiet, IsTaken, open_calls}
+use Rattle.qc_mailbox.proofs.FallLaws.{lines_close}
+use Rattle.laws_turns.specs.Vocabulary.{AsksDeclared, IsAtReceiver, IsAwaited, IsQuiet, IsTaken, open_calls}
 use Rattle.laws_turns.proofs.Acted.{deeds-silent}
 use Rattle.laws_turns.proofs.Numbered.{phase_silent}
 use Rattle.laws_turns.proofs.Places.{slice_get-within}
-use Rattle.qc_link.specs.Names.{most_actors}
+use Rattle.qc_link.specs.Vocabulary.{most_actors}
 use Rattle.laws_turns.proofs.Lived.{run_long}
 use Rattle.qc_msg.specs.declared.message.Envelope.{Envelope}
 use Rattle.qc_msg.specs.declared.record.Record.{Record}
@@ -23,12 +23,13 @@ use Rattle.qc_msg.specs.declared.step.Control.{Control}
 use Rattle.qc_msg.specs.declared.step.Input.{Input}
 use Rattle.qc_msg.specs.declared.step.Input.TheVariants as inputs
 use Rattle.qc_msg.specs.declared.step.Step.TheVariants as steps
-use Rattle.qc_msg.specs.Names.{Entry, by, deeds, mail, marked, posted_as, step_of}
+use Rattle.qc_msg.specs.Vocabulary.{Entry, by, deeds, mail, marked, posted_as, step_of}
 use Rattle.qc_script.proofs.InboxesSend.{InCommon}
 use Rattle.qc_script.proofs.Inboxes.{inboxes_have_in_common}
-use Rattle.qc_script.specs.Names.{Inbox, RunsWithFalls, after_controls, begins, command_called, command_in, control}
-use Rattle.qc_script.specs.Names.{controls_left, copy_taken, damaged, falls, first_copy, first_lost, inbox, inbox_at}
-use Rattle.qc_script.specs.Names.{loss_taken, phase, phase_of, posts, ready, rises, takes, unopened}
+use Rattle.qc_script.specs.Vocabulary.{Inbox, RunsWithFalls, after_controls, begins, command_called, command_in}
+use Rattle.qc_script.specs.Vocabulary.{control, controls_left, copy_taken, damaged, falls, first_copy, first_lost}
+use Rattle.qc_script.specs.Vocabulary.{inbox, inbox_at, loss_taken, phase, phase_of, posts, ready, rises, takes}
+use Rattle.qc_script.specs.Vocabulary.{unopened}
 use Rattle.qc_script.specs.declared.script.Script.{Script}
 use Rattle.laws_due.proofs.AwaitedWithFalls.{open_requests_awaited}
 use Rattle.laws_due.proofs.Places.{client_within, few_actors}

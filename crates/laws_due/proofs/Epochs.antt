@@ -5,12 +5,12 @@ use Rattle.std.specs.List.{AllByRecursion as Every, fold}
 use Rattle.qc_stamp.specs.declared.stamp.Stamp.{Stamp}
 use Rattle.qc_stamp.specs.declared.stamp.TxId.{TxId}
 use Rattle.qc_decl.specs.declared.declaration.Declaration.{Declaration}
-use Rattle.qc_decl.specs.Names.{most_record_bytes}
+use Rattle.qc_decl.specs.Vocabulary.{most_record_bytes}
 use Rattle.qc_entry.specs.declared.line.Line.{Line}
 use Rattle.qc_entry.specs.declared.line.OwnLine.{OwnLine}
 use Rattle.qc_entry.specs.declared.record.Prepared.{Prepared}
 use Rattle.qc_lock.specs.declared.clash.Clash.{Clash as Conflict}
-use Rattle.qc_lock.specs.Names.{append_clash, is_held, read_clash}
+use Rattle.qc_lock.specs.Vocabulary.{append_clash, is_held, read_clash}
 use Rattle.qc_msg.specs.declared.message.Answer.{Answer}
 use Rattle.qc_msg.specs.declared.message.Answer.TheVariants as answers
 use Rattle.qc_msg.specs.declared.message.Message.{Message}
@@ -25,15 +25,15 @@ use Rattle.qc_msg.specs.declared.step.Input.{Input}
 use Rattle.qc_msg.specs.declared.step.Input.TheVariants as inputs
 use Rattle.qc_msg.specs.declared.turn.Posting.{Posting}
 use Rattle.qc_msg.specs.declared.turn.Turn.{Turn}
-use Rattle.qc_msg.specs.Names.{Deed, Falls, Rises, Sends, Takes, Tells, Writes, closed_in, quiet, sending}
-use Rattle.qc_site.specs.Names.{SiteMove, SiteState, appends_by, closed, closed_fault, fault_of, finishes, grants}
-use Rattle.qc_site.specs.Names.{is_prepared, joins, moved, names_declared, passed, prepare_length, prepared_of}
-use Rattle.qc_site.specs.Names.{prepares, promise_of, promises, reads_by, recording, relation_at, requested}
-use Rattle.qc_site.specs.Names.{shut_answer, site_at, site_does, site_on, site_takes}
+use Rattle.qc_msg.specs.Vocabulary.{Deed, Falls, Rises, Sends, Takes, Tells, Writes, closed_in, quiet, sending}
+use Rattle.qc_site.specs.Vocabulary.{SiteMove, SiteState, appends_by, closed, closed_fault, fault_of, finishes, grants}
+use Rattle.qc_site.specs.Vocabulary.{is_prepared, joins, moved, names_declared, passed, prepare_length, prepared_of}
+use Rattle.qc_site.specs.Vocabulary.{prepares, promise_of, promises, reads_by, recording, relation_at, requested}
+use Rattle.qc_site.specs.Vocabulary.{shut_answer, site_at, site_does, site_on, site_takes}
 use Rattle.qc_site.proofs.RequestCases.{close_rows, install_rows}
 use Rattle.qc_site.proofs.Cases.{state_cases}
 use Rattle.laws_turns.proofs.StampsOwn.{by_two}
-use Rattle.laws_due.specs.Names.{ArePlanned, IsPlanned, IsRecordPlanned}
+use Rattle.laws_due.specs.Vocabulary.{ArePlanned, IsPlanned, IsRecordPlanned}
 
 -- an epoch that is told has a plan, and so has one that is to be closed for or installed
 

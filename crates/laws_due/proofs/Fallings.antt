@@ -1,11 +1,11 @@
 -- An input where none is open, and a fall, leave all that was due as it was.
-use Rattle.std.proofs.Common.{◌≡◌, ℕ, ◌-◌, Bool, true, false, List, ◌∷◌, ◌++◌, Option, None, refl, sym, ap, ◌∙◌, subst}
-use Rattle.std.proofs.Common.{append_assoc}
+use Rattle.std.proofs.Common.{[], ◌≡◌, ℕ, ◌-◌, Bool, true, false, List, ◌∷◌, ◌++◌, Option, None, refl, sym, ap, ◌∙◌}
+use Rattle.std.proofs.Common.{subst, append_assoc}
 use Rattle.std.specs.Prelude.{option_and_then}
-use Rattle.qc_core.specs.Names.{ActorMove, MayTake, is_up, with_record}
-use Rattle.qc_msg.specs.Names.{Deed, Falls, IsByDisk, deeds_as}
+use Rattle.qc_core.specs.Vocabulary.{ActorMove, MayTake, is_up, with_record}
+use Rattle.qc_msg.specs.Vocabulary.{Deed, Falls, IsByDisk, deeds_as}
 use Rattle.qc_decl.specs.declared.declaration.Declaration.{Declaration}
-use Rattle.qc_decl.specs.Names.{is_client}
+use Rattle.qc_decl.specs.Vocabulary.{is_client}
 use Rattle.qc_msg.specs.declared.record.Record.{Record}
 use Rattle.qc_msg.specs.declared.step.Fall.{Fall}
 use Rattle.qc_msg.specs.declared.step.Fall.TheVariants as causes
@@ -13,7 +13,7 @@ use Rattle.qc_msg.specs.declared.step.Input.{Input}
 use Rattle.qc_msg.specs.declared.turn.Appended.{Appended}
 use Rattle.qc_msg.specs.declared.turn.Appended.TheVariants.{Done, Failed, Stopped}
 use Rattle.qc_msg.specs.declared.turn.Turn.{Turn}
-use Rattle.qc_promise.specs.Names.{Account, AreDeedsDue, IsInputDue, due, pending_next, reply_to}
+use Rattle.qc_promise.specs.Vocabulary.{Account, AreDeedsDue, IsInputDue, due, pending_next, reply_to}
 use Rattle.laws_due.proofs.Commands.{free_for}
 use Rattle.laws_due.proofs.DuesOfDeeds.{none_due}
 use Rattle.laws_due.proofs.Nothing.{tied_none}

@@ -8,22 +8,22 @@ use Rattle.qc_stamp.specs.declared.stamp.TxId.{TxId}
 use Rattle.qc_decl.specs.declared.declaration.Declaration.{Declaration}
 use Rattle.qc_commit.specs.declared.desk.Voting.{Voting}
 use Rattle.qc_commit.specs.Conduct as desks
-use Rattle.qc_commit.specs.Names.{DeskMove}
+use Rattle.qc_commit.specs.Vocabulary.{DeskMove}
 use Rattle.qc_commit.proofs.Moves.{IsMove, IsPrepare, IsPromiseWanted, prepare-moves, tx_of, vote-moves}
 use Rattle.qc_front.specs.declared.doing.Doing.{Doing}
 use Rattle.qc_front.specs.declared.doing.Doing.TheVariants.{Idle, Reading, Appending}
 use Rattle.qc_front.specs.declared.front.Front.{Front}
 use Rattle.qc_front.specs.declared.transaction.Transaction.{Transaction}
-use Rattle.qc_front.specs.Names.{AsksAll, AsksAtOnce, AsksIn, AsksNobody, FrontHolds, FrontMove, IsNumbered}
-use Rattle.qc_front.specs.Names.{append_want, ended, is_request, numbered_all, numbered_one, read_want, request_of}
+use Rattle.qc_front.specs.Vocabulary.{AsksAll, AsksAtOnce, AsksIn, AsksNobody, FrontHolds, FrontMove, IsNumbered}
+use Rattle.qc_front.specs.Vocabulary.{append_want, ended, is_request, numbered_all, numbered_one, read_want, request_of}
 use Rattle.qc_front.specs.Conduct as fronts
 use Rattle.qc_front.proofs.AtOnce.{called_at_once, takes_at_once}
 use Rattle.qc_front.proofs.CommandsKeep.{called_holds}
 use Rattle.qc_front.proofs.Keeping.{ended_holds, takes_holds}
 use Rattle.qc_front.proofs.Numbering.{sent_holds}
 use Rattle.qc_client.specs.declared.client.Client.{Client}
-use Rattle.qc_client.specs.Names.{ClientMove, answered, answered_by, by_desk, by_front, called, client_does}
-use Rattle.qc_client.specs.Names.{client_takes, commits, heard, moved, sent_one}
+use Rattle.qc_client.specs.Vocabulary.{ClientMove, answered, answered_by, by_desk, by_front, called, client_does}
+use Rattle.qc_client.specs.Vocabulary.{client_takes, commits, heard, moved, sent_one}
 use Rattle.qc_msg.specs.declared.begun.Begun.{Begun}
 use Rattle.qc_msg.specs.declared.call.Call.{Call}
 use Rattle.qc_msg.specs.declared.message.Answer.{Answer}
@@ -41,9 +41,9 @@ use Rattle.qc_msg.specs.declared.step.Input.{Input}
 use Rattle.qc_msg.specs.declared.step.Input.TheVariants as inputs
 use Rattle.qc_msg.specs.declared.turn.Posting.{Posting}
 use Rattle.qc_msg.specs.declared.turn.Turn.{Turn}
-use Rattle.qc_msg.specs.Names.{sends_of, tells_of, turn_deeds, writes_of}
-use Rattle.qc_plan.specs.Names.{RoundState}
-use Rattle.laws_due.specs.Names.{Holds}
+use Rattle.qc_msg.specs.Vocabulary.{sends_of, tells_of, turn_deeds, writes_of}
+use Rattle.qc_plan.specs.Vocabulary.{RoundState}
+use Rattle.laws_due.specs.Vocabulary.{Holds}
 
 -- a turn's record and reply are nothing to the client
 

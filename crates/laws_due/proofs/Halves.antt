@@ -8,17 +8,17 @@ use Rattle.std.proofs.lemmas.List.Elements.{filter-append}
 use Rattle.std.proofs.Math.Seq.{drop-nil}
 use Rattle.qc_stamp.specs.declared.stamp.TxId.{TxId}
 use Rattle.qc_decl.specs.declared.declaration.Declaration.{Declaration}
-use Rattle.qc_decl.specs.Names.{first_site}
+use Rattle.qc_decl.specs.Vocabulary.{first_site}
 use Rattle.qc_msg.specs.declared.message.Answer.{Answer}
 use Rattle.qc_msg.specs.declared.message.Want.{Want}
 use Rattle.qc_plan.specs.declared.standing.Asked.{Asked}
 use Rattle.qc_plan.specs.declared.standing.Standing.{Standing}
 use Rattle.qc_plan.specs.declared.standing.Verdict.TheVariants as verdicts
-use Rattle.qc_plan.specs.Names.{RoundState, all_noted, asking_all, has_granted, note, note_in, refusal, settled, start}
-use Rattle.qc_plan.specs.Names.{verdict, weight}
-use Rattle.qc_promise.specs.Names.{Account, ClientRequest, Current, asked_by, is_open, round_of, standing_of, taken_for}
-use Rattle.qc_promise.specs.Names.{weights_of}
-use Rattle.laws_due.specs.Names.{AreApart, IsOpenIn}
+use Rattle.qc_plan.specs.Vocabulary.{RoundState, all_noted, asking_all, has_granted, note, note_in, refusal, settled}
+use Rattle.qc_plan.specs.Vocabulary.{start, verdict, weight}
+use Rattle.qc_promise.specs.Vocabulary.{Account, ClientRequest, Current, asked_by, is_open, round_of, standing_of}
+use Rattle.qc_promise.specs.Vocabulary.{taken_for, weights_of}
+use Rattle.laws_due.specs.Vocabulary.{AreApart, IsOpenIn}
 use Rattle.laws_due.proofs.Nexts.{asking_one}
 use Rattle.laws_due.proofs.OpenRequests.{half_taken, length_taken, numbers_open, sites_in}
 use Rattle.laws_due.proofs.Requests.{calls_half, find_half, first_set, request_at, requests_from, set_taken}

@@ -1,17 +1,17 @@
 -- What each event of a client leaves: a fall, a rise, an input with its turn. All that was due is due still.
-use Rattle.std.proofs.Common.{◌≡◌, ℕ, ◌-◌, Bool, true, false, cond, List, ◌∷◌, ◌++◌, inl, inr, Option, Some, None}
+use Rattle.std.proofs.Common.{[], ◌≡◌, ℕ, ◌-◌, Bool, true, false, cond, List, ◌∷◌, ◌++◌, inl, inr, Option, Some, None}
 use Rattle.std.proofs.Common.{is_some, refl, sym, ap, ◌∙◌, subst}
 use Rattle.std.specs.Prelude.{fold}
 use Rattle.qc_core.proofs.ByNumber.{client_risen}
 use Rattle.qc_core.specs.declared.actor.Actor.{Actor}
-use Rattle.qc_core.specs.Names.{ActorMove, IsLawfulWithFalls, MayTake, actor_after, actor_does, actor_takes, by_client}
-use Rattle.qc_core.specs.Names.{is_up}
-use Rattle.qc_msg.specs.Names.{Deed, Falls, IsByDisk, MayEnd, Rises, Takes, Tells, Writes, deeds_as, first_epoch}
-use Rattle.qc_msg.specs.Names.{sends_of, telling, tells_of, turn_deeds, writes_of}
+use Rattle.qc_core.specs.Vocabulary.{ActorMove, IsLawfulWithFalls, MayTake, actor_after, actor_does, actor_takes}
+use Rattle.qc_core.specs.Vocabulary.{by_client, is_up}
+use Rattle.qc_msg.specs.Vocabulary.{Deed, Falls, IsByDisk, MayEnd, Rises, Takes, Tells, Writes, deeds_as, first_epoch}
+use Rattle.qc_msg.specs.Vocabulary.{sends_of, telling, tells_of, turn_deeds, writes_of}
 use Rattle.qc_core.proofs.Steady.{turn_steady}
-use Rattle.qc_client.specs.Names.{ClientMove, client_does, client_takes}
+use Rattle.qc_client.specs.Vocabulary.{ClientMove, client_does, client_takes}
 use Rattle.qc_decl.specs.declared.declaration.Declaration.{Declaration}
-use Rattle.qc_decl.specs.Names.{is_client}
+use Rattle.qc_decl.specs.Vocabulary.{is_client}
 use Rattle.qc_entry.specs.declared.record.Commit.{Commit}
 use Rattle.laws_turns.proofs.Up.{turn_up}
 use Rattle.qc_msg.specs.declared.record.Record.{Record}
@@ -26,12 +26,12 @@ use Rattle.qc_msg.specs.declared.step.Input.TheVariants as inputs
 use Rattle.qc_msg.specs.declared.turn.Appended.{Appended}
 use Rattle.qc_msg.specs.declared.turn.Appended.TheVariants.{Done, Failed, Stopped}
 use Rattle.qc_msg.specs.declared.turn.Turn.{Turn}
-use Rattle.qc_promise.specs.Names.{Account, Act, IsPostOf, IsRecordDue, IsReplyDue, Wrote, account_at, account_taken}
-use Rattle.qc_promise.specs.Names.{account_with, due, fallen_in, is_declared_for, pending_next, posted_due, rising_turn}
-use Rattle.qc_promise.specs.Names.{row_of, running_row}
-use Rattle.qc_recover.specs.Names.{client_rises, rising}
+use Rattle.qc_promise.specs.Vocabulary.{Account, Act, IsPostOf, IsRecordDue, IsReplyDue, Wrote, account_at}
+use Rattle.qc_promise.specs.Vocabulary.{account_taken, account_with, due, fallen_in, is_declared_for, pending_next}
+use Rattle.qc_promise.specs.Vocabulary.{posted_due, rising_turn, row_of, running_row}
+use Rattle.qc_recover.specs.Vocabulary.{client_rises, rising}
 use Rattle.laws_due.specs.ByRows as rows
-use Rattle.laws_due.specs.Names.{Goes, IsDeclaredDeed, IsPlanned, Ties}
+use Rattle.laws_due.specs.Vocabulary.{Goes, IsDeclaredDeed, IsPlanned, Ties}
 use Rattle.laws_due.proofs.Anew.{begins_anew}
 use Rattle.laws_due.proofs.Commands.{free_for}
 use Rattle.laws_due.proofs.DuesOfDeeds.{IsWithin, due_as}

@@ -1,33 +1,33 @@
 -- What is taken while a `do` runs: the first thing for an open request counts, all else changes nothing.
-use Rattle.std.proofs.Common.{◌≡◌, ℕ, ◌==◌, ◌&&◌, Bool, true, false, cond, List, ◌∷◌, filter, max, Option, Some, None}
-use Rattle.std.proofs.Common.{option_map, refl, sym, ap, ◌∙◌, subst, arith}
+use Rattle.std.proofs.Common.{[], ◌≡◌, ℕ, ◌==◌, ◌&&◌, Bool, true, false, cond, List, ◌∷◌, filter, max, Option, Some}
+use Rattle.std.proofs.Common.{None, option_map, refl, sym, ap, ◌∙◌, subst, arith}
 use Rattle.std.specs.Prelude.{is_none}
 use Rattle.std.specs.List.{find, AllByRecursion as Every}
 use Rattle.qc_list.proofs.Members.{every-In}
 use Rattle.qc_decl.specs.declared.declaration.Declaration.{Declaration}
-use Rattle.qc_decl.specs.Names.{append_need_of, read_need_of}
+use Rattle.qc_decl.specs.Vocabulary.{append_need_of, read_need_of}
 use Rattle.qc_entry.specs.declared.line.Line.{Line}
 use Rattle.qc_plan.specs.declared.standing.Verdict.TheVariants as verdicts
-use Rattle.qc_plan.specs.Names.{RoundState, all_noted, note, verdict}
+use Rattle.qc_plan.specs.Vocabulary.{RoundState, all_noted, note, verdict}
 use Rattle.qc_view.specs.declared.view.View.{View}
 use Rattle.qc_commit.specs.declared.desk.Desk.{Desk}
 use Rattle.qc_front.specs.declared.doing.Doing.TheVariants.{Appending}
 use Rattle.qc_front.specs.declared.front.Front.{Front}
 use Rattle.qc_front.specs.declared.transaction.Transaction.{Transaction}
-use Rattle.qc_front.specs.Names.{append_counts, appending_takes, learns, takes}
+use Rattle.qc_front.specs.Vocabulary.{append_counts, appending_takes, learns, takes}
 use Rattle.qc_front.specs.Rounds as fronts
 use Rattle.qc_client.specs.declared.client.Client.{Client}
-use Rattle.qc_client.specs.Names.{by_front}
+use Rattle.qc_client.specs.Vocabulary.{by_front}
 use Rattle.qc_msg.specs.declared.call.Call.{Call}
 use Rattle.qc_msg.specs.declared.message.Answer.{Answer}
 use Rattle.qc_msg.specs.declared.message.Answer.TheVariants as answers
 use Rattle.qc_msg.specs.declared.message.Want.{Want}
 use Rattle.qc_msg.specs.declared.message.Want.TheVariants.{Read, Append, Prepare}
-use Rattle.qc_msg.specs.Names.{without_call}
-use Rattle.qc_promise.specs.Names.{Account, ClientRequest, Current, answer_of, append_row, counted, counted_for}
-use Rattle.qc_promise.specs.Names.{granted, is_append, is_open, is_read, lived, promised, standing_of, taken_for}
-use Rattle.qc_promise.specs.Names.{told_by}
-use Rattle.laws_due.specs.Names.{AreApart, Goes, IsOpenIn, calls_in, front_of, transaction_of}
+use Rattle.qc_msg.specs.Vocabulary.{without_call}
+use Rattle.qc_promise.specs.Vocabulary.{Account, ClientRequest, Current, answer_of, append_row, counted, counted_for}
+use Rattle.qc_promise.specs.Vocabulary.{granted, is_append, is_open, is_read, lived, promised, standing_of, taken_for}
+use Rattle.qc_promise.specs.Vocabulary.{told_by}
+use Rattle.laws_due.specs.Vocabulary.{AreApart, Goes, IsOpenIn, calls_in, front_of, transaction_of}
 use Rattle.laws_due.proofs.DoRows.{Runs, run}
 use Rattle.laws_due.proofs.DoAppends.{appends_go, appends_tie, row_is}
 use Rattle.laws_due.proofs.Halves.{round_at, round_from, round_taken, waiting_verdict}

@@ -4,28 +4,28 @@ use Rattle.std.proofs.Common.{subst, arith}
 use Rattle.std.specs.List.{find, AllByRecursion as Every}
 use Rattle.qc_list.proofs.Members.{every-In, every-weaker}
 use Rattle.qc_decl.specs.declared.declaration.Declaration.{Declaration}
-use Rattle.qc_decl.specs.Names.{read_need_of}
+use Rattle.qc_decl.specs.Vocabulary.{read_need_of}
 use Rattle.qc_entry.specs.declared.line.Line.{Line}
-use Rattle.qc_plan.specs.Names.{RoundState, all_noted, note, verdict}
+use Rattle.qc_plan.specs.Vocabulary.{RoundState, all_noted, note, verdict}
 use Rattle.qc_view.specs.declared.view.View.{View}
 use Rattle.qc_commit.specs.declared.desk.Desk.{Desk}
 use Rattle.qc_front.specs.declared.doing.Doing.TheVariants.{Reading}
 use Rattle.qc_front.specs.declared.front.Front.{Front}
 use Rattle.qc_front.specs.declared.transaction.Transaction.{Transaction}
-use Rattle.qc_front.specs.Names.{RecordsHold, learns, read_counts, read_with, reading_takes, takes, with_granted}
+use Rattle.qc_front.specs.Vocabulary.{RecordsHold, learns, read_counts, read_with, reading_takes, takes, with_granted}
 use Rattle.qc_front.specs.Rounds as fronts
 use Rattle.qc_front.proofs.Recording.{read_recorded}
 use Rattle.qc_client.specs.declared.client.Client.{Client}
-use Rattle.qc_client.specs.Names.{by_front}
+use Rattle.qc_client.specs.Vocabulary.{by_front}
 use Rattle.qc_msg.specs.declared.call.Call.{Call}
 use Rattle.qc_msg.specs.declared.message.Answer.{Answer}
 use Rattle.qc_msg.specs.declared.message.Answer.TheVariants as answers
 use Rattle.qc_msg.specs.declared.message.Want.{Want}
 use Rattle.qc_msg.specs.declared.message.Want.TheVariants.{Read}
-use Rattle.qc_msg.specs.Names.{without_call}
-use Rattle.qc_promise.specs.Names.{Account, ClientRequest, Current, counted, counted_for, granted, is_open, is_read}
-use Rattle.qc_promise.specs.Names.{lived, promised, read_row, standing_of, taken_for, told_by, with_read}
-use Rattle.laws_due.specs.Names.{AreApart, Goes, IsBegun, IsOpenIn, calls_in, front_of, transaction_of}
+use Rattle.qc_msg.specs.Vocabulary.{without_call}
+use Rattle.qc_promise.specs.Vocabulary.{Account, ClientRequest, Current, counted, counted_for, granted, is_open}
+use Rattle.qc_promise.specs.Vocabulary.{is_read, lived, promised, read_row, standing_of, taken_for, told_by, with_read}
+use Rattle.laws_due.specs.Vocabulary.{AreApart, Goes, IsBegun, IsOpenIn, calls_in, front_of, transaction_of}
 use Rattle.laws_due.proofs.DoRows.{Runs, due_do, run}
 use Rattle.laws_due.proofs.ReadRequests.{IsRead, open_read}
 use Rattle.laws_due.proofs.DoReads.{reads_go, reads_tie}

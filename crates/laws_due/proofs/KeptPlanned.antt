@@ -6,12 +6,12 @@ use Rattle.std.specs.List.{AllByRecursion as Every}
 use Rattle.laws_turns.proofs.SoundClients.{IsAskableDeed}
 use Rattle.laws_due.proofs.Commanded.{run_askable}
 use Rattle.qc_list.proofs.Members.{every-weaker}
-use Rattle.qc_core.specs.Names.{IsLawfulWithFalls}
-use Rattle.qc_decl.specs.Names.{IsAccepted, actors}
+use Rattle.qc_core.specs.Vocabulary.{IsLawfulWithFalls}
+use Rattle.qc_decl.specs.Vocabulary.{IsAccepted, actors}
 use Rattle.qc_decl.specs.declared.declaration.Declaration.{Declaration}
-use Rattle.laws_turns.specs.Names.{AsksDeclared}
+use Rattle.laws_turns.specs.Vocabulary.{AsksDeclared}
 use Rattle.laws_turns.proofs.Mailed.{both_all}
-use Rattle.qc_link.specs.Names.{most_actors}
+use Rattle.qc_link.specs.Vocabulary.{most_actors}
 use Rattle.laws_turns.proofs.FallKept.{kept_rises}
 use Rattle.qc_msg.specs.declared.record.Record.{Record}
 use Rattle.qc_msg.specs.declared.reply.Reply.{Reply}
@@ -26,15 +26,16 @@ use Rattle.qc_msg.specs.declared.turn.Appended.{Appended}
 use Rattle.qc_msg.specs.declared.turn.Appended.TheVariants.{Done, Failed, Stopped}
 use Rattle.qc_msg.specs.declared.turn.Posting.{Posting}
 use Rattle.qc_msg.specs.declared.turn.Turn.{Turn}
-use Rattle.qc_msg.specs.Names.{Entry, by, deeds, fell, mail, marked, own, posted_as, sents, step_of, told, wrote}
-use Rattle.qc_promise.specs.Names.{Due, IsGivenBack, Journal, Kept, journal_of, journal_with, no_journal, pending_with}
-use Rattle.qc_script.specs.Names.{RunsWithFalls, begins, control, controller_step, damaged, falls, phase, posts, rises}
-use Rattle.qc_script.specs.Names.{takes, unopened}
+use Rattle.qc_msg.specs.Vocabulary.{Entry, by, deeds, fell, mail, marked, own, posted_as, sents, step_of, told, wrote}
+use Rattle.qc_promise.specs.Vocabulary.{Due, IsGivenBack, Journal, Kept, journal_of, journal_with, no_journal}
+use Rattle.qc_promise.specs.Vocabulary.{pending_with}
+use Rattle.qc_script.specs.Vocabulary.{RunsWithFalls, begins, control, controller_step, damaged, falls, phase, posts}
+use Rattle.qc_script.specs.Vocabulary.{rises, takes, unopened}
 use Rattle.qc_script.specs.declared.script.Script.{Script}
-use Rattle.laws_due.specs.Names.{AllRisePlanned, IsRecordPlanned, RisesPlanned}
+use Rattle.laws_due.specs.Vocabulary.{AllRisePlanned, IsRecordPlanned, RisesPlanned}
 use Rattle.laws_due.proofs.Declaring.{first_planned}
 use Rattle.laws_due.proofs.PlannedMail.{IsMailPlanned, deeds_planned}
-use Rattle.qc_inbox.proofs.Keeping.{same_mail}
+use Rattle.qc_mailbox.proofs.Keeping.{same_mail}
 use Rattle.laws_due.proofs.AllDue.{runs_due}
 use Rattle.laws_due.proofs.ActorsPlanned.{lawful_writes}
 use Rattle.laws_due.proofs.MailPlanned.{deeds_risen, rise_askable, run_planned}

@@ -3,19 +3,20 @@ use Rattle.std.proofs.Common.{◌≡◌, ℕ, ◌-◌, Bool, true, false, List, 
 use Rattle.std.specs.List.{AllByRecursion as Every}
 use Rattle.std.proofs.lemmas.List.{append-nil}
 use Rattle.qc_core.specs.declared.actor.Actor.{Actor}
-use Rattle.qc_core.specs.Names.{ActorMove, IsLawfulWithFalls, Lives, MayReach, MayTake, actor_takes, is_up, with_record}
+use Rattle.qc_core.specs.Vocabulary.{ActorMove, IsLawfulWithFalls, Lives, MayReach, MayTake, actor_takes, is_up}
+use Rattle.qc_core.specs.Vocabulary.{with_record}
 use Rattle.qc_core.specs.Acts as acts
 use Rattle.qc_core.specs.Lives as lives
 use Rattle.qc_core.proofs.ActorLaws.{at_client}
-use Rattle.qc_client.specs.Names.{new_client}
+use Rattle.qc_client.specs.Vocabulary.{new_client}
 use Rattle.qc_decl.specs.declared.declaration.Declaration.{Declaration}
-use Rattle.qc_decl.specs.Names.{is_client}
+use Rattle.qc_decl.specs.Vocabulary.{is_client}
 use Rattle.qc_msg.specs.declared.step.Input.{Input}
 use Rattle.qc_msg.specs.declared.step.Input.TheVariants as inputs
 use Rattle.qc_msg.specs.declared.turn.Turn.{Turn}
-use Rattle.qc_msg.specs.Names.{Deed, MayEnd, Rises, Takes, deeds_as, first_epoch}
-use Rattle.qc_promise.specs.Names.{AreRepliesDue}
-use Rattle.laws_due.specs.Names.{Declares, IsDeclaredDeed, IsPlanned}
+use Rattle.qc_msg.specs.Vocabulary.{Deed, MayEnd, Rises, Takes, deeds_as, first_epoch}
+use Rattle.qc_promise.specs.Vocabulary.{AreRepliesDue}
+use Rattle.laws_due.specs.Vocabulary.{Declares, IsDeclaredDeed, IsPlanned}
 use Rattle.laws_due.proofs.Commands.{no_site}
 use Rattle.laws_due.proofs.Courses.{clients_hold, clients_tied}
 use Rattle.laws_due.proofs.Fallings.{as_record, crashes_rest, input_free, unopened_rest}

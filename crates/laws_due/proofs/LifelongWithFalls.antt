@@ -5,12 +5,12 @@ use Rattle.std.proofs.Common.{subst}
 use Rattle.qc_core.proofs.ByNumber.{client_risen}
 use Rattle.qc_core.specs.declared.actor.Actor.{Actor}
 use Rattle.qc_core.specs.declared.actor.Actor.TheVariants as actors
-use Rattle.qc_core.specs.Names.{ActorMove, IsLawfulWithFalls, Lives, MayReach, MayTake, actor_after, actor_takes}
-use Rattle.qc_core.specs.Names.{by_client, is_running, is_up, up_at, with_record}
+use Rattle.qc_core.specs.Vocabulary.{ActorMove, IsLawfulWithFalls, Lives, MayReach, MayTake, actor_after, actor_takes}
+use Rattle.qc_core.specs.Vocabulary.{by_client, is_running, is_up, up_at, with_record}
 use Rattle.qc_core.specs.Lives as lives
 use Rattle.qc_client.specs.declared.client.Client.{Client}
 use Rattle.qc_decl.specs.declared.declaration.Declaration.{Declaration}
-use Rattle.qc_decl.specs.Names.{is_client}
+use Rattle.qc_decl.specs.Vocabulary.{is_client}
 use Rattle.laws_turns.proofs.TurnReplies.{running_more}
 use Rattle.qc_msg.specs.declared.record.Record.{Record}
 use Rattle.qc_msg.specs.declared.record.Record.TheVariants as records
@@ -22,10 +22,10 @@ use Rattle.qc_msg.specs.declared.step.Input.TheVariants as inputs
 use Rattle.qc_msg.specs.declared.turn.Appended.{Appended}
 use Rattle.qc_msg.specs.declared.turn.Appended.TheVariants.{Done, Failed, Stopped}
 use Rattle.qc_msg.specs.declared.turn.Turn.{Turn}
-use Rattle.qc_msg.specs.Names.{Deed, Rises, Takes, Tells, Writes, deeds_as, turn_deeds}
-use Rattle.qc_promise.specs.Names.{Account, account_at}
-use Rattle.qc_recover.specs.Names.{client_rises, rising}
-use Rattle.laws_due.specs.Names.{Ties}
+use Rattle.qc_msg.specs.Vocabulary.{Deed, Rises, Takes, Tells, Writes, deeds_as, turn_deeds}
+use Rattle.qc_promise.specs.Vocabulary.{Account, account_at}
+use Rattle.qc_recover.specs.Vocabulary.{client_rises, rising}
+use Rattle.laws_due.specs.Vocabulary.{Ties}
 use Rattle.laws_due.proofs.Anew.{begins_anew}
 use Rattle.laws_due.proofs.Commands.{running}
 use Rattle.laws_due.proofs.Rising.{risen_account, risen_holds, risen_ties}

@@ -6,11 +6,11 @@ use Rattle.std.specs.List.{AllByRecursion as Every}
 use Rattle.qc_list.proofs.Members.{every-append}
 use Rattle.qc_stamp.specs.declared.stamp.TxId.{TxId}
 use Rattle.qc_decl.specs.declared.declaration.Declaration.{Declaration}
-use Rattle.qc_decl.specs.Names.{is_site, most_record_bytes}
+use Rattle.qc_decl.specs.Vocabulary.{is_site, most_record_bytes}
 use Rattle.qc_entry.specs.declared.record.Prepared.{Prepared}
 use Rattle.qc_lock.specs.declared.clash.Clash.{Clash as Conflict}
-use Rattle.qc_lock.specs.Names.{append_clash, is_held, read_clash}
-use Rattle.qc_core.specs.Names.{Acts, posts, starts, takes}
+use Rattle.qc_lock.specs.Vocabulary.{append_clash, is_held, read_clash}
+use Rattle.qc_core.specs.Vocabulary.{Acts, posts, starts, takes}
 use Rattle.laws_turns.proofs.Served.{lawful_site}
 use Rattle.qc_msg.specs.declared.message.Answer.{Answer}
 use Rattle.qc_msg.specs.declared.message.Answer.TheVariants as answers_of
@@ -27,12 +27,12 @@ use Rattle.qc_msg.specs.declared.step.Input.{Input}
 use Rattle.qc_msg.specs.declared.step.Input.TheVariants as inputs
 use Rattle.qc_msg.specs.declared.turn.Posting.{Posting}
 use Rattle.qc_msg.specs.declared.turn.Turn.{Turn}
-use Rattle.qc_msg.specs.Names.{Deed, Falls, Rises, Sends, Takes, Tells, Writes, quiet, sends_of, tells_of, turn_deeds}
-use Rattle.qc_msg.specs.Names.{writes_of}
-use Rattle.qc_site.specs.Names.{SiteMove, SiteState, answers, appends_by, fault_of, finishes, grants, is_prepared}
-use Rattle.qc_site.specs.Names.{joins, moved, names_declared, new_site, passed, prepare_length, prepared_of, prepares}
-use Rattle.qc_site.specs.Names.{promise_of, promised, reads_by, relation_at, requested, site_at, site_does, site_takes}
-use Rattle.qc_site.specs.Names.{votes}
+use Rattle.qc_msg.specs.Vocabulary.{Deed, Falls, Rises, Sends, Takes, Tells, Writes, quiet, sends_of, tells_of}
+use Rattle.qc_msg.specs.Vocabulary.{turn_deeds, writes_of}
+use Rattle.qc_site.specs.Vocabulary.{SiteMove, SiteState, answers, appends_by, fault_of, finishes, grants, is_prepared}
+use Rattle.qc_site.specs.Vocabulary.{joins, moved, names_declared, new_site, passed, prepare_length, prepared_of}
+use Rattle.qc_site.specs.Vocabulary.{prepares, promise_of, promised, reads_by, relation_at, requested, site_at}
+use Rattle.qc_site.specs.Vocabulary.{site_does, site_takes, votes}
 use Rattle.qc_site.proofs.RequestCases.{close_cases}
 use Rattle.qc_site.proofs.Cases.{install_cases}
 

@@ -7,18 +7,18 @@ use Rattle.std.proofs.lemmas.Bool.{lt-ltb, ltb-false, le-leb}
 use Rattle.qc_core.proofs.ByNumber.{site_new, site_risen}
 use Rattle.qc_core.specs.declared.actor.Actor.{Actor}
 use Rattle.qc_core.specs.declared.actor.Actor.TheVariants as actor
-use Rattle.qc_core.specs.Names.{ActorMove, AreUncommanded, IsLawfulWithFalls, Lives, actor_does, actor_rises}
-use Rattle.qc_core.specs.Names.{actor_sends, actor_takes, is_running, moved, new_actor, with_record}
+use Rattle.qc_core.specs.Vocabulary.{ActorMove, AreUncommanded, IsLawfulWithFalls, Lives, actor_does, actor_rises}
+use Rattle.qc_core.specs.Vocabulary.{actor_sends, actor_takes, is_running, moved, new_actor, with_record}
 use Rattle.qc_core.specs.Lives as lives
 use Rattle.qc_core.proofs.PostsByTurns.{called_turn}
 use Rattle.qc_core.proofs.Written.{IsSiteTurn, site_written}
-use Rattle.qc_decl.specs.Names.{IsAccepted, actors, administrator, is_site}
+use Rattle.qc_decl.specs.Vocabulary.{IsAccepted, actors, administrator, is_site}
 use Rattle.qc_decl.specs.declared.declaration.Declaration.{Declaration}
-use Rattle.laws_turns.specs.Names.{AsksDeclared, LivesIn, calls_of, replies_of}
+use Rattle.laws_turns.specs.Vocabulary.{AsksDeclared, LivesIn, calls_of, replies_of}
 use Rattle.laws_turns.proofs.Commanded.{uncommanded}
 use Rattle.laws_turns.proofs.Mailed.{both_all}
 use Rattle.laws_turns.proofs.Places.{slice_get-within}
-use Rattle.qc_link.specs.Names.{most_actors}
+use Rattle.qc_link.specs.Vocabulary.{most_actors}
 use Rattle.laws_turns.proofs.ByMailWithFalls.{run_delivered}
 use Rattle.laws_turns.proofs.Lived.{run_lives, run_long}
 use Rattle.qc_msg.specs.declared.record.Record.{Record}
@@ -30,11 +30,11 @@ use Rattle.qc_msg.specs.declared.turn.Appended.{Appended}
 use Rattle.qc_msg.specs.declared.turn.Appended.TheVariants.{Done, Failed, Stopped}
 use Rattle.qc_msg.specs.declared.turn.Posting.{Posting}
 use Rattle.qc_msg.specs.declared.turn.Turn.{Turn}
-use Rattle.qc_msg.specs.Names.{Deed, Entry, Falls, Rises, Sends, Takes, Tells, Writes, command_in, deeds, deeds_as}
-use Rattle.qc_msg.specs.Names.{quiet, sends_of, tells_of, writes_of}
-use Rattle.qc_script.specs.Names.{RunsWithFalls}
+use Rattle.qc_msg.specs.Vocabulary.{Deed, Entry, Falls, Rises, Sends, Takes, Tells, Writes, command_in, deeds, deeds_as}
+use Rattle.qc_msg.specs.Vocabulary.{quiet, sends_of, tells_of, writes_of}
+use Rattle.qc_script.specs.Vocabulary.{RunsWithFalls}
 use Rattle.qc_script.specs.declared.script.Script.{Script}
-use Rattle.laws_due.specs.Names.{AreInOrder}
+use Rattle.laws_due.specs.Vocabulary.{AreInOrder}
 use Rattle.laws_due.proofs.Ordered.{all_counted, open_commands, run_ordered}
 use Rattle.laws_due.proofs.Places.{few_actors}
 use Rattle.laws_due.proofs.Telling.{first_all}

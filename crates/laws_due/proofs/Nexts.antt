@@ -1,8 +1,8 @@
 -- The first site that a round wants is the next to be asked, and once it is asked the round wants the others.
 use Rattle.std.proofs.Common.{◌≡◌, ◌≤◌, ℕ, zero, suc, Bool, true, false, cond, List, [], ◌∷◌, ◌++◌, length, drop}
 use Rattle.std.proofs.Common.{Option, Some, None, refl, sym, ap, ◌∙◌, arith}
-use Rattle.qc_plan.specs.Names.{RoundState, asking_first, asking_in_turn, asking_next, asking_on, first, may_ask}
-use Rattle.qc_plan.specs.Names.{next_site, wanted}
+use Rattle.qc_plan.specs.Vocabulary.{RoundState, asking_first, asking_in_turn, asking_next, asking_on, first, may_ask}
+use Rattle.qc_plan.specs.Vocabulary.{next_site, wanted}
 use Rattle.qc_plan.proofs.Rounds.{one_by_one}
 
 -- a round's one site more

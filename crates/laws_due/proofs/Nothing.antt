@@ -2,17 +2,17 @@
 use Rattle.std.proofs.Common.{false, ◌≡◌, ℕ, nat_le, Bool, cond, length, Option, Some, None, refl, sym, ap, ◌∙◌, subst}
 use Rattle.std.specs.Prelude.{option_and_then}
 use Rattle.qc_decl.specs.declared.declaration.Declaration.{Declaration}
-use Rattle.qc_decl.specs.Names.{append_need_of, most_transaction_operations, read_need_of}
-use Rattle.qc_front.specs.Names.{AppendingHolds, FrontHolds, ReadingHolds, RecordsHold}
+use Rattle.qc_decl.specs.Vocabulary.{append_need_of, most_transaction_operations, read_need_of}
+use Rattle.qc_front.specs.Vocabulary.{AppendingHolds, FrontHolds, ReadingHolds, RecordsHold}
 use Rattle.qc_client.specs.declared.client.Client.{Client}
 use Rattle.qc_msg.specs.declared.reply.Reply.TheVariants as replies
 use Rattle.qc_msg.specs.declared.step.Command.{Command}
 use Rattle.qc_msg.specs.declared.step.Command.TheVariants as commands
-use Rattle.qc_plan.specs.Names.{verdict}
-use Rattle.qc_promise.specs.Names.{Account, Current, answer_row, append_row, is_append, is_read, read_row, round_of}
-use Rattle.qc_promise.specs.Names.{row_of, running_row}
-use Rattle.laws_due.specs.Names.{Appends, Holds, IsDo, NoneRuns, Reads, Ties, Votes, appends, calls_in, reads, rests}
-use Rattle.laws_due.specs.Names.{votes}
+use Rattle.qc_plan.specs.Vocabulary.{verdict}
+use Rattle.qc_promise.specs.Vocabulary.{Account, Current, answer_row, append_row, is_append, is_read, read_row}
+use Rattle.qc_promise.specs.Vocabulary.{round_of, row_of, running_row}
+use Rattle.laws_due.specs.Vocabulary.{Appends, Holds, IsDo, NoneRuns, Reads, Ties, Votes, appends, calls_in, reads}
+use Rattle.laws_due.specs.Vocabulary.{rests, votes}
 use Rattle.laws_due.proofs.VotesCome.{votes_out}
 use Rattle.laws_due.proofs.Halves.{waiting_verdict}
 

@@ -1,15 +1,15 @@
 -- The open request of a number, in the account and in the client's calls, and what is taken for it.
-use Rattle.std.proofs.Common.{◌≡◌, ℕ, suc, ◌==◌, ◌&&◌, Bool, true, false, cond, List, ◌∷◌, length, map, filter, Option}
-use Rattle.std.proofs.Common.{Some, None, option_map, refl, ap, ◌∙◌, subst, eqb-true, inl, inr}
+use Rattle.std.proofs.Common.{[], ◌≡◌, ℕ, suc, ◌==◌, ◌&&◌, Bool, true, false, cond, List, ◌∷◌, length, map, filter}
+use Rattle.std.proofs.Common.{Option, Some, None, option_map, refl, ap, ◌∙◌, subst, eqb-true, inl, inr}
 use Rattle.std.specs.Prelude.{is_none}
 use Rattle.std.specs.List.{find, AllByRecursion as Every}
-use Rattle.qc_list.specs.Names.{In}
+use Rattle.qc_list.specs.Vocabulary.{In}
 use Rattle.qc_msg.specs.declared.call.Call.{Call}
 use Rattle.qc_msg.specs.declared.message.Answer.{Answer}
 use Rattle.qc_msg.specs.declared.message.Want.{Want}
-use Rattle.qc_msg.specs.Names.{site_called, without_call}
-use Rattle.qc_promise.specs.Names.{ClientRequest, is_open, taken_for}
-use Rattle.laws_due.specs.Names.{call_of, calls_in}
+use Rattle.qc_msg.specs.Vocabulary.{site_called, without_call}
+use Rattle.qc_promise.specs.Vocabulary.{ClientRequest, is_open, taken_for}
+use Rattle.laws_due.specs.Vocabulary.{call_of, calls_in}
 
 abbrev pub sites_in : List ClientRequest → List ℕ
 sites_in qs = map (λ (q : ClientRequest). q.site) qs

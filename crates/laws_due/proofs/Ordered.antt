@@ -6,12 +6,12 @@ use Rattle.std.specs.Prelude.{fold, slice_get, slice_set}
 use Rattle.std.specs.List.{filter_map}
 use Rattle.std.proofs.lemmas.Bool.{eqb-true}
 use Rattle.std.proofs.lemmas.List.Sums.{fold-append}
-use Rattle.qc_core.specs.Names.{IsLawfulWithFalls, MayTake, is_running, runs_at, with_record}
+use Rattle.qc_core.specs.Vocabulary.{IsLawfulWithFalls, MayTake, is_running, runs_at, with_record}
 use Rattle.laws_due.proofs.Fallings.{as_record}
-use Rattle.qc_decl.specs.Names.{IsAccepted, controller, is_client}
+use Rattle.qc_decl.specs.Vocabulary.{IsAccepted, controller, is_client}
 use Rattle.qc_decl.specs.declared.declaration.Declaration.{Declaration}
-use Rattle.qc_inbox.proofs.FallMail.{ready_sent}
-use Rattle.laws_turns.specs.Names.{AsksDeclared, LivesIn, call_in, reply_in}
+use Rattle.qc_mailbox.proofs.FallMail.{ready_sent}
+use Rattle.laws_turns.specs.Vocabulary.{AsksDeclared, LivesIn, call_in, reply_in}
 use Rattle.laws_turns.proofs.Acted.{deeds-silent}
 use Rattle.laws_turns.proofs.Commands.{may_take}
 use Rattle.laws_turns.proofs.Lived.{deeds-fall, deeds-rise, run_lives}
@@ -29,15 +29,15 @@ use Rattle.qc_msg.specs.declared.turn.Appended.{Appended}
 use Rattle.qc_msg.specs.declared.turn.Appended.TheVariants.{Done, Failed, Stopped}
 use Rattle.qc_msg.specs.declared.turn.Posting.{Posting}
 use Rattle.qc_msg.specs.declared.turn.Turn.{Turn}
-use Rattle.qc_msg.specs.Names.{Deed, Entry, Falls, MayEnd, Rises, Sends, Takes, Tells, Writes, by, deeds, deeds_as}
-use Rattle.qc_msg.specs.Names.{mail, marked, posted_as, sends_of, step_of, tells_of, writes_of}
+use Rattle.qc_msg.specs.Vocabulary.{Deed, Entry, Falls, MayEnd, Rises, Sends, Takes, Tells, Writes, by, deeds, deeds_as}
+use Rattle.qc_msg.specs.Vocabulary.{mail, marked, posted_as, sends_of, step_of, tells_of, writes_of}
 use Rattle.qc_msg.proofs.DeedsGrow.{deeds-other}
 use Rattle.qc_msg.proofs.Growth.{deeds-posted_as, deeds-taken}
-use Rattle.qc_recover.specs.Names.{rising}
-use Rattle.qc_script.specs.Names.{RunsWithFalls, begins, control, controls_left, damaged, falls, phase, phase_of, posts}
-use Rattle.qc_script.specs.Names.{ready, rises, takes, unopened}
+use Rattle.qc_recover.specs.Vocabulary.{rising}
+use Rattle.qc_script.specs.Vocabulary.{RunsWithFalls, begins, control, controls_left, damaged, falls, phase, phase_of}
+use Rattle.qc_script.specs.Vocabulary.{posts, ready, rises, takes, unopened}
 use Rattle.qc_script.specs.declared.script.Script.{Script}
-use Rattle.laws_due.specs.Names.{AreInOrder, MayBeGiven}
+use Rattle.laws_due.specs.Vocabulary.{AreInOrder, MayBeGiven}
 use Rattle.laws_due.proofs.EndsWithFalls.{line_idle}
 use Rattle.laws_due.proofs.Places.{apart_from_controller, few_actors, rose_split}
 use Rattle.laws_due.proofs.Telling.{Replies}

@@ -3,14 +3,14 @@ use Rattle.std.proofs.Common.{◌≡◌, ℕ, ◌+◌, ◌<◌, ◌≤◌, ◌==
 use Rattle.std.proofs.Common.{arith, append_assoc, eqb-true}
 pub use Rattle.qc_decl.proofs.Clients.{client_below, client_past, client_within}
 use Rattle.qc_decl.specs.declared.declaration.Declaration.{Declaration}
-use Rattle.qc_decl.specs.Names.{IsAccepted, actors, controller, is_client}
-use Rattle.qc_link.specs.Names.{most_actors}
+use Rattle.qc_decl.specs.Vocabulary.{IsAccepted, actors, controller, is_client}
+use Rattle.qc_link.specs.Vocabulary.{most_actors}
 use Rattle.laws_turns.proofs.Lived.{deeds-rise}
 use Rattle.qc_msg.specs.declared.record.Record.{Record}
 use Rattle.qc_msg.specs.declared.step.Step.TheVariants as steps
 use Rattle.qc_msg.specs.declared.turn.Appended.{Appended}
 use Rattle.qc_msg.specs.declared.turn.Turn.{Turn}
-use Rattle.qc_msg.specs.Names.{Deed, Entry, Rises, by, deeds, deeds_as, marked, posted_as}
+use Rattle.qc_msg.specs.Vocabulary.{Deed, Entry, Rises, by, deeds, deeds_as, marked, posted_as}
 use Rattle.qc_msg.proofs.Growth.{deeds-posted_as}
 
 pub few_actors : (decl : Declaration) → IsAccepted decl → actors decl ≤ most_actors

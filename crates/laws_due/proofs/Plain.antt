@@ -1,19 +1,19 @@
 -- Steps that call nothing and begin no phase, as those of posts, lines, falls and rises are: what they leave as it is.
-use Rattle.std.proofs.Common.{◌≡◌, ℕ, ◌+◌, ◌==◌, Bool, true, false, cond, List, ◌∷◌, ◌++◌, Option, Some, None}
+use Rattle.std.proofs.Common.{[], ◌≡◌, ℕ, ◌+◌, ◌==◌, Bool, true, false, cond, List, ◌∷◌, ◌++◌, Option, Some, None}
 use Rattle.std.proofs.Common.{slice_get, refl, sym, ap, ◌∙◌, subst, append_assoc}
 use Rattle.std.specs.Prelude.{fold}
 use Rattle.std.specs.List.{AllByRecursion as Every, filter_map}
 use Rattle.std.proofs.lemmas.List.{append-nil}
 use Rattle.std.proofs.lemmas.List.Elements.{filter_map-append}
 use Rattle.std.proofs.lemmas.List.Sums.{fold-append}
-use Rattle.qc_core.specs.Names.{is_running, runs_at}
-use Rattle.laws_turns.specs.Names.{call_in, calls_of}
+use Rattle.qc_core.specs.Vocabulary.{is_running, runs_at}
+use Rattle.laws_turns.specs.Vocabulary.{call_in, calls_of}
 use Rattle.qc_msg.specs.declared.message.Envelope.{Envelope}
 use Rattle.qc_msg.specs.declared.step.Step.{Step}
 use Rattle.qc_msg.specs.declared.step.Step.TheVariants as steps
-use Rattle.qc_msg.specs.Names.{Entry, deed_at, deeds, heard, mail}
+use Rattle.qc_msg.specs.Vocabulary.{Entry, deed_at, deeds, heard, mail}
 use Rattle.qc_msg.proofs.DeedsGrow.{deeds-append}
-use Rattle.qc_script.specs.Names.{inbox, phase_at, phase_of}
+use Rattle.qc_script.specs.Vocabulary.{inbox, phase_at, phase_of}
 use Rattle.qc_script.specs.declared.script.Script.{Script}
 use Rattle.laws_due.proofs.PlainSteps.{IsPlain, ArePlain, Leaves, same_left, left_then, step_left, inbox_then}
 

@@ -4,11 +4,11 @@ use Rattle.std.proofs.Common.{Some, None, refl, sym, ap, ◌∙◌, subst}
 use Rattle.std.specs.Prelude.{unwrap_or}
 use Rattle.std.specs.List.{AllByRecursion as Every}
 use Rattle.std.specs.Option.{option_or}
-use Rattle.qc_epoch.specs.Names.{standing_of}
+use Rattle.qc_epoch.specs.Vocabulary.{standing_of}
 use Rattle.qc_msg.specs.declared.message.Answer.{Answer}
 use Rattle.qc_msg.specs.declared.message.Answer.TheVariants as answers
-use Rattle.qc_plan.specs.Names.{RoundState, all_noted, asking_all, clash_at, closed_at, first_clash, first_closed}
-use Rattle.qc_plan.specs.Names.{has_granted, note_in, refusal, settled, verdict, weight}
+use Rattle.qc_plan.specs.Vocabulary.{RoundState, all_noted, asking_all, clash_at, closed_at, first_clash, first_closed}
+use Rattle.qc_plan.specs.Vocabulary.{has_granted, note_in, refusal, settled, verdict, weight}
 use Rattle.qc_plan.specs.declared.standing.Asked.{Asked}
 use Rattle.qc_plan.specs.declared.standing.Verdict.{Verdict}
 use Rattle.qc_plan.specs.declared.standing.Verdict.TheVariants as verdicts

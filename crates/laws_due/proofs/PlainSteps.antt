@@ -1,10 +1,10 @@
 -- Steps that call nothing and begin no phase leave an inbox its commands, and bring it no control line.
-use Rattle.std.proofs.Common.{◌≡◌, ℕ, ◌+◌, ◌==◌, ◌&&◌, Bool, true, false, if◌then◌else◌, List, ◌∷◌, ◌++◌, drop, Option}
-use Rattle.std.proofs.Common.{Some, None, refl, ap, ◌∙◌, subst}
+use Rattle.std.proofs.Common.{[], ◌≡◌, ℕ, ◌+◌, ◌==◌, ◌&&◌, Bool, true, false, if◌then◌else◌, List, ◌∷◌, ◌++◌, drop}
+use Rattle.std.proofs.Common.{Option, Some, None, refl, ap, ◌∙◌, subst}
 use Rattle.std.specs.Prelude.{set}
 use Rattle.std.specs.List.{AllByRecursion as Every}
 use Rattle.std.proofs.lemmas.List.Sums.{fold-append}
-use Rattle.qc_link.specs.Names.{with_cut, without_cut}
+use Rattle.qc_link.specs.Vocabulary.{with_cut, without_cut}
 use Rattle.qc_link.specs.declared.rule.Fate.{Fate}
 use Rattle.qc_msg.specs.declared.message.Envelope.{Envelope}
 use Rattle.qc_msg.specs.declared.message.Message.{Message}
@@ -19,11 +19,11 @@ use Rattle.qc_msg.specs.declared.turn.Appended.{Appended}
 use Rattle.qc_msg.specs.declared.turn.Appended.TheVariants.{Done, Failed, Stopped}
 use Rattle.qc_msg.specs.declared.turn.Posting.{Posting}
 use Rattle.qc_msg.specs.declared.turn.Turn.{Turn}
-use Rattle.qc_msg.specs.Names.{Entry, by, fell, posted_as, sents, told, wrote}
-use Rattle.qc_script.specs.Names.{Inbox, acting, actor_fell, answers_by, comes, comes_at_once, control_acted}
-use Rattle.qc_script.specs.Names.{controller_step, copy_taken, emptied, empty_inbox, goes, goes_with, has_request}
-use Rattle.qc_script.specs.Names.{inbox, inbox_at, is_by_line, is_request, is_up, loss_taken, opened, opened_by}
-use Rattle.qc_script.specs.Names.{reply_told, requests_to, requests_to_others, with_copies, with_lost}
+use Rattle.qc_msg.specs.Vocabulary.{Entry, by, fell, posted_as, sents, told, wrote}
+use Rattle.qc_script.specs.Vocabulary.{Inbox, acting, actor_fell, answers_by, comes, comes_at_once, control_acted}
+use Rattle.qc_script.specs.Vocabulary.{controller_step, copy_taken, emptied, empty_inbox, goes, goes_with, has_request}
+use Rattle.qc_script.specs.Vocabulary.{inbox, inbox_at, is_by_line, is_request, is_up, loss_taken, opened, opened_by}
+use Rattle.qc_script.specs.Vocabulary.{reply_told, requests_to, requests_to_others, with_copies, with_lost}
 use Rattle.qc_script.specs.declared.script.Script.{Script}
 
 abbrev pub IsPlain : Step → Type 0

@@ -4,26 +4,26 @@ use Rattle.std.proofs.Common.{length, Option, Some, None, slice_get, refl, sym, 
 use Rattle.std.specs.Prelude.{option_to_list}
 use Rattle.std.specs.List.{AllByRecursion as Every, cons_option}
 use Rattle.qc_decl.specs.declared.declaration.Declaration.{Declaration}
-use Rattle.qc_decl.specs.Names.{controller, is_client, is_site}
+use Rattle.qc_decl.specs.Vocabulary.{controller, is_client, is_site}
 use Rattle.qc_msg.specs.declared.message.Envelope.{Envelope}
 use Rattle.qc_msg.specs.declared.step.Step.{Step}
 use Rattle.qc_msg.specs.declared.step.Step.TheVariants as steps
 use Rattle.qc_msg.specs.declared.turn.Posting.{Posting}
 use Rattle.qc_msg.specs.declared.turn.Turn.{Turn}
-use Rattle.qc_msg.specs.Names.{Deed, Entry, by, deed_at, deeds, envelope_of, envelopes, first_epoch, heard, mail}
-use Rattle.qc_msg.specs.Names.{posted, quiet}
+use Rattle.qc_msg.specs.Vocabulary.{Deed, Entry, by, deed_at, deeds, envelope_of, envelopes, first_epoch, heard, mail}
+use Rattle.qc_msg.specs.Vocabulary.{posted, quiet}
 use Rattle.qc_msg.proofs.GrownMail.{mail-append, mail-posted, mail-taken}
-use Rattle.qc_client.specs.Names.{client_after, moved as client_moved, new_client}
-use Rattle.qc_core.specs.Names.{IsLawful}
-use Rattle.qc_script.specs.Names.{Runs, phase_of}
+use Rattle.qc_client.specs.Vocabulary.{client_after, moved as client_moved, new_client}
+use Rattle.qc_core.specs.Vocabulary.{IsLawful}
+use Rattle.qc_script.specs.Vocabulary.{Runs, phase_of}
 use Rattle.qc_script.specs.Runs.{begins, takes, posts, phase, control}
 use Rattle.qc_script.specs.declared.script.Script.{Script}
-use Rattle.qc_site.specs.Names.{moved, new_site, site_after}
+use Rattle.qc_site.specs.Vocabulary.{moved, new_site, site_after}
 use Rattle.laws_turns.proofs.Mailed.{all_at, both_all}
 use Rattle.laws_turns.proofs.Numbered.{control_silent, mail-silent, phase_silent}
 use Rattle.laws_due.proofs.Epochs.{DeedPlanned, TellPlanned, TellsPlanned, folded_planned, says_nothing}
 use Rattle.laws_due.proofs.ClientEpochs.{client_planned}
-use Rattle.laws_due.specs.Names.{IsPlanned}
+use Rattle.laws_due.specs.Vocabulary.{IsPlanned}
 
 -- the mail, and what an actor takes of it
 

@@ -7,14 +7,14 @@ use Rattle.qc_client.specs.declared.client.Client.{Client}
 use Rattle.qc_core.proofs.ByNumber.{client_new, client_risen}
 use Rattle.qc_core.specs.declared.actor.Actor.{Actor}
 use Rattle.qc_core.specs.declared.actor.Actor.TheVariants as actor
-use Rattle.qc_core.specs.Names.{ActorMove, IsLawfulWithFalls, actor_does, actor_rises, actor_sends, actor_takes, moved}
-use Rattle.qc_core.specs.Names.{new_actor, with_record}
+use Rattle.qc_core.specs.Vocabulary.{ActorMove, IsLawfulWithFalls, actor_does, actor_rises, actor_sends, actor_takes}
+use Rattle.qc_core.specs.Vocabulary.{moved, new_actor, with_record}
 use Rattle.qc_core.proofs.PostsByTurns.{called_turn}
 use Rattle.qc_core.proofs.Written.{client_written}
-use Rattle.qc_decl.specs.Names.{IsAccepted, controller, is_client}
+use Rattle.qc_decl.specs.Vocabulary.{IsAccepted, controller, is_client}
 use Rattle.qc_decl.specs.declared.declaration.Declaration.{Declaration}
 use Rattle.laws_due.proofs.Commanded.{run_askable}
-use Rattle.laws_turns.specs.Names.{AsksDeclared}
+use Rattle.laws_turns.specs.Vocabulary.{AsksDeclared}
 use Rattle.laws_turns.proofs.Mailed.{both_all}
 use Rattle.laws_turns.proofs.SoundClients.{IsAskableDeed, IsAskableGiven, Sound, SoundMove, sent_sound, takes_sound}
 use Rattle.laws_turns.proofs.Rounds.{AreProper, IsProper}
@@ -32,12 +32,12 @@ use Rattle.qc_msg.specs.declared.turn.Appended.{Appended}
 use Rattle.qc_msg.specs.declared.turn.Appended.TheVariants.{Done, Failed, Stopped}
 use Rattle.qc_msg.specs.declared.turn.Posting.{Posting}
 use Rattle.qc_msg.specs.declared.turn.Turn.{Turn}
-use Rattle.qc_msg.specs.Names.{Deed, Entry, Falls, Rises, Sends, Takes, Tells, Writes, by, deeds, envelopes, mail}
-use Rattle.qc_msg.specs.Names.{marked, posted_as, quiet, sends_as}
+use Rattle.qc_msg.specs.Vocabulary.{Deed, Entry, Falls, Rises, Sends, Takes, Tells, Writes, by, deeds, envelopes, mail}
+use Rattle.qc_msg.specs.Vocabulary.{marked, posted_as, quiet, sends_as}
 use Rattle.qc_msg.proofs.GrownMail.{mail-append, mail-taken}
 use Rattle.qc_msg.proofs.Growth.{mail-posted_as}
-use Rattle.qc_script.specs.Names.{RunsWithFalls, begins, control, controller_step, damaged, falls, phase, phase_of}
-use Rattle.qc_script.specs.Names.{posts, rises, takes, unopened}
+use Rattle.qc_script.specs.Vocabulary.{RunsWithFalls, begins, control, controller_step, damaged, falls, phase, phase_of}
+use Rattle.qc_script.specs.Vocabulary.{posts, rises, takes, unopened}
 use Rattle.qc_script.specs.declared.script.Script.{Script}
 use Rattle.laws_due.proofs.Places.{client_below, client_past}
 

@@ -1,20 +1,20 @@
 -- Where whoever gets an actor's requests answers them at once, an unanswered request is at its receiver.
-use Rattle.std.proofs.Common.{◌≡◌, ℕ, ◌+◌, ◌<◌, ◌≤◌, ◌==◌, Bool, true, false, List, ◌∷◌, ◌++◌, length, Some, None}
+use Rattle.std.proofs.Common.{[], ◌≡◌, ℕ, ◌+◌, ◌<◌, ◌≤◌, ◌==◌, Bool, true, false, List, ◌∷◌, ◌++◌, length, Some, None}
 use Rattle.std.proofs.Common.{slice_get, refl, sym, ap, ◌∙◌, subst, append_assoc}
 use Rattle.std.specs.Prelude.{fold, slice_set}
 use Rattle.std.proofs.lemmas.Bool.{eq-eqb, eqb-true}
 use Rattle.std.proofs.lemmas.List.Sums.{fold-append}
-use Rattle.qc_list.specs.Names.{In}
-use Rattle.qc_core.specs.Names.{ActorMove, IsLawfulWithFalls, actor_after, actor_takes, with_record}
+use Rattle.qc_list.specs.Vocabulary.{In}
+use Rattle.qc_core.specs.Vocabulary.{ActorMove, IsLawfulWithFalls, actor_after, actor_takes, with_record}
 use Rattle.qc_core.specs.Lives as lives
 use Rattle.qc_core.proofs.PostsByTurns.{after_takes, called_turn}
-use Rattle.qc_decl.specs.Names.{actors, controller}
+use Rattle.qc_decl.specs.Vocabulary.{actors, controller}
 use Rattle.qc_decl.specs.declared.declaration.Declaration.{Declaration}
-use Rattle.qc_inbox.proofs.FallLaws.{lines_close}
-use Rattle.qc_inbox.proofs.FallMail.{ready_sent}
-use Rattle.laws_turns.specs.Names.{IsAtReceiver, IsTaken, LivesIn}
+use Rattle.qc_mailbox.proofs.FallLaws.{lines_close}
+use Rattle.qc_mailbox.proofs.FallMail.{ready_sent}
+use Rattle.laws_turns.specs.Vocabulary.{IsAtReceiver, IsTaken, LivesIn}
 use Rattle.laws_turns.proofs.Places.{slice_get-set_other}
-use Rattle.qc_link.specs.Names.{most_actors}
+use Rattle.qc_link.specs.Vocabulary.{most_actors}
 use Rattle.laws_turns.proofs.Lived.{run_lives}
 use Rattle.qc_msg.specs.declared.message.Envelope.{Envelope}
 use Rattle.qc_msg.specs.declared.message.Answer.{Answer}
@@ -29,13 +29,13 @@ use Rattle.qc_msg.specs.declared.step.Step.TheVariants as steps
 use Rattle.qc_msg.specs.declared.turn.Appended.{Appended}
 use Rattle.qc_msg.specs.declared.turn.Appended.TheVariants.{Done, Failed, Stopped}
 use Rattle.qc_msg.specs.declared.turn.Turn.{Turn}
-use Rattle.qc_msg.specs.Names.{Deed, Entry, Takes, by, deeds, fell, mail, marked, posted, posted_as, sents, told}
+use Rattle.qc_msg.specs.Vocabulary.{Deed, Entry, Takes, by, deeds, fell, mail, marked, posted, posted_as, sents, told}
 use Rattle.qc_msg.proofs.DeedsGrow.{deeds-other}
 use Rattle.qc_msg.proofs.Growth.{deeds-taken}
 use Rattle.qc_script.specs.declared.script.Script.{Script}
-use Rattle.qc_script.specs.Names.{Inbox, RunsWithFalls, SentRequest, begins, control, controller_step, controls_left}
-use Rattle.qc_script.specs.Names.{damaged, empty_inbox, falls, inbox, phase, phase_of, posts, request_numbers, rises}
-use Rattle.qc_script.specs.Names.{takes, unopened}
+use Rattle.qc_script.specs.Vocabulary.{Inbox, RunsWithFalls, SentRequest, begins, control, controller_step}
+use Rattle.qc_script.specs.Vocabulary.{controls_left, damaged, empty_inbox, falls, inbox, phase, phase_of, posts}
+use Rattle.qc_script.specs.Vocabulary.{request_numbers, rises, takes, unopened}
 use Rattle.laws_due.proofs.Somewhere.{AreSomewhere, IsSomewhere, MayAllFollow, MayFollow, all_follow, post_follows}
 use Rattle.laws_due.proofs.SiteTurns.{fell_last, step_on, took_up, turn_ends}
 use Rattle.laws_due.proofs.Taken.{in_numbers, of_number, RepliesTo, IsReplied, AreReplied, moved_to, taken_stays}

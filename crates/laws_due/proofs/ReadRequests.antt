@@ -1,21 +1,19 @@
 -- The requests of one invocation are no Appends, and a round that is met has noted all of them.
-use Rattle.std.proofs.Common.{◌≡◌, ℕ, ◌&&◌, Bool, true, false, cond, List, ◌∷◌, map}
-use Rattle.std.proofs.Common.{filter, Option, Some, None, option_map, is_some, unwrap_or, refl, ap, ◌∙◌}
+use Rattle.std.proofs.Common.{[], ◌≡◌, ℕ, ◌&&◌, Bool, true, false, cond, List, ◌∷◌, map, filter, Option, Some, None}
+use Rattle.std.proofs.Common.{option_map, is_some, unwrap_or, refl, ap, ◌∙◌}
 use Rattle.std.specs.Prelude.{is_none}
 use Rattle.std.specs.List.{AllByRecursion as Every}
 use Rattle.qc_decl.specs.declared.declaration.Declaration.{Declaration}
 use Rattle.qc_plan.specs.declared.standing.Verdict.TheVariants as verdicts
-use Rattle.qc_plan.specs.Names.{RoundState, all_noted, has_granted, refusal, settled, verdict}
-use Rattle.qc_plan.specs.Names.{weight}
+use Rattle.qc_plan.specs.Vocabulary.{RoundState, all_noted, has_granted, refusal, settled, verdict, weight}
 use Rattle.qc_view.specs.declared.view.View.{View}
 use Rattle.qc_commit.specs.declared.desk.Desk.{Desk}
 use Rattle.qc_front.specs.declared.transaction.Transaction.{Transaction}
 use Rattle.qc_msg.specs.declared.message.Answer.{Answer}
 use Rattle.qc_msg.specs.declared.message.Want.{Want}
 use Rattle.qc_msg.specs.declared.message.Want.TheVariants.{Read}
-use Rattle.qc_promise.specs.Names.{Account, ClientRequest, Current, asked_by}
-use Rattle.qc_promise.specs.Names.{is_append, is_read, standing_of}
-use Rattle.laws_due.specs.Names.{IsOpenIn, call_of, calls_in, transaction_of}
+use Rattle.qc_promise.specs.Vocabulary.{Account, ClientRequest, Current, asked_by, is_append, is_read, standing_of}
+use Rattle.laws_due.specs.Vocabulary.{IsOpenIn, call_of, calls_in, transaction_of}
 use Rattle.laws_due.proofs.DoRows.{Runs}
 
 -- requests of one invocation are no Appends

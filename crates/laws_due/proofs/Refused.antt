@@ -4,15 +4,15 @@ use Rattle.std.proofs.Common.{refl, sym, ap, ◌∙◌, arith, length-append}
 use Rattle.std.specs.Prelude.{fold, option_to_list}
 use Rattle.std.specs.List.{filter_map}
 use Rattle.std.proofs.lemmas.List.Sums.{fold-append}
-use Rattle.qc_core.specs.Names.{is_running, runs_at}
-use Rattle.laws_turns.specs.Names.{AreAnswered, Exchange, call_in, exchanges, exchanges_from, reply_in}
+use Rattle.qc_core.specs.Vocabulary.{is_running, runs_at}
+use Rattle.laws_turns.specs.Vocabulary.{AreAnswered, Exchange, call_in, exchanges, exchanges_from, reply_in}
 use Rattle.qc_msg.specs.declared.record.Record.{Record}
 use Rattle.qc_msg.specs.declared.reply.Reply.{Reply}
 use Rattle.qc_msg.specs.declared.step.Command.{Command}
 use Rattle.qc_msg.specs.declared.step.Fall.{Fall}
 use Rattle.qc_msg.specs.declared.step.Input.TheVariants as inputs
-use Rattle.qc_msg.specs.Names.{Deed, Falls, Rises, Sends, Takes, Tells, Writes}
-use Rattle.laws_due.specs.Names.{AreInOrder}
+use Rattle.qc_msg.specs.Vocabulary.{Deed, Falls, Rises, Sends, Takes, Tells, Writes}
+use Rattle.laws_due.specs.Vocabulary.{AreInOrder}
 use Rattle.laws_due.proofs.Ordered.{all_counted, open_commands, order_second}
 use Rattle.laws_due.proofs.WholeLaw.{answered_from}
 

@@ -1,17 +1,17 @@
 -- The requests of an account: the first thing that is taken for one, in the client's calls and round as in the account.
-use Rattle.std.proofs.Common.{◌≡◌, ◌≢◌, ℕ, ◌+◌, ◌==◌, ◌&&◌, Bool, true, false, cond, List, ◌∷◌, ◌++◌, map, filter}
+use Rattle.std.proofs.Common.{[], ◌≡◌, ◌≢◌, ℕ, ◌+◌, ◌==◌, ◌&&◌, Bool, true, false, cond, List, ◌∷◌, ◌++◌, map, filter}
 use Rattle.std.proofs.Common.{Option, Some, None, refl, sym, ap, ◌∙◌, subst, eq-eqb, eqb-true, inl, inr}
 use Rattle.std.specs.Prelude.{is_none}
 use Rattle.std.specs.List.{find, AllByRecursion as Every}
 use Rattle.std.proofs.lemmas.List.{map-append}
 use Rattle.std.proofs.lemmas.List.Elements.{filter-append}
-use Rattle.qc_list.specs.Names.{In}
+use Rattle.qc_list.specs.Vocabulary.{In}
 use Rattle.qc_msg.specs.declared.call.Call.{Call}
 use Rattle.qc_msg.specs.declared.message.Answer.{Answer}
 use Rattle.qc_msg.specs.declared.message.Want.{Want}
-use Rattle.qc_msg.specs.Names.{calls_from, life_of}
-use Rattle.qc_promise.specs.Names.{ClientRequest, Current, is_open, taken_for}
-use Rattle.laws_due.specs.Names.{AreApart, IsOpenIn, call_of, calls_in}
+use Rattle.qc_msg.specs.Vocabulary.{calls_from, life_of}
+use Rattle.qc_promise.specs.Vocabulary.{ClientRequest, Current, is_open, taken_for}
+use Rattle.laws_due.specs.Vocabulary.{AreApart, IsOpenIn, call_of, calls_in}
 use Rattle.laws_due.proofs.OpenRequests.{sites_in, numbers_open, took, and_false, of_half, open_parts, IsFound, found}
 
 -- where each open request is of a half, that half has all of them

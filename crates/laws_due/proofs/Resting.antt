@@ -2,26 +2,26 @@
 use Rattle.std.proofs.Common.{◌≡◌, ℕ, ◌≤◌, if◌then◌else◌, ◌⊎◌, Bool, true, false, inl, inr, List, [], ◌∷◌, map, filter}
 use Rattle.std.proofs.Common.{Option, Some, None, refl, sym, ap, ◌∙◌, subst, slice_get}
 use Rattle.std.specs.Prelude.{is_none}
-use Rattle.qc_list.specs.Names.{In}
-use Rattle.laws_due.specs.Names.{Holds, IsWaiting, NoneRuns, Ties, appends, call_of, reads, rests, votes}
+use Rattle.qc_list.specs.Vocabulary.{In}
+use Rattle.laws_due.specs.Vocabulary.{Holds, IsWaiting, NoneRuns, Ties, appends, call_of, reads, rests, votes}
 use Rattle.laws_due.specs.Calls as accounts
 use Rattle.laws_due.proofs.Awaits.{tied_waits}
 use Rattle.qc_client.specs.declared.client.Client.{Client}
 use Rattle.qc_commit.specs.declared.desk.Desk.{Desk}
 use Rattle.qc_core.specs.declared.actor.Actor.TheVariants as actors
-use Rattle.qc_core.specs.Names.{IsLawfulWithFalls, actor_after, is_running}
-use Rattle.qc_decl.specs.Names.{controller, is_client}
+use Rattle.qc_core.specs.Vocabulary.{IsLawfulWithFalls, actor_after, is_running}
+use Rattle.qc_decl.specs.Vocabulary.{controller, is_client}
 use Rattle.qc_decl.specs.Actors as numbers
 use Rattle.qc_decl.specs.declared.declaration.Declaration.{Declaration}
 use Rattle.laws_due.proofs.Commanded.{run_askable}
-use Rattle.laws_turns.specs.Names.{AsksDeclared, LivesIn, calls_by, is_waiting, open_calls, waits}
-use Rattle.qc_link.specs.Names.{most_actors}
+use Rattle.laws_turns.specs.Vocabulary.{AsksDeclared, LivesIn, calls_by, is_waiting, open_calls, waits}
+use Rattle.qc_link.specs.Vocabulary.{most_actors}
 use Rattle.laws_turns.proofs.Lived.{run_lives}
 use Rattle.qc_msg.specs.declared.message.Answer.{Answer}
 use Rattle.qc_msg.specs.declared.record.Record.{Record}
-use Rattle.qc_msg.specs.Names.{Entry, deeds}
-use Rattle.qc_promise.specs.Names.{Account, ClientRequest}
-use Rattle.qc_script.specs.Names.{RunsWithFalls}
+use Rattle.qc_msg.specs.Vocabulary.{Entry, deeds}
+use Rattle.qc_promise.specs.Vocabulary.{Account, ClientRequest}
+use Rattle.qc_script.specs.Vocabulary.{RunsWithFalls}
 use Rattle.qc_script.specs.declared.script.Script.{Script}
 use Rattle.laws_due.proofs.LifelongWithFalls.{client_lives, rests_up}
 use Rattle.laws_due.proofs.Tied.{IsAtRest, IsTied}

@@ -6,10 +6,10 @@ use Rattle.qc_decl.specs.declared.declaration.Declaration.{Declaration}
 use Rattle.qc_front.specs.declared.doing.Doing.TheVariants.{Idle}
 use Rattle.qc_msg.specs.declared.record.Record.{Record}
 use Rattle.qc_msg.specs.declared.record.Record.TheVariants as records
-use Rattle.qc_promise.specs.Names.{Account, account_with, account_written, clock_with, life_with}
-use Rattle.qc_recover.specs.Names.{client_by, client_rises, front_by}
+use Rattle.qc_promise.specs.Vocabulary.{Account, account_with, account_written, clock_with, life_with}
+use Rattle.qc_recover.specs.Vocabulary.{client_by, client_rises, front_by}
 use Rattle.qc_recover.specs.Clients.{Kept, keeps, kept_by, nothing_kept}
-use Rattle.laws_due.specs.Names.{Holds, Ties, front_of, rests}
+use Rattle.laws_due.specs.Vocabulary.{Holds, Ties, front_of, rests}
 
 -- the life and the clock of its records are the account's
 

@@ -8,9 +8,9 @@ use Rattle.qc_stamp.specs.declared.stamp.TxId.{TxId}
 use Rattle.qc_decl.specs.declared.declaration.Declaration.{Declaration}
 use Rattle.qc_msg.specs.declared.record.Record.{Record}
 use Rattle.qc_msg.specs.declared.record.Record.TheVariants as records
-use Rattle.qc_msg.specs.Names.{first_epoch}
-use Rattle.qc_recover.specs.Names.{Kept, inquiry, keeps, kept_by, nothing_kept, site_rises}
-use Rattle.laws_due.specs.Names.{ArePlanned, IsPlanned, IsRecordPlanned}
+use Rattle.qc_msg.specs.Vocabulary.{first_epoch}
+use Rattle.qc_recover.specs.Vocabulary.{Kept, inquiry, keeps, kept_by, nothing_kept, site_rises}
+use Rattle.laws_due.specs.Vocabulary.{ArePlanned, IsPlanned, IsRecordPlanned}
 use Rattle.laws_due.proofs.Epochs.{SitePlanned, TellPlanned, TurnPlanned}
 
 record KeptPlanned (decl : Declaration) (k : Kept) : Type 0 where

@@ -4,17 +4,17 @@ use Rattle.std.proofs.Common.{Option, Some, None, refl, sym, ap, ◌∙◌, subs
 use Rattle.std.specs.Prelude.{fold}
 use Rattle.std.proofs.lemmas.Bool.{eq-eqb}
 use Rattle.std.proofs.lemmas.List.Sums.{fold-append}
-use Rattle.qc_list.specs.Names.{In}
-use Rattle.qc_client.specs.Names.{client_takes, new_client, sent_one}
+use Rattle.qc_list.specs.Vocabulary.{In}
+use Rattle.qc_client.specs.Vocabulary.{client_takes, new_client, sent_one}
 use Rattle.qc_client.specs.declared.client.Client.{Client}
 use Rattle.qc_core.proofs.ByNumber.{client_new, client_risen, site_new, site_risen}
 use Rattle.qc_core.specs.declared.actor.Actor.{Actor}
 use Rattle.qc_core.specs.declared.actor.Actor.TheVariants as actor
-use Rattle.qc_core.specs.Names.{ActorMove, MayReach, actor_after, actor_does, actor_rises, actor_sends, actor_takes}
-use Rattle.qc_core.specs.Names.{moved, new_actor, up_at}
+use Rattle.qc_core.specs.Vocabulary.{ActorMove, MayReach, actor_after, actor_does, actor_rises, actor_sends}
+use Rattle.qc_core.specs.Vocabulary.{actor_takes, moved, new_actor, up_at}
 use Rattle.qc_core.specs.Lives as lives
 use Rattle.qc_core.proofs.OpenedInputs.{Opened, opened}
-use Rattle.qc_decl.specs.Names.{is_client, is_site}
+use Rattle.qc_decl.specs.Vocabulary.{is_client, is_site}
 use Rattle.qc_decl.specs.declared.declaration.Declaration.{Declaration}
 use Rattle.laws_turns.proofs.Answering.{answer_ends, others_fewer}
 use Rattle.laws_turns.proofs.Rounds.{IsProper}
@@ -32,13 +32,13 @@ use Rattle.qc_msg.specs.declared.step.Step.{Step}
 use Rattle.qc_msg.specs.declared.step.Step.TheVariants as steps
 use Rattle.qc_msg.specs.declared.turn.Posting.{Posting}
 use Rattle.qc_msg.specs.declared.turn.Turn.{Turn}
-use Rattle.qc_msg.specs.Names.{Deed, Entry, Falls, Rises, Sends, Takes, Tells, Writes, by, fell, marked, posted, quiet}
-use Rattle.qc_msg.specs.Names.{sents, told, wrote}
+use Rattle.qc_msg.specs.Vocabulary.{Deed, Entry, Falls, Rises, Sends, Takes, Tells, Writes, by, fell, marked, posted}
+use Rattle.qc_msg.specs.Vocabulary.{quiet, sents, told, wrote}
 use Rattle.qc_msg.proofs.GrownMail.{by-append}
 use Rattle.qc_script.specs.declared.script.Script.{Script}
-use Rattle.qc_script.specs.Names.{Inbox, SentRequest, inbox, inbox_at, is_request, reply_told, request_numbers}
-use Rattle.qc_site.specs.Names.{SiteState, new_site, site_at, site_takes}
-use Rattle.qc_recover.specs.Names.{client_rises, site_rises}
+use Rattle.qc_script.specs.Vocabulary.{Inbox, SentRequest, inbox, inbox_at, is_request, reply_told, request_numbers}
+use Rattle.qc_site.specs.Vocabulary.{SiteState, new_site, site_at, site_takes}
+use Rattle.qc_recover.specs.Vocabulary.{client_rises, site_rises}
 use Rattle.laws_due.proofs.Answering.{after_fall}
 use Rattle.laws_due.proofs.PlainSteps.{inbox_then}
 

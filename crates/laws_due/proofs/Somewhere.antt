@@ -4,9 +4,9 @@ use Rattle.std.proofs.Common.{◌≡◌, ℕ, ◌+◌, ◌<◌, ◌==◌, ◌⊎
 use Rattle.std.proofs.Common.{Some, None, refl, sym, ap, ◌∙◌, subst}
 use Rattle.std.specs.List.{AllByRecursion as Every}
 use Rattle.std.proofs.lemmas.Bool.{eq-eqb, eqb-true}
-use Rattle.qc_list.specs.Names.{In}
+use Rattle.qc_list.specs.Vocabulary.{In}
 use Rattle.qc_list.proofs.Members.{In-first, In-second}
-use Rattle.qc_link.specs.Names.{fate, most_actors}
+use Rattle.qc_link.specs.Vocabulary.{fate, most_actors}
 use Rattle.qc_msg.specs.declared.message.Envelope.{Envelope}
 use Rattle.qc_msg.specs.declared.message.Message.{Message}
 use Rattle.qc_msg.specs.declared.record.Record.{Record}
@@ -17,11 +17,11 @@ use Rattle.qc_msg.specs.declared.turn.Appended.{Appended}
 use Rattle.qc_msg.specs.declared.turn.Appended.TheVariants.{Done, Failed, Stopped}
 use Rattle.qc_msg.specs.declared.turn.Posting.{Posting}
 use Rattle.qc_msg.specs.declared.turn.Turn.{Turn}
-use Rattle.qc_msg.specs.Names.{Entry, by, fell, mail, marked, posted_as, sends_as, sents, told, wrote}
+use Rattle.qc_msg.specs.Vocabulary.{Entry, by, fell, mail, marked, posted_as, sends_as, sents, told, wrote}
 use Rattle.qc_msg.proofs.GrownMail.{mail-append}
 use Rattle.qc_script.proofs.Inboxes.{inboxes_have_in_common, one_fate}
 use Rattle.qc_script.specs.declared.script.Script.{Script}
-use Rattle.qc_script.specs.Names.{Inbox, SentRequest, comes_at_once, count_of, inbox, inbox_at, is_request, is_up}
+use Rattle.qc_script.specs.Vocabulary.{Inbox, SentRequest, comes_at_once, count_of, inbox, inbox_at, is_request, is_up}
 use Rattle.laws_due.proofs.Answering.{IsNew, IsSpared, IsStill, copies_left, copy_made, others_fewer, own_new}
 use Rattle.laws_due.proofs.Answering.{silent_fewer, still_left}
 use Rattle.laws_due.proofs.Places.{apart}

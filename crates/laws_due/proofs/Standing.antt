@@ -5,22 +5,22 @@ use Rattle.std.specs.Prelude.{fold}
 use Rattle.std.specs.List.{AllByRecursion as Every}
 use Rattle.std.proofs.lemmas.List.Sums.{fold-append}
 use Rattle.qc_core.specs.declared.actor.Actor.TheVariants as actors
-use Rattle.qc_core.specs.Names.{AreSteady, IsLawfulWithFalls, MayReach, MayTake, actor_after, actor_does, by_client}
-use Rattle.qc_core.specs.Names.{is_up, moved, new_actor, up_at, with_record}
+use Rattle.qc_core.specs.Vocabulary.{AreSteady, IsLawfulWithFalls, MayReach, MayTake, actor_after, actor_does}
+use Rattle.qc_core.specs.Vocabulary.{by_client, is_up, moved, new_actor, up_at, with_record}
 use Rattle.qc_client.specs.declared.client.Client.{Client}
-use Rattle.qc_client.specs.Names.{ClientMove, client_does, client_takes}
+use Rattle.qc_client.specs.Vocabulary.{ClientMove, client_does, client_takes}
 use Rattle.qc_decl.specs.declared.declaration.Declaration.{Declaration}
-use Rattle.qc_decl.specs.Names.{is_administrator, is_client, is_site}
+use Rattle.qc_decl.specs.Vocabulary.{is_administrator, is_client, is_site}
 use Rattle.qc_msg.specs.declared.record.Record.{Record}
 use Rattle.qc_msg.specs.declared.reply.Reply.{Reply}
 use Rattle.qc_msg.specs.declared.step.Input.{Input}
 use Rattle.qc_msg.specs.declared.turn.Posting.{Posting}
 use Rattle.qc_msg.specs.declared.turn.Turn.{Turn}
-use Rattle.qc_msg.specs.Names.{Deed, Falls, Rises, Sends, Takes, Tells, Writes, quiet, sends_of, tells_of, turn_deeds}
-use Rattle.qc_msg.specs.Names.{writes_of}
-use Rattle.qc_promise.specs.Names.{Account, AreDeedsDue, account_at, account_of, new_account, pending_first}
-use Rattle.qc_promise.specs.Names.{pending_next, posted_next}
-use Rattle.laws_due.specs.Names.{Holds, IsDeclaredDeed, Ties}
+use Rattle.qc_msg.specs.Vocabulary.{Deed, Falls, Rises, Sends, Takes, Tells, Writes, quiet, sends_of, tells_of}
+use Rattle.qc_msg.specs.Vocabulary.{turn_deeds, writes_of}
+use Rattle.qc_promise.specs.Vocabulary.{Account, AreDeedsDue, account_at, account_of, new_account, pending_first}
+use Rattle.qc_promise.specs.Vocabulary.{pending_next, posted_next}
+use Rattle.laws_due.specs.Vocabulary.{Holds, IsDeclaredDeed, Ties}
 use Rattle.laws_due.proofs.DuesOfDeeds.{IsWithin}
 
 -- deeds behind others: of one that is up they begin with no act of its post, and of one that is down with no record

@@ -19,11 +19,11 @@ use Rattle.qc_msg.specs.declared.reply.Reply.TheVariants as replies
 use Rattle.qc_msg.specs.declared.step.Command.{Command}
 use Rattle.qc_msg.specs.declared.step.Command.TheVariants as commands
 use Rattle.qc_msg.specs.declared.step.Input.TheVariants as inputs
-use Rattle.qc_msg.specs.Names.{Deed, Falls, Rises, Sends, Takes, Tells, Writes}
-use Rattle.qc_core.specs.Names.{AreSteady, IsSteady}
-use Rattle.qc_promise.specs.Names.{Account, ClientRequest, account_at, account_heard, account_sent, account_told_in}
-use Rattle.qc_promise.specs.Names.{account_written, counted, counted_for, found_absent, granted, is_asked_for, is_open}
-use Rattle.qc_promise.specs.Names.{promised, responded, short_of, taken_for, told_by}
+use Rattle.qc_msg.specs.Vocabulary.{Deed, Falls, Rises, Sends, Takes, Tells, Writes}
+use Rattle.qc_core.specs.Vocabulary.{AreSteady, IsSteady}
+use Rattle.qc_promise.specs.Vocabulary.{Account, ClientRequest, account_at, account_heard, account_sent}
+use Rattle.qc_promise.specs.Vocabulary.{account_told_in, account_written, counted, counted_for, found_absent, granted}
+use Rattle.qc_promise.specs.Vocabulary.{is_asked_for, is_open, promised, responded, short_of, taken_for, told_by}
 
 granted_up : (d : Account) (site life clock : ℕ) (log : List Line) (w : Want)
     → (granted d site life clock log w).up ≡ d.up

@@ -1,21 +1,22 @@
 -- One input of a client: its turn is due, and the tie holds after it.
-use Rattle.std.proofs.Common.{◌≡◌, ℕ, List, map, filter, Option, Some, None, refl, sym, ap, ◌∙◌, subst}
+use Rattle.std.proofs.Common.{[], ◌≡◌, ℕ, List, map, filter, Option, Some, None, refl, sym, ap, ◌∙◌, subst}
 use Rattle.std.specs.List.{find}
 use Rattle.qc_decl.specs.declared.declaration.Declaration.{Declaration}
-use Rattle.qc_decl.specs.Names.{append_need_of, first_site, read_need_of}
-use Rattle.qc_plan.specs.Names.{RoundState, cyclic}
+use Rattle.qc_decl.specs.Vocabulary.{append_need_of, first_site, read_need_of}
+use Rattle.qc_plan.specs.Vocabulary.{RoundState, cyclic}
 use Rattle.qc_commit.specs.declared.desk.Voting.{Voting}
 use Rattle.qc_front.specs.declared.doing.Doing.{Doing}
 use Rattle.qc_front.specs.declared.doing.Doing.TheVariants.{Idle, Reading, Appending}
 use Rattle.qc_front.specs.declared.front.Front.{Front}
 use Rattle.qc_front.specs.declared.transaction.Transaction.{Transaction}
 use Rattle.qc_front.specs.Conduct as fronts
-use Rattle.qc_front.specs.Names.{AppendingHolds, FrontHolds, FrontMove, ReadingHolds, RecordsHold, moved as front_moved}
+use Rattle.qc_front.specs.Vocabulary.{AppendingHolds, FrontHolds, FrontMove, ReadingHolds, RecordsHold}
+use Rattle.qc_front.specs.Vocabulary.{moved as front_moved}
 use Rattle.qc_front.proofs.Apart.{apart_filter}
 use Rattle.qc_front.proofs.NotedRounds.{round_apart}
 use Rattle.qc_front.proofs.Noting.{ascends_apart}
 use Rattle.qc_client.specs.declared.client.Client.{Client}
-use Rattle.qc_client.specs.Names.{answered, answered_by, by_front, called, client_takes, heard}
+use Rattle.qc_client.specs.Vocabulary.{answered, answered_by, by_front, called, client_takes, heard}
 use Rattle.qc_msg.specs.declared.call.Call.{Call}
 use Rattle.qc_msg.specs.declared.message.Answer.{Answer}
 use Rattle.qc_msg.specs.declared.message.Message.{Message}
@@ -24,11 +25,11 @@ use Rattle.qc_msg.specs.declared.step.Command.{Command}
 use Rattle.qc_msg.specs.declared.step.Command.TheVariants as commands
 use Rattle.qc_msg.specs.declared.step.Input.{Input}
 use Rattle.qc_msg.specs.declared.step.Input.TheVariants as inputs
-use Rattle.qc_msg.specs.Names.{has_granted, quiet}
-use Rattle.qc_promise.specs.Names.{Account, ClientRequest, Current, IsFreeFor, account_taken, counted, counted_for}
-use Rattle.qc_promise.specs.Names.{is_append, is_open, is_read, round_of}
-use Rattle.laws_due.specs.Names.{Appends, AreApart, AreBegun, Goes, Holds, Reads, Rests, Ties, Votes, appends}
-use Rattle.laws_due.specs.Names.{ballot_of, calls_in, front_of, reads, rests, transaction_of, votes}
+use Rattle.qc_msg.specs.Vocabulary.{has_granted, quiet}
+use Rattle.qc_promise.specs.Vocabulary.{Account, ClientRequest, Current, IsFreeFor, account_taken, counted, counted_for}
+use Rattle.qc_promise.specs.Vocabulary.{is_append, is_open, is_read, round_of}
+use Rattle.laws_due.specs.Vocabulary.{Appends, AreApart, AreBegun, Goes, Holds, Reads, Rests, Ties, Votes, appends}
+use Rattle.laws_due.specs.Vocabulary.{ballot_of, calls_in, front_of, reads, rests, transaction_of, votes}
 use Rattle.laws_due.proofs.VotesCome.{commit_at, voting_desk, voting_front}
 use Rattle.laws_due.proofs.DoRows.{run}
 use Rattle.laws_due.proofs.Ends.{called_at, within_go, without_go}

@@ -1,17 +1,17 @@
 -- What the taker has ready is what it takes, or is ready still; whoever gets an actor's request is another.
-use Rattle.std.proofs.Common.{◌≡◌, ℕ, ◌+◌, ◌<◌, ◌≤◌, ◌==◌, ◌⊎◌, Bool, true, false, if◌then◌else◌, inl, inr, List, ◌∷◌}
-use Rattle.std.proofs.Common.{◌++◌, drop, length, Some, slice_get, refl, sym, ap, ◌∙◌, subst}
+use Rattle.std.proofs.Common.{[], ◌≡◌, ℕ, ◌+◌, ◌<◌, ◌≤◌, ◌==◌, ◌⊎◌, Bool, true, false, if◌then◌else◌, inl, inr, List}
+use Rattle.std.proofs.Common.{◌∷◌, ◌++◌, drop, length, Some, slice_get, refl, sym, ap, ◌∙◌, subst}
 use Rattle.std.specs.Prelude.{slice_set}
 use Rattle.std.proofs.lemmas.Bool.{eq-eqb, eqb-true}
-use Rattle.qc_list.specs.Names.{In}
-use Rattle.qc_core.specs.Names.{IsLawfulWithFalls, actor_after, actor_takes}
+use Rattle.qc_list.specs.Vocabulary.{In}
+use Rattle.qc_core.specs.Vocabulary.{IsLawfulWithFalls, actor_after, actor_takes}
 use Rattle.qc_core.specs.Lives as lives
-use Rattle.qc_decl.specs.Names.{actors}
+use Rattle.qc_decl.specs.Vocabulary.{actors}
 use Rattle.qc_decl.specs.declared.declaration.Declaration.{Declaration}
-use Rattle.laws_turns.specs.Names.{IsTaken}
+use Rattle.laws_turns.specs.Vocabulary.{IsTaken}
 use Rattle.laws_turns.proofs.ReadyFirst.{ready_copy}
 use Rattle.laws_turns.proofs.Places.{slice_get-set_other, slice_get-set_same}
-use Rattle.qc_link.specs.Names.{most_actors}
+use Rattle.qc_link.specs.Vocabulary.{most_actors}
 use Rattle.qc_msg.specs.declared.message.Envelope.{Envelope}
 use Rattle.qc_msg.specs.declared.message.Answer.{Answer}
 use Rattle.qc_msg.specs.declared.message.Message.TheVariants as messages
@@ -21,12 +21,12 @@ use Rattle.qc_msg.specs.declared.step.Input.TheVariants as inputs
 use Rattle.qc_msg.specs.declared.step.Step.TheVariants as steps
 use Rattle.qc_msg.specs.declared.turn.Posting.{Posting}
 use Rattle.qc_msg.specs.declared.turn.Turn.{Turn}
-use Rattle.qc_msg.specs.Names.{Deed, Entry, Takes, by, deeds, mail, marked, posted_as, sends_as, step_of}
+use Rattle.qc_msg.specs.Vocabulary.{Deed, Entry, Takes, by, deeds, mail, marked, posted_as, sends_as, step_of}
 use Rattle.qc_msg.proofs.GrownMail.{mail-taken}
 use Rattle.qc_msg.proofs.DeedsGrow.{deeds-other}
 use Rattle.qc_script.specs.declared.script.Script.{Script}
-use Rattle.qc_script.specs.Names.{Inbox, RunsWithFalls, SentRequest, command_called, copy_taken, inbox, inbox_at}
-use Rattle.qc_script.specs.Names.{is_request, loss_taken, posts, ready, ready_in, request_numbers, rises}
+use Rattle.qc_script.specs.Vocabulary.{Inbox, RunsWithFalls, SentRequest, command_called, copy_taken, inbox, inbox_at}
+use Rattle.qc_script.specs.Vocabulary.{is_request, loss_taken, posts, ready, ready_in, request_numbers, rises}
 use Rattle.laws_due.proofs.Answering.{IsSpared, copies_left}
 use Rattle.laws_due.proofs.Places.{apart}
 use Rattle.laws_due.proofs.PlainSteps.{inbox_then}

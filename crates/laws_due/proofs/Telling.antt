@@ -4,12 +4,12 @@ use Rattle.std.proofs.Common.{Some, None, is_some, refl, sym, ap, ◌∙◌, app
 use Rattle.std.specs.Prelude.{fold}
 use Rattle.std.specs.List.{AllByRecursion as Every}
 use Rattle.qc_core.specs.declared.actor.Actor.TheVariants as actors
-use Rattle.qc_core.specs.Names.{ActorMove, MayTake, actor_after, is_running, runs_given}
+use Rattle.qc_core.specs.Vocabulary.{ActorMove, MayTake, actor_after, is_running, runs_given}
 use Rattle.qc_client.specs.declared.client.Client.{Client}
-use Rattle.qc_client.specs.Names.{ClientMove, client_does, client_takes}
+use Rattle.qc_client.specs.Vocabulary.{ClientMove, client_does, client_takes}
 use Rattle.qc_decl.specs.declared.declaration.Declaration.{Declaration}
-use Rattle.qc_decl.specs.Names.{is_client}
-use Rattle.laws_turns.specs.Names.{IsAskable, is_waiting}
+use Rattle.qc_decl.specs.Vocabulary.{is_client}
+use Rattle.laws_turns.specs.Vocabulary.{IsAskable, is_waiting}
 use Rattle.laws_turns.proofs.SoundClients.{IsAskableGiven}
 use Rattle.laws_turns.proofs.Waiting.{Ends, IsClients, IsNoCall, called_ends, sent_waits, takes_ends, takes_rests}
 use Rattle.qc_msg.specs.declared.record.Record.{Record}
@@ -24,7 +24,7 @@ use Rattle.qc_msg.specs.declared.turn.Appended.{Appended}
 use Rattle.qc_msg.specs.declared.turn.Appended.TheVariants.{Done, Failed, Stopped}
 use Rattle.qc_msg.specs.declared.turn.Posting.{Posting}
 use Rattle.qc_msg.specs.declared.turn.Turn.{Turn}
-use Rattle.qc_msg.specs.Names.{Deed, Falls, HasRecord, Sends, deeds_as, sends_of, tells_of, turn_deeds, writes_of}
+use Rattle.qc_msg.specs.Vocabulary.{Deed, Falls, HasRecord, Sends, deeds_as, sends_of, tells_of, turn_deeds, writes_of}
 use Rattle.laws_due.proofs.Standing.{actor_more}
 
 -- a move leaves a client waiting just where the command runs on

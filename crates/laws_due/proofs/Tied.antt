@@ -6,16 +6,16 @@ use Rattle.std.specs.Prelude.{fold, option_and_then}
 use Rattle.std.specs.List.{AllByRecursion as Every}
 use Rattle.qc_core.specs.declared.actor.Actor.{Actor}
 use Rattle.qc_core.specs.declared.actor.Actor.TheVariants as actors
-use Rattle.qc_core.specs.Names.{ActorMove, MayReach, MayTake, actor_after, actor_does, actor_takes, by_client}
-use Rattle.qc_core.specs.Names.{is_running, is_up, runs_given}
+use Rattle.qc_core.specs.Vocabulary.{ActorMove, MayReach, MayTake, actor_after, actor_does, actor_takes, by_client}
+use Rattle.qc_core.specs.Vocabulary.{is_running, is_up, runs_given}
 use Rattle.qc_core.specs.Acts as acts
 use Rattle.qc_core.proofs.ActorLaws.{at_client}
 use Rattle.qc_core.proofs.Steady.{turn_steady}
 use Rattle.qc_client.specs.declared.client.Client.{Client}
-use Rattle.qc_client.specs.Names.{ClientMove, client_does, client_takes, new_client}
+use Rattle.qc_client.specs.Vocabulary.{ClientMove, client_does, client_takes, new_client}
 use Rattle.qc_decl.specs.declared.declaration.Declaration.{Declaration}
-use Rattle.qc_decl.specs.Names.{is_client}
-use Rattle.laws_turns.specs.Names.{is_waiting}
+use Rattle.qc_decl.specs.Vocabulary.{is_client}
+use Rattle.laws_turns.specs.Vocabulary.{is_waiting}
 use Rattle.laws_turns.proofs.SoundClients.{IsAskableDeed}
 use Rattle.laws_turns.proofs.TurnReplies.{running_more, running_turn}
 use Rattle.qc_msg.specs.declared.record.Record.{Record}
@@ -26,10 +26,10 @@ use Rattle.qc_msg.specs.declared.step.Input.{Input}
 use Rattle.qc_msg.specs.declared.turn.Appended.{Appended}
 use Rattle.qc_msg.specs.declared.turn.Appended.TheVariants.{Done}
 use Rattle.qc_msg.specs.declared.turn.Turn.{Turn}
-use Rattle.qc_msg.specs.Names.{Deed, Falls, HasRecord, Takes, deeds_as, sends_of, tells_of, turn_deeds, writes_of}
-use Rattle.qc_promise.specs.Names.{Account, IsRecordDue, account_at, account_taken, row_of, running_row}
+use Rattle.qc_msg.specs.Vocabulary.{Deed, Falls, HasRecord, Takes, deeds_as, sends_of, tells_of, turn_deeds, writes_of}
+use Rattle.qc_promise.specs.Vocabulary.{Account, IsRecordDue, account_at, account_taken, row_of, running_row}
 use Rattle.laws_due.specs.ByRows as rows
-use Rattle.laws_due.specs.Names.{Goes, Holds, Ties}
+use Rattle.laws_due.specs.Vocabulary.{Goes, Holds, Ties}
 use Rattle.laws_due.proofs.Commands.{free_for, no_site, running}
 use Rattle.laws_due.proofs.Courses.{clients_hold, clients_tied}
 use Rattle.laws_due.proofs.Fits.{takes_fit}

@@ -10,7 +10,7 @@ use Rattle.qc_front.specs.declared.doing.Doing.{Doing}
 use Rattle.qc_front.specs.declared.doing.Doing.TheVariants.{Idle}
 use Rattle.qc_front.specs.declared.transaction.Transaction.{Transaction}
 use Rattle.qc_client.specs.declared.client.Client.{Client}
-use Rattle.qc_client.specs.Names.{ClientMove, client_does, moved, requested}
+use Rattle.qc_client.specs.Vocabulary.{ClientMove, client_does, moved, requested}
 use Rattle.qc_msg.specs.declared.begun.Begun.{Begun}
 use Rattle.qc_msg.specs.declared.call.Call.{Call}
 use Rattle.qc_msg.specs.declared.message.Message.TheVariants as messages
@@ -18,10 +18,10 @@ use Rattle.qc_msg.specs.declared.message.Outcome.{Outcome}
 use Rattle.qc_msg.specs.declared.message.Want.{Want}
 use Rattle.qc_msg.specs.declared.reply.Reply.{Reply}
 use Rattle.qc_msg.specs.declared.turn.Turn.{Turn}
-use Rattle.qc_msg.specs.Names.{Deed, Tells, calls_from, decisions, ending, quiet, sends_of, telling, with_call}
-use Rattle.qc_promise.specs.Names.{Account, ClientRequest, Current, IsReplyDue, account_at, account_told, command_asks}
-use Rattle.qc_promise.specs.Names.{doomed_if, running_row, view_of}
-use Rattle.laws_due.specs.Names.{AreByRows, Goes, IsBegun, IsIdleDesk, Ties, front_of, rests, transaction_of}
+use Rattle.qc_msg.specs.Vocabulary.{Deed, Tells, calls_from, decisions, ending, quiet, sends_of, telling, with_call}
+use Rattle.qc_promise.specs.Vocabulary.{Account, ClientRequest, Current, IsReplyDue, account_at, account_told}
+use Rattle.qc_promise.specs.Vocabulary.{command_asks, doomed_if, running_row, view_of}
+use Rattle.laws_due.specs.Vocabulary.{AreByRows, Goes, IsBegun, IsIdleDesk, Ties, front_of, rests, transaction_of}
 use Rattle.laws_due.proofs.Asks.{asking, asks_due, asks_fold}
 use Rattle.laws_due.proofs.Requests.{request_at, requests_from}
 use Rattle.laws_due.proofs.Views.{LogsAre}

@@ -3,7 +3,7 @@ use Rattle.std.proofs.Common.{◌≡◌, ℕ, nat_le, Bool, true, false, if◌th
 use Rattle.std.proofs.Common.{option_map, refl, sym, ap, ◌∙◌}
 use Rattle.std.specs.Prelude.{option_and_then}
 use Rattle.qc_stamp.specs.declared.stamp.Stamp.{Stamp}
-use Rattle.qc_decl.specs.Names.{append_need_of, most_transaction_operations, read_need_of}
+use Rattle.qc_decl.specs.Vocabulary.{append_need_of, most_transaction_operations, read_need_of}
 use Rattle.qc_decl.specs.declared.declaration.Declaration.{Declaration}
 use Rattle.qc_msg.specs.declared.reply.Reply.{Reply}
 use Rattle.qc_msg.specs.declared.reply.Reply.TheVariants as replies
@@ -13,14 +13,14 @@ use Rattle.qc_msg.specs.declared.step.Command.{Command}
 use Rattle.qc_msg.specs.declared.step.Command.TheVariants as commands
 use Rattle.qc_plan.specs.declared.standing.Verdict.{Verdict}
 use Rattle.qc_plan.specs.declared.standing.Verdict.TheVariants as verdicts
-use Rattle.qc_plan.specs.Names.{verdict}
-use Rattle.qc_promise.specs.Names.{Account, Current, IsRecordDue, IsReplyDue, answer_of, answer_row, append_row}
-use Rattle.qc_promise.specs.Names.{are_votes_in, commit_of, commit_row, do_row, first_against, is_append, is_prepare}
-use Rattle.qc_promise.specs.Names.{is_read, next_stamp, pending_next, read_row, requests_for, round_of, row_of}
-use Rattle.qc_promise.specs.Names.{running_row, vote_row}
+use Rattle.qc_plan.specs.Vocabulary.{verdict}
+use Rattle.qc_promise.specs.Vocabulary.{Account, Current, IsRecordDue, IsReplyDue, answer_of, answer_row, append_row}
+use Rattle.qc_promise.specs.Vocabulary.{are_votes_in, commit_of, commit_row, do_row, first_against, is_append}
+use Rattle.qc_promise.specs.Vocabulary.{is_prepare, is_read, next_stamp, pending_next, read_row, requests_for, round_of}
+use Rattle.qc_promise.specs.Vocabulary.{row_of, running_row, vote_row}
 use Rattle.qc_entry.specs.declared.record.Commit.{Commit}
 use Rattle.qc_msg.specs.declared.record.Record.TheVariants as records
-use Rattle.qc_msg.specs.Names.{Deed}
+use Rattle.qc_msg.specs.Vocabulary.{Deed}
 
 abbrev stamp_in : Reply → Option Stamp
 stamp_in replies.Down = None

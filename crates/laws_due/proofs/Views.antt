@@ -5,19 +5,20 @@ use Rattle.std.specs.Prelude.{fold, option_and_then, slice_get, slice_set}
 use Rattle.std.specs.Option.{option_map_or}
 use Rattle.std.proofs.lemmas.List.Elements.{filter-append}
 use Rattle.std.proofs.lemmas.List.Sums.{fold-append}
-use Rattle.qc_table.specs.Names.{Rules, after, first_of, step_of}
+use Rattle.qc_table.specs.Vocabulary.{Rules, after, first_of, step_of}
 use Rattle.qc_table.specs.declared.kind.Kind.{Kind}
 use Rattle.qc_decl.specs.declared.declaration.Declaration.{Declaration}
-use Rattle.qc_decl.specs.Names.{table_at}
+use Rattle.qc_decl.specs.Vocabulary.{table_at}
 use Rattle.qc_entry.specs.declared.line.Line.{Line}
-use Rattle.qc_entry.specs.Names.{union}
+use Rattle.qc_entry.specs.Vocabulary.{union}
 use Rattle.qc_view.specs.declared.view.View.{View}
-use Rattle.qc_view.specs.Names.{answer_in, with_log, with_own}
+use Rattle.qc_view.specs.Vocabulary.{answer_in, with_log, with_own}
 use Rattle.qc_front.specs.Answering as fronts
-use Rattle.qc_front.specs.Names.{RecordsHold, view_log, with_event, with_granted, with_view}
+use Rattle.qc_front.specs.Vocabulary.{RecordsHold, view_log, with_event, with_granted, with_view}
 use Rattle.qc_front.proofs.Recording.{get_set}
-use Rattle.qc_promise.specs.Names.{Current, ReadGrant, answer_by, answer_of, resp_of, view_of, with_read, with_response}
-use Rattle.laws_due.specs.Names.{IsBegun, transaction_of}
+use Rattle.qc_promise.specs.Vocabulary.{Current, ReadGrant, answer_by, answer_of, resp_of, view_of, with_read}
+use Rattle.qc_promise.specs.Vocabulary.{with_response}
+use Rattle.laws_due.specs.Vocabulary.{IsBegun, transaction_of}
 
 -- lists of one length have items at the same places
 

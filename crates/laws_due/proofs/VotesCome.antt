@@ -1,5 +1,5 @@
 -- The votes of a commit, as they come: it ends, or more are awaited.
-use Rattle.std.proofs.Common.{◌≡◌, ◌≤◌, ℕ, ◌+◌, ◌==◌, ◌&&◌, Bool, true, false, cond, List, ◌∷◌, ◌++◌, length, map}
+use Rattle.std.proofs.Common.{[], ◌≡◌, ◌≤◌, ℕ, ◌+◌, ◌==◌, ◌&&◌, Bool, true, false, cond, List, ◌∷◌, ◌++◌, length, map}
 use Rattle.std.proofs.Common.{filter, max, Option, Some, None, is_some, refl, sym, ap, ◌∙◌, subst, eq-eqb, arith}
 use Rattle.std.specs.Prelude.{fold}
 use Rattle.std.specs.List.{list_all, AllByRecursion as Every}
@@ -11,24 +11,24 @@ use Rattle.qc_view.specs.declared.view.View.{View}
 use Rattle.qc_commit.specs.declared.desk.Desk.{Desk}
 use Rattle.qc_commit.specs.declared.desk.Voting.{Voting}
 use Rattle.qc_commit.specs.Conduct as desks
-use Rattle.qc_commit.specs.Names.{moved as desk_moved}
+use Rattle.qc_commit.specs.Vocabulary.{moved as desk_moved}
 use Rattle.qc_commit.specs.Votes as ballots
 use Rattle.qc_front.specs.declared.doing.Doing.TheVariants.{Idle}
 use Rattle.qc_front.specs.declared.front.Front.{Front}
 use Rattle.qc_front.specs.declared.transaction.Transaction.{Transaction}
-use Rattle.qc_front.specs.Names.{ended}
-use Rattle.qc_client.specs.Names.{ClientMove, by_desk, client_does}
+use Rattle.qc_front.specs.Vocabulary.{ended}
+use Rattle.qc_client.specs.Vocabulary.{ClientMove, by_desk, client_does}
 use Rattle.qc_msg.specs.declared.begun.Begun.{Begun}
 use Rattle.qc_msg.specs.declared.message.Outcome.TheVariants as outcomes
 use Rattle.qc_msg.specs.declared.reply.Reply.TheVariants as replies
 use Rattle.qc_msg.specs.declared.reply.AbortCause.{AbortCause}
 use Rattle.qc_msg.specs.declared.reply.AbortCause.TheVariants as causes
 use Rattle.qc_msg.specs.declared.step.Command.TheVariants as commands
-use Rattle.qc_msg.specs.Names.{Tells, decisions, quiet, sends_of}
-use Rattle.qc_promise.specs.Names.{Account, ClientRequest, Current, account_told, are_votes_in, first_against}
-use Rattle.qc_promise.specs.Names.{is_prepare, participants, running_row, view_of, vote_row}
-use Rattle.laws_due.specs.Names.{AreApart, Goes, IsPrepare, Ties, ballot_of, begun_of, calls_in, front_of, rests}
-use Rattle.laws_due.specs.Names.{transaction_of, votes}
+use Rattle.qc_msg.specs.Vocabulary.{Tells, decisions, quiet, sends_of}
+use Rattle.qc_promise.specs.Vocabulary.{Account, ClientRequest, Current, account_told, are_votes_in, first_against}
+use Rattle.qc_promise.specs.Vocabulary.{is_prepare, participants, running_row, view_of, vote_row}
+use Rattle.laws_due.specs.Vocabulary.{AreApart, Goes, IsPrepare, Ties, ballot_of, begun_of, calls_in, front_of, rests}
+use Rattle.laws_due.specs.Vocabulary.{transaction_of, votes}
 use Rattle.laws_due.proofs.Ballots.{against_are, all_prepare, cast_are}
 use Rattle.laws_due.proofs.OpenRequests.{sites_in}
 use Rattle.laws_due.proofs.Turns.{decided_account, decided_client, decided_due, ends_goes, rested}

@@ -4,7 +4,7 @@ use Rattle.std.proofs.Common.{◌≡◌, ◌≤◌, ℕ, ◌==◌, Bool, true, f
 use Rattle.std.proofs.Common.{None, option_map, is_some, inl, inr, refl, sym, ap, ◌∙◌, subst, arith}
 use Rattle.std.specs.Prelude.{is_none}
 use Rattle.std.specs.List.{find, list_all, AllByRecursion as Every}
-use Rattle.qc_list.specs.Names.{In}
+use Rattle.qc_list.specs.Vocabulary.{In}
 use Rattle.qc_list.proofs.Members.{every-In}
 use Rattle.qc_entry.specs.declared.record.Commit.{Commit}
 use Rattle.qc_decl.specs.declared.declaration.Declaration.{Declaration}
@@ -14,20 +14,20 @@ use Rattle.qc_commit.specs.declared.ballot.Vote.{Vote}
 use Rattle.qc_commit.specs.declared.desk.Desk.{Desk}
 use Rattle.qc_commit.specs.declared.desk.Voting.{Voting}
 use Rattle.qc_commit.specs.Conduct as desks
-use Rattle.qc_commit.specs.Names.{cast, vote_of}
+use Rattle.qc_commit.specs.Vocabulary.{cast, vote_of}
 use Rattle.qc_front.specs.declared.front.Front.{Front}
 use Rattle.qc_client.specs.declared.client.Client.{Client}
-use Rattle.qc_client.specs.Names.{by_desk}
+use Rattle.qc_client.specs.Vocabulary.{by_desk}
 use Rattle.qc_msg.specs.declared.begun.Begun.{Begun}
 use Rattle.qc_msg.specs.declared.call.Call.{Call}
 use Rattle.qc_msg.specs.declared.message.Answer.{Answer}
 use Rattle.qc_msg.specs.declared.message.Answer.TheVariants as answers
 use Rattle.qc_msg.specs.declared.message.Want.{Want}
 use Rattle.qc_msg.specs.declared.message.Want.TheVariants.{Prepare}
-use Rattle.qc_msg.specs.Names.{without_call}
-use Rattle.qc_promise.specs.Names.{Account, ClientRequest, Current, counted, counted_for, granted, is_open}
-use Rattle.qc_promise.specs.Names.{participants, promised, taken_for, told_by, view_of}
-use Rattle.laws_due.specs.Names.{AreApart, Goes, IsPrepare, ballot_of, begun_of, calls_in, transaction_of}
+use Rattle.qc_msg.specs.Vocabulary.{without_call}
+use Rattle.qc_promise.specs.Vocabulary.{Account, ClientRequest, Current, counted, counted_for, granted, is_open}
+use Rattle.qc_promise.specs.Vocabulary.{participants, promised, taken_for, told_by, view_of}
+use Rattle.laws_due.specs.Vocabulary.{AreApart, Goes, IsPrepare, ballot_of, begun_of, calls_in, transaction_of}
 use Rattle.laws_due.proofs.VotesCome.{commit_at, votes_go, votes_out, votes_tie, voting_desk, voting_front}
 use Rattle.laws_due.proofs.OpenRequests.{calls_taken, every_taken, find_call, found, numbers_open, sites_in}
 use Rattle.laws_due.proofs.OpenRequests.{sites_taken}

@@ -1,21 +1,21 @@
 -- In each run with falls the account of a client without an open input tells that its command waits, and that nothing
 -- is due.
 use Rattle.std.proofs.Common.{◌≡◌, ◌⊎◌, ℕ, ◌≤◌, Bool, true, false, List, [], Some, None, inl, sym, subst, slice_get}
-use Rattle.laws_due.specs.Names.{Declares, IsWaiting, NoneRuns}
+use Rattle.laws_due.specs.Vocabulary.{Declares, IsWaiting, NoneRuns}
 use Rattle.laws_due.proofs.Awaits.{tied_waits}
 use Rattle.laws_due.proofs.Fallings.{input_free}
 use Rattle.laws_due.proofs.Lifelong as lives
-use Rattle.qc_core.specs.Names.{IsLawfulWithFalls, is_running, is_up}
-use Rattle.qc_decl.specs.Names.{actors, is_client}
+use Rattle.qc_core.specs.Vocabulary.{IsLawfulWithFalls, is_running, is_up}
+use Rattle.qc_decl.specs.Vocabulary.{actors, is_client}
 use Rattle.qc_decl.specs.declared.declaration.Declaration.{Declaration}
-use Rattle.qc_link.specs.Names.{most_actors}
-use Rattle.laws_turns.specs.Names.{LivesIn}
+use Rattle.qc_link.specs.Vocabulary.{most_actors}
+use Rattle.laws_turns.specs.Vocabulary.{LivesIn}
 use Rattle.laws_turns.proofs.Lived.{run_lives}
 use Rattle.qc_msg.specs.declared.record.Record.{Record}
 use Rattle.qc_msg.specs.declared.step.Input.TheVariants as inputs
-use Rattle.qc_msg.specs.Names.{Entry, deeds}
-use Rattle.qc_promise.specs.Names.{account, due}
-use Rattle.qc_script.specs.Names.{RunsWithFalls}
+use Rattle.qc_msg.specs.Vocabulary.{Entry, deeds}
+use Rattle.qc_promise.specs.Vocabulary.{account, due}
+use Rattle.qc_script.specs.Vocabulary.{RunsWithFalls}
 use Rattle.qc_script.specs.declared.script.Script.{Script}
 use Rattle.laws_due.proofs.LifelongWithFalls.{client_lives, none_runs_down, rests_down}
 use Rattle.laws_due.proofs.Tied.{IsAtRest, Stands}

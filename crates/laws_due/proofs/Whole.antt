@@ -1,20 +1,20 @@
 -- In each run all that clients tell and write is due.
 use Rattle.std.proofs.Common.{◌≡◌, ◌⊎◌, ◌<◌, ℕ, ◌-◌, ◌&&◌, Bool, true, false, List, [], Some, None, slice_get, refl}
 use Rattle.std.proofs.Common.{sym, ◌∙◌, subst, le-leb, lt-ltb, arith}
-use Rattle.qc_core.specs.Names.{Acts, IsLawful}
-use Rattle.qc_decl.specs.Names.{IsAccepted, actors, administrator, client_actor, is_client}
+use Rattle.qc_core.specs.Vocabulary.{Acts, IsLawful}
+use Rattle.qc_decl.specs.Vocabulary.{IsAccepted, actors, administrator, client_actor, is_client}
 use Rattle.qc_decl.specs.declared.declaration.Declaration.{Declaration}
 use Rattle.laws_turns.proofs.Acted.{has_entry, run_acts}
 use Rattle.laws_turns.proofs.ByMail.{run_by_turns, run_mailed}
 use Rattle.laws_turns.proofs.Served.{run_due}
 use Rattle.laws_turns.proofs.Up.{acts_up}
-use Rattle.laws_turns.specs.Names.{ActsIn, AsksDeclared}
+use Rattle.laws_turns.specs.Vocabulary.{ActsIn, AsksDeclared}
 use Rattle.qc_msg.specs.declared.turn.Turn.{Turn}
-use Rattle.qc_msg.specs.Names.{Deed, Entry, deeds}
-use Rattle.qc_promise.specs.Names.{AreRepliesDue, Due, account, account_of, due, new_account}
-use Rattle.qc_script.specs.Names.{Runs}
+use Rattle.qc_msg.specs.Vocabulary.{Deed, Entry, deeds}
+use Rattle.qc_promise.specs.Vocabulary.{AreRepliesDue, Due, account, account_of, due, new_account}
+use Rattle.qc_script.specs.Vocabulary.{Runs}
 use Rattle.qc_script.specs.declared.script.Script.{Script}
-use Rattle.laws_due.specs.Names.{Declares, IsWaiting, NoneRuns}
+use Rattle.laws_due.specs.Vocabulary.{Declares, IsWaiting, NoneRuns}
 use Rattle.laws_due.proofs.AdminIdle.{run_admin_due}
 use Rattle.laws_due.proofs.Awaits.{clients_owe_nothing, commands_wait_for_requests}
 use Rattle.laws_due.proofs.Courses.{clients_due, turns_tell}

@@ -7,22 +7,22 @@ use Rattle.std.proofs.lemmas.Bool.{eq-eqb, eqb-true}
 use Rattle.std.proofs.lemmas.List.{append-nil, take_all}
 use Rattle.qc_client.specs.declared.client.Client.{Client}
 use Rattle.qc_core.specs.declared.actor.Actor.TheVariants as actor
-use Rattle.qc_core.specs.Names.{IsLawfulWithFalls, actor_after, is_running, runs_at}
-use Rattle.qc_decl.specs.Names.{IsAccepted, actors, administrator, is_client}
+use Rattle.qc_core.specs.Vocabulary.{IsLawfulWithFalls, actor_after, is_running, runs_at}
+use Rattle.qc_decl.specs.Vocabulary.{IsAccepted, actors, administrator, is_client}
 use Rattle.qc_decl.specs.declared.declaration.Declaration.{Declaration}
-use Rattle.laws_turns.specs.Names.{AreAnswered, AsksDeclared, IsQuiet, asked_by, asked_in_all, call_in, calls_of}
-use Rattle.laws_turns.specs.Names.{exchanges, exchanges_from, open_calls, replies_of}
+use Rattle.laws_turns.specs.Vocabulary.{AreAnswered, AsksDeclared, IsQuiet, asked_by, asked_in_all, call_in, calls_of}
+use Rattle.laws_turns.specs.Vocabulary.{exchanges, exchanges_from, open_calls, replies_of}
 use Rattle.laws_turns.proofs.Places.{replicate_at}
 use Rattle.qc_msg.specs.declared.message.Envelope.{Envelope}
 use Rattle.qc_msg.specs.declared.record.Record.{Record}
 use Rattle.qc_msg.specs.declared.step.Command.{Command}
 use Rattle.qc_msg.specs.declared.step.Input.TheVariants as inputs
-use Rattle.qc_msg.specs.Names.{Deed, Entry, Falls, Rises, Sends, Takes, Tells, Writes, deeds}
-use Rattle.qc_script.specs.Names.{command_in, controls_left, first_command, first_copy, first_lost, inbox, phase_of}
-use Rattle.qc_script.specs.Names.{takes_commands}
+use Rattle.qc_msg.specs.Vocabulary.{Deed, Entry, Falls, Rises, Sends, Takes, Tells, Writes, deeds}
+use Rattle.qc_script.specs.Vocabulary.{command_in, controls_left, first_command, first_copy, first_lost, inbox}
+use Rattle.qc_script.specs.Vocabulary.{phase_of, takes_commands}
 use Rattle.qc_script.specs.declared.script.PhaseLines.{PhaseLines}
 use Rattle.qc_script.specs.declared.script.Script.{Script}
-use Rattle.laws_due.specs.Names.{AreInOrder, AsksEpochs, AsksKnown, IsClosedWithFalls, IsWholeWithFalls}
+use Rattle.laws_due.specs.Vocabulary.{AreInOrder, AsksEpochs, AsksKnown, IsClosedWithFalls, IsWholeWithFalls}
 use Rattle.laws_due.proofs.AdminEnds.{his_none_runs, his_order}
 use Rattle.laws_due.proofs.Busy.{busy_runs}
 use Rattle.laws_due.proofs.Calling.{run_asked, run_phases}

@@ -6,16 +6,16 @@ use Rattle.qc_commit.specs.declared.desk.Desk.{Desk}
 use Rattle.qc_commit.specs.declared.desk.Voting.{Voting}
 use Rattle.qc_commit.specs.Conduct as desks
 use Rattle.qc_commit.specs.Desk as desk
-use Rattle.qc_commit.specs.Names.{are_cast, blank, cast, first_against, participants, prepares, vote_of}
+use Rattle.qc_commit.specs.Vocabulary.{are_cast, blank, cast, first_against, participants, prepares, vote_of}
 use Rattle.qc_client.specs.declared.client.Client.{Client}
-use Rattle.qc_client.specs.Names.{answered_by, by_desk, by_front, called, client_takes, commits, heard}
+use Rattle.qc_client.specs.Vocabulary.{answered_by, by_desk, by_front, called, client_takes, commits, heard}
 use Rattle.qc_decl.specs.declared.declaration.Declaration.{Declaration}
 use Rattle.qc_entry.specs.declared.record.Commit.{Commit}
 use Rattle.qc_front.specs.declared.doing.Doing.{Doing}
 use Rattle.qc_front.specs.declared.doing.Doing.TheVariants.{Idle, Reading, Appending}
 use Rattle.qc_front.specs.declared.front.Front.{Front}
 use Rattle.qc_front.specs.declared.transaction.Transaction.{Transaction}
-use Rattle.qc_front.specs.Names.{answer_of, appended_with, learns, read_with, round_for, standing_of}
+use Rattle.qc_front.specs.Vocabulary.{answer_of, appended_with, learns, read_with, round_for, standing_of}
 use Rattle.qc_front.specs.Conduct as fronts
 use Rattle.qc_front.specs.Front as front
 use Rattle.qc_front.specs.Rounds as rounds
@@ -33,11 +33,11 @@ use Rattle.qc_msg.specs.declared.step.Command.TheVariants as commands
 use Rattle.qc_msg.specs.declared.step.Input.{Input}
 use Rattle.qc_msg.specs.declared.step.Input.TheVariants as inputs
 use Rattle.qc_msg.specs.declared.turn.Turn.{Turn}
-use Rattle.qc_msg.specs.Names.{quiet, sending, site_called, telling, without_call}
+use Rattle.qc_msg.specs.Vocabulary.{quiet, sending, site_called, telling, without_call}
 use Rattle.qc_plan.specs.declared.standing.Verdict.{Verdict}
 use Rattle.qc_plan.specs.declared.standing.Verdict.TheVariants as verdicts
-use Rattle.qc_plan.specs.Names.{RoundState, note, verdict}
-use Rattle.qc_decl.specs.Names.{append_need_of, most_transaction_operations, read_need_of}
+use Rattle.qc_plan.specs.Vocabulary.{RoundState, note, verdict}
+use Rattle.qc_decl.specs.Vocabulary.{append_need_of, most_transaction_operations, read_need_of}
 
 -- a turn whose record is a commit's
 pub record IsCommitTurn (turn : Turn) : Type 0 where

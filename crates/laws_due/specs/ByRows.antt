@@ -4,8 +4,9 @@ use Rattle.std.specs.Prelude.{◌≡◌, ℕ, true, false, List, [], ◌∷◌}
 use Rattle.qc_decl.specs.declared.declaration.Declaration.{Declaration}
 use Rattle.qc_msg.specs.declared.message.Message.{Message}
 use Rattle.qc_msg.specs.declared.message.Message.TheVariants as messages
-use Rattle.qc_msg.specs.Names.{Deed, Falls, Rises, Sends, Takes, Tells, Writes}
-use Rattle.qc_promise.specs.Names.{Account, IsInputDue, IsRecordDue, IsReplyDue, account_at, is_asked_for, running_row}
+use Rattle.qc_msg.specs.Vocabulary.{Deed, Falls, Rises, Sends, Takes, Tells, Writes}
+use Rattle.qc_promise.specs.Vocabulary.{Account, IsInputDue, IsRecordDue, IsReplyDue, account_at, is_asked_for}
+use Rattle.qc_promise.specs.Vocabulary.{running_row}
 
 -- a request goes to the site that is next, and asks what the running command calls for
 abbrev pub IsSendDue : Declaration → Account → ℕ → Message → Type 0

@@ -1,11 +1,11 @@
 -- The requests of an account, as its client keeps them.
 use Rattle.std.specs.Prelude.{◌≢◌, ℕ, List, [], ◌∷◌, map, filter, is_none, option_map}
-use Rattle.qc_list.specs.Names.{In}
+use Rattle.qc_list.specs.Vocabulary.{In}
 use Rattle.qc_commit.specs.declared.ballot.Ballot.{Ballot}
-use Rattle.qc_commit.specs.Names.{vote_of}
+use Rattle.qc_commit.specs.Vocabulary.{vote_of}
 use Rattle.qc_msg.specs.declared.begun.Begun.{Begun}
 use Rattle.qc_msg.specs.declared.call.Call.{Call}
-use Rattle.qc_promise.specs.Names.{ClientRequest}
+use Rattle.qc_promise.specs.Vocabulary.{ClientRequest}
 
 -- the open ones: those that nothing was taken for
 

@@ -2,15 +2,15 @@
 -- plan.
 use Rattle.std.specs.Prelude.{◌≡◌, ℕ, true, List, Option, Some, None, is_some, option_and_then}
 use Rattle.std.specs.List.{AllByRecursion as Every}
-use Rattle.qc_decl.specs.Names.{plan_in, table_at}
+use Rattle.qc_decl.specs.Vocabulary.{plan_in, table_at}
 use Rattle.qc_decl.specs.declared.declaration.Declaration.{Declaration}
 use Rattle.qc_msg.specs.declared.message.Message.{Message}
 use Rattle.qc_msg.specs.declared.step.Command.{Command}
 use Rattle.qc_msg.specs.declared.step.Command.TheVariants as commands
 use Rattle.qc_msg.specs.declared.step.Input.{Input}
 use Rattle.qc_msg.specs.declared.step.Input.TheVariants as inputs
-use Rattle.qc_msg.specs.Names.{Answered, Deed, Falls, Rises, Sends, Takes, Tells, Writes, answer_in, closed_in}
-use Rattle.qc_msg.specs.Names.{first_epoch}
+use Rattle.qc_msg.specs.Vocabulary.{Answered, Deed, Falls, Rises, Sends, Takes, Tells, Writes, answer_in, closed_in}
+use Rattle.qc_msg.specs.Vocabulary.{first_epoch}
 
 abbrev pub IsPlanned : Declaration → ℕ → Type 0
 IsPlanned decl epoch = is_some (plan_in decl epoch) ≡ true

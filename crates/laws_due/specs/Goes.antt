@@ -2,11 +2,11 @@
 -- command's row tells, and the tie holds after it.
 use Rattle.std.specs.Prelude.{◌≡◌, ℕ, false, fold}
 use Rattle.qc_client.specs.declared.client.Client.{Client}
-use Rattle.qc_client.specs.Names.{ClientMove, client_does}
+use Rattle.qc_client.specs.Vocabulary.{ClientMove, client_does}
 use Rattle.qc_decl.specs.declared.declaration.Declaration.{Declaration}
-use Rattle.qc_front.specs.Names.{FrontHolds, IsNumbered}
-use Rattle.qc_msg.specs.Names.{turn_deeds}
-use Rattle.qc_promise.specs.Names.{Account, account_at, running_row}
+use Rattle.qc_front.specs.Vocabulary.{FrontHolds, IsNumbered}
+use Rattle.qc_msg.specs.Vocabulary.{turn_deeds}
+use Rattle.qc_promise.specs.Vocabulary.{Account, account_at, running_row}
 use Rattle.laws_due.specs.ByRows.{AreByRows}
 use Rattle.laws_due.specs.Ties.{Ties}
 

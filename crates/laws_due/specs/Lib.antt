@@ -10,4 +10,4 @@ pub mod Waits
 pub mod Risen
 pub mod Order
 pub mod Whole
-pub mod Names
+pub mod Vocabulary

@@ -1,10 +1,10 @@
 -- Commands and replies of one actor in order, through its falls: a command is called only where none runs, a reply is
 -- told only where one does, whose reply it is, and the actor falls and rises only where none runs.
 use Rattle.std.specs.Prelude.{◌≡◌, Bool, true, false, List, [], ◌∷◌}
-use Rattle.qc_core.specs.Names.{runs_at}
+use Rattle.qc_core.specs.Vocabulary.{runs_at}
 use Rattle.qc_msg.specs.declared.step.Input.{Input}
 use Rattle.qc_msg.specs.declared.step.Input.TheVariants as inputs
-use Rattle.qc_msg.specs.Names.{Deed, Falls, Rises, Sends, Takes, Tells, Writes}
+use Rattle.qc_msg.specs.Vocabulary.{Deed, Falls, Rises, Sends, Takes, Tells, Writes}
 
 -- an input, where a command runs or none does
 abbrev pub MayBeGiven : Bool → Input → Type 0

@@ -4,7 +4,7 @@ use Rattle.std.specs.List.{AllByRecursion as Every}
 use Rattle.qc_decl.specs.declared.declaration.Declaration.{Declaration}
 use Rattle.qc_msg.specs.declared.step.Step.{Step}
 use Rattle.qc_msg.specs.declared.step.Step.TheVariants as steps
-use Rattle.qc_msg.specs.Names.{Entry}
+use Rattle.qc_msg.specs.Vocabulary.{Entry}
 use Rattle.laws_due.specs.Planned.{IsRecordPlanned}
 
 abbrev pub RisesPlanned : Declaration → Step → Type 0

@@ -2,19 +2,19 @@
 use Rattle.std.specs.Prelude.{◌≡◌, ◌≤◌, ℕ, max, nat_le, false, [], length, map, is_some, Option, Some, None}
 use Rattle.std.specs.List.{AllByRecursion as Every, list_all}
 use Rattle.qc_plan.specs.declared.standing.Verdict.TheVariants.{Met}
-use Rattle.qc_plan.specs.Names.{verdict}
+use Rattle.qc_plan.specs.Vocabulary.{verdict}
 use Rattle.qc_decl.specs.declared.declaration.Declaration.{Declaration}
-use Rattle.qc_decl.specs.Names.{append_need_of, most_transaction_operations, read_need_of}
+use Rattle.qc_decl.specs.Vocabulary.{append_need_of, most_transaction_operations, read_need_of}
 use Rattle.qc_msg.specs.declared.message.Want.TheVariants.{Read, Prepare}
 use Rattle.qc_msg.specs.declared.step.Command.{Command}
 use Rattle.qc_msg.specs.declared.step.Command.TheVariants as commands
-use Rattle.qc_msg.specs.Names.{life_of}
+use Rattle.qc_msg.specs.Vocabulary.{life_of}
 use Rattle.qc_commit.specs.declared.desk.Desk.{Desk}
 use Rattle.qc_front.specs.declared.doing.Doing.TheVariants.{Idle, Reading, Appending}
 use Rattle.qc_front.specs.declared.transaction.Transaction.{Transaction}
 use Rattle.qc_client.specs.declared.client.Client.{Client}
-use Rattle.qc_promise.specs.Names.{Account, ClientRequest, Current, answer_of, is_append, is_read, participants}
-use Rattle.qc_promise.specs.Names.{round_of}
+use Rattle.qc_promise.specs.Vocabulary.{Account, ClientRequest, Current, answer_of, is_append, is_read, participants}
+use Rattle.qc_promise.specs.Vocabulary.{round_of}
 use Rattle.laws_due.specs.Calls.{AreApart, ballot_of, calls_in}
 use Rattle.laws_due.specs.Told.{AreBegun, IsBegun, IsOpenIn, front_of}
 

@@ -6,7 +6,7 @@ use Rattle.qc_msg.specs.declared.message.Want.{Want}
 use Rattle.qc_front.specs.declared.doing.Doing.{Doing}
 use Rattle.qc_front.specs.declared.front.Front.{Front}
 use Rattle.qc_front.specs.declared.transaction.Transaction.{Transaction}
-use Rattle.qc_promise.specs.Names.{Account, ClientRequest, Current, view_of}
+use Rattle.qc_promise.specs.Vocabulary.{Account, ClientRequest, Current, view_of}
 
 -- the begun transaction. The sites that it asked are the client's alone; its views are told by what its Reads were
 -- granted, and by its own events, which `FrontHolds` has

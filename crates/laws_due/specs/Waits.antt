@@ -1,10 +1,10 @@
 -- That a running command waits for a request, and what a `do` comes to that everybody grants.
 use Rattle.std.specs.Prelude.{◌≡◌, ◌≤◌, ℕ, Bool, List, ◌∷◌, ◌++◌, Some, None}
 use Rattle.std.specs.List.{AllByRecursion as Every}
-use Rattle.qc_list.specs.Names.{In}
+use Rattle.qc_list.specs.Vocabulary.{In}
 use Rattle.qc_stamp.specs.declared.stamp.TxId.{TxId}
 use Rattle.qc_decl.specs.declared.declaration.Declaration.{Declaration}
-use Rattle.qc_decl.specs.Names.{read_need_of}
+use Rattle.qc_decl.specs.Vocabulary.{read_need_of}
 use Rattle.qc_entry.specs.declared.line.Line.{Line}
 use Rattle.qc_msg.specs.declared.message.Answer.TheVariants.{Granted}
 use Rattle.qc_msg.specs.declared.message.Message.{Message}
@@ -12,9 +12,9 @@ use Rattle.qc_msg.specs.declared.message.Message.TheVariants as messages
 use Rattle.qc_msg.specs.declared.message.Want.{Want}
 use Rattle.qc_msg.specs.declared.step.Input.{Input}
 use Rattle.qc_msg.specs.declared.step.Input.TheVariants as inputs
-use Rattle.qc_msg.specs.Names.{Deed, Falls, Rises, Sends, Takes, Tells, Writes}
-use Rattle.qc_plan.specs.Names.{has_granted, weight}
-use Rattle.qc_promise.specs.Names.{Account, ClientRequest, Current, is_read, round_of, weights_of}
+use Rattle.qc_msg.specs.Vocabulary.{Deed, Falls, Rises, Sends, Takes, Tells, Writes}
+use Rattle.qc_plan.specs.Vocabulary.{has_granted, weight}
+use Rattle.qc_promise.specs.Vocabulary.{Account, ClientRequest, Current, is_read, round_of, weights_of}
 use Rattle.laws_due.specs.Ties.{IsDo}
 
 -- a request of the running command is open: nothing was taken for it

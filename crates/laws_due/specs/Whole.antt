@@ -1,12 +1,12 @@
 -- A whole run with falls: all that the script asks was done, each command told its reply, and nothing is left to do.
 use Rattle.std.specs.Prelude.{◌≡◌, ℕ, true, false, List, [], length, replicate}
-use Rattle.qc_core.specs.Names.{IsLawfulWithFalls}
+use Rattle.qc_core.specs.Vocabulary.{IsLawfulWithFalls}
 use Rattle.qc_decl.specs.declared.declaration.Declaration.{Declaration}
-use Rattle.qc_decl.specs.Names.{actors}
-use Rattle.laws_turns.specs.Names.{AreAnswered, IsQuiet, asked_by, exchanges}
+use Rattle.qc_decl.specs.Vocabulary.{actors}
+use Rattle.laws_turns.specs.Vocabulary.{AreAnswered, IsQuiet, asked_by, exchanges}
 use Rattle.qc_msg.specs.declared.record.Record.{Record}
-use Rattle.qc_msg.specs.Names.{Entry, deeds}
-use Rattle.qc_script.specs.Names.{RunsWithFalls, controls_left, phase_of, takes_commands}
+use Rattle.qc_msg.specs.Vocabulary.{Entry, deeds}
+use Rattle.qc_script.specs.Vocabulary.{RunsWithFalls, controls_left, phase_of, takes_commands}
 use Rattle.qc_script.specs.declared.script.Script.{Script}
 
 -- the history is a run with falls in which no input is open

@@ -6,7 +6,7 @@ use Rattle.std.specs.Prelude.{is_none}
 use Rattle.std.specs.List.{find}
 use Rattle.std.proofs.lemmas.List.Folds.{list_any-append}
 use Rattle.qc_stamp.specs.declared.stamp.TxId.{TxId}
-use Rattle.qc_list.specs.Names.{In}
+use Rattle.qc_list.specs.Vocabulary.{In}
 use Rattle.qc_list.proofs.Members.{In-first}
 use Rattle.qc_entry.specs.declared.line.Line.{Line}
 use Rattle.qc_msg.specs.declared.begun.LifeAt.{LifeAt}
@@ -18,9 +18,9 @@ use Rattle.qc_msg.specs.declared.message.Want.{Want}
 use Rattle.qc_msg.specs.declared.message.Want.TheVariants.{Read, Append, Prepare}
 use Rattle.qc_msg.specs.declared.step.Command.{Command}
 use Rattle.qc_msg.specs.declared.step.Input.TheVariants as inputs
-use Rattle.qc_msg.specs.Names.{Deed, Sends, Takes, has_granted, with_life}
-use Rattle.qc_promise.specs.Names.{Account, ClientRequest, Current, granted, is_open, lived, promised, taken_for}
-use Rattle.qc_promise.specs.Names.{told_by, with_read}
+use Rattle.qc_msg.specs.Vocabulary.{Deed, Sends, Takes, has_granted, with_life}
+use Rattle.qc_promise.specs.Vocabulary.{Account, ClientRequest, Current, granted, is_open, lived, promised, taken_for}
+use Rattle.qc_promise.specs.Vocabulary.{told_by, with_read}
 
 -- the request was sent for this transaction
 pub record WasSent (ds : List Deed) (q : ClientRequest) (tx : TxId) : Type 0 where

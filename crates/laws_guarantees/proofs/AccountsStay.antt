@@ -1,8 +1,8 @@
 -- What an account has stays as the history goes on; who answered a request of which number.
-use Rattle.std.proofs.Common.{◌≡◌, ◌+◌, ◌-◌, ◌==◌, ℕ, false, List, ◌∷◌, ◌++◌, ap, ◌∙◌}
+use Rattle.std.proofs.Common.{[], ◌≡◌, ◌+◌, ◌-◌, ◌==◌, ℕ, false, List, ◌∷◌, ◌++◌, ap, ◌∙◌}
 use Rattle.std.specs.Prelude.{fold}
 use Rattle.std.proofs.lemmas.List.Sums.{fold-append}
-use Rattle.qc_list.specs.Names.{In}
+use Rattle.qc_list.specs.Vocabulary.{In}
 use Rattle.qc_decl.specs.declared.declaration.Declaration.{Declaration}
 use Rattle.qc_msg.specs.declared.message.Answer.{Answer}
 use Rattle.qc_msg.specs.declared.message.Envelope.{Envelope}
@@ -10,11 +10,11 @@ use Rattle.qc_msg.specs.declared.message.Message.TheVariants as messages
 use Rattle.qc_msg.specs.declared.step.Input.{Input}
 use Rattle.qc_msg.specs.declared.step.Step.{Step}
 use Rattle.qc_msg.specs.declared.turn.Turn.{Turn}
-use Rattle.qc_msg.specs.Names.{Entry, Takes, WasSentTo, by as by_actor, deeds, mail, marked, posted, step_of}
-use Rattle.qc_msg.specs.Names.{turn_deeds}
+use Rattle.qc_msg.specs.Vocabulary.{Entry, Takes, WasSentTo, by as by_actor, deeds, mail, marked, posted, step_of}
+use Rattle.qc_msg.specs.Vocabulary.{turn_deeds}
 use Rattle.qc_msg.proofs.DeedsGrow.{deeds-other}
 use Rattle.qc_msg.proofs.Growth.{deeds-posted, deeds-taken}
-use Rattle.qc_promise.specs.Names.{account, account_at, account_taken, new_account}
+use Rattle.qc_promise.specs.Vocabulary.{account, account_at, account_taken, new_account}
 use Rattle.laws_turns.proofs.Acted.{deeds-silent}
 use Rattle.laws_turns.proofs.Numbered.{IsSilent}
 

@@ -4,7 +4,7 @@ use Rattle.std.proofs.Common.{Option, Some, None, refl, sym, ap, ◌∙◌, subs
 use Rattle.std.specs.Prelude.{option_and_then}
 use Rattle.std.specs.List.{find}
 use Rattle.std.specs.Option.{option_or}
-use Rattle.qc_list.specs.Names.{In}
+use Rattle.qc_list.specs.Vocabulary.{In}
 use Rattle.qc_list.proofs.Members.{In-passes, In-unfiltered}
 use Rattle.qc_decl.specs.declared.declaration.Declaration.{Declaration}
 use Rattle.qc_msg.specs.declared.message.Answer.{Answer}
@@ -22,13 +22,13 @@ use Rattle.qc_msg.specs.declared.step.Command.{Command}
 use Rattle.qc_msg.specs.declared.step.Command.TheVariants as commands
 use Rattle.qc_plan.specs.declared.standing.Verdict.{Verdict}
 use Rattle.qc_plan.specs.declared.standing.Verdict.TheVariants as verdicts
-use Rattle.qc_plan.specs.Names.{verdict}
-use Rattle.qc_decl.specs.Names.{append_need_of, most_transaction_operations, read_need_of}
-use Rattle.qc_promise.specs.Names.{Account, ClientRequest, Current, account_heard, against, answer_of, answer_row}
-use Rattle.qc_promise.specs.Names.{append_row, are_votes_in, commit_row, counted, counted_for, do_row, first_against}
-use Rattle.qc_promise.specs.Names.{is_append, is_open, is_prepare, is_read, read_row, requests_for, round_of, row_of}
-use Rattle.qc_promise.specs.Names.{running_row, taken_for, vote_row}
-use Rattle.laws_guarantees.specs.Names.{IsOpenVote}
+use Rattle.qc_plan.specs.Vocabulary.{verdict}
+use Rattle.qc_decl.specs.Vocabulary.{append_need_of, most_transaction_operations, read_need_of}
+use Rattle.qc_promise.specs.Vocabulary.{Account, ClientRequest, Current, account_heard, against, answer_of, answer_row}
+use Rattle.qc_promise.specs.Vocabulary.{append_row, are_votes_in, commit_row, counted, counted_for, do_row}
+use Rattle.qc_promise.specs.Vocabulary.{first_against, is_append, is_open, is_prepare, is_read, read_row, requests_for}
+use Rattle.qc_promise.specs.Vocabulary.{round_of, row_of, running_row, taken_for, vote_row}
+use Rattle.laws_guarantees.specs.Vocabulary.{IsOpenVote}
 use Rattle.laws_guarantees.proofs.Accounts.{after_taken, open_number, open_untaken, told_requests}
 use Rattle.laws_guarantees.proofs.ForgettingAnswers.{Forgets}
 

@@ -1,14 +1,14 @@
 -- In each undisturbed run each answer fits its request, by what its site was sent before.
-use Rattle.std.proofs.Common.{◌≡◌, ℕ, ◌+◌, ◌-◌, ◌==◌, Bool, true, List, ◌∷◌, ◌++◌, length, Some, slice_get, refl, sym}
-use Rattle.std.proofs.Common.{ap, ◌∙◌, subst, arith, eqb-true}
+use Rattle.std.proofs.Common.{[], ◌≡◌, ℕ, ◌+◌, ◌-◌, ◌==◌, Bool, true, List, ◌∷◌, ◌++◌, length, Some, slice_get, refl}
+use Rattle.std.proofs.Common.{sym, ap, ◌∙◌, subst, arith, eqb-true}
 use Rattle.std.specs.List.{AllByRecursion as Every}
 use Rattle.std.proofs.lemmas.List.{append_assoc}
 use Rattle.std.proofs.lemmas.List.Elements.{filter_map-append}
 use Rattle.std.proofs.lemmas.List.Sums.{fold-append}
-use Rattle.qc_list.specs.Names.{In}
+use Rattle.qc_list.specs.Vocabulary.{In}
 use Rattle.qc_list.proofs.Members.{In-last, In-passes, every-append, every-weaker}
-use Rattle.qc_core.specs.Names.{IsLawful}
-use Rattle.qc_decl.specs.Names.{controller}
+use Rattle.qc_core.specs.Vocabulary.{IsLawful}
+use Rattle.qc_decl.specs.Vocabulary.{controller}
 use Rattle.qc_decl.specs.declared.declaration.Declaration.{Declaration}
 use Rattle.qc_msg.specs.declared.message.Answer.{Answer}
 use Rattle.qc_msg.specs.declared.message.Envelope.{Envelope}
@@ -19,19 +19,19 @@ use Rattle.qc_msg.specs.declared.step.Input.TheVariants as inputs
 use Rattle.qc_msg.specs.declared.step.Step.TheVariants as steps
 use Rattle.qc_msg.specs.declared.turn.Posting.{Posting}
 use Rattle.qc_msg.specs.declared.turn.Turn.{Turn}
-use Rattle.qc_msg.specs.Names.{Deed, Entry, Takes, by, deeds, envelopes, mail, posted, quiet}
+use Rattle.qc_msg.specs.Vocabulary.{Deed, Entry, Takes, by, deeds, envelopes, mail, posted, quiet}
 use Rattle.qc_msg.proofs.GrownMail.{mail-append, mail-posted, mail-taken}
-use Rattle.qc_script.specs.Names.{Runs, phase_of}
+use Rattle.qc_script.specs.Vocabulary.{Runs, phase_of}
 use Rattle.qc_script.specs.Runs.{begins, takes, posts, phase, control}
 use Rattle.qc_script.specs.declared.script.Script.{Script}
-use Rattle.qc_site.specs.Names.{SiteMove, new_site, site_after, site_does, site_takes}
+use Rattle.qc_site.specs.Vocabulary.{SiteMove, new_site, site_after, site_does, site_takes}
 use Rattle.qc_site.specs.Site as sites
 use Rattle.laws_atomic.proofs.FirstSites.{TakesCalm, after_at_first}
-use Rattle.qc_client.specs.Names.{ClientMove, client_after, client_does, moved, new_client}
+use Rattle.qc_client.specs.Vocabulary.{ClientMove, client_after, client_does, moved, new_client}
 use Rattle.laws_turns.proofs.Numbered.{AreNumbered, control_silent, mail-silent, phase_silent, run_numbered}
 use Rattle.laws_turns.proofs.Bounding.{lawful_turn}
-use Rattle.laws_guarantees.specs.Names.{AnswersFit, Arrives, Fits, IfAnswered, IsAnswered, IsFirst, IsUndisturbed}
-use Rattle.laws_guarantees.specs.Names.{sent_before, sent_to, taken, taken_by, taken_in}
+use Rattle.laws_guarantees.specs.Vocabulary.{AnswersFit, Arrives, Fits, IfAnswered, IsAnswered, IsFirst, IsUndisturbed}
+use Rattle.laws_guarantees.specs.Vocabulary.{sent_before, sent_to, taken, taken_by, taken_in}
 use Rattle.laws_guarantees.proofs.ClientWords.{AreClientWords, IsClientWord, client_words}
 use Rattle.laws_turns.proofs.Served.{first_part}
 use Rattle.laws_guarantees.proofs.FirstDeeds.{FirstGiven}

@@ -1,20 +1,20 @@
 -- What stands before a message in a part of a list is the same part of what stands before it in the list; what fits
 -- still does after more mail.
-use Rattle.std.proofs.Common.{◌≡◌, ℕ, zero, suc, ◌+◌, ◌-◌, ◌<◌, ◌≤◌, inl, inr, Bool, true, false, cond, List, ◌∷◌, ◌++◌}
-use Rattle.std.proofs.Common.{length, refl, sym, ap, ◌∙◌, subst, arith}
+use Rattle.std.proofs.Common.{[], ◌≡◌, ℕ, zero, suc, ◌+◌, ◌-◌, ◌<◌, ◌≤◌, inl, inr, Bool, true, false, cond, List, ◌∷◌}
+use Rattle.std.proofs.Common.{◌++◌, length, refl, sym, ap, ◌∙◌, subst, arith}
 use Rattle.std.specs.Prelude.{filter, take}
 use Rattle.std.specs.List.{AllByRecursion as Every}
 use Rattle.std.proofs.lemmas.List.{take-append-le}
-use Rattle.qc_list.specs.Names.{In}
+use Rattle.qc_list.specs.Vocabulary.{In}
 use Rattle.qc_list.proofs.Members.{In-first, In-second, In-unfiltered, every-weaker}
 use Rattle.qc_msg.specs.declared.message.Answer.{Answer}
 use Rattle.qc_msg.specs.declared.message.Envelope.{Envelope}
 use Rattle.qc_msg.specs.declared.message.Message.{Message}
 use Rattle.qc_msg.specs.declared.message.Message.TheVariants as messages
 use Rattle.qc_msg.specs.declared.turn.Posting.{Posting}
-use Rattle.qc_msg.specs.Names.{by, envelopes}
+use Rattle.qc_msg.specs.Vocabulary.{by, envelopes}
 use Rattle.laws_turns.proofs.Numbered.{AreNumbered}
-use Rattle.laws_guarantees.specs.Names.{Fits, IfAnswered, IsAnswered, sent_to}
+use Rattle.laws_guarantees.specs.Vocabulary.{Fits, IfAnswered, IsAnswered, sent_to}
 use Rattle.laws_guarantees.proofs.ClientWords.{IsClientWord}
 
 -- numbers are places: what stands before a message in a part of a list is the same part of what stands before it

@@ -1,9 +1,9 @@
 -- Each answer of a site's step is to the request that it took, under its number.
-use Rattle.std.proofs.Common.{◌≡◌, ℕ, List, ◌∷◌, inl, inr, Option, Some, None, refl, sym, ap, ◌∙◌, subst}
+use Rattle.std.proofs.Common.{[], ◌≡◌, ℕ, List, ◌∷◌, inl, inr, Option, Some, None, refl, sym, ap, ◌∙◌, subst}
 use Rattle.qc_stamp.specs.declared.stamp.TxId.{TxId}
-use Rattle.qc_list.specs.Names.{In}
+use Rattle.qc_list.specs.Vocabulary.{In}
 use Rattle.qc_entry.specs.declared.line.Line.{Line}
-use Rattle.qc_entry.specs.Names.{of_object}
+use Rattle.qc_entry.specs.Vocabulary.{of_object}
 use Rattle.qc_entry.specs.declared.record.Prepared.{Prepared}
 use Rattle.qc_decl.specs.declared.declaration.Declaration.{Declaration}
 use Rattle.qc_msg.specs.declared.message.Answer.{Answer}
@@ -19,11 +19,12 @@ use Rattle.qc_msg.specs.declared.step.Input.{Input}
 use Rattle.qc_msg.specs.declared.step.Input.TheVariants as inputs
 use Rattle.qc_msg.specs.declared.turn.Posting.{Posting}
 use Rattle.qc_msg.specs.declared.record.Record.TheVariants as records
-use Rattle.qc_site.specs.Names.{SiteMove, SiteState, answering, answers as answering_turn, appends, clashing, closed}
-use Rattle.qc_site.specs.Names.{closes, finishes, grants, installed, installs, joins, known, moved, passed, prepared_of}
-use Rattle.qc_site.specs.Names.{promise_of, promised, reads, recording, shut_answer, site_at, site_takes, votes}
+use Rattle.qc_site.specs.Vocabulary.{SiteMove, SiteState, answering, answers as answering_turn, appends, clashing}
+use Rattle.qc_site.specs.Vocabulary.{closed, closes, finishes, grants, installed, installs, joins, known, moved, passed}
+use Rattle.qc_site.specs.Vocabulary.{prepared_of, promise_of, promised, reads, recording, shut_answer, site_at}
+use Rattle.qc_site.specs.Vocabulary.{site_takes, votes}
 use Rattle.qc_lock.specs.declared.clash.Clash.{Clash as Conflict}
-use Rattle.qc_msg.specs.Names.{quiet}
+use Rattle.qc_msg.specs.Vocabulary.{quiet}
 use Rattle.qc_stamp.specs.declared.stamp.Stamp.{Stamp}
 use Rattle.qc_site.proofs.RequestCases.{append_cases, close_cases, prepare_cases, read_cases, request_cases}
 use Rattle.qc_site.proofs.Cases.{install_cases}

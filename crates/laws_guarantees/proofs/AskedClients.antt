@@ -2,7 +2,7 @@
 use Rattle.std.proofs.Common.{◌≡◌, ℕ, ◌==◌, ◌&&◌, Bool, true, false, cond, List, [], ◌∷◌, map, length, Option, Some}
 use Rattle.std.proofs.Common.{None, refl, sym, ap, ◌∙◌, subst}
 use Rattle.qc_stamp.specs.declared.stamp.TxId.{TxId}
-use Rattle.qc_stamp.specs.Names.{same_tx}
+use Rattle.qc_stamp.specs.Vocabulary.{same_tx}
 use Rattle.qc_decl.specs.declared.declaration.Declaration.{Declaration}
 use Rattle.qc_msg.specs.declared.begun.Begun.{Begun}
 use Rattle.qc_msg.specs.declared.message.Answer.{Answer}
@@ -15,21 +15,21 @@ use Rattle.qc_msg.specs.declared.step.Command.{Command}
 use Rattle.qc_msg.specs.declared.step.Command.TheVariants as commands
 use Rattle.qc_msg.specs.declared.step.Input.{Input}
 use Rattle.qc_msg.specs.declared.step.Input.TheVariants as inputs
-use Rattle.qc_msg.specs.Names.{quiet, sending, site_called, without_call}
+use Rattle.qc_msg.specs.Vocabulary.{quiet, sending, site_called, without_call}
 use Rattle.qc_front.specs.declared.transaction.Transaction.{Transaction}
 use Rattle.qc_front.specs.Conduct as fronts
-use Rattle.qc_front.specs.Names.{appending_takes, reading_takes}
+use Rattle.qc_front.specs.Vocabulary.{appending_takes, reading_takes}
 use Rattle.qc_commit.specs.declared.desk.Desk.{Desk}
 use Rattle.qc_commit.specs.declared.desk.Voting.{Voting}
 use Rattle.qc_commit.specs.Conduct as desks
-use Rattle.qc_commit.specs.Names.{DeskMove, are_cast, blank, cast, first_against, participants, prepares, vote_of}
+use Rattle.qc_commit.specs.Vocabulary.{DeskMove, are_cast, blank, cast, first_against, participants, prepares, vote_of}
 use Rattle.qc_commit.specs.Desk as desk_moves
 use Rattle.qc_client.specs.declared.client.Client.{Client}
-use Rattle.qc_client.specs.Names.{ClientMove, answered_by, by_desk, by_front, called, client_takes, commits, heard}
-use Rattle.qc_client.specs.Names.{outcome_of}
-use Rattle.laws_turns.specs.Names.{begun_in}
+use Rattle.qc_client.specs.Vocabulary.{ClientMove, answered_by, by_desk, by_front, called, client_takes, commits, heard}
+use Rattle.qc_client.specs.Vocabulary.{outcome_of}
+use Rattle.laws_turns.specs.Vocabulary.{begun_in}
 use Rattle.laws_turns.proofs.DealtCommands.{IsInHand}
-use Rattle.laws_guarantees.specs.Names.{open_said}
+use Rattle.laws_guarantees.specs.Vocabulary.{open_said}
 use Rattle.laws_guarantees.proofs.SitesTold.{Keeps, decision_less, ends, open_posted, silent, spoken}
 use Rattle.laws_guarantees.proofs.AskedSites.{called_keeps, takes_keeps}
 

@@ -1,13 +1,13 @@
 -- A transaction knows each site that it asked to hold something, and its end is told to them all: of a front end's moves.
-use Rattle.std.proofs.Common.{◌≡◌, ℕ, nat_le, Bool, true, false, cond, List, ◌∷◌, ◌++◌, length, Option, Some, None}
+use Rattle.std.proofs.Common.{[], ◌≡◌, ℕ, nat_le, Bool, true, false, cond, List, ◌∷◌, ◌++◌, length, Option, Some, None}
 use Rattle.std.proofs.Common.{option_map, refl, ap, ◌∙◌, subst}
 use Rattle.std.specs.Prelude.{slice_get}
 use Rattle.qc_stamp.specs.declared.stamp.TxId.{TxId}
 use Rattle.qc_decl.specs.declared.declaration.Declaration.{Declaration}
-use Rattle.qc_decl.specs.Names.{append_need_of, most_transaction_operations, read_need_of}
+use Rattle.qc_decl.specs.Vocabulary.{append_need_of, most_transaction_operations, read_need_of}
 use Rattle.qc_plan.specs.declared.standing.Verdict.{Verdict}
 use Rattle.qc_plan.specs.declared.standing.Verdict.TheVariants as verdicts
-use Rattle.qc_plan.specs.Names.{RoundState, note, verdict, wanted}
+use Rattle.qc_plan.specs.Vocabulary.{RoundState, note, verdict, wanted}
 use Rattle.qc_msg.specs.declared.begun.Begun.{Begun}
 use Rattle.qc_msg.specs.declared.call.Call.{Call}
 use Rattle.qc_msg.specs.declared.message.Answer.{Answer}
@@ -20,17 +20,17 @@ use Rattle.qc_msg.specs.declared.step.Command.{Command}
 use Rattle.qc_msg.specs.declared.step.Command.TheVariants as commands
 use Rattle.qc_msg.specs.declared.turn.Posting.{Posting}
 use Rattle.qc_msg.specs.declared.turn.Turn.{Turn}
-use Rattle.qc_msg.specs.Names.{quiet, site_called, telling, without_call}
+use Rattle.qc_msg.specs.Vocabulary.{quiet, site_called, telling, without_call}
 use Rattle.qc_view.specs.declared.view.View.{View}
-use Rattle.qc_view.specs.Names.{with_log, with_own}
+use Rattle.qc_view.specs.Vocabulary.{with_log, with_own}
 use Rattle.qc_front.specs.declared.doing.Doing.{Doing}
 use Rattle.qc_front.specs.declared.doing.Doing.TheVariants.{Idle, Reading, Appending}
 use Rattle.qc_front.specs.declared.front.Front.{Front}
 use Rattle.qc_front.specs.declared.transaction.Transaction.{Transaction}
-use Rattle.qc_front.specs.Names.{FrontMove, aborts, answer_of, answered, append_by, append_want, appended_with}
-use Rattle.qc_front.specs.Names.{appending_takes, begins, doomed, fresh, gives_up, learns, lived, next_own, next_tx}
-use Rattle.qc_front.specs.Names.{op_of, performs, read_by, read_want, read_with, reading_takes, reads, resp_of}
-use Rattle.qc_front.specs.Names.{round_for, standing_of, with_event, with_op}
+use Rattle.qc_front.specs.Vocabulary.{FrontMove, aborts, answer_of, answered, append_by, append_want, appended_with}
+use Rattle.qc_front.specs.Vocabulary.{appending_takes, begins, doomed, fresh, gives_up, learns, lived, next_own}
+use Rattle.qc_front.specs.Vocabulary.{next_tx, op_of, performs, read_by, read_want, read_with, reading_takes, reads}
+use Rattle.qc_front.specs.Vocabulary.{resp_of, round_for, standing_of, with_event, with_op}
 use Rattle.qc_front.specs.Conduct as fronts
 use Rattle.qc_front.specs.Front as front_moves
 use Rattle.qc_front.proofs.CommandsKeep.{view_keeps}

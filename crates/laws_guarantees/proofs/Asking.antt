@@ -5,9 +5,9 @@ use Rattle.std.specs.Prelude.{is_some, take}
 use Rattle.std.specs.List.{AllByRecursion as Every, find}
 use Rattle.std.specs.Option.{option_map_or}
 use Rattle.std.proofs.lemmas.List.Sums.{fold-append}
-use Rattle.qc_list.specs.Names.{In}
+use Rattle.qc_list.specs.Vocabulary.{In}
 use Rattle.qc_stamp.specs.declared.stamp.TxId.{TxId}
-use Rattle.qc_stamp.specs.Names.{same_tx}
+use Rattle.qc_stamp.specs.Vocabulary.{same_tx}
 use Rattle.qc_decl.specs.declared.declaration.Declaration.{Declaration}
 use Rattle.qc_lock.proofs.Entries.{tx_apart}
 use Rattle.qc_msg.specs.declared.message.Answer.{Answer}
@@ -23,14 +23,14 @@ use Rattle.qc_msg.specs.declared.step.Input.{Input}
 use Rattle.qc_msg.specs.declared.step.Input.TheVariants as inputs
 use Rattle.qc_msg.specs.declared.turn.Posting.{Posting}
 use Rattle.qc_msg.specs.declared.turn.Turn.{Turn}
-use Rattle.qc_msg.specs.Names.{Deed, Falls, Rises, Sends, Takes, Tells, Writes, envelopes, sends_of, tells_of}
-use Rattle.qc_msg.specs.Names.{turn_deeds, writes_of}
-use Rattle.qc_core.specs.Names.{AreSteady, is_running, runs_at}
-use Rattle.qc_promise.specs.Names.{Account, ClientRequest, Current, account_at, account_heard, account_sent}
-use Rattle.qc_promise.specs.Names.{account_taken, account_written, command_asks, counted, counted_for, is_asked_for}
-use Rattle.qc_promise.specs.Names.{is_final, is_of, is_open, new_account, taken_for}
-use Rattle.laws_due.specs.Names.{AreByRows, IsSendDue}
-use Rattle.laws_guarantees.specs.Names.{asks_to_hold, name_of, open_said, sent_to}
+use Rattle.qc_msg.specs.Vocabulary.{Deed, Falls, Rises, Sends, Takes, Tells, Writes, envelopes, sends_of, tells_of}
+use Rattle.qc_msg.specs.Vocabulary.{turn_deeds, writes_of}
+use Rattle.qc_core.specs.Vocabulary.{AreSteady, is_running, runs_at}
+use Rattle.qc_promise.specs.Vocabulary.{Account, ClientRequest, Current, account_at, account_heard, account_sent}
+use Rattle.qc_promise.specs.Vocabulary.{account_taken, account_written, command_asks, counted, counted_for}
+use Rattle.qc_promise.specs.Vocabulary.{is_asked_for, is_final, is_of, is_open, new_account, taken_for}
+use Rattle.laws_due.specs.Vocabulary.{AreByRows, IsSendDue}
+use Rattle.laws_guarantees.specs.Vocabulary.{asks_to_hold, name_of, open_said, sent_to}
 use Rattle.laws_guarantees.proofs.Accounts.{IsTakenNow, after_taken, told_requests}
 use Rattle.laws_guarantees.proofs.RequestGrounds.{asked_current}
 use Rattle.laws_guarantees.proofs.Names.{sends_stay, stays_named, writes_stay}

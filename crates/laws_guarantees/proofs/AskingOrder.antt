@@ -1,12 +1,12 @@
 -- The sites of positive weight in a client's order, and the halves of a `do` as requests go to the next of them.
-use Rattle.std.proofs.Common.{◌≡◌, ℕ, zero, suc, ◌+◌, ◌&&◌, max, Bool, true, false, cond, List, ◌∷◌, ◌++◌, map, length}
-use Rattle.std.proofs.Common.{Option, Some, None, option_map, refl, sym, ap, ◌∙◌, eqb-true}
+use Rattle.std.proofs.Common.{[], ◌≡◌, ℕ, zero, suc, ◌+◌, ◌&&◌, max, Bool, true, false, cond, List, ◌∷◌, ◌++◌, map}
+use Rattle.std.proofs.Common.{length, Option, Some, None, option_map, refl, sym, ap, ◌∙◌, eqb-true}
 use Rattle.std.specs.Prelude.{drop, filter, take}
 use Rattle.std.specs.List.{find}
 use Rattle.qc_entry.specs.declared.line.Line.{Line}
-use Rattle.qc_decl.specs.Names.{first_site}
+use Rattle.qc_decl.specs.Vocabulary.{first_site}
 use Rattle.qc_decl.specs.declared.declaration.Declaration.{Declaration}
-use Rattle.qc_plan.specs.Names.{cyclic, first, weighing}
+use Rattle.qc_plan.specs.Vocabulary.{cyclic, first, weighing}
 use Rattle.qc_msg.specs.declared.message.Answer.{Answer}
 use Rattle.qc_msg.specs.declared.message.Answer.TheVariants as answers
 use Rattle.qc_msg.specs.declared.message.Message.{Message}
@@ -17,9 +17,9 @@ use Rattle.qc_msg.specs.declared.record.Record.{Record}
 use Rattle.qc_msg.specs.declared.record.Record.TheVariants as records
 use Rattle.qc_msg.specs.declared.step.Input.{Input}
 use Rattle.qc_msg.specs.declared.step.Input.TheVariants as inputs
-use Rattle.qc_promise.specs.Names.{Account, ClientRequest, Current, account_heard, account_taken, account_written}
-use Rattle.qc_promise.specs.Names.{counted, counted_for, granted, is_append, is_open, is_read, is_this, lived, promised}
-use Rattle.qc_promise.specs.Names.{taken_for, told_by, weights_of, with_current, with_read}
+use Rattle.qc_promise.specs.Vocabulary.{Account, ClientRequest, Current, account_heard, account_taken, account_written}
+use Rattle.qc_promise.specs.Vocabulary.{counted, counted_for, granted, is_append, is_open, is_read, is_this, lived}
+use Rattle.qc_promise.specs.Vocabulary.{promised, taken_for, told_by, weights_of, with_current, with_read}
 use Rattle.laws_guarantees.proofs.Accounts.{told_requests}
 
 -- the sites of positive weight in a client's order

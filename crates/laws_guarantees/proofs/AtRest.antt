@@ -3,17 +3,17 @@ use Rattle.std.proofs.Common.{◌≡◌, ℕ, Bool, true, List, [], ◌++◌, So
 use Rattle.std.specs.List.{AllByRecursion as Every}
 use Rattle.std.proofs.lemmas.List.{append-nil}
 use Rattle.qc_list.proofs.Members.{every-weaker}
-use Rattle.qc_core.specs.Names.{IsLawful}
-use Rattle.qc_decl.specs.Names.{IsAccepted, client_actor}
+use Rattle.qc_core.specs.Vocabulary.{IsLawful}
+use Rattle.qc_decl.specs.Vocabulary.{IsAccepted, client_actor}
 use Rattle.qc_decl.specs.declared.declaration.Declaration.{Declaration}
-use Rattle.laws_turns.specs.Names.{AsksDeclared}
+use Rattle.laws_turns.specs.Vocabulary.{AsksDeclared}
 use Rattle.qc_lock.specs.declared.held.Held.{Held}
-use Rattle.qc_msg.specs.Names.{Entry, deeds, mail}
+use Rattle.qc_msg.specs.Vocabulary.{Entry, deeds, mail}
 use Rattle.qc_msg.specs.declared.message.Envelope.{Envelope}
-use Rattle.qc_script.specs.Names.{Runs, inbox}
+use Rattle.qc_script.specs.Vocabulary.{Runs, inbox}
 use Rattle.qc_script.specs.declared.script.Script.{Script}
-use Rattle.qc_site.specs.Names.{site_after}
-use Rattle.laws_guarantees.specs.Names.{Arrives, IsUndisturbed, begun_by, is_open, sent_to, taken}
+use Rattle.qc_site.specs.Vocabulary.{site_after}
+use Rattle.laws_guarantees.specs.Vocabulary.{Arrives, IsUndisturbed, begun_by, is_open, sent_to, taken}
 use Rattle.laws_guarantees.proofs.Held.{held_open}
 use Rattle.laws_guarantees.proofs.OwnWords.{open_begun}
 use Rattle.laws_guarantees.proofs.Passing.{no_request_is_lost}

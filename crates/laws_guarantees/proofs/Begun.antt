@@ -6,9 +6,9 @@ use Rattle.std.specs.List.{find}
 use Rattle.std.specs.Option.{option_map_or}
 use Rattle.std.proofs.lemmas.List.Elements.{filter-append}
 use Rattle.std.proofs.lemmas.List.Sums.{fold-append}
-use Rattle.qc_list.specs.Names.{In}
+use Rattle.qc_list.specs.Vocabulary.{In}
 use Rattle.qc_entry.specs.declared.line.Line.{Line}
-use Rattle.qc_entry.specs.Names.{union}
+use Rattle.qc_entry.specs.Vocabulary.{union}
 use Rattle.qc_entry.proofs.Union.{in_first}
 use Rattle.qc_view.specs.declared.view.View.{View}
 use Rattle.qc_decl.specs.declared.declaration.Declaration.{Declaration}
@@ -22,13 +22,13 @@ use Rattle.qc_msg.specs.declared.step.Input.{Input}
 use Rattle.qc_msg.specs.declared.step.Input.TheVariants as inputs
 use Rattle.qc_front.specs.declared.front.Front.{Front}
 use Rattle.qc_front.specs.declared.transaction.Transaction.{Transaction}
-use Rattle.qc_front.specs.Names.{view_log}
+use Rattle.qc_front.specs.Vocabulary.{view_log}
 use Rattle.qc_client.specs.declared.client.Client.{Client}
-use Rattle.qc_promise.specs.Names.{Account, ClientRequest, Current, ReadGrant, account_heard, account_taken, counted}
-use Rattle.qc_promise.specs.Names.{counted_for, granted, is_open, lived, promised, taken_for, told_by, view_of}
-use Rattle.qc_promise.specs.Names.{with_read}
+use Rattle.qc_promise.specs.Vocabulary.{Account, ClientRequest, Current, ReadGrant, account_heard, account_taken}
+use Rattle.qc_promise.specs.Vocabulary.{counted, counted_for, granted, is_open, lived, promised, taken_for, told_by}
+use Rattle.qc_promise.specs.Vocabulary.{view_of, with_read}
 use Rattle.laws_guarantees.proofs.FirstGrants.{KeepsLives, life_added, same_lives}
-use Rattle.laws_due.specs.Names.{AreBegun, IsBegun, Ties, appends, reads, rests, votes}
+use Rattle.laws_due.specs.Vocabulary.{AreBegun, IsBegun, Ties, appends, reads, rests, votes}
 
 -- an input takes nothing from a view
 

@@ -5,7 +5,7 @@ use Rattle.std.specs.Prelude.{get_or, replicate}
 use Rattle.std.specs.List.{fold}
 use Rattle.std.proofs.lemmas.List.{append-nil, append_assoc}
 use Rattle.std.proofs.lemmas.List.Sums.{fold-append}
-use Rattle.qc_link.specs.Names.{fate, most_actors, no_cuts, pair_place}
+use Rattle.qc_link.specs.Vocabulary.{fate, most_actors, no_cuts, pair_place}
 use Rattle.qc_link.specs.declared.plan.Link.{Link}
 use Rattle.qc_link.specs.declared.rule.Fate.{Fate}
 use Rattle.qc_link.specs.declared.rule.Fate.TheVariants.{Pass, Drop}
@@ -16,14 +16,14 @@ use Rattle.qc_msg.specs.declared.record.Record.{Record}
 use Rattle.qc_msg.specs.declared.reply.Reply.{Reply}
 use Rattle.qc_msg.specs.declared.turn.Posting.{Posting}
 use Rattle.qc_msg.specs.declared.turn.Turn.{Turn}
-use Rattle.qc_msg.specs.Names.{Entry, by, envelopes, posted, sents, told, wrote}
+use Rattle.qc_msg.specs.Vocabulary.{Entry, by, envelopes, posted, sents, told, wrote}
 use Rattle.qc_msg.proofs.GrownMail.{by-posted}
 use Rattle.qc_script.proofs.AllUp.{is_up-everybody, wrote_up}
-use Rattle.qc_script.specs.Names.{Inbox, answers_by, comes, comes_with, count_of, everybody, goes, goes_with}
-use Rattle.qc_script.specs.Names.{has_request, inbox_at, is_request, is_up, one_more, with_copies, with_number}
-use Rattle.qc_script.specs.Names.{without_request}
+use Rattle.qc_script.specs.Vocabulary.{Inbox, answers_by, comes, comes_with, count_of, everybody, goes, goes_with}
+use Rattle.qc_script.specs.Vocabulary.{has_request, inbox_at, is_request, is_up, one_more, with_copies, with_number}
+use Rattle.qc_script.specs.Vocabulary.{without_request}
 use Rattle.qc_script.specs.declared.script.Script.{Script}
-use Rattle.laws_guarantees.specs.Names.{IsCalm, sent_to}
+use Rattle.laws_guarantees.specs.Vocabulary.{IsCalm, sent_to}
 
 -- a message passes
 

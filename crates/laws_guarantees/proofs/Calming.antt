@@ -2,12 +2,12 @@
 use Rattle.std.proofs.Common.{◌≡◌, ℕ, ◌<◌, ◌+◌, Bool, true, List, [], ◌∷◌, ◌++◌, Some, None, length, inl, inr}
 use Rattle.std.proofs.Common.{slice_get, refl, sym, ap, ◌∙◌, subst, arith, length-append}
 use Rattle.std.proofs.lemmas.Bool.{cases_lt}
-use Rattle.qc_core.specs.Names.{Acts, AreSteady, IsLawful, IsLawfulWithFalls}
+use Rattle.qc_core.specs.Vocabulary.{Acts, AreSteady, IsLawful, IsLawfulWithFalls}
 use Rattle.qc_core.specs.Acts as acts
 use Rattle.qc_core.proofs.LivesOfActors.{same_turn}
-use Rattle.qc_decl.specs.Names.{actors, administrator, controller}
+use Rattle.qc_decl.specs.Vocabulary.{actors, administrator, controller}
 use Rattle.qc_decl.specs.declared.declaration.Declaration.{Declaration}
-use Rattle.laws_turns.specs.Names.{ActsIn, AreCalm, IsCalm}
+use Rattle.laws_turns.specs.Vocabulary.{ActsIn, AreCalm, IsCalm}
 use Rattle.laws_turns.proofs.Acted.{has_place, run_acts}
 use Rattle.laws_turns.proofs.Up.{run_up}
 use Rattle.qc_msg.proofs.DeedsGrow.{deeds-append}
@@ -20,8 +20,8 @@ use Rattle.qc_msg.specs.declared.step.Step.TheVariants as steps
 use Rattle.qc_msg.specs.declared.turn.Appended.{Appended}
 use Rattle.qc_msg.specs.declared.turn.Appended.TheVariants.{Done, Failed, Stopped}
 use Rattle.qc_msg.specs.declared.turn.Turn.{Turn}
-use Rattle.qc_msg.specs.Names.{Deed, Entry, Takes, by, deeds, mail, marked, posted_as, sents, step_of, told}
-use Rattle.qc_script.specs.Names.{Runs, RunsWithFalls, controller_step, step_of_control}
+use Rattle.qc_msg.specs.Vocabulary.{Deed, Entry, Takes, by, deeds, mail, marked, posted_as, sents, step_of, told}
+use Rattle.qc_script.specs.Vocabulary.{Runs, RunsWithFalls, controller_step, step_of_control}
 use Rattle.qc_script.specs.Runs as runs
 use Rattle.qc_script.specs.RunsWithFalls as falling
 use Rattle.qc_script.specs.declared.script.Script.{Script}

@@ -8,10 +8,10 @@ use Rattle.std.proofs.lemmas.List.{take-append-le}
 use Rattle.std.proofs.lemmas.List.Elements.{filter-append}
 use Rattle.std.proofs.lemmas.List.Sums.{fold-append}
 use Rattle.std.proofs.Math.Seq.{take-append-add}
-use Rattle.qc_list.specs.Names.{In}
+use Rattle.qc_list.specs.Vocabulary.{In}
 use Rattle.qc_stamp.specs.declared.stamp.TxId.{TxId}
-use Rattle.qc_core.specs.Names.{IsLawful, is_running}
-use Rattle.qc_decl.specs.Names.{IsAccepted, administrator, client_actor, controller, is_client}
+use Rattle.qc_core.specs.Vocabulary.{IsLawful, is_running}
+use Rattle.qc_decl.specs.Vocabulary.{IsAccepted, administrator, client_actor, controller, is_client}
 use Rattle.qc_decl.specs.declared.declaration.Declaration.{Declaration}
 use Rattle.qc_msg.specs.declared.message.Envelope.{Envelope}
 use Rattle.qc_msg.specs.declared.message.Message.TheVariants as messages
@@ -20,25 +20,26 @@ use Rattle.qc_msg.specs.declared.step.Step.{Step}
 use Rattle.qc_msg.specs.declared.step.Step.TheVariants as steps
 use Rattle.qc_msg.specs.declared.turn.Posting.{Posting}
 use Rattle.qc_msg.specs.declared.turn.Turn.{Turn}
-use Rattle.qc_msg.specs.Names.{Deed, Entry, Takes, WasSentTo, by, deeds, envelopes, mail, marked, posted, step_of}
-use Rattle.qc_msg.specs.Names.{turn_deeds}
+use Rattle.qc_msg.specs.Vocabulary.{Deed, Entry, Takes, WasSentTo, by, deeds, envelopes, mail, marked, posted, step_of}
+use Rattle.qc_msg.specs.Vocabulary.{turn_deeds}
 use Rattle.qc_msg.proofs.GrownMail.{mail-append, mail-posted, mail-taken}
 use Rattle.qc_msg.proofs.DeedsGrow.{deeds-other}
 use Rattle.qc_msg.proofs.Growth.{deeds-posted, deeds-taken}
-use Rattle.qc_script.specs.Names.{Runs, phase_of}
+use Rattle.qc_script.specs.Vocabulary.{Runs, phase_of}
 use Rattle.qc_script.specs.Runs.{begins, takes, posts, phase, control}
 use Rattle.qc_script.specs.declared.script.Script.{Script}
-use Rattle.laws_turns.specs.Names.{ActsIn, AsksDeclared}
+use Rattle.laws_turns.specs.Vocabulary.{ActsIn, AsksDeclared}
 use Rattle.laws_turns.proofs.Acted.{deeds-silent, run_acts}
 use Rattle.laws_turns.proofs.Idle.{posts_before}
 use Rattle.laws_turns.proofs.Arrivals.{what_is_ready_was_sent}
 use Rattle.laws_turns.proofs.Numbered.{IsSilent, control_silent, mail-silent, phase_silent, run_numbered}
 use Rattle.laws_turns.proofs.Places.{slice_get-set_same}
 use Rattle.laws_due.proofs.Courses.{clients_due}
-use Rattle.laws_due.specs.Names.{AreByRows}
-use Rattle.qc_promise.specs.Names.{Account, ClientRequest, Current, account, account_at, account_taken, new_account}
-use Rattle.laws_guarantees.specs.Names.{IsStill, IsUndisturbed, begun_by, is_open, is_open_at, name_of, open_said}
-use Rattle.laws_guarantees.specs.Names.{sent_before, sent_to}
+use Rattle.laws_due.specs.Vocabulary.{AreByRows}
+use Rattle.qc_promise.specs.Vocabulary.{Account, ClientRequest, Current, account, account_at, account_taken}
+use Rattle.qc_promise.specs.Vocabulary.{new_account}
+use Rattle.laws_guarantees.specs.Vocabulary.{IsStill, IsUndisturbed, begun_by, is_open, is_open_at, name_of, open_said}
+use Rattle.laws_guarantees.specs.Vocabulary.{sent_before, sent_to}
 use Rattle.laws_guarantees.proofs.Accounts.{HasGrounds, WasSent}
 use Rattle.laws_guarantees.proofs.AnswersLater.{number_from}
 use Rattle.laws_guarantees.proofs.Asking.{IsFrom, IsNamed, due_second, is_busy, less_open, taken_from, told_clears}
@@ -131,8 +132,7 @@ module _ (decl : Declaration) (script : Script) (accepted : IsAccepted decl) (as
     n : ℕ
     n = length (mail older)
 
-    next : Runs (IsLawful decl) decl script (older ++ by b (posted (length (mail older)) turn))
-        (slice_set before b false)
+    next : Runs (IsLawful decl) decl script (older ++ by b (posted (length (mail older)) turn)) (slice_set before b false)
     next = posts b turn before older run is_opened lawful
 
     mailed : mail (older ++ by b (posted (length (mail older)) turn))

@@ -2,7 +2,7 @@
 use Rattle.std.proofs.Common.{◌≡◌, ◌==◌, ℕ, Bool, true, false, if◌then◌else◌, List, [], ◌∷◌, inl, inr, length, map}
 use Rattle.std.proofs.Common.{Option, Some, None, refl, ap}
 use Rattle.qc_stamp.specs.declared.stamp.TxId.{TxId}
-use Rattle.qc_list.specs.Names.{In}
+use Rattle.qc_list.specs.Vocabulary.{In}
 use Rattle.theory_onecopy.proofs.Lists.{Mapped, map_in}
 use Rattle.qc_decl.specs.declared.declaration.Declaration.{Declaration}
 use Rattle.qc_msg.specs.declared.begun.Begun.{Begun}
@@ -18,18 +18,18 @@ use Rattle.qc_msg.specs.declared.step.Input.{Input}
 use Rattle.qc_msg.specs.declared.step.Input.TheVariants as inputs
 use Rattle.qc_msg.specs.declared.turn.Posting.{Posting}
 use Rattle.qc_msg.specs.declared.turn.Turn.{Turn}
-use Rattle.qc_msg.specs.Names.{decisions, site_called}
+use Rattle.qc_msg.specs.Vocabulary.{decisions, site_called}
 use Rattle.qc_commit.specs.declared.desk.Desk.{Desk}
 use Rattle.qc_commit.specs.declared.desk.Voting.{Voting}
 use Rattle.qc_commit.specs.Conduct as desks
-use Rattle.qc_commit.specs.Names.{DeskMove, are_cast, cast, first_against, participants, prepares, vote_of}
+use Rattle.qc_commit.specs.Vocabulary.{DeskMove, are_cast, cast, first_against, participants, prepares, vote_of}
 use Rattle.qc_front.specs.declared.front.Front.{Front}
 use Rattle.qc_front.specs.declared.transaction.Transaction.{Transaction}
 use Rattle.qc_front.specs.Conduct as fronts
-use Rattle.qc_front.specs.Names.{AreSent, FrontMove, IsSent}
+use Rattle.qc_front.specs.Vocabulary.{AreSent, FrontMove, IsSent}
 use Rattle.qc_front.proofs.Sending.{called_sent, takes_sent}
 use Rattle.qc_client.specs.declared.client.Client.{Client}
-use Rattle.qc_client.specs.Names.{answered, answered_by, by_desk, by_front, called, client_takes, commits, heard}
+use Rattle.qc_client.specs.Vocabulary.{answered, answered_by, by_desk, by_front, called, client_takes, commits, heard}
 use Rattle.laws_guarantees.proofs.ForgettingAnswers.{answer_in}
 
 -- no message of the turn is an answer

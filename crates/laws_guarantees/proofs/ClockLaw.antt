@@ -25,20 +25,20 @@ use Rattle.qc_msg.specs.declared.step.Command.{Command}
 use Rattle.qc_msg.specs.declared.step.Command.TheVariants as commands
 use Rattle.qc_msg.specs.declared.step.Input.{Input}
 use Rattle.qc_msg.specs.declared.step.Input.TheVariants as inputs
-use Rattle.qc_msg.specs.Names.{Deed, Entry, Falls, Rises, Sends, Takes, Tells, Writes, deeds}
-use Rattle.qc_promise.specs.Names.{Account, ClientRequest, account_at, account_heard, account_sent, account_taken}
-use Rattle.qc_promise.specs.Names.{account_told_in, account_written, counted, counted_for, found_absent, granted}
-use Rattle.qc_promise.specs.Names.{is_asked_for, is_open, new_account, promised, responded, short_of, taken_for}
-use Rattle.qc_promise.specs.Names.{told_by}
-use Rattle.laws_due.specs.Names.{AreByRows, IsByRow}
-use Rattle.qc_core.specs.Names.{IsLawful}
-use Rattle.qc_decl.specs.Names.{is_client}
-use Rattle.qc_script.specs.Names.{Runs}
+use Rattle.qc_msg.specs.Vocabulary.{Deed, Entry, Falls, Rises, Sends, Takes, Tells, Writes, deeds}
+use Rattle.qc_promise.specs.Vocabulary.{Account, ClientRequest, account_at, account_heard, account_sent, account_taken}
+use Rattle.qc_promise.specs.Vocabulary.{account_told_in, account_written, counted, counted_for, found_absent, granted}
+use Rattle.qc_promise.specs.Vocabulary.{is_asked_for, is_open, new_account, promised, responded, short_of, taken_for}
+use Rattle.qc_promise.specs.Vocabulary.{told_by}
+use Rattle.laws_due.specs.Vocabulary.{AreByRows, IsByRow}
+use Rattle.qc_core.specs.Vocabulary.{IsLawful}
+use Rattle.qc_decl.specs.Vocabulary.{is_client}
+use Rattle.qc_script.specs.Vocabulary.{Runs}
 use Rattle.qc_script.specs.declared.script.Script.{Script}
 use Rattle.laws_turns.proofs.Acted.{has_entry, run_acts}
-use Rattle.laws_turns.specs.Names.{ActsIn}
+use Rattle.laws_turns.specs.Vocabulary.{ActsIn}
 use Rattle.laws_due.proofs.Courses.{clients_due}
-use Rattle.laws_guarantees.specs.Names.{GrantTells, IsCounted, PromiseTells, Tells as TellsClock}
+use Rattle.laws_guarantees.specs.Vocabulary.{GrantTells, IsCounted, PromiseTells, Tells as TellsClock}
 use Rattle.laws_guarantees.proofs.Requests.{due_at}
 use Rattle.laws_guarantees.proofs.DueStamps.{due_stamp}
 

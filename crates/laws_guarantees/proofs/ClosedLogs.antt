@@ -1,24 +1,24 @@
 -- The log that a Read is granted is closed.
 use Rattle.std.proofs.Common.{◌≡◌, ℕ, Bool, List, Some, slice_get, refl, sym, ◌∙◌, subst}
 use Rattle.qc_stamp.specs.declared.stamp.TxId.{TxId}
-use Rattle.qc_list.specs.Names.{In}
+use Rattle.qc_list.specs.Vocabulary.{In}
 use Rattle.qc_entry.specs.declared.line.Line.{Line}
 use Rattle.qc_entry.specs.declared.record.Commit.{Commit as CommitRecord}
-use Rattle.qc_core.specs.Names.{IsLawful}
+use Rattle.qc_core.specs.Vocabulary.{IsLawful}
 use Rattle.qc_decl.specs.declared.declaration.Declaration.{Declaration}
-use Rattle.qc_decl.specs.Names.{IsAccepted}
+use Rattle.qc_decl.specs.Vocabulary.{IsAccepted}
 use Rattle.qc_msg.specs.declared.message.Answer.TheVariants.{Granted}
 use Rattle.qc_msg.specs.declared.message.Envelope.{Envelope}
 use Rattle.qc_msg.specs.declared.message.Message.{Message}
 use Rattle.qc_msg.specs.declared.message.Message.TheVariants as messages
 use Rattle.qc_msg.specs.declared.message.Want.TheVariants.{Read}
-use Rattle.qc_msg.specs.Names.{Entry, mail, written}
-use Rattle.theory_onecopy.specs.Names.{IsClosedLog, IsLogged}
-use Rattle.theory_machine.specs.Names.{OfGrant, site_after, state}
+use Rattle.qc_msg.specs.Vocabulary.{Entry, mail, written}
+use Rattle.theory_onecopy.specs.Vocabulary.{IsClosedLog, IsLogged}
+use Rattle.theory_machine.specs.Vocabulary.{OfGrant, site_after, state}
 use Rattle.theory_machine.proofs.ClaimLaws as claims
-use Rattle.qc_script.specs.Names.{IsScriptFor, Runs}
+use Rattle.qc_script.specs.Vocabulary.{IsScriptFor, Runs}
 use Rattle.qc_script.specs.declared.script.Script.{Script}
-use Rattle.laws_refinement.specs.Names.{Backed, IsGrantTo, IsRequest}
+use Rattle.laws_refinement.specs.Vocabulary.{Backed, IsGrantTo, IsRequest}
 use Rattle.laws_guarantees.proofs.Voted.{mirror, one_request, stood}
 
 module _ (decl : Declaration) (script : Script) (accepted : IsAccepted decl) (sound : IsScriptFor decl script)

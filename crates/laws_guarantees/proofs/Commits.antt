@@ -4,10 +4,10 @@ use Rattle.std.proofs.Common.{◌≡◌, inl, inr, ℕ, ◌≤◌, ◌*◌, Bool
 use Rattle.std.proofs.Common.{Some, None, slice_get, refl, sym, ap, ◌∙◌, subst, arith}
 use Rattle.std.specs.Prelude.{option_and_then}
 use Rattle.std.specs.Option.{option_or}
-use Rattle.qc_list.specs.Names.{In}
+use Rattle.qc_list.specs.Vocabulary.{In}
 use Rattle.qc_list.proofs.Members.{In-passes, In-unfiltered}
-use Rattle.qc_core.specs.Names.{IsLawful}
-use Rattle.qc_decl.specs.Names.{IsAccepted, is_client, most_committed_operations}
+use Rattle.qc_core.specs.Vocabulary.{IsLawful}
+use Rattle.qc_decl.specs.Vocabulary.{IsAccepted, is_client, most_committed_operations}
 use Rattle.qc_decl.specs.declared.declaration.Declaration.{Declaration}
 use Rattle.qc_msg.specs.declared.message.Answer.{Answer}
 use Rattle.qc_msg.specs.declared.message.Answer.TheVariants as answers
@@ -20,19 +20,20 @@ use Rattle.qc_msg.specs.declared.reply.AbortCause.TheVariants as causes
 use Rattle.qc_msg.specs.declared.step.Command.{Command}
 use Rattle.qc_msg.specs.declared.step.Command.TheVariants as commands
 use Rattle.qc_msg.specs.declared.turn.Turn.{Turn}
-use Rattle.qc_msg.specs.Names.{Entry, by, deeds, mail, operations_of, posted}
+use Rattle.qc_msg.specs.Vocabulary.{Entry, by, deeds, mail, operations_of, posted}
 use Rattle.qc_msg.proofs.Growth.{operations-grow}
-use Rattle.qc_script.specs.Names.{IsScriptFor, Runs}
+use Rattle.qc_script.specs.Vocabulary.{IsScriptFor, Runs}
 use Rattle.qc_script.specs.declared.script.Script.{Script}
-use Rattle.laws_turns.specs.Names.{ActsIn, AsksDeclared}
+use Rattle.laws_turns.specs.Vocabulary.{ActsIn, AsksDeclared}
 use Rattle.laws_turns.proofs.Acted.{run_acts}
-use Rattle.qc_promise.specs.Names.{Account, ClientRequest, Current, account, against, are_votes_in, commit_row}
-use Rattle.qc_promise.specs.Names.{first_against, is_prepare, next_stamp, requests_for, row_of, running_row, vote_row}
+use Rattle.qc_promise.specs.Vocabulary.{Account, ClientRequest, Current, account, against, are_votes_in, commit_row}
+use Rattle.qc_promise.specs.Vocabulary.{first_against, is_prepare, next_stamp, requests_for, row_of, running_row}
+use Rattle.qc_promise.specs.Vocabulary.{vote_row}
 use Rattle.laws_due.proofs.Courses.{turns_tell}
 use Rattle.laws_due.proofs.AccountDeclared.{asks_declared}
 use Rattle.laws_guarantees.proofs.Remembered.{counted_remembered}
-use Rattle.laws_guarantees.specs.Names.{CommitOf, CommitSucceeds, CommitsSucceed, EachReply, IsCommitted, IsUndisturbed}
-use Rattle.laws_guarantees.specs.Names.{OfRunning}
+use Rattle.laws_guarantees.specs.Vocabulary.{CommitOf, CommitSucceeds, CommitsSucceed, EachReply, IsCommitted}
+use Rattle.laws_guarantees.specs.Vocabulary.{IsUndisturbed, OfRunning}
 use Rattle.laws_guarantees.proofs.UndisturbedCounted.{GoodTaken, taken_good}
 use Rattle.laws_guarantees.proofs.Dos.{post_stays}
 use Rattle.laws_guarantees.proofs.Each.{run_each, untold}

@@ -6,19 +6,19 @@ use Rattle.std.specs.Prelude.{option_and_then}
 use Rattle.std.proofs.lemmas.List.{length-append}
 use Rattle.qc_stamp.specs.declared.stamp.Stamp.{Stamp}
 use Rattle.qc_stamp.specs.declared.stamp.TxId.{TxId}
-use Rattle.qc_list.specs.Names.{In}
+use Rattle.qc_list.specs.Vocabulary.{In}
 use Rattle.qc_entry.specs.declared.line.Line.{Line}
 use Rattle.qc_entry.specs.declared.line.Op.{Op}
 use Rattle.qc_entry.specs.declared.record.Commit.{Commit as CommitRecord}
-use Rattle.qc_table.specs.Names.{Rules, event, event_number, events_of}
+use Rattle.qc_table.specs.Vocabulary.{Rules, event, event_number, events_of}
 use Rattle.qc_decl.specs.declared.declaration.Declaration.{Declaration}
-use Rattle.qc_decl.specs.Names.{IsAccepted}
-use Rattle.theory_onecopy.specs.Names.{Executed, IsOperation, committed_line, depends_at, event_at, own_line}
+use Rattle.qc_decl.specs.Vocabulary.{IsAccepted}
+use Rattle.theory_onecopy.specs.Vocabulary.{Executed, IsOperation, committed_line, depends_at, event_at, own_line}
 use Rattle.theory_onecopy.proofs.Lists.{Mapped, map_in}
 use Rattle.theory_onecopy.proofs.Runs.{table_is}
-use Rattle.qc_promise.specs.Names.{Current, view_of}
-use Rattle.theory_machine.specs.Names.{Aborted, Act, Active, AreInOrder, Committed, Granted, IsLive, IsOutcome, IsRun}
-use Rattle.theory_machine.specs.Names.{LogLaws, StateLaws, Status, YesVote, op_of, state}
+use Rattle.qc_promise.specs.Vocabulary.{Current, view_of}
+use Rattle.theory_machine.specs.Vocabulary.{Aborted, Act, Active, AreInOrder, Committed, Granted, IsLive, IsOutcome}
+use Rattle.theory_machine.specs.Vocabulary.{IsRun, LogLaws, StateLaws, Status, YesVote, op_of, state}
 use Rattle.theory_machine.specs.State as machine
 use Rattle.theory_machine.proofs.Keeps.{laws}
 use Rattle.theory_machine.proofs.LogKeeps.{log_laws}

@@ -1,30 +1,30 @@
 -- So of each run: no vote that counts says that its site has forgotten, and nobody is told so; and a site that is asked
 -- remembers.
-use Rattle.std.proofs.Common.{◌*◌, ◌≡◌, ◌≤◌, ◌-◌, ℕ, nat_le, Bool, true, false, List, length, Some, slice_get, sym, ap}
-use Rattle.std.proofs.Common.{◌∙◌, subst, ltb-true}
+use Rattle.std.proofs.Common.{[], ◌*◌, ◌≡◌, ◌≤◌, ◌-◌, ℕ, nat_le, Bool, true, false, List, length, Some, slice_get, sym}
+use Rattle.std.proofs.Common.{ap, ◌∙◌, subst, ltb-true}
 use Rattle.std.specs.Prelude.{slice_set}
 use Rattle.qc_stamp.specs.declared.stamp.TxId.{TxId}
-use Rattle.qc_list.specs.Names.{In}
+use Rattle.qc_list.specs.Vocabulary.{In}
 use Rattle.qc_list.proofs.Members.{In-first}
-use Rattle.qc_core.specs.Names.{IsLawful, IsShown}
+use Rattle.qc_core.specs.Vocabulary.{IsLawful, IsShown}
 use Rattle.qc_decl.specs.declared.declaration.Declaration.{Declaration}
-use Rattle.qc_decl.specs.Names.{IsAccepted, is_client, is_site, most_committed_operations, most_record_bytes}
+use Rattle.qc_decl.specs.Vocabulary.{IsAccepted, is_client, is_site, most_committed_operations, most_record_bytes}
 use Rattle.qc_entry.specs.declared.record.Prepared.{Prepared}
-use Rattle.qc_entry.specs.Names.{without}
+use Rattle.qc_entry.specs.Vocabulary.{without}
 use Rattle.qc_lock.specs.declared.held.Held.{Held}
-use Rattle.qc_lock.specs.Names.{held_of, is_held}
+use Rattle.qc_lock.specs.Vocabulary.{held_of, is_held}
 use Rattle.qc_msg.specs.declared.message.Message.TheVariants as messages
 use Rattle.qc_msg.specs.declared.message.Want.TheVariants.{Prepare}
-use Rattle.qc_msg.specs.Names.{Deed, Entry, Sends, deeds, mail, operations_of, turn_deeds}
+use Rattle.qc_msg.specs.Vocabulary.{Deed, Entry, Sends, deeds, mail, operations_of, turn_deeds}
 use Rattle.qc_msg.proofs.Growth.{deeds-posted}
-use Rattle.qc_promise.specs.Names.{ClientRequest, Current, account, fits_record, held_shown, promise_due}
-use Rattle.qc_script.specs.Names.{IsScriptFor, Runs}
+use Rattle.qc_promise.specs.Vocabulary.{ClientRequest, Current, account, fits_record, held_shown, promise_due}
+use Rattle.qc_script.specs.Vocabulary.{IsScriptFor, Runs}
 use Rattle.qc_script.specs.declared.script.Script.{Script}
-use Rattle.qc_site.specs.Names.{SiteState, prepare_length, promise_of, site_after}
+use Rattle.qc_site.specs.Vocabulary.{SiteState, prepare_length, promise_of, site_after}
 use Rattle.laws_turns.proofs.Served.{run_shown}
-use Rattle.laws_guarantees.specs.Names.{IsOpenVote, IsRemembered}
-use Rattle.laws_due.specs.Names.{Votes}
-use Rattle.qc_client.specs.Names.{client_after}
+use Rattle.laws_guarantees.specs.Vocabulary.{IsOpenVote, IsRemembered}
+use Rattle.laws_due.specs.Vocabulary.{Votes}
+use Rattle.qc_client.specs.Vocabulary.{client_after}
 use Rattle.laws_guarantees.proofs.Accounts.{WasSent}
 use Rattle.laws_guarantees.proofs.RequestGrounds.{has_grounds}
 use Rattle.laws_guarantees.proofs.Stale.{client_slot, later, later_closed, later_few, later_run, same_deeds, same_slot}

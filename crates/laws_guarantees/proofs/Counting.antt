@@ -3,7 +3,7 @@ use Rattle.std.proofs.Common.{◌≡◌, ℕ, true, List, [], ◌∷◌, ◌++�
 use Rattle.std.proofs.Common.{ap, ◌∙◌, subst}
 use Rattle.std.specs.List.{find}
 use Rattle.qc_stamp.specs.declared.stamp.TxId.{TxId}
-use Rattle.qc_list.specs.Names.{In}
+use Rattle.qc_list.specs.Vocabulary.{In}
 use Rattle.qc_list.proofs.Members.{In-first, In-last}
 use Rattle.qc_entry.specs.declared.line.Line.{Line}
 use Rattle.qc_msg.specs.declared.message.Answer.{Answer}
@@ -13,9 +13,9 @@ use Rattle.qc_msg.specs.declared.message.Message.TheVariants as messages
 use Rattle.qc_msg.specs.declared.message.Want.{Want}
 use Rattle.qc_msg.specs.declared.message.Want.TheVariants.{Read, Append, Prepare}
 use Rattle.qc_msg.specs.declared.step.Input.TheVariants as inputs
-use Rattle.qc_msg.specs.Names.{Deed, Sends, Takes, has_granted}
-use Rattle.qc_promise.specs.Names.{Account, ClientRequest, Current, counted, counted_for, granted, is_open, lived}
-use Rattle.qc_promise.specs.Names.{promised, taken_for, told_by, with_read}
+use Rattle.qc_msg.specs.Vocabulary.{Deed, Sends, Takes, has_granted}
+use Rattle.qc_promise.specs.Vocabulary.{Account, ClientRequest, Current, counted, counted_for, granted, is_open, lived}
+use Rattle.qc_promise.specs.Vocabulary.{promised, taken_for, told_by, with_read}
 use Rattle.laws_guarantees.proofs.Accounts.{HasGrounds, IsGrant, IsSameBut, WasGranted, WasSent, WasTaken, after_taken}
 use Rattle.laws_guarantees.proofs.Accounts.{found_in, granted_more, open_number, promised_requests, same_grounds}
 use Rattle.laws_guarantees.proofs.Accounts.{sent_more, taken_more, told_current, told_requests}

@@ -1,13 +1,13 @@
 -- A Done is written only for a Decision, with its clock.
-use Rattle.std.proofs.Common.{◌≡◌, ℕ, ◌+◌, nat_le, nat_lt, Bool, true, false, cond, List, ◌∷◌, ◌++◌, inl, inr, Option}
-use Rattle.std.proofs.Common.{Some, None, refl, sym, ap}
+use Rattle.std.proofs.Common.{[], ◌≡◌, ℕ, ◌+◌, nat_le, nat_lt, Bool, true, false, cond, List, ◌∷◌, ◌++◌, inl, inr}
+use Rattle.std.proofs.Common.{Option, Some, None, refl, sym, ap}
 use Rattle.std.specs.Prelude.{map}
 use Rattle.std.specs.Option.{option_map_or}
 use Rattle.qc_stamp.specs.declared.stamp.Stamp.{Stamp}
 use Rattle.qc_stamp.specs.declared.stamp.TxId.{TxId}
-use Rattle.qc_list.specs.Names.{In}
+use Rattle.qc_list.specs.Vocabulary.{In}
 use Rattle.qc_decl.specs.declared.declaration.Declaration.{Declaration}
-use Rattle.qc_decl.specs.Names.{most_record_bytes}
+use Rattle.qc_decl.specs.Vocabulary.{most_record_bytes}
 use Rattle.qc_msg.specs.declared.message.Envelope.{Envelope}
 use Rattle.qc_msg.specs.declared.message.Message.{Message}
 use Rattle.qc_msg.specs.declared.message.Message.TheVariants as messages
@@ -17,17 +17,17 @@ use Rattle.qc_msg.specs.declared.record.Record.{Record}
 use Rattle.qc_msg.specs.declared.record.Record.TheVariants as records
 use Rattle.qc_msg.specs.declared.step.Input.{Input}
 use Rattle.qc_msg.specs.declared.step.Input.TheVariants as inputs
-use Rattle.qc_msg.specs.Names.{Deed, Installing, Requested, Takes, epoch_length}
+use Rattle.qc_msg.specs.Vocabulary.{Deed, Installing, Requested, Takes, epoch_length}
 use Rattle.qc_msg.specs.declared.message.Answer.{Answer}
 use Rattle.qc_msg.specs.declared.message.Answer.TheVariants as answers
 use Rattle.qc_msg.specs.declared.step.Fall.{Fall}
 use Rattle.qc_msg.specs.declared.step.Fall.TheVariants as causes
 use Rattle.qc_msg.specs.declared.turn.Posting.{Posting}
-use Rattle.qc_promise.specs.Names.{Fell, Sent, TurnDue, Wrote, answers_due, close_turn, closed_shown, done_turn}
-use Rattle.qc_promise.specs.Names.{ends_with, epoch_shown, grant_due, granting_turn, heard_turn, install_turn}
-use Rattle.qc_promise.specs.Names.{is_declared, is_epoch, is_new_promise, is_promised, posted_due, promise_turn}
-use Rattle.qc_promise.specs.Names.{quiet_turn, recording_turn, refusal_due, request_turn, sending, shut_due}
-use Rattle.qc_promise.specs.Names.{telling_turn, turn_due}
+use Rattle.qc_promise.specs.Vocabulary.{Fell, Sent, TurnDue, Wrote, answers_due, close_turn, closed_shown, done_turn}
+use Rattle.qc_promise.specs.Vocabulary.{ends_with, epoch_shown, grant_due, granting_turn, heard_turn, install_turn}
+use Rattle.qc_promise.specs.Vocabulary.{is_declared, is_epoch, is_new_promise, is_promised, posted_due, promise_turn}
+use Rattle.qc_promise.specs.Vocabulary.{quiet_turn, recording_turn, refusal_due, request_turn, sending, shut_due}
+use Rattle.qc_promise.specs.Vocabulary.{telling_turn, turn_due}
 use Rattle.qc_script.specs.declared.script.Script.{Script}
 
 -- a Done is written only for a Decision with its clock

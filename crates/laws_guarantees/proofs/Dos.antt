@@ -6,27 +6,27 @@ use Rattle.std.specs.Prelude.{is_some, option_and_then}
 use Rattle.std.proofs.lemmas.Bool.{ltb-true, ltb-false}
 use Rattle.std.proofs.lemmas.List.Sums.{fold-append}
 use Rattle.qc_stamp.specs.declared.stamp.TxId.{TxId}
-use Rattle.qc_core.specs.Names.{IsLawful, is_running}
-use Rattle.qc_decl.specs.Names.{IsAccepted, administrator, client_actor, is_client}
+use Rattle.qc_core.specs.Vocabulary.{IsLawful, is_running}
+use Rattle.qc_decl.specs.Vocabulary.{IsAccepted, administrator, client_actor, is_client}
 use Rattle.qc_decl.specs.declared.declaration.Declaration.{Declaration}
 use Rattle.qc_msg.specs.declared.reply.Reply.{Reply}
 use Rattle.qc_msg.specs.declared.reply.Reply.TheVariants as replies
 use Rattle.qc_msg.specs.declared.step.Command.{Command}
 use Rattle.qc_msg.specs.declared.step.Command.TheVariants as commands
 use Rattle.qc_msg.specs.declared.turn.Turn.{Turn}
-use Rattle.qc_msg.specs.Names.{Deed, Entry, by, deeds, mail, posted, turn_deeds}
+use Rattle.qc_msg.specs.Vocabulary.{Deed, Entry, by, deeds, mail, posted, turn_deeds}
 use Rattle.qc_msg.proofs.DeedsGrow.{deeds-other}
 use Rattle.qc_msg.proofs.Growth.{deeds-posted}
-use Rattle.qc_script.specs.Names.{Runs}
+use Rattle.qc_script.specs.Vocabulary.{Runs}
 use Rattle.qc_script.specs.declared.script.Script.{Script}
-use Rattle.laws_turns.specs.Names.{ActsIn, AsksDeclared}
+use Rattle.laws_turns.specs.Vocabulary.{ActsIn, AsksDeclared}
 use Rattle.laws_turns.proofs.Acted.{run_acts}
 use Rattle.laws_turns.proofs.Idle.{idle}
 use Rattle.laws_guarantees.proofs.IdleDeeds.{idle_named}
-use Rattle.qc_promise.specs.Names.{Current, account, account_at, do_row, new_account, row_of, running_row}
+use Rattle.qc_promise.specs.Vocabulary.{Current, account, account_at, do_row, new_account, row_of, running_row}
 use Rattle.laws_due.proofs.Courses.{turns_tell}
-use Rattle.laws_guarantees.specs.Names.{DoOf, DoSucceeds, DosSucceed, EachReply, IsDone, IsOpenElsewhere, IsStill}
-use Rattle.laws_guarantees.specs.Names.{IsUndisturbed, OfRunning, begun_by, name_of}
+use Rattle.laws_guarantees.specs.Vocabulary.{DoOf, DoSucceeds, DosSucceed, EachReply, IsDone, IsOpenElsewhere, IsStill}
+use Rattle.laws_guarantees.specs.Vocabulary.{IsUndisturbed, OfRunning, begun_by, name_of}
 use Rattle.laws_guarantees.proofs.Asking.{IsBusy, is_busy}
 use Rattle.laws_guarantees.proofs.Clear.{IsElsewhere}
 use Rattle.laws_guarantees.proofs.Each.{run_each, untold}

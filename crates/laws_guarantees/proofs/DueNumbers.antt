@@ -3,7 +3,7 @@ use Rattle.std.proofs.Common.{◌≡◌, ℕ, ◌+◌, nat_le, Bool, true, false
 use Rattle.std.proofs.Common.{sym, ap}
 use Rattle.std.specs.Prelude.{option_and_then}
 use Rattle.qc_stamp.specs.declared.stamp.TxId.{TxId}
-use Rattle.qc_decl.specs.Names.{append_need_of, most_transaction_operations, read_need_of}
+use Rattle.qc_decl.specs.Vocabulary.{append_need_of, most_transaction_operations, read_need_of}
 use Rattle.qc_decl.specs.declared.declaration.Declaration.{Declaration}
 use Rattle.qc_msg.specs.declared.reply.Reply.{Reply}
 use Rattle.qc_msg.specs.declared.reply.Reply.TheVariants as replies
@@ -13,10 +13,10 @@ use Rattle.qc_msg.specs.declared.step.Command.{Command}
 use Rattle.qc_msg.specs.declared.step.Command.TheVariants as commands
 use Rattle.qc_plan.specs.declared.standing.Verdict.{Verdict}
 use Rattle.qc_plan.specs.declared.standing.Verdict.TheVariants as verdicts
-use Rattle.qc_plan.specs.Names.{verdict}
-use Rattle.qc_promise.specs.Names.{Account, Current, answer_of, answer_row, append_row, are_votes_in, commit_row}
-use Rattle.qc_promise.specs.Names.{do_row, first_against, is_append, is_prepare, is_read, read_row, requests_for}
-use Rattle.qc_promise.specs.Names.{round_of, row_of, running_row, vote_row}
+use Rattle.qc_plan.specs.Vocabulary.{verdict}
+use Rattle.qc_promise.specs.Vocabulary.{Account, Current, answer_of, answer_row, append_row, are_votes_in, commit_row}
+use Rattle.qc_promise.specs.Vocabulary.{do_row, first_against, is_append, is_prepare, is_read, read_row, requests_for}
+use Rattle.qc_promise.specs.Vocabulary.{round_of, row_of, running_row, vote_row}
 
 abbrev number_in : Reply → Option ℕ
 number_in replies.Down = None

@@ -1,7 +1,7 @@
 -- A Response that is due answers a `do` by the event that its view chooses, and Absent one for which it chooses none.
 use Rattle.std.proofs.Common.{◌≡◌, ℕ, nat_le, Bool, true, false, if◌then◌else◌, length, Option, Some, None, refl, ap}
 use Rattle.std.specs.Prelude.{option_and_then}
-use Rattle.qc_decl.specs.Names.{append_need_of, most_transaction_operations, read_need_of}
+use Rattle.qc_decl.specs.Vocabulary.{append_need_of, most_transaction_operations, read_need_of}
 use Rattle.qc_decl.specs.declared.declaration.Declaration.{Declaration}
 use Rattle.qc_msg.specs.declared.reply.Reply.{Reply}
 use Rattle.qc_msg.specs.declared.reply.Reply.TheVariants as replies
@@ -11,11 +11,11 @@ use Rattle.qc_msg.specs.declared.step.Command.{Command}
 use Rattle.qc_msg.specs.declared.step.Command.TheVariants as commands
 use Rattle.qc_plan.specs.declared.standing.Verdict.{Verdict}
 use Rattle.qc_plan.specs.declared.standing.Verdict.TheVariants as verdicts
-use Rattle.qc_plan.specs.Names.{verdict}
-use Rattle.qc_promise.specs.Names.{Account, Current, answer_of, answer_row, append_row, are_votes_in, commit_row}
-use Rattle.qc_promise.specs.Names.{do_row, first_against, is_append, is_prepare, is_read, read_row, requests_for}
-use Rattle.qc_promise.specs.Names.{resp_of, round_of, row_of, running_row, vote_row}
-use Rattle.laws_guarantees.specs.Names.{IsAnsweredFrom}
+use Rattle.qc_plan.specs.Vocabulary.{verdict}
+use Rattle.qc_promise.specs.Vocabulary.{Account, Current, answer_of, answer_row, append_row, are_votes_in, commit_row}
+use Rattle.qc_promise.specs.Vocabulary.{do_row, first_against, is_append, is_prepare, is_read, read_row, requests_for}
+use Rattle.qc_promise.specs.Vocabulary.{resp_of, round_of, row_of, running_row, vote_row}
+use Rattle.laws_guarantees.specs.Vocabulary.{IsAnsweredFrom}
 
 -- the reply to a `do` that records: its response, or none
 abbrev recorded_in : Reply → Option (Option ℕ)

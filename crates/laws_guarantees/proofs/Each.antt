@@ -2,8 +2,8 @@
 use Rattle.std.proofs.Common.{◌≡◌, ℕ, ◌+◌, Bool, true, List, [], ◌∷◌, ◌++◌, length, Option, Some, None, slice_get, refl}
 use Rattle.std.proofs.Common.{sym, ap, ◌∙◌, subst}
 use Rattle.std.proofs.lemmas.List.{append-nil, append_assoc}
-use Rattle.qc_core.specs.Names.{IsLawful}
-use Rattle.qc_decl.specs.Names.{controller, is_client}
+use Rattle.qc_core.specs.Vocabulary.{IsLawful}
+use Rattle.qc_decl.specs.Vocabulary.{controller, is_client}
 use Rattle.qc_decl.specs.declared.declaration.Declaration.{Declaration}
 use Rattle.qc_msg.specs.declared.record.Record.{Record}
 use Rattle.qc_msg.specs.declared.reply.Reply.{Reply}
@@ -15,15 +15,15 @@ use Rattle.qc_msg.specs.declared.step.Step.{Step}
 use Rattle.qc_msg.specs.declared.step.Step.TheVariants as steps
 use Rattle.qc_msg.specs.declared.turn.Posting.{Posting}
 use Rattle.qc_msg.specs.declared.turn.Turn.{Turn}
-use Rattle.qc_msg.specs.Names.{Entry, by, deeds, mail, marked, posted, sents, step_of, told, wrote}
+use Rattle.qc_msg.specs.Vocabulary.{Entry, by, deeds, mail, marked, posted, sents, step_of, told, wrote}
 use Rattle.qc_msg.proofs.GrownMail.{by-posted}
-use Rattle.qc_script.specs.Names.{Runs, phase_of, step_of_control}
+use Rattle.qc_script.specs.Vocabulary.{Runs, phase_of, step_of_control}
 use Rattle.qc_script.specs.Runs.{begins, takes, posts, phase, control}
 use Rattle.qc_script.specs.declared.script.Script.{Script}
-use Rattle.qc_site.specs.Names.{site_after}
+use Rattle.qc_site.specs.Vocabulary.{site_after}
 use Rattle.laws_turns.proofs.Stamped.{site_answering}
 use Rattle.laws_turns.proofs.Bounding.{lawful_turn}
-use Rattle.laws_guarantees.specs.Names.{EachReply, IfTold}
+use Rattle.laws_guarantees.specs.Vocabulary.{EachReply, IfTold}
 
 -- a turn without its reply: what stands before that in the history
 abbrev pub untold : Turn → Turn

@@ -1,10 +1,10 @@
 -- A client that hears of no other life or epoch than the first names no other in its requests.
-use Rattle.std.proofs.Common.{◌≡◌, ℕ, ◌==◌, ◌&&◌, ◌⊎◌, inl, inr, not, Bool, true, false, cond, List, ◌∷◌, fold, length}
-use Rattle.std.proofs.Common.{Option, Some, None, refl, ◌∙◌, eqb-true}
+use Rattle.std.proofs.Common.{[], ◌≡◌, ℕ, ◌==◌, ◌&&◌, ◌⊎◌, inl, inr, not, Bool, true, false, cond, List, ◌∷◌, fold}
+use Rattle.std.proofs.Common.{length, Option, Some, None, refl, ◌∙◌, eqb-true}
 use Rattle.std.specs.List.{AllByRecursion as Every, find}
 use Rattle.std.specs.Option.{option_map_or}
 use Rattle.qc_stamp.specs.declared.stamp.TxId.{TxId}
-use Rattle.qc_stamp.specs.Names.{first_life, same_tx}
+use Rattle.qc_stamp.specs.Vocabulary.{first_life, same_tx}
 use Rattle.qc_decl.specs.declared.declaration.Declaration.{Declaration}
 use Rattle.qc_msg.specs.declared.begun.LifeAt.{LifeAt}
 use Rattle.qc_msg.specs.declared.message.Answer.{Answer}
@@ -18,13 +18,13 @@ use Rattle.qc_msg.specs.declared.reply.Reply.{Reply}
 use Rattle.qc_msg.specs.declared.reply.Reply.TheVariants as replies
 use Rattle.qc_msg.specs.declared.step.Command.{Command}
 use Rattle.qc_msg.specs.declared.step.Command.TheVariants as commands
-use Rattle.qc_msg.specs.Names.{Deed, Falls, Rises, Sends, Takes, Tells, Writes, life_of}
-use Rattle.qc_promise.specs.Names.{Account, Current, account_at, account_fallen, account_sent, account_taken}
-use Rattle.qc_promise.specs.Names.{account_told, account_told_in, account_with, account_written, command_asks}
-use Rattle.qc_promise.specs.Names.{doomed_if, found_absent, is_append, is_asked_for, is_of, lived, new_account, refused}
-use Rattle.qc_promise.specs.Names.{requests_for, short_of, with_absent}
-use Rattle.laws_due.specs.Names.{AreByRows, IsSendDue}
-use Rattle.laws_guarantees.specs.Names.{IsFirst}
+use Rattle.qc_msg.specs.Vocabulary.{Deed, Falls, Rises, Sends, Takes, Tells, Writes, life_of}
+use Rattle.qc_promise.specs.Vocabulary.{Account, Current, account_at, account_fallen, account_sent, account_taken}
+use Rattle.qc_promise.specs.Vocabulary.{account_told, account_told_in, account_with, account_written, command_asks}
+use Rattle.qc_promise.specs.Vocabulary.{doomed_if, found_absent, is_append, is_asked_for, is_of, lived, new_account}
+use Rattle.qc_promise.specs.Vocabulary.{refused, requests_for, short_of, with_absent}
+use Rattle.laws_due.specs.Vocabulary.{AreByRows, IsSendDue}
+use Rattle.laws_guarantees.specs.Vocabulary.{IsFirst}
 use Rattle.laws_guarantees.proofs.FirstDeeds.{FirstLives, FirstCurrent, IsFirstAccount, changed, FirstGiven}
 use Rattle.laws_guarantees.proofs.FirstDeeds.{taken_first, written_first, sent_first, responded_first}
 

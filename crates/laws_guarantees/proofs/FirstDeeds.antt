@@ -1,8 +1,8 @@
 -- What a client that hears of no other life or epoch than the first writes, sends and tells.
-use Rattle.std.proofs.Common.{◌≡◌, ℕ, max, Bool, true, false, cond, List, ◌∷◌, ◌++◌, Option, Some, None, option_map}
+use Rattle.std.proofs.Common.{[], ◌≡◌, ℕ, max, Bool, true, false, cond, List, ◌∷◌, ◌++◌, Option, Some, None, option_map}
 use Rattle.std.specs.List.{AllByRecursion as Every, find}
 use Rattle.qc_list.proofs.Members.{every-append}
-use Rattle.qc_stamp.specs.Names.{first_life}
+use Rattle.qc_stamp.specs.Vocabulary.{first_life}
 use Rattle.qc_entry.specs.declared.line.Line.{Line}
 use Rattle.qc_decl.specs.declared.declaration.Declaration.{Declaration}
 use Rattle.qc_msg.specs.declared.begun.LifeAt.{LifeAt}
@@ -18,12 +18,12 @@ use Rattle.qc_msg.specs.declared.step.Command.{Command}
 use Rattle.qc_msg.specs.declared.step.Command.TheVariants as commands
 use Rattle.qc_msg.specs.declared.step.Input.{Input}
 use Rattle.qc_msg.specs.declared.step.Input.TheVariants as inputs
-use Rattle.qc_msg.specs.Names.{first_epoch, has_granted, with_life}
-use Rattle.qc_promise.specs.Names.{Account, ClientRequest, Current, account_heard, account_sent, account_taken}
-use Rattle.qc_promise.specs.Names.{account_written, answer_of, counted, counted_for, granted, is_asked_for, is_open}
-use Rattle.qc_promise.specs.Names.{lived, promised, responded, taken_for, told_by, with_current, with_read}
-use Rattle.qc_promise.specs.Names.{with_response}
-use Rattle.laws_guarantees.specs.Names.{IsFirst, IsFirstAnswer}
+use Rattle.qc_msg.specs.Vocabulary.{first_epoch, has_granted, with_life}
+use Rattle.qc_promise.specs.Vocabulary.{Account, ClientRequest, Current, account_heard, account_sent, account_taken}
+use Rattle.qc_promise.specs.Vocabulary.{account_written, answer_of, counted, counted_for, granted, is_asked_for}
+use Rattle.qc_promise.specs.Vocabulary.{is_open, lived, promised, responded, taken_for, told_by, with_current}
+use Rattle.qc_promise.specs.Vocabulary.{with_read, with_response}
+use Rattle.laws_guarantees.specs.Vocabulary.{IsFirst, IsFirstAnswer}
 
 abbrev pub FirstLives : List LifeAt → Type 0
 FirstLives lives = Every (λ (l : LifeAt). l.life ≡ first_life) lives

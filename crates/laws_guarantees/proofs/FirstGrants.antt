@@ -4,7 +4,7 @@ use Rattle.std.proofs.Common.{◌≡◌, ◌==◌, ◌||◌, ℕ, Bool, true, fa
 use Rattle.std.proofs.Common.{refl}
 use Rattle.std.specs.List.{find}
 use Rattle.std.specs.Option.{option_map_or}
-use Rattle.qc_msg.specs.Names.{has_granted, life_of, with_life}
+use Rattle.qc_msg.specs.Vocabulary.{has_granted, life_of, with_life}
 use Rattle.qc_msg.specs.declared.begun.LifeAt.{LifeAt}
 
 abbrev pub KeepsLives : List LifeAt → List LifeAt → Type 0

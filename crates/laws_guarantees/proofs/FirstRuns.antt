@@ -4,10 +4,10 @@ use Rattle.std.proofs.Common.{sym, ap, ◌∙◌, subst}
 use Rattle.std.specs.Prelude.{slice_set}
 use Rattle.std.specs.List.{AllByRecursion as Every}
 use Rattle.std.proofs.lemmas.List.Sums.{fold-append}
-use Rattle.qc_list.specs.Names.{In}
+use Rattle.qc_list.specs.Vocabulary.{In}
 use Rattle.qc_list.proofs.Members.{In-last, every-In, every-append, every-from_In}
-use Rattle.qc_core.specs.Names.{IsLawful}
-use Rattle.qc_decl.specs.Names.{controller, is_client, is_site}
+use Rattle.qc_core.specs.Vocabulary.{IsLawful}
+use Rattle.qc_decl.specs.Vocabulary.{controller, is_client, is_site}
 use Rattle.qc_decl.specs.declared.declaration.Declaration.{Declaration}
 use Rattle.qc_msg.specs.declared.message.Envelope.{Envelope}
 use Rattle.qc_msg.specs.declared.message.Message.{Message}
@@ -17,28 +17,28 @@ use Rattle.qc_msg.specs.declared.step.Input.TheVariants as inputs
 use Rattle.qc_msg.specs.declared.step.Step.TheVariants as steps
 use Rattle.qc_msg.specs.declared.turn.Posting.{Posting}
 use Rattle.qc_msg.specs.declared.turn.Turn.{Turn}
-use Rattle.qc_msg.specs.Names.{Deed, Entry, Falls, Rises, Sends, Takes, Tells, Writes, by, deeds, envelopes, mail}
-use Rattle.qc_msg.specs.Names.{posted, quiet, sends_of, tells_of, turn_deeds, writes_of}
+use Rattle.qc_msg.specs.Vocabulary.{Deed, Entry, Falls, Rises, Sends, Takes, Tells, Writes, by, deeds, envelopes, mail}
+use Rattle.qc_msg.specs.Vocabulary.{posted, quiet, sends_of, tells_of, turn_deeds, writes_of}
 use Rattle.qc_msg.proofs.GrownMail.{mail-append, mail-posted, mail-taken}
 use Rattle.qc_msg.proofs.Growth.{deeds-posted}
-use Rattle.qc_script.specs.Names.{Runs, phase_of}
+use Rattle.qc_script.specs.Vocabulary.{Runs, phase_of}
 use Rattle.qc_script.specs.Runs.{begins, takes, posts, phase, control}
 use Rattle.qc_script.specs.declared.script.Script.{Script}
-use Rattle.qc_site.specs.Names.{SiteMove, new_site, site_after, site_does}
+use Rattle.qc_site.specs.Vocabulary.{SiteMove, new_site, site_after, site_does}
 use Rattle.qc_site.specs.Site as sites
 use Rattle.laws_atomic.proofs.FirstSites.{TakesCalm, after_at_first}
-use Rattle.qc_client.specs.Names.{ClientMove, client_after, client_does, moved, new_client}
-use Rattle.laws_turns.specs.Names.{ActsIn}
+use Rattle.qc_client.specs.Vocabulary.{ClientMove, client_after, client_does, moved, new_client}
+use Rattle.laws_turns.specs.Vocabulary.{ActsIn}
 use Rattle.laws_turns.proofs.Acted.{run_acts}
 use Rattle.laws_turns.proofs.Numbered.{control_silent, mail-silent, phase_silent}
 use Rattle.laws_turns.proofs.Places.{slice_get-set_same}
 use Rattle.laws_turns.proofs.Served.{first_part, second_part}
 use Rattle.laws_due.proofs.Courses.{clients_due}
-use Rattle.laws_due.specs.Names.{AreByRows}
-use Rattle.qc_promise.specs.Names.{new_account}
+use Rattle.laws_due.specs.Vocabulary.{AreByRows}
+use Rattle.qc_promise.specs.Vocabulary.{new_account}
 use Rattle.laws_turns.proofs.Bounding.{lawful_turn, turn-posts}
 use Rattle.laws_turns.proofs.ClientsWithin.{IsPost}
-use Rattle.laws_guarantees.specs.Names.{AreFirst, IsFirst}
+use Rattle.laws_guarantees.specs.Vocabulary.{AreFirst, IsFirst}
 use Rattle.laws_guarantees.proofs.ClientWords.{AreClientWords, IsClientWord, client_words}
 use Rattle.laws_guarantees.proofs.FirstDeeds.{FirstGiven}
 use Rattle.laws_guarantees.proofs.FirstAccounts.{RequestIsFirst, SendsFirst, TakesFirst, deeds_first, new_first}

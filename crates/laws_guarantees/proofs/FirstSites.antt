@@ -2,7 +2,7 @@
 use Rattle.std.proofs.Common.{◌≡◌, ℕ, ◌==◌, ◌⊎◌, inl, inr, nat_lt, cond, List, [], ◌∷◌, Some, None, ap, ◌∙◌}
 use Rattle.std.specs.List.{AllByRecursion as Every}
 use Rattle.qc_stamp.specs.declared.stamp.TxId.{TxId}
-use Rattle.qc_stamp.specs.Names.{first_life}
+use Rattle.qc_stamp.specs.Vocabulary.{first_life}
 use Rattle.qc_decl.specs.declared.declaration.Declaration.{Declaration}
 use Rattle.qc_msg.specs.declared.message.Answer.TheVariants as says
 use Rattle.qc_msg.specs.declared.message.Message.{Message}
@@ -13,12 +13,12 @@ use Rattle.qc_msg.specs.declared.message.Want.TheVariants.{Append, Prepare, Read
 use Rattle.qc_msg.specs.declared.step.Input.{Input}
 use Rattle.qc_msg.specs.declared.step.Input.TheVariants as inputs
 use Rattle.qc_msg.specs.declared.turn.Posting.{Posting}
-use Rattle.qc_msg.specs.Names.{Deed, Falls, Rises, Sends, Takes, Tells, Writes, first_epoch}
-use Rattle.qc_site.specs.Names.{SiteMove, SiteState, closed_fault, fault_of, grants, life_fault, passed, site_at}
-use Rattle.qc_site.specs.Names.{site_takes}
+use Rattle.qc_msg.specs.Vocabulary.{Deed, Falls, Rises, Sends, Takes, Tells, Writes, first_epoch}
+use Rattle.qc_site.specs.Vocabulary.{SiteMove, SiteState, closed_fault, fault_of, grants, life_fault, passed, site_at}
+use Rattle.qc_site.specs.Vocabulary.{site_takes}
 use Rattle.qc_site.proofs.RequestCases.{append_cases, join_cases, prepare_cases, read_cases, request_cases}
 use Rattle.laws_atomic.proofs.FirstSites.{IsAtFirst, IsCalmGiven, IsCalmMessage, TakesCalm}
-use Rattle.laws_guarantees.specs.Names.{IsFirst}
+use Rattle.laws_guarantees.specs.Vocabulary.{IsFirst}
 use Rattle.laws_guarantees.proofs.FirstDeeds.{FirstGiven}
 use Rattle.laws_guarantees.proofs.FirstAccounts.{TakesFirst}
 

@@ -12,10 +12,10 @@ use Rattle.qc_msg.specs.declared.message.Want.{Want}
 use Rattle.qc_msg.specs.declared.message.Want.TheVariants.{Append, Prepare, Read}
 use Rattle.qc_msg.specs.declared.step.Input.TheVariants as inputs
 use Rattle.qc_msg.specs.declared.turn.Posting.{Posting}
-use Rattle.qc_site.specs.Names.{SiteMove, SiteState, fault_of, grants, passed, relation_at, site_at, site_takes}
+use Rattle.qc_site.specs.Vocabulary.{SiteMove, SiteState, fault_of, grants, passed, relation_at, site_at, site_takes}
 use Rattle.laws_atomic.proofs.FirstSites.{IsAtFirst}
 use Rattle.qc_site.proofs.RequestCases.{append_cases, join_cases, prepare_cases, read_cases, request_cases}
-use Rattle.laws_guarantees.specs.Names.{Fits, IsFirst}
+use Rattle.laws_guarantees.specs.Vocabulary.{Fits, IsFirst}
 use Rattle.laws_guarantees.proofs.FirstSites.{first_free}
 use Rattle.laws_guarantees.proofs.Held.{AreOpen, IsInTheWay, append_way, read_way}
 

@@ -3,18 +3,18 @@ use Rattle.std.proofs.Common.{◌≡◌, ◌⊎◌, ◌<◌, ℕ, ◌==◌, ◌&
 use Rattle.std.proofs.Common.{inl, inr, length, Option, Some, None, is_some, refl, sym, ap, ◌∙◌, subst, arith, eqb-true}
 use Rattle.std.proofs.Common.{ltb-true}
 use Rattle.qc_stamp.specs.declared.stamp.TxId.{TxId}
-use Rattle.qc_stamp.specs.Names.{same_tx}
+use Rattle.qc_stamp.specs.Vocabulary.{same_tx}
 use Rattle.qc_stamp.proofs.Orders.{same_tx_is}
-use Rattle.qc_list.specs.Names.{In}
+use Rattle.qc_list.specs.Vocabulary.{In}
 use Rattle.qc_entry.specs.declared.line.Line.{Line}
-use Rattle.qc_entry.specs.Names.{of_object}
+use Rattle.qc_entry.specs.Vocabulary.{of_object}
 use Rattle.qc_entry.specs.declared.line.OwnLine.{OwnLine}
 use Rattle.qc_entry.specs.declared.line.ReadLock.{ReadLock}
 use Rattle.qc_entry.specs.declared.record.Prepared.{Prepared}
 use Rattle.qc_decl.specs.declared.declaration.Declaration.{Declaration}
-use Rattle.qc_decl.specs.Names.{most_record_bytes}
+use Rattle.qc_decl.specs.Vocabulary.{most_record_bytes}
 use Rattle.qc_lock.specs.declared.held.Held.{Held}
-use Rattle.qc_lock.specs.Names.{held_of, is_held, with_entry, with_held, with_locks, with_owns, without_held}
+use Rattle.qc_lock.specs.Vocabulary.{held_of, is_held, with_entry, with_held, with_locks, with_owns, without_held}
 use Rattle.qc_lock.proofs.Entries.{entry-put, entry-without_other, others_stay}
 use Rattle.qc_msg.specs.declared.message.Answer.{Answer}
 use Rattle.qc_msg.specs.declared.message.Answer.TheVariants as answers
@@ -29,12 +29,13 @@ use Rattle.qc_msg.specs.declared.step.Input.{Input}
 use Rattle.qc_msg.specs.declared.step.Input.TheVariants as inputs
 use Rattle.qc_msg.specs.declared.turn.Posting.{Posting}
 use Rattle.qc_msg.specs.declared.record.Record.TheVariants as records
-use Rattle.qc_site.specs.Names.{SiteMove, SiteState, answering, answers as answering_turn, appends, clashing, closed}
-use Rattle.qc_site.specs.Names.{closed_fault, closes, fault_of, finishes, grants, installed, installs, is_final}
-use Rattle.qc_site.specs.Names.{is_prepared, joins, known, moved, passed, prepare_length, prepared_of, prepares}
-use Rattle.qc_site.specs.Names.{promise_of, promised, reads, recording, shut_answer, site_at, site_takes, votes}
+use Rattle.qc_site.specs.Vocabulary.{SiteMove, SiteState, answering, answers as answering_turn, appends, clashing}
+use Rattle.qc_site.specs.Vocabulary.{closed, closed_fault, closes, fault_of, finishes, grants, installed, installs}
+use Rattle.qc_site.specs.Vocabulary.{is_final, is_prepared, joins, known, moved, passed, prepare_length, prepared_of}
+use Rattle.qc_site.specs.Vocabulary.{prepares, promise_of, promised, reads, recording, shut_answer, site_at, site_takes}
+use Rattle.qc_site.specs.Vocabulary.{votes}
 use Rattle.qc_lock.specs.declared.clash.Clash.{Clash as Conflict}
-use Rattle.qc_msg.specs.Names.{quiet}
+use Rattle.qc_msg.specs.Vocabulary.{quiet}
 use Rattle.qc_stamp.specs.declared.stamp.Stamp.{Stamp}
 use Rattle.qc_site.proofs.RequestCases.{append_cases, choose, close_cases, fault_is, prepare_cases, read_cases}
 use Rattle.qc_site.proofs.RequestCases.{request_cases}

@@ -5,14 +5,14 @@ use Rattle.std.proofs.Common.{arith, eqb-true}
 use Rattle.std.specs.Prelude.{drop, take}
 use Rattle.std.proofs.lemmas.Bool.{leb-true}
 use Rattle.std.proofs.lemmas.List.{append-nil, length-map, take-append-drop}
-use Rattle.qc_list.specs.Names.{In}
+use Rattle.qc_list.specs.Vocabulary.{In}
 use Rattle.qc_list.proofs.Members.{In-passes, In-unfiltered}
 use Rattle.qc_stamp.specs.declared.stamp.TxId.{TxId}
-use Rattle.qc_core.specs.Names.{IsLawful}
-use Rattle.qc_decl.specs.Names.{IsAccepted, append_need_of, first_site, is_client, most_transaction_operations}
-use Rattle.qc_decl.specs.Names.{read_need_of}
+use Rattle.qc_core.specs.Vocabulary.{IsLawful}
+use Rattle.qc_decl.specs.Vocabulary.{IsAccepted, append_need_of, first_site, is_client, most_transaction_operations}
+use Rattle.qc_decl.specs.Vocabulary.{read_need_of}
 use Rattle.qc_decl.specs.declared.declaration.Declaration.{Declaration}
-use Rattle.qc_plan.specs.Names.{has_granted, total, verdict, weight}
+use Rattle.qc_plan.specs.Vocabulary.{has_granted, total, verdict, weight}
 use Rattle.qc_plan.specs.declared.standing.Asked.{Asked}
 use Rattle.qc_plan.specs.declared.standing.Verdict.{Verdict}
 use Rattle.qc_plan.specs.declared.standing.Verdict.TheVariants as verdicts
@@ -22,16 +22,16 @@ use Rattle.qc_msg.specs.declared.message.Want.{Want}
 use Rattle.qc_msg.specs.declared.message.Want.TheVariants.{Append, Prepare, Read}
 use Rattle.qc_msg.specs.declared.reply.Reply.{Reply}
 use Rattle.qc_msg.specs.declared.reply.Reply.TheVariants as replies
-use Rattle.qc_msg.specs.Names.{Entry, deeds}
-use Rattle.qc_script.specs.Names.{Runs}
+use Rattle.qc_msg.specs.Vocabulary.{Entry, deeds}
+use Rattle.qc_script.specs.Vocabulary.{Runs}
 use Rattle.qc_script.specs.declared.script.Script.{Script}
-use Rattle.laws_turns.specs.Names.{ActsIn, AsksDeclared}
+use Rattle.laws_turns.specs.Vocabulary.{ActsIn, AsksDeclared}
 use Rattle.laws_turns.proofs.Acted.{run_acts}
-use Rattle.qc_promise.specs.Names.{Account, ClientRequest, Current, account, answer_of, answer_row, append_row}
-use Rattle.qc_promise.specs.Names.{asked_by, do_row, is_append, is_read, read_row, requests_for, resp_of, round_of}
-use Rattle.qc_promise.specs.Names.{standing_of, weights_of}
+use Rattle.qc_promise.specs.Vocabulary.{Account, ClientRequest, Current, account, answer_of, answer_row, append_row}
+use Rattle.qc_promise.specs.Vocabulary.{asked_by, do_row, is_append, is_read, read_row, requests_for, resp_of, round_of}
+use Rattle.qc_promise.specs.Vocabulary.{standing_of, weights_of}
 use Rattle.laws_due.proofs.Courses.{clients_due}
-use Rattle.laws_guarantees.specs.Names.{IsUndisturbed}
+use Rattle.laws_guarantees.specs.Vocabulary.{IsUndisturbed}
 use Rattle.laws_guarantees.proofs.Clear.{IsElsewhere}
 use Rattle.laws_guarantees.proofs.UndisturbedCounted.{GoodHold, GoodTaken, taken_good}
 use Rattle.laws_guarantees.proofs.Verdicts.{AreGood, GoodStanding, GoodVerdict, append_light, good_verdict}

@@ -1,9 +1,9 @@
 -- So the account of a client's deeds has grounds in them, and an open request of it stays one or is sent anew.
-use Rattle.std.proofs.Common.{◌≡◌, ◌⊎◌, ◌≤◌, ◌+◌, ℕ, ◌==◌, ◌&&◌, Bool, true, false, cond, List, ◌∷◌, ◌++◌, inl, inr}
+use Rattle.std.proofs.Common.{[], ◌≡◌, ◌⊎◌, ◌≤◌, ◌+◌, ℕ, ◌==◌, ◌&&◌, Bool, true, false, cond, List, ◌∷◌, ◌++◌, inl, inr}
 use Rattle.std.proofs.Common.{Option, Some, None, sym, ap, ◌∙◌, subst, arith}
 use Rattle.std.specs.Prelude.{fold, is_none}
 use Rattle.std.specs.List.{find}
-use Rattle.qc_list.specs.Names.{In}
+use Rattle.qc_list.specs.Vocabulary.{In}
 use Rattle.qc_list.proofs.Members.{In-more}
 use Rattle.qc_decl.specs.declared.declaration.Declaration.{Declaration}
 use Rattle.qc_msg.specs.declared.message.Answer.{Answer}
@@ -17,9 +17,9 @@ use Rattle.qc_msg.specs.declared.step.Input.{Input}
 use Rattle.qc_msg.specs.declared.step.Input.TheVariants as inputs
 use Rattle.qc_msg.specs.declared.turn.Posting.{Posting}
 use Rattle.qc_msg.specs.declared.turn.Turn.{Turn}
-use Rattle.qc_msg.specs.Names.{sends_of, tells_of, turn_deeds, writes_of}
-use Rattle.qc_promise.specs.Names.{Account, ClientRequest, account_at, account_heard, account_sent, account_taken}
-use Rattle.qc_promise.specs.Names.{account_written, counted, counted_for, is_asked_for, taken_for}
+use Rattle.qc_msg.specs.Vocabulary.{sends_of, tells_of, turn_deeds, writes_of}
+use Rattle.qc_promise.specs.Vocabulary.{Account, ClientRequest, account_at, account_heard, account_sent, account_taken}
+use Rattle.qc_promise.specs.Vocabulary.{account_written, counted, counted_for, is_asked_for, taken_for}
 use Rattle.laws_guarantees.proofs.Accounts.{after_taken, told_requests}
 
 module _ (decl : Declaration) where

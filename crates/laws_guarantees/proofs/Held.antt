@@ -4,15 +4,16 @@ use Rattle.std.proofs.Common.{sym, ap, ◌∙◌, subst}
 use Rattle.std.specs.List.{AllByRecursion as Every, cons_option, fold}
 use Rattle.std.proofs.lemmas.List.{append-nil, append_assoc}
 use Rattle.std.proofs.lemmas.List.Sums.{fold-append}
-use Rattle.qc_list.specs.Names.{In}
+use Rattle.qc_list.specs.Vocabulary.{In}
 use Rattle.qc_list.proofs.Members.{In-passes, In-unfiltered, every-In, every-from_In, every-weaker}
 use Rattle.qc_stamp.specs.declared.stamp.TxId.{TxId}
-use Rattle.qc_stamp.specs.Names.{same_tx}
+use Rattle.qc_stamp.specs.Vocabulary.{same_tx}
 use Rattle.qc_entry.specs.declared.line.OwnLine.{OwnLine}
 use Rattle.qc_decl.specs.declared.declaration.Declaration.{Declaration}
 use Rattle.qc_lock.specs.declared.clash.Clash.{Clash}
 use Rattle.qc_lock.specs.declared.held.Held.{Held}
-use Rattle.qc_lock.specs.Names.{IsAppendConflict, IsReadConflict, IsSmallest, append_clash, read_clash, without_held}
+use Rattle.qc_lock.specs.Vocabulary.{IsAppendConflict, IsReadConflict, IsSmallest, append_clash, read_clash}
+use Rattle.qc_lock.specs.Vocabulary.{without_held}
 use Rattle.qc_lock.proofs.Conflicts.{append_smallest, read_smallest}
 use Rattle.qc_lock.proofs.Entries.{apart_sym, same_self}
 use Rattle.qc_msg.specs.declared.message.Envelope.{Envelope}
@@ -24,14 +25,14 @@ use Rattle.qc_msg.specs.declared.message.Want.{Want}
 use Rattle.qc_msg.specs.declared.message.Want.TheVariants.{Append, Prepare, Read}
 use Rattle.qc_msg.specs.declared.step.Input.{Input}
 use Rattle.qc_msg.specs.declared.step.Input.TheVariants as inputs
-use Rattle.qc_msg.specs.Names.{Deed, Falls, Rises, Sends, Takes, Tells, Writes, quiet}
-use Rattle.qc_promise.specs.Names.{is_final}
+use Rattle.qc_msg.specs.Vocabulary.{Deed, Falls, Rises, Sends, Takes, Tells, Writes, quiet}
+use Rattle.qc_promise.specs.Vocabulary.{is_final}
 use Rattle.laws_atomic.proofs.FirstSites.{IsCalmGiven, IsCalmMessage, TakesCalm}
-use Rattle.qc_site.specs.Names.{SiteMove, SiteState, grants, moved, new_site, passed, site_after, site_at, site_does}
-use Rattle.qc_site.specs.Names.{site_takes}
+use Rattle.qc_site.specs.Vocabulary.{SiteMove, SiteState, grants, moved, new_site, passed, site_after, site_at}
+use Rattle.qc_site.specs.Vocabulary.{site_does, site_takes}
 use Rattle.qc_site.proofs.RequestCases.{append_cases, join_cases, prepare_cases, read_cases, request_cases}
 use Rattle.laws_turns.proofs.SitesAsk.{held-more}
-use Rattle.laws_guarantees.specs.Names.{asks_to_hold, is_open, message_in, open_said, taken_in}
+use Rattle.laws_guarantees.specs.Vocabulary.{asks_to_hold, is_open, message_in, open_said, taken_in}
 
 -- each entry is of an open transaction
 abbrev pub AreOpen : List Envelope → List Held → Type 0

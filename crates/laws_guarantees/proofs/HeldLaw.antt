@@ -1,20 +1,20 @@
 -- What a site granted to a transaction that committed it holds until the Decision comes.
-use Rattle.std.proofs.Common.{◌≡◌, ◌≤◌, ◌&&◌, not, ℕ, suc, ◌+◌, Bool, true, false, cond, List, ◌∷◌, inl, inr, length}
-use Rattle.std.proofs.Common.{Some, refl, sym, ap, ◌∙◌, subst, arith}
+use Rattle.std.proofs.Common.{[], ◌≡◌, ◌≤◌, ◌&&◌, not, ℕ, suc, ◌+◌, Bool, true, false, cond, List, ◌∷◌, inl, inr}
+use Rattle.std.proofs.Common.{length, Some, refl, sym, ap, ◌∙◌, subst, arith}
 use Rattle.std.specs.Prelude.{fold}
 use Rattle.std.specs.Option.{option_map_or}
 use Rattle.qc_stamp.specs.declared.stamp.TxId.{TxId}
-use Rattle.qc_list.specs.Names.{In}
+use Rattle.qc_list.specs.Vocabulary.{In}
 use Rattle.qc_list.proofs.Members.{In-first, In-second}
 use Rattle.theory_onecopy.proofs.Lists.{in_map}
 use Rattle.qc_entry.specs.declared.line.Line.{Line}
 use Rattle.qc_entry.specs.declared.line.OwnLine.{OwnLine}
 use Rattle.qc_entry.specs.declared.record.Commit.{Commit as CommitRecord}
-use Rattle.qc_core.specs.Names.{IsLawful}
+use Rattle.qc_core.specs.Vocabulary.{IsLawful}
 use Rattle.qc_decl.specs.declared.declaration.Declaration.{Declaration}
-use Rattle.qc_decl.specs.Names.{IsAccepted}
+use Rattle.qc_decl.specs.Vocabulary.{IsAccepted}
 use Rattle.qc_lock.specs.declared.held.Held.{Held}
-use Rattle.qc_lock.specs.Names.{held_of}
+use Rattle.qc_lock.specs.Vocabulary.{held_of}
 use Rattle.qc_msg.specs.declared.message.Envelope.{Envelope}
 use Rattle.qc_msg.specs.declared.message.Message.{Message}
 use Rattle.qc_msg.specs.declared.message.Message.TheVariants as messages
@@ -23,18 +23,18 @@ use Rattle.qc_msg.specs.declared.message.Outcome.TheVariants as outcomes
 use Rattle.qc_msg.specs.declared.message.Want.{Want}
 use Rattle.qc_msg.specs.declared.message.Want.TheVariants.{Read, Append, Prepare}
 use Rattle.qc_msg.specs.declared.step.Input.TheVariants as inputs
-use Rattle.qc_msg.specs.Names.{Deed, Entry, Takes, deeds, mail, request_in, written}
-use Rattle.theory_onecopy.specs.Names.{Executed, own_line}
-use Rattle.qc_promise.specs.Names.{Grant, held_shown, holding, is_ended, is_final, is_granted, standing, standing_as}
-use Rattle.qc_promise.specs.Names.{standing_by, stands}
-use Rattle.theory_machine.specs.Names.{IsExecutedOrChosen, IsOwnClosedAt, Item, Lock, LogLaws, Own, state}
+use Rattle.qc_msg.specs.Vocabulary.{Deed, Entry, Takes, deeds, mail, request_in, written}
+use Rattle.theory_onecopy.specs.Vocabulary.{Executed, own_line}
+use Rattle.qc_promise.specs.Vocabulary.{Grant, held_shown, holding, is_ended, is_final, is_granted, standing}
+use Rattle.qc_promise.specs.Vocabulary.{standing_as, standing_by, stands}
+use Rattle.theory_machine.specs.Vocabulary.{IsExecutedOrChosen, IsOwnClosedAt, Item, Lock, LogLaws, Own, state}
 use Rattle.theory_machine.proofs.LogKeeps.{log_laws}
 use Rattle.theory_machine.proofs.Places.{at}
-use Rattle.qc_script.specs.Names.{IsScriptFor, Runs}
+use Rattle.qc_script.specs.Vocabulary.{IsScriptFor, Runs}
 use Rattle.qc_script.specs.declared.script.Script.{Script}
-use Rattle.laws_refinement.specs.Names.{Backed, IsHeld, own_item, own_items}
+use Rattle.laws_refinement.specs.Vocabulary.{Backed, IsHeld, own_item, own_items}
 use Rattle.laws_atomic.proofs.Runs.{decisions_tell_the_records}
-use Rattle.laws_guarantees.specs.Names.{HasWanted, IsGrantedSince}
+use Rattle.laws_guarantees.specs.Vocabulary.{HasWanted, IsGrantedSince}
 use Rattle.laws_guarantees.proofs.Mailed.{taken_mail}
 use Rattle.laws_guarantees.proofs.Room.{numbered_within}
 use Rattle.laws_guarantees.proofs.Uncut.{held_from_first}

@@ -3,8 +3,8 @@ use Rattle.std.proofs.Common.{◌≡◌, ℕ, inl, inr, List, [], ◌∷◌, fol
 use Rattle.std.specs.Ordering.{nat_cmp}
 use Rattle.std.specs.declared.cmp.Ordering.{Ordering}
 use Rattle.std.specs.declared.cmp.Ordering.TheVariants.{Equal, Greater, Less}
-use Rattle.qc_list.specs.Names.{In, by_order, inserted}
-use Rattle.qc_msg.specs.Names.{with_site}
+use Rattle.qc_list.specs.Vocabulary.{In, by_order, inserted}
+use Rattle.qc_msg.specs.Vocabulary.{with_site}
 use Rattle.qc_stamp.proofs.Orders.{nat_apart}
 
 in_inserted : (x y : ℕ) (ys : List ℕ) → In x ys → In x (inserted nat_cmp ys y)

@@ -10,31 +10,31 @@ use Rattle.std.proofs.lemmas.List.Sums.{fold-append}
 use Rattle.std.proofs.lemmas.List.Elements.{filter_map-append}
 use Rattle.qc_decl.proofs.Clients.{client_within}
 use Rattle.qc_stamp.specs.declared.stamp.Stamp.{Stamp}
-use Rattle.qc_list.specs.Names.{In}
+use Rattle.qc_list.specs.Vocabulary.{In}
 use Rattle.qc_list.proofs.Members.{In-second}
 use Rattle.qc_entry.specs.declared.line.Line.{Line}
 use Rattle.qc_entry.specs.declared.line.Op.{Op}
 use Rattle.qc_entry.specs.declared.record.Commit.{Commit as CommitRecord}
-use Rattle.qc_core.specs.Names.{IsLawful}
+use Rattle.qc_core.specs.Vocabulary.{IsLawful}
 use Rattle.qc_decl.specs.declared.declaration.Declaration.{Declaration}
-use Rattle.qc_decl.specs.Names.{IsAccepted, actors, is_client}
+use Rattle.qc_decl.specs.Vocabulary.{IsAccepted, actors, is_client}
 use Rattle.qc_msg.specs.declared.record.Record.TheVariants as records
-use Rattle.qc_msg.specs.Names.{Deed, Entry, Writes, commit_in, deeds, envelope_of, mail, written}
+use Rattle.qc_msg.specs.Vocabulary.{Deed, Entry, Writes, commit_in, deeds, envelope_of, mail, written}
 use Rattle.qc_msg.proofs.DeedsGrow.{deeds-append}
-use Rattle.theory_onecopy.specs.Names.{IsOperation}
+use Rattle.theory_onecopy.specs.Vocabulary.{IsOperation}
 use Rattle.theory_onecopy.proofs.Lists.{in_split}
-use Rattle.qc_promise.specs.Names.{Account, Current, account, account_at, commit_of, new_account, view_of}
-use Rattle.laws_due.specs.Names.{AreByRows, IsByRow}
+use Rattle.qc_promise.specs.Vocabulary.{Account, Current, account, account_at, commit_of, new_account, view_of}
+use Rattle.laws_due.specs.Vocabulary.{AreByRows, IsByRow}
 use Rattle.laws_due.proofs.Courses.{clients_due}
-use Rattle.qc_script.specs.Names.{IsScriptFor, Runs}
+use Rattle.qc_script.specs.Vocabulary.{IsScriptFor, Runs}
 use Rattle.qc_script.specs.declared.script.Script.{Script}
 use Rattle.laws_turns.proofs.Acted.{has_entry, run_acts}
-use Rattle.laws_turns.specs.Names.{ActsIn}
-use Rattle.laws_refinement.specs.Names.{Refines}
+use Rattle.laws_turns.specs.Vocabulary.{ActsIn}
+use Rattle.laws_refinement.specs.Vocabulary.{Refines}
 use Rattle.laws_guarantees.proofs.ClockLaw.{clock_rises}
 use Rattle.laws_guarantees.proofs.DueStamps.{due_stamp}
 use Rattle.laws_guarantees.proofs.Requests.{due_at}
-use Rattle.laws_guarantees.specs.Names.{DependsOn, IsOrdered, IsToldBy}
+use Rattle.laws_guarantees.specs.Vocabulary.{DependsOn, IsOrdered, IsToldBy}
 use Rattle.laws_guarantees.proofs.Committed.{both_live, reader_sees, writer_passes}
 use Rattle.laws_guarantees.proofs.Live.{live, mirror, stood}
 use Rattle.laws_guarantees.proofs.Persists.{due_back, due_front, persists}

@@ -9,19 +9,19 @@ use Rattle.std.specs.declared.cmp.Ordering.{Ordering}
 use Rattle.std.specs.declared.cmp.Ordering.TheVariants.{Less, Equal, Greater}
 use Rattle.std.specs.Ordering.{nat_cmp, ordering_then}
 use Rattle.std.proofs.lemmas.Bool.Decides.{nat_tests}
-use Rattle.qc_list.specs.Names.{Ascends, In, IsBelowAll}
+use Rattle.qc_list.specs.Vocabulary.{Ascends, In, IsBelowAll}
 use Rattle.qc_list.proofs.Members.{In-first, In-second}
 use Rattle.qc_entry.specs.declared.line.OwnLine.{OwnLine}
 use Rattle.qc_entry.specs.declared.line.ReadLock.{ReadLock}
 use Rattle.qc_entry.specs.declared.line.Line.{Line}
 use Rattle.qc_entry.specs.declared.line.Op.{Op}
 use Rattle.qc_entry.specs.declared.record.Commit.{Commit as CommitRecord}
-use Rattle.qc_entry.specs.Names.{IsAscending, line_cmp}
+use Rattle.qc_entry.specs.Vocabulary.{IsAscending, line_cmp}
 use Rattle.qc_entry.proofs.Members.{not_below}
 use Rattle.qc_decl.specs.declared.declaration.Declaration.{Declaration}
-use Rattle.qc_lock.specs.Names.{lock_cmp, own_cmp}
-use Rattle.qc_msg.specs.Names.{answered}
-use Rattle.theory_onecopy.specs.Names.{IsLogged, IsOperation, event_at}
+use Rattle.qc_lock.specs.Vocabulary.{lock_cmp, own_cmp}
+use Rattle.qc_msg.specs.Vocabulary.{answered}
+use Rattle.theory_onecopy.specs.Vocabulary.{IsLogged, IsOperation, event_at}
 use Rattle.qc_stamp.specs.declared.stamp.Stamp.{Stamp}
 use Rattle.qc_stamp.specs.declared.stamp.TxId.{TxId}
 use Rattle.qc_stamp.proofs.Orders.{nat_apart}

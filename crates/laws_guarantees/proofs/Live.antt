@@ -5,25 +5,25 @@ use Rattle.std.proofs.Common.{◌≡◌, ◌⊎◌, ◌≤◌, ℕ, Bool, true, 
 use Rattle.std.proofs.Common.{slice_get, refl, sym, ap, ◌∙◌, subst, arith}
 use Rattle.qc_stamp.specs.declared.stamp.Stamp.{Stamp}
 use Rattle.qc_stamp.specs.declared.stamp.TxId.{TxId}
-use Rattle.qc_list.specs.Names.{In}
+use Rattle.qc_list.specs.Vocabulary.{In}
 use Rattle.qc_entry.specs.declared.line.Line.{Line}
-use Rattle.qc_core.specs.Names.{IsLawful}
+use Rattle.qc_core.specs.Vocabulary.{IsLawful}
 use Rattle.qc_decl.specs.declared.declaration.Declaration.{Declaration}
-use Rattle.qc_decl.specs.Names.{IsAccepted, is_client}
-use Rattle.qc_msg.specs.Names.{Entry, deeds}
+use Rattle.qc_decl.specs.Vocabulary.{IsAccepted, is_client}
+use Rattle.qc_msg.specs.Vocabulary.{Entry, deeds}
 use Rattle.qc_commit.specs.declared.desk.Voting.{Voting}
 use Rattle.qc_front.specs.declared.transaction.Transaction.{Transaction}
-use Rattle.qc_promise.specs.Names.{Account, Current, account, account_taken, view_of}
-use Rattle.laws_due.specs.Names.{Ties}
+use Rattle.qc_promise.specs.Vocabulary.{Account, Current, account, account_taken, view_of}
+use Rattle.laws_due.specs.Vocabulary.{Ties}
 use Rattle.laws_due.proofs.Courses.{clients_tied}
 use Rattle.laws_turns.proofs.Acted.{run_acts}
-use Rattle.laws_turns.specs.Names.{ActsIn}
-use Rattle.theory_machine.specs.Names.{Aborted, Active, IsOutcome, IsShown, State, Status, op_of, state}
+use Rattle.laws_turns.specs.Vocabulary.{ActsIn}
+use Rattle.theory_machine.specs.Vocabulary.{Aborted, Active, IsOutcome, IsShown, State, Status, op_of, state}
 use Rattle.theory_machine.specs.State as machine
-use Rattle.qc_script.specs.Names.{IsScriptFor, Runs}
+use Rattle.qc_script.specs.Vocabulary.{IsScriptFor, Runs}
 use Rattle.qc_script.specs.declared.script.Script.{Script}
-use Rattle.laws_refinement.specs.Names.{BegunMirrors, ClientMirrors, Refines, RunningMirrors, TransactionMirrors}
-use Rattle.laws_refinement.specs.Names.{status_by}
+use Rattle.laws_refinement.specs.Vocabulary.{BegunMirrors, ClientMirrors, Refines, RunningMirrors, TransactionMirrors}
+use Rattle.laws_refinement.specs.Vocabulary.{status_by}
 use Rattle.laws_refinement.proofs.Refining.{nets_refine}
 use Rattle.laws_atomic.proofs.Calm.{all_up, is_reached}
 use Rattle.laws_guarantees.proofs.ClockLaw.{take_clock}

@@ -7,22 +7,22 @@ use Rattle.std.proofs.Common.{IsSome, refl, sym, ap, ◌∙◌, subst, arith}
 use Rattle.std.proofs.lemmas.Bool.{cases_eq}
 use Rattle.qc_stamp.specs.declared.stamp.Stamp.{Stamp}
 use Rattle.qc_stamp.specs.declared.stamp.TxId.{TxId}
-use Rattle.qc_list.specs.Names.{In}
+use Rattle.qc_list.specs.Vocabulary.{In}
 use Rattle.qc_list.proofs.Members.{In-first, In-second}
 use Rattle.qc_entry.specs.declared.line.OwnLine.{OwnLine}
 use Rattle.qc_entry.specs.declared.line.ReadLock.{ReadLock}
 use Rattle.qc_table.specs.declared.kind.Kind.{Kind}
-use Rattle.qc_table.specs.Names.{events_of}
-use Rattle.qc_plan.specs.Names.{IsShared, weight}
+use Rattle.qc_table.specs.Vocabulary.{events_of}
+use Rattle.qc_plan.specs.Vocabulary.{IsShared, weight}
 use Rattle.qc_plan.specs.declared.plan.Plan.{Plan}
 use Rattle.qc_decl.specs.declared.declaration.Declaration.{Declaration}
-use Rattle.qc_decl.specs.Names.{IsAccepted, append_need_of, plan_in, read_need_of}
-use Rattle.theory_onecopy.specs.Names.{Executed, committed_line, depends_at, kind_at, own_line}
-use Rattle.theory_machine.specs.Names.{Aborted, Act, CountedLaw, Deed, Granted, Grants, HasGranted, HasQuorum}
-use Rattle.theory_machine.specs.Names.{HasRisingEpochs, IsAnsweredFromQuorum, IsDependedOn, IsOutcome, IsReadAt, IsRun}
-use Rattle.theory_machine.specs.Names.{LearnsCommit, Lock, LogLaws, Own, Site, SparesUntilDone, StateLaws, Status}
-use Rattle.theory_machine.specs.Names.{after_deed, done_records, empty_site, epoch_from, items_of, read_lock}
-use Rattle.theory_machine.specs.Names.{site_after, site_from, state, weights_of}
+use Rattle.qc_decl.specs.Vocabulary.{IsAccepted, append_need_of, plan_in, read_need_of}
+use Rattle.theory_onecopy.specs.Vocabulary.{Executed, committed_line, depends_at, kind_at, own_line}
+use Rattle.theory_machine.specs.Vocabulary.{Aborted, Act, CountedLaw, Deed, Granted, Grants, HasGranted, HasQuorum}
+use Rattle.theory_machine.specs.Vocabulary.{HasRisingEpochs, IsAnsweredFromQuorum, IsDependedOn, IsOutcome, IsReadAt}
+use Rattle.theory_machine.specs.Vocabulary.{IsRun, LearnsCommit, Lock, LogLaws, Own, Site, SparesUntilDone, StateLaws}
+use Rattle.theory_machine.specs.Vocabulary.{Status, after_deed, done_records, empty_site, epoch_from, items_of}
+use Rattle.theory_machine.specs.Vocabulary.{read_lock, site_after, site_from, state, weights_of}
 use Rattle.theory_machine.proofs.Decided.{IsOfEpoch, kept_lines, of_epoch, passed_stamps, positive}
 use Rattle.theory_machine.proofs.Epochs.{rising-left}
 use Rattle.theory_machine.proofs.Keeps.{laws}

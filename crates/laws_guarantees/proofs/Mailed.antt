@@ -3,7 +3,7 @@ use Rattle.std.proofs.Common.{◌≡◌, ℕ, ◌==◌, Bool, true, false, cond,
 use Rattle.std.proofs.Common.{option_to_list, slice_get, refl, sym, ap, ◌∙◌, subst, append_assoc, eq-eqb, eqb-true}
 use Rattle.std.specs.List.{cons_option}
 use Rattle.std.proofs.lemmas.List.{append-nil}
-use Rattle.qc_list.specs.Names.{In}
+use Rattle.qc_list.specs.Vocabulary.{In}
 use Rattle.qc_list.proofs.Members.{In-first, In-second, every-at, every-from_In}
 use Rattle.theory_onecopy.proofs.Lists.{in_split}
 use Rattle.qc_msg.specs.declared.message.Envelope.{Envelope}
@@ -11,8 +11,8 @@ use Rattle.qc_msg.specs.declared.message.Message.{Message}
 use Rattle.qc_msg.specs.declared.step.Input.TheVariants as inputs
 use Rattle.qc_msg.specs.declared.step.Step.{Step}
 use Rattle.qc_msg.specs.declared.step.Step.TheVariants as steps
-use Rattle.qc_msg.specs.Names.{Deed, Entry, Falls, Rises, Sends, Takes, Tells, Writes, deed_at, deeds, envelope_at}
-use Rattle.qc_msg.specs.Names.{envelope_of, heard, mail}
+use Rattle.qc_msg.specs.Vocabulary.{Deed, Entry, Falls, Rises, Sends, Takes, Tells, Writes, deed_at, deeds, envelope_at}
+use Rattle.qc_msg.specs.Vocabulary.{envelope_of, heard, mail}
 
 abbrev pub sent_as : ℕ → ℕ → ℕ → Message → Envelope
 sent_as a n to m = record { number = n; from = a; to = to; message = m }

@@ -4,12 +4,12 @@ use Rattle.std.proofs.Common.{◌≡◌, ℕ, ◌+◌, ◌-◌, if◌then◌else
 use Rattle.std.proofs.Common.{Option, Some, None, slice_get, refl, sym, ap, ◌∙◌, subst}
 use Rattle.std.specs.List.{cons_option}
 use Rattle.std.proofs.lemmas.List.{append-nil}
-use Rattle.qc_list.specs.Names.{In}
+use Rattle.qc_list.specs.Vocabulary.{In}
 use Rattle.qc_list.proofs.Members.{In-second}
 use Rattle.qc_entry.specs.declared.record.Commit.{Commit as CommitRecord}
-use Rattle.qc_core.specs.Names.{IsLawful}
+use Rattle.qc_core.specs.Vocabulary.{IsLawful}
 use Rattle.qc_decl.specs.declared.declaration.Declaration.{Declaration}
-use Rattle.qc_decl.specs.Names.{IsAccepted, is_client, is_site}
+use Rattle.qc_decl.specs.Vocabulary.{IsAccepted, is_client, is_site}
 use Rattle.qc_msg.specs.declared.record.Record.{Record}
 use Rattle.qc_msg.specs.declared.record.Record.TheVariants as records
 use Rattle.qc_msg.specs.declared.reply.Reply.{Reply}
@@ -17,15 +17,15 @@ use Rattle.qc_msg.specs.declared.step.Step.{Step}
 use Rattle.qc_msg.specs.declared.step.Step.TheVariants as steps
 use Rattle.qc_msg.specs.declared.turn.Posting.{Posting}
 use Rattle.qc_msg.specs.declared.turn.Turn.{Turn}
-use Rattle.qc_msg.specs.Names.{Entry, by, commit_in, commit_of, deeds, mail, marked, posted, sents, step_of, told}
-use Rattle.qc_msg.specs.Names.{written}
+use Rattle.qc_msg.specs.Vocabulary.{Entry, by, commit_in, commit_of, deeds, mail, marked, posted, sents, step_of, told}
+use Rattle.qc_msg.specs.Vocabulary.{written}
 use Rattle.qc_msg.specs.Steps as post
-use Rattle.qc_script.specs.Names.{IsScriptFor, Runs, phase_of}
+use Rattle.qc_script.specs.Vocabulary.{IsScriptFor, Runs, phase_of}
 use Rattle.qc_script.specs.Runs.{begins, takes, posts, phase, control}
 use Rattle.qc_script.specs.declared.script.Script.{Script}
-use Rattle.qc_client.specs.Names.{client_after}
-use Rattle.qc_site.specs.Names.{SiteMove, site_after}
-use Rattle.laws_refinement.specs.Names.{commits_in}
+use Rattle.qc_client.specs.Vocabulary.{client_after}
+use Rattle.qc_site.specs.Vocabulary.{SiteMove, site_after}
+use Rattle.laws_refinement.specs.Vocabulary.{commits_in}
 use Rattle.laws_atomic.proofs.Posted.{control_writes, taken_writes}
 use Rattle.laws_atomic.proofs.Silent.{site_silent}
 use Rattle.laws_atomic.proofs.Stood.{OpenSite, Stood}

@@ -3,7 +3,7 @@ use Rattle.std.proofs.Common.{◌≡◌, ◌+◌, ℕ, Bool, true, false, cond, 
 use Rattle.std.proofs.Common.{refl, sym, ap, subst}
 use Rattle.std.specs.List.{find}
 use Rattle.qc_stamp.specs.declared.stamp.TxId.{TxId}
-use Rattle.qc_list.specs.Names.{In}
+use Rattle.qc_list.specs.Vocabulary.{In}
 use Rattle.qc_list.proofs.Members.{In-first}
 use Rattle.qc_entry.specs.declared.line.Line.{Line}
 use Rattle.qc_entry.specs.declared.line.Op.{Op}
@@ -23,12 +23,12 @@ use Rattle.qc_msg.specs.declared.reply.Reply.TheVariants as replies
 use Rattle.qc_msg.specs.declared.step.Command.{Command}
 use Rattle.qc_msg.specs.declared.step.Command.TheVariants as commands
 use Rattle.qc_msg.specs.declared.step.Input.TheVariants as inputs
-use Rattle.qc_core.specs.Names.{AreSteady}
-use Rattle.qc_msg.specs.Names.{Deed, Falls, Rises, Sends, Takes, Tells, Writes}
-use Rattle.qc_promise.specs.Names.{Account, ClientRequest, Current, account_at, account_heard, account_sent}
-use Rattle.qc_promise.specs.Names.{account_told_in, account_written, answer_of, counted, counted_for, found_absent}
-use Rattle.qc_promise.specs.Names.{granted, is_asked_for, is_open, lived, new_current, promised, responded, short_of}
-use Rattle.qc_promise.specs.Names.{taken_for, told_by, with_read, with_response}
+use Rattle.qc_core.specs.Vocabulary.{AreSteady}
+use Rattle.qc_msg.specs.Vocabulary.{Deed, Falls, Rises, Sends, Takes, Tells, Writes}
+use Rattle.qc_promise.specs.Vocabulary.{Account, ClientRequest, Current, account_at, account_heard, account_sent}
+use Rattle.qc_promise.specs.Vocabulary.{account_told_in, account_written, answer_of, counted, counted_for, found_absent}
+use Rattle.qc_promise.specs.Vocabulary.{granted, is_asked_for, is_open, lived, new_current, promised, responded}
+use Rattle.qc_promise.specs.Vocabulary.{short_of, taken_for, told_by, with_read, with_response}
 use Rattle.laws_guarantees.proofs.FirstGrants.{KeepsLives, life_added, same_lives}
 
 -- what one deed does to the begun transaction: it changes that, keeping its name and its operations; it ends it; or it

@@ -20,15 +20,15 @@ use Rattle.qc_msg.specs.declared.step.Input.{Input}
 use Rattle.qc_msg.specs.declared.step.Input.TheVariants as inputs
 use Rattle.qc_msg.specs.declared.turn.Posting.{Posting}
 use Rattle.qc_msg.specs.declared.turn.Turn.{Turn}
-use Rattle.qc_msg.specs.Names.{sends_of, tells_of, turn_deeds, writes_of}
+use Rattle.qc_msg.specs.Vocabulary.{sends_of, tells_of, turn_deeds, writes_of}
 use Rattle.qc_client.specs.declared.client.Client.{Client}
 use Rattle.qc_front.specs.declared.front.Front.{Front}
 use Rattle.qc_front.specs.declared.transaction.Transaction.{Transaction}
-use Rattle.qc_promise.specs.Names.{Account, ClientRequest, Current, account_at, account_heard, account_sent}
-use Rattle.qc_promise.specs.Names.{account_taken, account_written, counted, counted_for, granted, is_asked_for, is_open}
-use Rattle.qc_promise.specs.Names.{lived, promised, taken_for, told_by, with_current, with_read}
-use Rattle.laws_due.specs.Names.{AreBegun, IsBegun, Ties, appends, reads, rests, votes}
-use Rattle.laws_guarantees.specs.Names.{name_of}
+use Rattle.qc_promise.specs.Vocabulary.{Account, ClientRequest, Current, account_at, account_heard, account_sent}
+use Rattle.qc_promise.specs.Vocabulary.{account_taken, account_written, counted, counted_for, granted, is_asked_for}
+use Rattle.qc_promise.specs.Vocabulary.{is_open, lived, promised, taken_for, told_by, with_current, with_read}
+use Rattle.laws_due.specs.Vocabulary.{AreBegun, IsBegun, Ties, appends, reads, rests, votes}
+use Rattle.laws_guarantees.specs.Vocabulary.{name_of}
 
 -- a change of the begun transaction that keeps its name
 named_with : (d : Account) (change : Current → Current) → ((t : Current) → (change t).tx ≡ t.tx)

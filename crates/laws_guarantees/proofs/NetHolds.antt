@@ -2,13 +2,13 @@
 -- that a site has is sorted.
 use Rattle.std.proofs.Common.{◌≡◌, ◌⊎◌, ℕ, true, List, ◌++◌, inl, inr, length, refl, sym, ◌∙◌, subst}
 use Rattle.qc_stamp.specs.declared.stamp.TxId.{TxId}
-use Rattle.qc_list.specs.Names.{In}
+use Rattle.qc_list.specs.Vocabulary.{In}
 use Rattle.qc_list.proofs.Members.{In-first}
 use Rattle.theory_onecopy.proofs.Lists.{in_split}
 use Rattle.qc_entry.specs.declared.line.ReadLock.{ReadLock}
 use Rattle.qc_decl.specs.declared.declaration.Declaration.{Declaration}
-use Rattle.qc_decl.specs.Names.{IsAccepted, is_client, is_site}
-use Rattle.qc_lock.specs.Names.{held_of, is_held}
+use Rattle.qc_decl.specs.Vocabulary.{IsAccepted, is_client, is_site}
+use Rattle.qc_lock.specs.Vocabulary.{held_of, is_held}
 use Rattle.qc_msg.specs.declared.message.Envelope.{Envelope}
 use Rattle.qc_msg.specs.declared.message.Message.{Message}
 use Rattle.qc_msg.specs.declared.message.Message.TheVariants as messages
@@ -17,12 +17,12 @@ use Rattle.qc_msg.specs.declared.message.Want.TheVariants.{Read, Append, Prepare
 use Rattle.qc_msg.specs.declared.step.Input.{Input}
 use Rattle.qc_msg.specs.declared.step.Input.TheVariants as inputs
 use Rattle.qc_msg.specs.declared.turn.Posting.{Posting}
-use Rattle.qc_msg.specs.Names.{envelopes}
-use Rattle.theory_machine.specs.Names.{state}
-use Rattle.qc_site.specs.Names.{IsMessageSorted, IsSiteSorted, SiteState, passed, site_takes}
+use Rattle.qc_msg.specs.Vocabulary.{envelopes}
+use Rattle.theory_machine.specs.Vocabulary.{state}
+use Rattle.qc_site.specs.Vocabulary.{IsMessageSorted, IsSiteSorted, SiteState, passed, site_takes}
 use Rattle.qc_site.proofs.Sorted.{stays_sorted}
-use Rattle.qc_client.specs.Names.{client_takes}
-use Rattle.laws_refinement.specs.Names.{Backed, MayCome, Net, Refines}
+use Rattle.qc_client.specs.Vocabulary.{client_takes}
+use Rattle.laws_refinement.specs.Vocabulary.{Backed, MayCome, Net, Refines}
 use Rattle.laws_atomic.proofs.Calm.{IsCalm, is_reached}
 use Rattle.laws_atomic.proofs.Calm as calm
 use Rattle.laws_refinement.proofs.Machine.{put_one}

@@ -6,8 +6,8 @@ use Rattle.qc_decl.specs.declared.declaration.Declaration.{Declaration}
 use Rattle.qc_entry.specs.declared.record.Commit.{Commit}
 use Rattle.qc_list.proofs.Members.{every-append}
 use Rattle.qc_msg.proofs.Growth.{operations-written}
-use Rattle.qc_msg.specs.Names.{Deed, Entry, IsNoRise, answered, by, mail, marked, operations_of, posted, sents, step_of}
-use Rattle.qc_msg.specs.Names.{told, written, wrote}
+use Rattle.qc_msg.specs.Vocabulary.{Deed, Entry, IsNoRise, answered, by, mail, marked, operations_of, posted, sents}
+use Rattle.qc_msg.specs.Vocabulary.{step_of, told, written, wrote}
 use Rattle.qc_msg.specs.declared.record.Record.{Record}
 use Rattle.qc_msg.specs.declared.reply.Reply.{Reply}
 use Rattle.qc_msg.specs.declared.step.Control.{Control}
@@ -18,7 +18,7 @@ use Rattle.qc_msg.specs.declared.step.Step.{Step}
 use Rattle.qc_msg.specs.declared.step.Step.TheVariants as steps
 use Rattle.qc_msg.specs.declared.turn.Posting.{Posting}
 use Rattle.qc_msg.specs.declared.turn.Turn.{Turn}
-use Rattle.qc_script.specs.Names.{Runs, step_of_control}
+use Rattle.qc_script.specs.Vocabulary.{Runs, step_of_control}
 use Rattle.qc_script.specs.Runs.{begins, takes, posts, phase, control}
 use Rattle.qc_script.specs.declared.script.Script.{Script}
 

@@ -1,12 +1,12 @@
 -- In an undisturbed run nobody takes that a request is lost, and no account counts a loss.
-use Rattle.std.proofs.Common.{◌≡◌, ℕ, ◌+◌, ◌-◌, ◌==◌, ◌⊎◌, inl, inr, Bool, true, false, cond, List, ◌∷◌, ◌++◌, fold}
+use Rattle.std.proofs.Common.{[], ◌≡◌, ℕ, ◌+◌, ◌-◌, ◌==◌, ◌⊎◌, inl, inr, Bool, true, false, cond, List, ◌∷◌, ◌++◌, fold}
 use Rattle.std.proofs.Common.{length, Option, Some, None, refl, sym, ap, ◌∙◌, subst, eqb-true}
 use Rattle.std.specs.Prelude.{drop}
 use Rattle.std.specs.List.{AllByRecursion as Every, find}
-use Rattle.qc_list.specs.Names.{In}
+use Rattle.qc_list.specs.Vocabulary.{In}
 use Rattle.qc_list.proofs.Members.{In-more, every-append}
-use Rattle.qc_core.specs.Names.{IsLawful}
-use Rattle.qc_decl.specs.Names.{controller}
+use Rattle.qc_core.specs.Vocabulary.{IsLawful}
+use Rattle.qc_decl.specs.Vocabulary.{controller}
 use Rattle.qc_decl.specs.declared.declaration.Declaration.{Declaration}
 use Rattle.qc_msg.specs.declared.message.Answer.{Answer}
 use Rattle.qc_msg.specs.declared.message.Message.{Message}
@@ -17,23 +17,23 @@ use Rattle.qc_msg.specs.declared.record.Record.TheVariants as records
 use Rattle.qc_msg.specs.declared.step.Input.{Input}
 use Rattle.qc_msg.specs.declared.step.Input.TheVariants as inputs
 use Rattle.qc_msg.specs.declared.step.Step.TheVariants as steps
-use Rattle.qc_msg.specs.Names.{Deed, Entry, Falls, Rises, Sends, Takes, Tells, Writes, by, deeds, mail, marked, posted}
-use Rattle.qc_msg.specs.Names.{step_of, turn_deeds}
+use Rattle.qc_msg.specs.Vocabulary.{Deed, Entry, Falls, Rises, Sends, Takes, Tells, Writes, by, deeds, mail, marked}
+use Rattle.qc_msg.specs.Vocabulary.{posted, step_of, turn_deeds}
 use Rattle.qc_msg.proofs.DeedsGrow.{deeds-other}
 use Rattle.qc_msg.proofs.Growth.{deeds-posted, deeds-taken}
-use Rattle.qc_script.specs.Names.{Runs, inbox, phase_of}
+use Rattle.qc_script.specs.Vocabulary.{Runs, inbox, phase_of}
 use Rattle.qc_script.specs.Runs.{begins, takes, posts, phase, control}
 use Rattle.qc_script.specs.declared.script.Script.{Script}
 use Rattle.laws_turns.proofs.Acted.{deeds-silent}
 use Rattle.laws_turns.proofs.Arrivals.{what_is_ready_was_sent}
 use Rattle.laws_turns.proofs.ReadyFirst.{ready_loss}
 use Rattle.laws_turns.proofs.Numbered.{control_silent, phase_silent}
-use Rattle.qc_promise.specs.Names.{Account, ClientRequest, account_at, account_fallen, account_heard, account_sent}
-use Rattle.qc_promise.specs.Names.{account_taken, account_with, account_written, counted, counted_for, is_asked_for}
-use Rattle.qc_promise.specs.Names.{is_open, taken_for}
+use Rattle.qc_promise.specs.Vocabulary.{Account, ClientRequest, account_at, account_fallen, account_heard, account_sent}
+use Rattle.qc_promise.specs.Vocabulary.{account_taken, account_with, account_written, counted, counted_for}
+use Rattle.qc_promise.specs.Vocabulary.{is_asked_for, is_open, taken_for}
 use Rattle.laws_turns.proofs.Bounding.{turn-posts}
 use Rattle.laws_turns.proofs.ClientsWithin.{IsPost}
-use Rattle.laws_guarantees.specs.Names.{Arrives, IsUndisturbed}
+use Rattle.laws_guarantees.specs.Vocabulary.{Arrives, IsUndisturbed}
 use Rattle.laws_guarantees.proofs.Accounts.{IsTakenNow, after_taken, told_requests}
 use Rattle.laws_guarantees.proofs.Passing.{no_request_is_lost}
 

@@ -4,7 +4,7 @@ use Rattle.std.proofs.Common.{sym, ap, ◌∙◌, subst}
 use Rattle.std.specs.List.{AllByRecursion as Every}
 use Rattle.std.proofs.lemmas.List.Sums.{fold-append}
 use Rattle.qc_stamp.specs.declared.stamp.TxId.{TxId}
-use Rattle.qc_decl.specs.Names.{IsAccepted, is_client, is_site}
+use Rattle.qc_decl.specs.Vocabulary.{IsAccepted, is_client, is_site}
 use Rattle.qc_decl.specs.declared.declaration.Declaration.{Declaration}
 use Rattle.qc_msg.specs.declared.message.Message.{Message}
 use Rattle.qc_msg.specs.declared.message.Message.TheVariants as messages
@@ -13,19 +13,19 @@ use Rattle.qc_msg.specs.declared.record.Record.{Record}
 use Rattle.qc_msg.specs.declared.reply.Reply.{Reply}
 use Rattle.qc_msg.specs.declared.turn.Posting.{Posting}
 use Rattle.qc_msg.specs.declared.turn.Turn.{Turn}
-use Rattle.qc_msg.specs.Names.{Deed, Falls, Rises, Sends, Takes, Tells, Writes, quiet, sends_of, tells_of, turn_deeds}
-use Rattle.qc_msg.specs.Names.{writes_of}
+use Rattle.qc_msg.specs.Vocabulary.{Deed, Falls, Rises, Sends, Takes, Tells, Writes, quiet, sends_of, tells_of}
+use Rattle.qc_msg.specs.Vocabulary.{turn_deeds, writes_of}
 use Rattle.qc_front.specs.declared.transaction.Transaction.{Transaction}
 use Rattle.qc_client.specs.declared.client.Client.{Client}
-use Rattle.qc_client.specs.Names.{ClientMove, client_after, client_does, client_takes, moved, new_client, sent_one}
-use Rattle.qc_core.specs.Names.{Acts, posts, starts, takes}
-use Rattle.qc_promise.specs.Names.{Account, account_at, new_account}
-use Rattle.laws_due.specs.Names.{Ties}
+use Rattle.qc_client.specs.Vocabulary.{ClientMove, client_after, client_does, client_takes, moved, new_client, sent_one}
+use Rattle.qc_core.specs.Vocabulary.{Acts, posts, starts, takes}
+use Rattle.qc_promise.specs.Vocabulary.{Account, account_at, new_account}
+use Rattle.laws_due.specs.Vocabulary.{Ties}
 use Rattle.laws_due.proofs.Courses.{clients_tied}
 use Rattle.laws_turns.proofs.Bounding.{lawful_turn, turn-posts}
 use Rattle.laws_turns.proofs.ClientsWithin.{IsPost}
 use Rattle.laws_turns.proofs.InRuns.{IsResting, deals_acts}
-use Rattle.laws_guarantees.specs.Names.{name_of}
+use Rattle.laws_guarantees.specs.Vocabulary.{name_of}
 use Rattle.laws_guarantees.proofs.AskedClients.{input_keeps}
 use Rattle.laws_guarantees.proofs.SitesTold.{HasAsked, open_posted, open_sent}
 use Rattle.laws_guarantees.proofs.Names.{front_name, taken_named, tied_named}

@@ -1,12 +1,12 @@
 -- An actor with an open input: its last deed is that it took it.
 use Rattle.std.proofs.Common.{◌≡◌, ℕ, Bool, true, false, List, [], ◌∷◌, ◌++◌, Some, slice_get, refl}
-use Rattle.qc_core.specs.Names.{Acts, IsLawful, MayTake, posts, starts, takes}
+use Rattle.qc_core.specs.Vocabulary.{Acts, IsLawful, MayTake, posts, starts, takes}
 use Rattle.qc_decl.specs.declared.declaration.Declaration.{Declaration}
 use Rattle.qc_msg.specs.declared.step.Input.{Input}
-use Rattle.qc_msg.specs.Names.{Deed, Entry, Takes, deeds}
-use Rattle.qc_script.specs.Names.{Runs}
+use Rattle.qc_msg.specs.Vocabulary.{Deed, Entry, Takes, deeds}
+use Rattle.qc_script.specs.Vocabulary.{Runs}
 use Rattle.qc_script.specs.declared.script.Script.{Script}
-use Rattle.laws_turns.specs.Names.{ActsIn}
+use Rattle.laws_turns.specs.Vocabulary.{ActsIn}
 use Rattle.laws_turns.proofs.Acted.{run_acts}
 
 pub record IsAtTake (decl : Declaration) (a : ℕ) (ds : List Deed) : Type 0 where

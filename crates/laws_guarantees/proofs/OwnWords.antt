@@ -5,11 +5,11 @@ use Rattle.std.specs.Prelude.{option_to_list}
 use Rattle.std.specs.List.{AllByRecursion as Every, cons_option}
 use Rattle.std.proofs.lemmas.Bool.{le-leb, ltb-true, ltb-false, lt-ltb}
 use Rattle.std.proofs.lemmas.List.Sums.{fold-append}
-use Rattle.qc_list.specs.Names.{In}
+use Rattle.qc_list.specs.Vocabulary.{In}
 use Rattle.qc_list.proofs.Members.{every-In, every-from_In}
 use Rattle.qc_stamp.specs.declared.stamp.TxId.{TxId}
-use Rattle.qc_stamp.specs.Names.{same_tx}
-use Rattle.qc_decl.specs.Names.{IsAccepted, administrator, client_actor, is_client}
+use Rattle.qc_stamp.specs.Vocabulary.{same_tx}
+use Rattle.qc_decl.specs.Vocabulary.{IsAccepted, administrator, client_actor, is_client}
 use Rattle.qc_decl.specs.declared.declaration.Declaration.{Declaration}
 use Rattle.qc_lock.proofs.Entries.{tx_apart}
 use Rattle.qc_msg.specs.declared.message.Envelope.{Envelope}
@@ -19,12 +19,12 @@ use Rattle.qc_msg.specs.declared.message.Outcome.{Outcome}
 use Rattle.qc_msg.specs.declared.message.Outcome.TheVariants as outcomes
 use Rattle.qc_msg.specs.declared.step.Step.{Step}
 use Rattle.qc_msg.specs.declared.step.Step.TheVariants as steps
-use Rattle.qc_msg.specs.Names.{Deed, Entry, Sends, deed_at, deeds, envelope_at, envelope_of, heard, mail}
-use Rattle.qc_promise.specs.Names.{Committed, Dead, Status, Unborn, is_final, status}
-use Rattle.qc_core.specs.Names.{IsLawful}
-use Rattle.qc_script.specs.Names.{Runs}
+use Rattle.qc_msg.specs.Vocabulary.{Deed, Entry, Sends, deed_at, deeds, envelope_at, envelope_of, heard, mail}
+use Rattle.qc_promise.specs.Vocabulary.{Committed, Dead, Status, Unborn, is_final, status}
+use Rattle.qc_core.specs.Vocabulary.{IsLawful}
+use Rattle.qc_script.specs.Vocabulary.{Runs}
 use Rattle.qc_script.specs.declared.script.Script.{Script}
-use Rattle.laws_turns.specs.Names.{ActsIn, AsksDeclared}
+use Rattle.laws_turns.specs.Vocabulary.{ActsIn, AsksDeclared}
 use Rattle.laws_turns.proofs.Acted.{run_acts}
 use Rattle.laws_turns.proofs.Idle.{IsInput, idle}
 use Rattle.laws_guarantees.proofs.IdleDeeds.{idle_open}
@@ -37,7 +37,7 @@ use Rattle.laws_turns.proofs.Moving.{Good, IsFromClient, IsMail}
 use Rattle.laws_turns.proofs.RunsGood.{all_good}
 use Rattle.laws_turns.proofs.StatusActs.{HasPage, pages}
 use Rattle.laws_guarantees.proofs.Mailed.{mail_sent}
-use Rattle.laws_guarantees.specs.Names.{asks_to_hold, begun_by, is_open_at, open_said, sent_to}
+use Rattle.laws_guarantees.specs.Vocabulary.{asks_to_hold, begun_by, is_open_at, open_said, sent_to}
 use Rattle.laws_guarantees.proofs.SitesTold.{open_sent}
 use Rattle.laws_guarantees.proofs.OpenDeeds.{open_did, open_done, open_named}
 

@@ -10,9 +10,9 @@ use Rattle.qc_msg.specs.declared.step.Step.TheVariants as steps
 use Rattle.qc_msg.specs.declared.turn.Posting.{Posting}
 use Rattle.qc_msg.specs.declared.record.Record.{Record}
 use Rattle.qc_msg.specs.declared.turn.Turn.{Turn}
-use Rattle.qc_msg.specs.Names.{Entry, by, marked, posted, sents, step_of, told, wrote}
+use Rattle.qc_msg.specs.Vocabulary.{Entry, by, marked, posted, sents, step_of, told, wrote}
 use Rattle.qc_msg.proofs.GrownMail.{by-posted}
-use Rattle.laws_guarantees.specs.Names.{Parts, before_phase, goes_on, no_parts, parts, parts_by}
+use Rattle.laws_guarantees.specs.Vocabulary.{Parts, before_phase, goes_on, no_parts, parts, parts_by}
 
 -- the parts of a history
 

@@ -9,9 +9,9 @@ use Rattle.std.proofs.lemmas.List.{append-nil, append_assoc}
 use Rattle.std.proofs.lemmas.List.Elements.{filter-append, filter_map-append}
 use Rattle.std.proofs.lemmas.List.Sums.{fold-append}
 use Rattle.qc_list.proofs.Members.{every-at}
-use Rattle.qc_core.specs.Names.{IsLawful}
+use Rattle.qc_core.specs.Vocabulary.{IsLawful}
 use Rattle.qc_decl.specs.declared.declaration.Declaration.{Declaration}
-use Rattle.qc_decl.specs.Names.{controller}
+use Rattle.qc_decl.specs.Vocabulary.{controller}
 use Rattle.qc_msg.specs.declared.message.Envelope.{Envelope}
 use Rattle.qc_msg.specs.declared.record.Record.{Record}
 use Rattle.qc_msg.specs.declared.reply.Reply.{Reply}
@@ -21,13 +21,13 @@ use Rattle.qc_msg.specs.declared.step.Input.TheVariants as inputs
 use Rattle.qc_msg.specs.declared.step.Step.TheVariants as steps
 use Rattle.qc_msg.specs.declared.turn.Posting.{Posting}
 use Rattle.qc_msg.specs.declared.turn.Turn.{Turn}
-use Rattle.qc_msg.specs.Names.{Deed, Entry, Takes, by, deeds, envelopes, mail, marked, posted, sends_of, step_of}
-use Rattle.qc_msg.specs.Names.{tells_of, turn_deeds, writes_of}
+use Rattle.qc_msg.specs.Vocabulary.{Deed, Entry, Takes, by, deeds, envelopes, mail, marked, posted, sends_of, step_of}
+use Rattle.qc_msg.specs.Vocabulary.{tells_of, turn_deeds, writes_of}
 use Rattle.qc_msg.proofs.GrownMail.{mail-append, mail-posted, mail-taken}
 use Rattle.qc_msg.proofs.DeedsGrow.{deeds-other}
 use Rattle.qc_msg.proofs.Growth.{deeds-posted, deeds-taken}
-use Rattle.qc_script.specs.Names.{Inbox, Runs, command_called, commands_for, copy_taken, empty_inbox, if_up, inbox}
-use Rattle.qc_script.specs.Names.{inbox_at, is_up, opened, phase_begun, phase_of, ready}
+use Rattle.qc_script.specs.Vocabulary.{Inbox, Runs, command_called, commands_for, copy_taken, empty_inbox, if_up, inbox}
+use Rattle.qc_script.specs.Vocabulary.{inbox_at, is_up, opened, phase_begun, phase_of, ready}
 use Rattle.qc_script.specs.Runs.{begins, takes, posts, phase, control}
 use Rattle.qc_script.specs.declared.script.PhaseLines.{PhaseLines}
 use Rattle.qc_script.specs.declared.script.Script.{Script}
@@ -35,7 +35,8 @@ use Rattle.laws_turns.proofs.Acted.{deeds-silent}
 use Rattle.laws_turns.proofs.Arrivals.{what_is_ready_was_sent}
 use Rattle.laws_turns.proofs.ReadyFirst.{ready_copy, ready_loss}
 use Rattle.laws_turns.proofs.Numbered.{mail-silent, phase_silent}
-use Rattle.laws_guarantees.specs.Names.{Arrives, IsCalm, IsUndisturbed, message_in, sent_to, taken, taken_by, taken_in}
+use Rattle.laws_guarantees.specs.Vocabulary.{Arrives, IsCalm, IsUndisturbed, message_in, sent_to, taken, taken_by}
+use Rattle.laws_guarantees.specs.Vocabulary.{taken_in}
 use Rattle.laws_guarantees.proofs.Calm.{after, turn_calm}
 
 -- in each run

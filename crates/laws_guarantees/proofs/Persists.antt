@@ -5,15 +5,15 @@ use Rattle.std.proofs.Common.{refl, sym, ap, ◌∙◌, subst, arith}
 use Rattle.std.specs.Prelude.{fold}
 use Rattle.std.proofs.lemmas.List.Sums.{fold-append}
 use Rattle.qc_stamp.specs.declared.stamp.TxId.{TxId}
-use Rattle.qc_list.specs.Names.{In}
+use Rattle.qc_list.specs.Vocabulary.{In}
 use Rattle.qc_entry.specs.declared.line.Op.{Op}
 use Rattle.qc_decl.specs.declared.declaration.Declaration.{Declaration}
 use Rattle.qc_msg.specs.declared.reply.Reply.TheVariants as replies
-use Rattle.qc_core.specs.Names.{AreSteady}
+use Rattle.qc_core.specs.Vocabulary.{AreSteady}
 use Rattle.qc_msg.specs.declared.begun.LifeAt.{LifeAt}
-use Rattle.qc_msg.specs.Names.{Deed, Falls, Rises, Sends, Takes, Tells, Writes}
-use Rattle.qc_promise.specs.Names.{Account, Current, account_at, new_account}
-use Rattle.laws_due.specs.Names.{AreByRows, IsByRow}
+use Rattle.qc_msg.specs.Vocabulary.{Deed, Falls, Rises, Sends, Takes, Tells, Writes}
+use Rattle.qc_promise.specs.Vocabulary.{Account, Current, account_at, new_account}
+use Rattle.laws_due.specs.Vocabulary.{AreByRows, IsByRow}
 use Rattle.laws_guarantees.proofs.DueNumbers.{due_number}
 use Rattle.laws_guarantees.proofs.FirstGrants.{KeepsLives, same_lives}
 use Rattle.laws_guarantees.proofs.Moving.{Moves, Changes, Ends, Begins, Step, steady_step}

@@ -4,25 +4,25 @@ use Rattle.std.proofs.Common.{option_to_list, slice_get, refl, sym, ap, ◌∙�
 use Rattle.std.specs.Prelude.{fold}
 use Rattle.std.proofs.lemmas.List.Sums.{fold-append}
 use Rattle.qc_decl.proofs.Clients.{client_within}
-use Rattle.qc_core.specs.Names.{IsLawful}
+use Rattle.qc_core.specs.Vocabulary.{IsLawful}
 use Rattle.qc_decl.specs.declared.declaration.Declaration.{Declaration}
-use Rattle.qc_decl.specs.Names.{is_client}
+use Rattle.qc_decl.specs.Vocabulary.{is_client}
 use Rattle.qc_msg.specs.declared.reply.Reply.{Reply}
 use Rattle.qc_msg.specs.declared.reply.Reply.TheVariants as replies
 use Rattle.qc_msg.specs.declared.step.Command.{Command}
 use Rattle.qc_msg.specs.declared.step.Step.TheVariants as steps
-use Rattle.qc_msg.specs.Names.{Entry, Tells, deeds, envelope_of, mail, marked}
+use Rattle.qc_msg.specs.Vocabulary.{Entry, Tells, deeds, envelope_of, mail, marked}
 use Rattle.qc_msg.proofs.DeedsGrow.{deeds-append}
-use Rattle.qc_promise.specs.Names.{Account, Current, account, account_at, account_told, answer_of, found_absent}
-use Rattle.qc_promise.specs.Names.{new_account, responded, with_absent, with_response}
-use Rattle.laws_due.specs.Names.{AreByRows, IsByRow}
+use Rattle.qc_promise.specs.Vocabulary.{Account, Current, account, account_at, account_told, answer_of, found_absent}
+use Rattle.qc_promise.specs.Vocabulary.{new_account, responded, with_absent, with_response}
+use Rattle.laws_due.specs.Vocabulary.{AreByRows, IsByRow}
 use Rattle.laws_due.proofs.Courses.{clients_due}
-use Rattle.qc_script.specs.Names.{Runs}
+use Rattle.qc_script.specs.Vocabulary.{Runs}
 use Rattle.qc_script.specs.declared.script.Script.{Script}
 use Rattle.laws_turns.proofs.Acted.{has_entry, run_acts}
-use Rattle.laws_turns.specs.Names.{ActsIn}
+use Rattle.laws_turns.specs.Vocabulary.{ActsIn}
 use Rattle.laws_guarantees.proofs.Requests.{due_at}
-use Rattle.laws_guarantees.specs.Names.{Records}
+use Rattle.laws_guarantees.specs.Vocabulary.{Records}
 use Rattle.laws_guarantees.proofs.DueResponses.{IsAnswered, due_absent, due_response}
 
 module _ (decl : Declaration) (script : Script) (h : List Entry) (open_inputs : List Bool)

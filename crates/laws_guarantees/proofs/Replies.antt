@@ -2,7 +2,7 @@
 use Rattle.std.proofs.Common.{◌≡◌, ℕ, ◌+◌, Bool, true, false, List, [], ◌∷◌, ◌++◌, length, Option, Some, None}
 use Rattle.std.proofs.Common.{slice_get, refl, sym, ap, ◌∙◌, subst, append_assoc}
 use Rattle.std.specs.Prelude.{slice_set}
-use Rattle.qc_core.specs.Names.{IsLawful}
+use Rattle.qc_core.specs.Vocabulary.{IsLawful}
 use Rattle.qc_decl.specs.declared.declaration.Declaration.{Declaration}
 use Rattle.qc_msg.specs.declared.record.Record.{Record}
 use Rattle.qc_msg.specs.declared.reply.Reply.{Reply}
@@ -13,12 +13,12 @@ use Rattle.qc_msg.specs.declared.step.Input.TheVariants as inputs
 use Rattle.qc_msg.specs.declared.step.Step.{Step}
 use Rattle.qc_msg.specs.declared.step.Step.TheVariants as steps
 use Rattle.qc_msg.specs.declared.turn.Posting.{Posting}
-use Rattle.qc_msg.specs.Names.{Entry, by, mail, marked, posted, sents, step_of, told, wrote}
-use Rattle.qc_script.specs.Names.{Runs, phase_of, step_of_control}
+use Rattle.qc_msg.specs.Vocabulary.{Entry, by, mail, marked, posted, sents, step_of, told, wrote}
+use Rattle.qc_script.specs.Vocabulary.{Runs, phase_of, step_of_control}
 use Rattle.qc_script.specs.Runs.{begins, takes, posts, phase, control}
 use Rattle.qc_script.specs.declared.script.Script.{Script}
 use Rattle.laws_turns.proofs.Places.{slice_get-set_same}
-use Rattle.laws_guarantees.specs.Names.{IsRunWithout}
+use Rattle.laws_guarantees.specs.Vocabulary.{IsRunWithout}
 use Rattle.laws_guarantees.proofs.Moments.{First, Second, split}
 
 -- the reply of a step that told one

@@ -5,7 +5,7 @@ use Rattle.std.specs.Prelude.{fold, filter}
 use Rattle.std.specs.Cmp.Lexicographic.{pointwise}
 use Rattle.std.specs.Option.{option_map_or}
 use Rattle.qc_stamp.specs.declared.stamp.TxId.{TxId}
-use Rattle.qc_list.specs.Names.{In}
+use Rattle.qc_list.specs.Vocabulary.{In}
 use Rattle.qc_list.proofs.Members.{In-first}
 use Rattle.qc_entry.specs.declared.line.Line.{Line}
 use Rattle.qc_entry.specs.declared.line.OwnLine.{OwnLine}
@@ -16,11 +16,11 @@ use Rattle.qc_msg.specs.declared.message.Want.TheVariants.{Read, Append, Prepare
 use Rattle.qc_msg.specs.declared.step.Command.{Command}
 use Rattle.qc_msg.specs.declared.step.Command.TheVariants as commands
 use Rattle.qc_msg.specs.declared.step.Input.TheVariants as inputs
-use Rattle.qc_msg.specs.Names.{Deed, Sends, Takes}
-use Rattle.qc_promise.specs.Names.{Account, Current, account_at, answer_of, carries, command_asks, is_asked_for, is_of}
-use Rattle.qc_promise.specs.Names.{new_account, next_own, own_appended, same_line, same_own, weighs}
-use Rattle.laws_due.specs.Names.{AreByRows, IsByRow}
-use Rattle.laws_refinement.specs.Names.{IsNamed}
+use Rattle.qc_msg.specs.Vocabulary.{Deed, Sends, Takes}
+use Rattle.qc_promise.specs.Vocabulary.{Account, Current, account_at, answer_of, carries, command_asks, is_asked_for}
+use Rattle.qc_promise.specs.Vocabulary.{is_of, new_account, next_own, own_appended, same_line, same_own, weighs}
+use Rattle.laws_due.specs.Vocabulary.{AreByRows, IsByRow}
+use Rattle.laws_refinement.specs.Vocabulary.{IsNamed}
 use Rattle.laws_guarantees.proofs.Accounts.{HasGrounds, and_first, and_second}
 use Rattle.laws_guarantees.proofs.RequestGrounds.{has_grounds}
 use Rattle.laws_guarantees.proofs.Room.{IsNamedWant}

@@ -6,37 +6,37 @@ use Rattle.std.specs.Prelude.{sum_by, count_by, option_and_then}
 use Rattle.std.proofs.lemmas.Bool.{le-leb}
 use Rattle.std.proofs.lemmas.List.{length-map}
 use Rattle.std.proofs.lemmas.List.Sums.{count_by-le-length, length-filter}
-use Rattle.qc_list.specs.Names.{In}
+use Rattle.qc_list.specs.Vocabulary.{In}
 use Rattle.qc_entry.specs.declared.line.Line.{Line}
 use Rattle.qc_entry.specs.declared.line.Op.{Op}
 use Rattle.qc_entry.specs.declared.line.OwnLine.{OwnLine}
 use Rattle.qc_entry.specs.declared.line.ReadLock.{ReadLock}
 use Rattle.qc_entry.specs.declared.record.Commit.{Commit as CommitRecord}
-use Rattle.qc_entry.specs.Names.{has_line, without}
+use Rattle.qc_entry.specs.Vocabulary.{has_line, without}
 use Rattle.qc_entry.proofs.Union.{in_second}
 use Rattle.qc_decl.specs.declared.declaration.Declaration.{Declaration}
-use Rattle.qc_decl.specs.Names.{IsAccepted, is_client, is_site, most_committed_operations, most_record_bytes}
-use Rattle.qc_lock.specs.Names.{held_of}
+use Rattle.qc_decl.specs.Vocabulary.{IsAccepted, is_client, is_site, most_committed_operations, most_record_bytes}
+use Rattle.qc_lock.specs.Vocabulary.{held_of}
 use Rattle.qc_lock.proofs.Order.{sorted-find}
 use Rattle.qc_msg.specs.declared.message.Envelope.{Envelope}
 use Rattle.qc_msg.specs.declared.message.Message.{Message}
 use Rattle.qc_msg.specs.declared.message.Message.TheVariants as messages
 use Rattle.qc_msg.specs.declared.message.Want.{Want}
 use Rattle.qc_msg.specs.declared.message.Want.TheVariants.{Read, Append, Prepare}
-use Rattle.qc_msg.specs.Names.{answered}
-use Rattle.theory_onecopy.specs.Names.{Executed, own_line}
-use Rattle.theory_machine.specs.Names.{AreInOrder, IsExecutedOrChosen, IsOwnClosedAt, LogLaws, Voting as IsVoting}
-use Rattle.theory_machine.specs.Names.{items_of, op_of, site_after, state}
+use Rattle.qc_msg.specs.Vocabulary.{answered}
+use Rattle.theory_onecopy.specs.Vocabulary.{Executed, own_line}
+use Rattle.theory_machine.specs.Vocabulary.{AreInOrder, IsExecutedOrChosen, IsOwnClosedAt, LogLaws, Voting as IsVoting}
+use Rattle.theory_machine.specs.Vocabulary.{items_of, op_of, site_after, state}
 use Rattle.theory_machine.proofs.Keeps.{laws}
 use Rattle.theory_machine.proofs.LogKeeps.{log_laws}
 use Rattle.qc_commit.specs.declared.desk.Voting.{Voting}
 use Rattle.qc_front.specs.declared.doing.Doing.{Doing}
 use Rattle.qc_front.specs.declared.doing.Doing.TheVariants.{Idle}
 use Rattle.qc_front.specs.declared.transaction.Transaction.{Transaction}
-use Rattle.qc_front.specs.Names.{BegunHolds}
-use Rattle.qc_site.specs.Names.{IsSiteSorted, prepare_length, promise_of}
-use Rattle.laws_refinement.specs.Names.{AreVotes, BegunMirrors, FrontStands, IsNamedAt, Net, Refines, RunningMirrors}
-use Rattle.laws_refinement.specs.Names.{TransactionMirrors, VotesMirror, status_by}
+use Rattle.qc_front.specs.Vocabulary.{BegunHolds}
+use Rattle.qc_site.specs.Vocabulary.{IsSiteSorted, prepare_length, promise_of}
+use Rattle.laws_refinement.specs.Vocabulary.{AreVotes, BegunMirrors, FrontStands, IsNamedAt, Net, Refines}
+use Rattle.laws_refinement.specs.Vocabulary.{RunningMirrors, TransactionMirrors, VotesMirror, status_by}
 use Rattle.laws_atomic.proofs.Calm.{IsCalm, all_up, is_reached}
 use Rattle.laws_refinement.proofs.NetLaws.{site_lines}
 use Rattle.laws_refinement.proofs.Refining.{nets_refine}

@@ -2,14 +2,14 @@
 -- life in which it granted.
 use Rattle.std.proofs.Common.{Bool, inl, List}
 use Rattle.qc_stamp.specs.declared.stamp.TxId.{TxId}
-use Rattle.qc_core.specs.Names.{IsLawful}
+use Rattle.qc_core.specs.Vocabulary.{IsLawful}
 use Rattle.qc_decl.specs.declared.declaration.Declaration.{Declaration}
-use Rattle.qc_decl.specs.Names.{IsAccepted}
-use Rattle.qc_msg.specs.Names.{Entry}
+use Rattle.qc_decl.specs.Vocabulary.{IsAccepted}
+use Rattle.qc_msg.specs.Vocabulary.{Entry}
 use Rattle.theory_machine.proofs.Keeps.{laws}
-use Rattle.qc_script.specs.Names.{IsScriptFor, Runs}
+use Rattle.qc_script.specs.Vocabulary.{IsScriptFor, Runs}
 use Rattle.qc_script.specs.declared.script.Script.{Script}
-use Rattle.laws_refinement.specs.Names.{Refines}
+use Rattle.laws_refinement.specs.Vocabulary.{Refines}
 use Rattle.laws_atomic.proofs.CalmGrants.{is_of_its_life}
 use Rattle.laws_atomic.proofs.Stood.{Stood}
 use Rattle.laws_guarantees.proofs.Live.{mirror, stood}

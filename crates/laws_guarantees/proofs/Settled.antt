@@ -5,15 +5,15 @@ use Rattle.std.proofs.Common.{◌≡◌, ◌≢◌, ℕ, zero, suc, ◌<◌, ◌
 use Rattle.std.proofs.Common.{sym, ap, ◌∙◌, subst, arith}
 use Rattle.qc_stamp.specs.declared.stamp.Stamp.{Stamp}
 use Rattle.qc_stamp.specs.declared.stamp.TxId.{TxId}
-use Rattle.qc_list.specs.Names.{In}
+use Rattle.qc_list.specs.Vocabulary.{In}
 use Rattle.qc_list.proofs.Members.{In-first, In-second}
 use Rattle.qc_entry.specs.declared.record.Commit.{Commit as CommitRecord}
 use Rattle.qc_decl.specs.declared.declaration.Declaration.{Declaration}
-use Rattle.qc_decl.specs.Names.{IsAccepted, plan_in}
-use Rattle.theory_machine.specs.Names.{Aborted, Act, Committed, CountedLaw, Decision, Deed, Granted, Grants}
-use Rattle.theory_machine.specs.Names.{IsDecisionFrom, IsDependedOn, IsOutcome, IsResolved, IsRun, Item, LearnsCommit}
-use Rattle.theory_machine.specs.Names.{Promise, Snapshot, SparesUntilDone, StateLaws, Status, YesVote, epoch_from}
-use Rattle.theory_machine.specs.Names.{state}
+use Rattle.qc_decl.specs.Vocabulary.{IsAccepted, plan_in}
+use Rattle.theory_machine.specs.Vocabulary.{Aborted, Act, Committed, CountedLaw, Decision, Deed, Granted, Grants}
+use Rattle.theory_machine.specs.Vocabulary.{IsDecisionFrom, IsDependedOn, IsOutcome, IsResolved, IsRun, Item}
+use Rattle.theory_machine.specs.Vocabulary.{LearnsCommit, Promise, Snapshot, SparesUntilDone, StateLaws, Status}
+use Rattle.theory_machine.specs.Vocabulary.{YesVote, epoch_from, state}
 use Rattle.theory_machine.specs.State as machine
 use Rattle.theory_machine.proofs.Decided.{IsPast, of_epoch, order, past, suc_of, tells}
 use Rattle.theory_machine.proofs.Keeps.{laws}

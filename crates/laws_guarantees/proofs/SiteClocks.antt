@@ -1,35 +1,35 @@
 -- A site's clock has passed all lines that it knows, and each Done that it wrote.
-use Rattle.std.proofs.Common.{◌≡◌, ◌⊎◌, ◌≤◌, ℕ, ◌+◌, max, Bool, true, false, List, ◌∷◌, ◌++◌, inl, inr, Some, slice_get}
-use Rattle.std.proofs.Common.{refl, sym, ap, ◌∙◌, subst, arith, ltb-true}
+use Rattle.std.proofs.Common.{[], ◌≡◌, ◌⊎◌, ◌≤◌, ℕ, ◌+◌, max, Bool, true, false, List, ◌∷◌, ◌++◌, inl, inr, Some}
+use Rattle.std.proofs.Common.{slice_get, refl, sym, ap, ◌∙◌, subst, arith, ltb-true}
 use Rattle.std.specs.Prelude.{fold}
 use Rattle.std.specs.List.{flat_map}
 use Rattle.qc_stamp.specs.declared.stamp.TxId.{TxId}
-use Rattle.qc_list.specs.Names.{In}
+use Rattle.qc_list.specs.Vocabulary.{In}
 use Rattle.qc_list.proofs.Members.{In-first, In-second}
-use Rattle.qc_entry.specs.Names.{union}
+use Rattle.qc_entry.specs.Vocabulary.{union}
 use Rattle.qc_entry.specs.declared.line.Line.{Line}
-use Rattle.qc_core.specs.Names.{Acts, AreSteady, IsLawful, IsShown, IsSteady, posts, starts, takes}
+use Rattle.qc_core.specs.Vocabulary.{Acts, AreSteady, IsLawful, IsShown, IsSteady, posts, starts, takes}
 use Rattle.qc_core.proofs.SiteLines.{began_shows}
 use Rattle.qc_decl.specs.declared.declaration.Declaration.{Declaration}
-use Rattle.qc_decl.specs.Names.{IsAccepted, is_site}
+use Rattle.qc_decl.specs.Vocabulary.{IsAccepted, is_site}
 use Rattle.qc_msg.specs.declared.message.Message.{Message}
 use Rattle.qc_msg.specs.declared.record.Record.{Record}
 use Rattle.qc_msg.specs.declared.record.Record.TheVariants as records
 use Rattle.qc_msg.specs.declared.step.Input.{Input}
 use Rattle.qc_msg.specs.declared.step.Input.TheVariants as inputs
-use Rattle.qc_msg.specs.Names.{Deed, Entry, Falls, Rises, Sends, Takes, Tells, Writes, deeds, turn_deeds}
-use Rattle.qc_promise.specs.Names.{Act, AreDue, IsDueAt, IsDueOrOpen, Lifetime, Wrote, clock_shown, clocks_at}
-use Rattle.qc_promise.specs.Names.{clocks_in, clocks_in_record, fallen_in, log_shown, posted_next, turn_due}
-use Rattle.theory_machine.specs.Names.{state}
-use Rattle.qc_script.specs.Names.{IsScriptFor, Runs}
+use Rattle.qc_msg.specs.Vocabulary.{Deed, Entry, Falls, Rises, Sends, Takes, Tells, Writes, deeds, turn_deeds}
+use Rattle.qc_promise.specs.Vocabulary.{Act, AreDue, IsDueAt, IsDueOrOpen, Lifetime, Wrote, clock_shown, clocks_at}
+use Rattle.qc_promise.specs.Vocabulary.{clocks_in, clocks_in_record, fallen_in, log_shown, posted_next, turn_due}
+use Rattle.theory_machine.specs.Vocabulary.{state}
+use Rattle.qc_script.specs.Vocabulary.{IsScriptFor, Runs}
 use Rattle.qc_script.specs.declared.script.Script.{Script}
-use Rattle.qc_site.specs.Names.{SiteState, known, site_after}
+use Rattle.qc_site.specs.Vocabulary.{SiteState, known, site_after}
 use Rattle.laws_turns.proofs.Acted.{run_acts}
 use Rattle.laws_turns.proofs.Served.{run_due, run_shown}
-use Rattle.laws_turns.specs.Names.{ActsIn}
+use Rattle.laws_turns.specs.Vocabulary.{ActsIn}
 use Rattle.laws_turns.proofs.FirstLives.{only_life}
 use Rattle.laws_turns.proofs.Up.{run_up}
-use Rattle.laws_refinement.specs.Names.{SiteMirrors}
+use Rattle.laws_refinement.specs.Vocabulary.{SiteMirrors}
 use Rattle.laws_atomic.proofs.Calm.{all_up}
 use Rattle.laws_guarantees.proofs.Voted.{mirror, stood}
 use Rattle.laws_guarantees.proofs.DonesWritten.{IsBrought, write_of, given_brings}

@@ -2,12 +2,12 @@
 use Rattle.std.proofs.Common.{◌≡◌, ◌⊎◌, ℕ, true, List, ◌++◌, inl, inr, length, Some, slice_get, refl, sym, ap, ◌∙◌}
 use Rattle.std.proofs.Common.{subst}
 use Rattle.qc_stamp.specs.declared.stamp.TxId.{TxId}
-use Rattle.qc_list.specs.Names.{In}
+use Rattle.qc_list.specs.Vocabulary.{In}
 use Rattle.theory_onecopy.proofs.Lists.{in_split}
 use Rattle.qc_entry.specs.declared.line.Line.{Line}
 use Rattle.qc_decl.specs.declared.declaration.Declaration.{Declaration}
-use Rattle.qc_decl.specs.Names.{IsAccepted, is_site}
-use Rattle.qc_lock.specs.Names.{is_held}
+use Rattle.qc_decl.specs.Vocabulary.{IsAccepted, is_site}
+use Rattle.qc_lock.specs.Vocabulary.{is_held}
 use Rattle.qc_msg.specs.declared.message.Answer.TheVariants as answers
 use Rattle.qc_msg.specs.declared.message.Envelope.{Envelope}
 use Rattle.qc_msg.specs.declared.message.Message.{Message}
@@ -16,10 +16,10 @@ use Rattle.qc_msg.specs.declared.message.Want.{Want}
 use Rattle.qc_msg.specs.declared.step.Input.{Input}
 use Rattle.qc_msg.specs.declared.step.Input.TheVariants as inputs
 use Rattle.qc_msg.specs.declared.turn.Posting.{Posting}
-use Rattle.qc_msg.specs.Names.{envelopes}
-use Rattle.theory_machine.specs.Names.{state}
-use Rattle.qc_site.specs.Names.{SiteMove, SiteState, passed, site_at, site_takes}
-use Rattle.laws_refinement.specs.Names.{Backed, IsGrantTo, IsRequest, MayCome, Net, Refines, after_site}
+use Rattle.qc_msg.specs.Vocabulary.{envelopes}
+use Rattle.theory_machine.specs.Vocabulary.{state}
+use Rattle.qc_site.specs.Vocabulary.{SiteMove, SiteState, passed, site_at, site_takes}
+use Rattle.laws_refinement.specs.Vocabulary.{Backed, IsGrantTo, IsRequest, MayCome, Net, Refines, after_site}
 use Rattle.laws_atomic.proofs.Calm.{IsCalm, is_reached}
 use Rattle.laws_atomic.proofs.Calm as calm
 use Rattle.laws_refinement.proofs.Machine.{put_one, slice_get-append}

@@ -4,19 +4,19 @@ use Rattle.std.proofs.Common.{◌∙◌, subst}
 use Rattle.std.specs.declared.cmp.Ordering.{Ordering}
 use Rattle.std.specs.declared.cmp.Ordering.TheVariants.{Less, Equal, Greater}
 use Rattle.qc_stamp.specs.declared.stamp.TxId.{TxId}
-use Rattle.qc_stamp.specs.Names.{same_tx}
+use Rattle.qc_stamp.specs.Vocabulary.{same_tx}
 use Rattle.qc_stamp.proofs.Orders.{same_tx_is}
-use Rattle.qc_list.specs.Names.{In, by_order, inserted}
+use Rattle.qc_list.specs.Vocabulary.{In, by_order, inserted}
 use Rattle.qc_entry.specs.declared.line.OwnLine.{OwnLine}
 use Rattle.qc_entry.specs.declared.line.ReadLock.{ReadLock}
 use Rattle.qc_decl.specs.declared.declaration.Declaration.{Declaration}
 use Rattle.qc_lock.specs.declared.held.Held.{Held}
-use Rattle.qc_lock.specs.Names.{held_of, lock_cmp, with_held, with_lock, with_locks, without_held}
+use Rattle.qc_lock.specs.Vocabulary.{held_of, lock_cmp, with_held, with_lock, with_locks, without_held}
 use Rattle.qc_lock.proofs.Entries.{entry-without, held-without_other, locks_given, others_stay}
 use Rattle.qc_msg.specs.declared.message.Message.{Message}
 use Rattle.qc_msg.specs.declared.message.Message.TheVariants as messages
 use Rattle.qc_msg.specs.declared.message.Want.TheVariants.{Read}
-use Rattle.qc_site.specs.Names.{SiteState, site_at}
+use Rattle.qc_site.specs.Vocabulary.{SiteState, site_at}
 use Rattle.laws_atomic.proofs.FirstSites.{IsCalmMessage}
 use Rattle.qc_site.proofs.Cases.{state_cases}
 

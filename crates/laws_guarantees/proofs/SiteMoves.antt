@@ -1,18 +1,18 @@
 -- What a site's step says of grants, of what is held, and of the answers to a Prepare.
-use Rattle.std.proofs.Common.{◌≡◌, ◌⊎◌, ◌<◌, ℕ, ◌==◌, ◌&&◌, nat_le, nat_lt, not, Bool, true, false, cond, List, ◌∷◌}
+use Rattle.std.proofs.Common.{[], ◌≡◌, ◌⊎◌, ◌<◌, ℕ, ◌==◌, ◌&&◌, nat_le, nat_lt, not, Bool, true, false, cond, List, ◌∷◌}
 use Rattle.std.proofs.Common.{inl, inr, length, Option, Some, None, is_some, refl, sym, ap, ◌∙◌, subst, arith, eqb-true}
 use Rattle.std.proofs.Common.{ltb-true}
 use Rattle.qc_stamp.specs.declared.stamp.TxId.{TxId}
-use Rattle.qc_stamp.specs.Names.{same_tx}
+use Rattle.qc_stamp.specs.Vocabulary.{same_tx}
 use Rattle.qc_stamp.proofs.Orders.{same_tx_is}
-use Rattle.qc_list.specs.Names.{In}
+use Rattle.qc_list.specs.Vocabulary.{In}
 use Rattle.qc_entry.specs.declared.line.Line.{Line}
 use Rattle.qc_entry.specs.declared.line.OwnLine.{OwnLine}
 use Rattle.qc_entry.specs.declared.line.ReadLock.{ReadLock}
 use Rattle.qc_decl.specs.declared.declaration.Declaration.{Declaration}
-use Rattle.qc_decl.specs.Names.{most_record_bytes}
+use Rattle.qc_decl.specs.Vocabulary.{most_record_bytes}
 use Rattle.qc_lock.specs.declared.held.Held.{Held}
-use Rattle.qc_lock.specs.Names.{held_of, is_held, with_entry, with_held, with_locks, with_owns, without_held}
+use Rattle.qc_lock.specs.Vocabulary.{held_of, is_held, with_entry, with_held, with_locks, with_owns, without_held}
 use Rattle.qc_lock.proofs.Entries.{entry-put, entry-without_other, others_stay}
 use Rattle.qc_msg.specs.declared.message.Answer.{Answer}
 use Rattle.qc_msg.specs.declared.message.Answer.TheVariants as answers
@@ -23,10 +23,10 @@ use Rattle.qc_msg.specs.declared.message.Outcome.TheVariants.{Committed}
 use Rattle.qc_msg.specs.declared.message.Want.{Want}
 use Rattle.qc_msg.specs.declared.message.Want.TheVariants.{Read, Append, Prepare}
 use Rattle.qc_msg.specs.declared.turn.Posting.{Posting}
-use Rattle.qc_site.specs.Names.{SiteMove, SiteState, answers as answering_turn, clashing, closed_fault, fault_of}
-use Rattle.qc_site.specs.Names.{grants, is_final, is_prepared, moved, prepare_length, prepares, promise_of, promised}
-use Rattle.qc_site.specs.Names.{site_at, votes}
-use Rattle.qc_msg.specs.Names.{quiet}
+use Rattle.qc_site.specs.Vocabulary.{SiteMove, SiteState, answers as answering_turn, clashing, closed_fault, fault_of}
+use Rattle.qc_site.specs.Vocabulary.{grants, is_final, is_prepared, moved, prepare_length, prepares, promise_of}
+use Rattle.qc_site.specs.Vocabulary.{promised, site_at, votes}
+use Rattle.qc_msg.specs.Vocabulary.{quiet}
 use Rattle.qc_site.proofs.RequestCases.{append_cases, choose, fault_is, prepare_cases, read_cases, request_cases}
 use Rattle.qc_site.proofs.Cases.{state_cases}
 use Rattle.laws_atomic.proofs.FirstSites.{IsCalmMessage}

@@ -1,9 +1,9 @@
 -- The end of a transaction is told to each site that it asked to hold something.
-use Rattle.std.proofs.Common.{◌≡◌, ℕ, ◌==◌, ◌&&◌, inl, inr, Bool, true, false, cond, List, ◌∷◌, map, fold, Option, Some}
-use Rattle.std.proofs.Common.{refl, sym, ap, ◌∙◌, subst, eq-eqb, eqb-true}
-use Rattle.qc_list.specs.Names.{In}
+use Rattle.std.proofs.Common.{[], ◌≡◌, ℕ, ◌==◌, ◌&&◌, inl, inr, Bool, true, false, cond, List, ◌∷◌, map, fold, Option}
+use Rattle.std.proofs.Common.{Some, refl, sym, ap, ◌∙◌, subst, eq-eqb, eqb-true}
+use Rattle.qc_list.specs.Vocabulary.{In}
 use Rattle.qc_stamp.specs.declared.stamp.TxId.{TxId}
-use Rattle.qc_stamp.specs.Names.{same_tx}
+use Rattle.qc_stamp.specs.Vocabulary.{same_tx}
 use Rattle.qc_lock.proofs.Entries.{same_self, tx_apart}
 use Rattle.qc_msg.specs.declared.begun.Begun.{Begun}
 use Rattle.qc_msg.specs.declared.message.Message.{Message}
@@ -11,13 +11,13 @@ use Rattle.qc_msg.specs.declared.message.Message.TheVariants as messages
 use Rattle.qc_msg.specs.declared.message.Outcome.{Outcome}
 use Rattle.qc_msg.specs.declared.message.Want.{Want}
 use Rattle.qc_msg.specs.declared.turn.Posting.{Posting}
-use Rattle.qc_msg.specs.Names.{decisions}
-use Rattle.qc_promise.specs.Names.{is_final}
+use Rattle.qc_msg.specs.Vocabulary.{decisions}
+use Rattle.qc_promise.specs.Vocabulary.{is_final}
 use Rattle.qc_front.specs.declared.transaction.Transaction.{Transaction}
-use Rattle.qc_front.specs.Names.{request_of, with_asked}
-use Rattle.laws_turns.specs.Names.{begun_in}
+use Rattle.qc_front.specs.Vocabulary.{request_of, with_asked}
+use Rattle.laws_turns.specs.Vocabulary.{begun_in}
 use Rattle.laws_guarantees.proofs.Joined.{joined_first, joined_second}
-use Rattle.laws_guarantees.specs.Names.{asks_to_hold, open_said}
+use Rattle.laws_guarantees.specs.Vocabulary.{asks_to_hold, open_said}
 
 -- whether a transaction is open at a site after messages more
 

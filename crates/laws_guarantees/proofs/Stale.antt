@@ -6,13 +6,13 @@ use Rattle.std.specs.Prelude.{fold, slice_set, sum_by}
 use Rattle.std.proofs.lemmas.List.{append-nil}
 use Rattle.qc_decl.proofs.Clients.{client_within}
 use Rattle.qc_stamp.specs.declared.stamp.TxId.{TxId}
-use Rattle.qc_list.specs.Names.{In}
+use Rattle.qc_list.specs.Vocabulary.{In}
 use Rattle.qc_list.proofs.Members.{every-at, every-from_In}
 use Rattle.qc_entry.specs.declared.record.Commit.{Commit as CommitRecord}
-use Rattle.qc_core.specs.Names.{IsLawful}
+use Rattle.qc_core.specs.Vocabulary.{IsLawful}
 use Rattle.qc_decl.specs.declared.declaration.Declaration.{Declaration}
-use Rattle.qc_decl.specs.Names.{IsAccepted, is_client, is_site, most_committed_operations, most_record_bytes}
-use Rattle.qc_lock.specs.Names.{is_held}
+use Rattle.qc_decl.specs.Vocabulary.{IsAccepted, is_client, is_site, most_committed_operations, most_record_bytes}
+use Rattle.qc_lock.specs.Vocabulary.{is_held}
 use Rattle.qc_msg.specs.declared.message.Answer.{Answer}
 use Rattle.qc_msg.specs.declared.message.Envelope.{Envelope}
 use Rattle.qc_msg.specs.declared.message.Message.{Message}
@@ -22,25 +22,25 @@ use Rattle.qc_msg.specs.declared.message.Want.TheVariants.{Prepare}
 use Rattle.qc_msg.specs.declared.step.Input.{Input}
 use Rattle.qc_msg.specs.declared.turn.Posting.{Posting}
 use Rattle.qc_msg.specs.declared.turn.Turn.{Turn}
-use Rattle.qc_msg.specs.Names.{Deed, Entry, WasSentTo, answered, by as by_actor, deeds, first_epoch, mail}
-use Rattle.qc_msg.specs.Names.{operations_of, posted, written}
+use Rattle.qc_msg.specs.Vocabulary.{Deed, Entry, WasSentTo, answered, by as by_actor, deeds, first_epoch, mail}
+use Rattle.qc_msg.specs.Vocabulary.{operations_of, posted, written}
 use Rattle.qc_msg.proofs.DeedsGrow.{deeds-other}
 use Rattle.qc_msg.proofs.Growth.{deeds-posted}
-use Rattle.qc_promise.specs.Names.{ClientRequest, account, account_at, new_account}
-use Rattle.theory_machine.specs.Names.{state}
-use Rattle.qc_script.specs.Names.{IsScriptFor, Runs}
+use Rattle.qc_promise.specs.Vocabulary.{ClientRequest, account, account_at, new_account}
+use Rattle.theory_machine.specs.Vocabulary.{state}
+use Rattle.qc_script.specs.Vocabulary.{IsScriptFor, Runs}
 use Rattle.qc_script.specs.Runs.{posts}
 use Rattle.qc_script.specs.declared.script.Script.{Script}
-use Rattle.qc_client.specs.Names.{client_after}
-use Rattle.qc_site.specs.Names.{SiteMove, passed, prepare_length, promise_of, site_after, site_at, site_takes}
+use Rattle.qc_client.specs.Vocabulary.{client_after}
+use Rattle.qc_site.specs.Vocabulary.{SiteMove, passed, prepare_length, promise_of, site_after, site_at, site_takes}
 use Rattle.laws_turns.proofs.Acted.{has_entry, run_acts}
 use Rattle.laws_turns.proofs.Places.{slice_get-set_other, slice_get-set_same}
-use Rattle.laws_turns.specs.Names.{ActsIn}
-use Rattle.laws_refinement.specs.Names.{Backed, IsRequest}
+use Rattle.laws_turns.specs.Vocabulary.{ActsIn}
+use Rattle.laws_refinement.specs.Vocabulary.{Backed, IsRequest}
 use Rattle.laws_atomic.proofs.Calm.{all_first}
 use Rattle.laws_atomic.proofs.Posted.{written_posted}
 use Rattle.laws_atomic.proofs.Stood.{OpenSite}
-use Rattle.laws_guarantees.specs.Names.{IsOpenVote}
+use Rattle.laws_guarantees.specs.Vocabulary.{IsOpenVote}
 use Rattle.laws_guarantees.proofs.NetMessages.{both}
 use Rattle.laws_guarantees.proofs.NeverRisen.{operations_written}
 use Rattle.laws_guarantees.proofs.ForgettingAnswers.{Forgets}

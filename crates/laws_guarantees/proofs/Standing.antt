@@ -1,17 +1,17 @@
 -- What stands among deeds was taken, and is held; own lines of one operation are one.
-use Rattle.std.proofs.Common.{◌≡◌, ◌&&◌, ◌||◌, ℕ, ◌+◌, Bool, true, false, cond, List, ◌∷◌, ◌++◌, inl, inr, refl, sym}
-use Rattle.std.proofs.Common.{ap, ◌∙◌, subst}
+use Rattle.std.proofs.Common.{[], ◌≡◌, ◌&&◌, ◌||◌, ℕ, ◌+◌, Bool, true, false, cond, List, ◌∷◌, ◌++◌, inl, inr, refl}
+use Rattle.std.proofs.Common.{sym, ap, ◌∙◌, subst}
 use Rattle.std.specs.Prelude.{fold}
 use Rattle.std.specs.Option.{option_map_or}
 use Rattle.qc_stamp.specs.declared.stamp.TxId.{TxId}
-use Rattle.qc_stamp.specs.Names.{same_tx}
+use Rattle.qc_stamp.specs.Vocabulary.{same_tx}
 use Rattle.qc_stamp.proofs.Orders.{same_tx_is}
-use Rattle.qc_list.specs.Names.{In}
+use Rattle.qc_list.specs.Vocabulary.{In}
 use Rattle.qc_list.proofs.Members.{In-second}
 use Rattle.theory_onecopy.proofs.Lists.{in_split}
 use Rattle.qc_entry.specs.declared.line.OwnLine.{OwnLine}
 use Rattle.qc_lock.specs.declared.held.Held.{Held}
-use Rattle.qc_lock.specs.Names.{held_of, with_held}
+use Rattle.qc_lock.specs.Vocabulary.{held_of, with_held}
 use Rattle.qc_msg.specs.declared.message.Envelope.{Envelope}
 use Rattle.qc_msg.specs.declared.message.Message.{Message}
 use Rattle.qc_msg.specs.declared.message.Message.TheVariants as messages
@@ -19,12 +19,12 @@ use Rattle.qc_msg.specs.declared.message.Outcome.{Outcome}
 use Rattle.qc_msg.specs.declared.message.Want.{Want}
 use Rattle.qc_msg.specs.declared.message.Want.TheVariants.{Read, Append, Prepare}
 use Rattle.qc_msg.specs.declared.step.Input.TheVariants as inputs
-use Rattle.qc_msg.specs.Names.{Decided, Deed, Falls, Rises, Sends, Takes, Tells, Writes, decision_in, got_in}
-use Rattle.qc_msg.specs.Names.{request_in}
-use Rattle.qc_promise.specs.Names.{Grant, holding, is_decision, is_ended, is_final, standing, standing_as, standing_by}
-use Rattle.qc_promise.specs.Names.{stands}
-use Rattle.theory_machine.specs.Names.{Item, Lock, Own}
-use Rattle.laws_refinement.specs.Names.{IsHeld}
+use Rattle.qc_msg.specs.Vocabulary.{Decided, Deed, Falls, Rises, Sends, Takes, Tells, Writes, decision_in, got_in}
+use Rattle.qc_msg.specs.Vocabulary.{request_in}
+use Rattle.qc_promise.specs.Vocabulary.{Grant, holding, is_decision, is_ended, is_final, standing, standing_as}
+use Rattle.qc_promise.specs.Vocabulary.{standing_by, stands}
+use Rattle.theory_machine.specs.Vocabulary.{Item, Lock, Own}
+use Rattle.laws_refinement.specs.Vocabulary.{IsHeld}
 use Rattle.laws_refinement.proofs.Held.{given_keeps, lock_given_here, own_given_here}
 
 -- a transaction that no final Decision ends among deeds

@@ -1,8 +1,8 @@
 -- At most one client acts at a time: of two clients, one has called all that the phases so far ask it, runs nothing, and
 -- has the transaction begun that it had before this phase.
-use Rattle.std.proofs.Common.{◌≡◌, ℕ, suc, ◌+◌, ◌-◌, ◌<◌, ◌==◌, ◌&&◌, ◌||◌, ◌⊎◌, inl, inr, not, Bool, true, false, List}
-use Rattle.std.proofs.Common.{◌∷◌, ◌++◌, length, fold, Option, Some, None, slice_get, refl, sym, ap, ◌∙◌, subst, arith}
-use Rattle.std.proofs.Common.{eq-eqb, eqb-true}
+use Rattle.std.proofs.Common.{[], ◌≡◌, ℕ, suc, ◌+◌, ◌-◌, ◌<◌, ◌==◌, ◌&&◌, ◌||◌, ◌⊎◌, inl, inr, not, Bool, true, false}
+use Rattle.std.proofs.Common.{List, ◌∷◌, ◌++◌, length, fold, Option, Some, None, slice_get, refl, sym, ap, ◌∙◌, subst}
+use Rattle.std.proofs.Common.{arith, eq-eqb, eqb-true}
 use Rattle.std.specs.Prelude.{is_some, replicate}
 use Rattle.std.specs.List.{filter_map}
 use Rattle.std.proofs.lemmas.List.{append-nil}
@@ -10,8 +10,8 @@ use Rattle.std.proofs.lemmas.List.Elements.{filter_map-append}
 use Rattle.std.proofs.lemmas.List.Sums.{fold-append}
 use Rattle.qc_decl.proofs.Clients.{client_within}
 use Rattle.qc_list.proofs.Members.{every-at}
-use Rattle.qc_core.specs.Names.{IsLawful, is_running}
-use Rattle.qc_decl.specs.Names.{IsAccepted, actors, administrator, controller, is_client}
+use Rattle.qc_core.specs.Vocabulary.{IsLawful, is_running}
+use Rattle.qc_decl.specs.Vocabulary.{IsAccepted, actors, administrator, controller, is_client}
 use Rattle.qc_decl.specs.declared.declaration.Declaration.{Declaration}
 use Rattle.qc_msg.specs.declared.message.Envelope.{Envelope}
 use Rattle.qc_msg.specs.declared.reply.Reply.{Reply}
@@ -20,15 +20,16 @@ use Rattle.qc_msg.specs.declared.step.Step.TheVariants as steps
 use Rattle.qc_msg.specs.declared.turn.Posting.{Posting}
 use Rattle.qc_msg.specs.declared.record.Record.{Record}
 use Rattle.qc_msg.specs.declared.turn.Turn.{Turn}
-use Rattle.qc_msg.specs.Names.{Deed, Entry, by, deeds, mail, marked, posted, sends_of, tells_of, turn_deeds, writes_of}
+use Rattle.qc_msg.specs.Vocabulary.{Deed, Entry, by, deeds, mail, marked, posted, sends_of, tells_of, turn_deeds}
+use Rattle.qc_msg.specs.Vocabulary.{writes_of}
 use Rattle.qc_msg.proofs.DeedsGrow.{deeds-other}
 use Rattle.qc_msg.proofs.Growth.{deeds-posted}
-use Rattle.qc_script.specs.Names.{Runs, command_in, commands_for, controls_left, first_copy, first_lost, inbox}
-use Rattle.qc_script.specs.Names.{phase_at, phase_of, takes_commands}
+use Rattle.qc_script.specs.Vocabulary.{Runs, command_in, commands_for, controls_left, first_copy, first_lost, inbox}
+use Rattle.qc_script.specs.Vocabulary.{phase_at, phase_of, takes_commands}
 use Rattle.qc_script.specs.Runs.{begins, takes, posts, phase, control}
 use Rattle.qc_script.specs.declared.script.PhaseLines.{PhaseLines}
 use Rattle.qc_script.specs.declared.script.Script.{Script}
-use Rattle.laws_turns.specs.Names.{ActsIn, AsksDeclared, IsClosed, IsQuiet, asked_until, call_in, calls_of}
+use Rattle.laws_turns.specs.Vocabulary.{ActsIn, AsksDeclared, IsClosed, IsQuiet, asked_until, call_in, calls_of}
 use Rattle.laws_turns.proofs.Acted.{as_many, deeds-silent, run_acts}
 use Rattle.laws_turns.proofs.PhaseCalls.{phase_posted}
 use Rattle.laws_turns.proofs.Calling.{run_asked}
@@ -39,8 +40,8 @@ use Rattle.laws_turns.proofs.TurnReplies.{running_more, running_turn}
 use Rattle.laws_turns.proofs.Replying.{told_runs}
 use Rattle.laws_turns.proofs.Running.{busy_is_running}
 use Rattle.laws_due.proofs.Ended.{none_runs}
-use Rattle.qc_promise.specs.Names.{account, account_at, new_account}
-use Rattle.laws_guarantees.specs.Names.{Arrives, AsksOne, IsStill, IsUndisturbed, begun_by, name_of}
+use Rattle.qc_promise.specs.Vocabulary.{account, account_at, new_account}
+use Rattle.laws_guarantees.specs.Vocabulary.{Arrives, AsksOne, IsStill, IsUndisturbed, begun_by, name_of}
 use Rattle.laws_guarantees.proofs.Names.{stays_named, untold_stays}
 use Rattle.laws_guarantees.proofs.PartsOf.{phase_parts, posted_parts}
 use Rattle.laws_guarantees.proofs.Passing.{no_request_is_lost}

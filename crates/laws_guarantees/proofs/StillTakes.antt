@@ -1,34 +1,34 @@
 -- Inputs that are all closed; and one client acts alone as it takes an input.
-use Rattle.std.proofs.Common.{◌≡◌, ℕ, zero, suc, ◌+◌, ◌-◌, ◌==◌, ◌&&◌, not, Bool, true, false, cond, List, ◌∷◌, ◌++◌}
-use Rattle.std.proofs.Common.{map, length, fold, Option, Some, None, slice_get, refl, sym, ap, ◌∙◌, subst, arith}
+use Rattle.std.proofs.Common.{[], ◌≡◌, ℕ, zero, suc, ◌+◌, ◌-◌, ◌==◌, ◌&&◌, not, Bool, true, false, cond, List, ◌∷◌}
+use Rattle.std.proofs.Common.{◌++◌, map, length, fold, Option, Some, None, slice_get, refl, sym, ap, ◌∙◌, subst, arith}
 use Rattle.std.proofs.Common.{eqb-true, length-append}
 use Rattle.std.specs.Prelude.{filter, is_some, replicate, slice_set, take}
 use Rattle.std.specs.List.{AllByRecursion as Every, filter_map}
 use Rattle.std.proofs.lemmas.List.{append-nil, append_assoc}
 use Rattle.std.proofs.lemmas.List.Elements.{filter_map-append}
 use Rattle.std.proofs.lemmas.List.Sums.{fold-append}
-use Rattle.qc_core.specs.Names.{IsLawful, is_running, runs_at}
-use Rattle.qc_decl.specs.Names.{IsAccepted}
+use Rattle.qc_core.specs.Vocabulary.{IsLawful, is_running, runs_at}
+use Rattle.qc_decl.specs.Vocabulary.{IsAccepted}
 use Rattle.qc_decl.specs.declared.declaration.Declaration.{Declaration}
 use Rattle.qc_msg.specs.declared.reply.Reply.{Reply}
 use Rattle.qc_msg.specs.declared.step.Command.{Command}
 use Rattle.qc_msg.specs.declared.step.Input.{Input}
 use Rattle.qc_msg.specs.declared.step.Input.TheVariants as inputs
-use Rattle.qc_msg.specs.Names.{Deed, Entry, Takes, by, deeds, marked, step_of}
+use Rattle.qc_msg.specs.Vocabulary.{Deed, Entry, Takes, by, deeds, marked, step_of}
 use Rattle.qc_msg.proofs.DeedsGrow.{deeds-other}
 use Rattle.qc_msg.proofs.Growth.{deeds-taken}
-use Rattle.qc_script.specs.Names.{Runs, commands_for, first_command, inbox, phase_of, ready}
+use Rattle.qc_script.specs.Vocabulary.{Runs, commands_for, first_command, inbox, phase_of, ready}
 use Rattle.qc_script.specs.Runs.{takes}
 use Rattle.qc_script.specs.declared.script.CommandLine.{CommandLine}
 use Rattle.qc_script.specs.declared.script.PhaseLines.{PhaseLines}
 use Rattle.qc_script.specs.declared.script.Script.{Script}
-use Rattle.laws_turns.specs.Names.{AsksDeclared, asked_in_all, asked_until, call_in, calls_of}
+use Rattle.laws_turns.specs.Vocabulary.{AsksDeclared, asked_in_all, asked_until, call_in, calls_of}
 use Rattle.laws_turns.proofs.Arrivals.{what_is_ready_was_sent}
 use Rattle.laws_turns.proofs.PhaseCalls.{phase_taken}
 use Rattle.laws_turns.proofs.Calling.{run_asked}
 use Rattle.laws_turns.proofs.TurnReplies.{running_more}
-use Rattle.qc_promise.specs.Names.{account, account_at, new_account}
-use Rattle.laws_guarantees.specs.Names.{IsStill, IsUndisturbed, before_phase, begun_by, name_of}
+use Rattle.qc_promise.specs.Vocabulary.{account, account_at, new_account}
+use Rattle.laws_guarantees.specs.Vocabulary.{IsStill, IsUndisturbed, before_phase, begun_by, name_of}
 use Rattle.laws_guarantees.proofs.Names.{taken_named}
 use Rattle.laws_guarantees.proofs.PartsOf.{taken_parts}
 

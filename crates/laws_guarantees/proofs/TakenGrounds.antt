@@ -5,10 +5,10 @@ use Rattle.std.specs.Prelude.{fold, is_none}
 use Rattle.std.specs.List.{find}
 use Rattle.std.specs.Option.{option_map_or}
 use Rattle.std.proofs.lemmas.List.{append-nil}
-use Rattle.qc_stamp.specs.Names.{same_tx}
+use Rattle.qc_stamp.specs.Vocabulary.{same_tx}
 use Rattle.qc_stamp.specs.declared.stamp.TxId.{TxId}
 use Rattle.qc_stamp.proofs.Orders.{same_tx_is}
-use Rattle.qc_list.specs.Names.{In}
+use Rattle.qc_list.specs.Vocabulary.{In}
 use Rattle.qc_list.proofs.Members.{In-first, In-last, In-more}
 use Rattle.qc_decl.specs.declared.declaration.Declaration.{Declaration}
 use Rattle.qc_msg.specs.declared.begun.LifeAt.{LifeAt}
@@ -28,12 +28,12 @@ use Rattle.qc_msg.specs.declared.step.Input.{Input}
 use Rattle.qc_msg.specs.declared.step.Input.TheVariants as inputs
 use Rattle.qc_msg.specs.declared.turn.Posting.{Posting}
 use Rattle.qc_msg.specs.declared.turn.Turn.{Turn}
-use Rattle.qc_msg.specs.Names.{Deed, Falls, Rises, Sends, Takes, Tells, Writes, has_granted, sends_of, tells_of}
-use Rattle.qc_msg.specs.Names.{turn_deeds, writes_of}
-use Rattle.qc_promise.specs.Names.{Account, ClientRequest, Current, account_at, account_heard, account_sent}
-use Rattle.qc_promise.specs.Names.{account_taken, account_told_in, account_written, answer_of, command_asks, counted}
-use Rattle.qc_promise.specs.Names.{counted_for, found_absent, is_asked_for, is_of, new_account, new_current, refused}
-use Rattle.qc_promise.specs.Names.{requested, responded, short_of, taken_for, with_response}
+use Rattle.qc_msg.specs.Vocabulary.{Deed, Falls, Rises, Sends, Takes, Tells, Writes, has_granted, sends_of, tells_of}
+use Rattle.qc_msg.specs.Vocabulary.{turn_deeds, writes_of}
+use Rattle.qc_promise.specs.Vocabulary.{Account, ClientRequest, Current, account_at, account_heard, account_sent}
+use Rattle.qc_promise.specs.Vocabulary.{account_taken, account_told_in, account_written, answer_of, command_asks}
+use Rattle.qc_promise.specs.Vocabulary.{counted, counted_for, found_absent, is_asked_for, is_of, new_account}
+use Rattle.qc_promise.specs.Vocabulary.{new_current, refused, requested, responded, short_of, taken_for, with_response}
 use Rattle.laws_guarantees.proofs.Accounts.{HasGrounds, WasGranted, WasSent, after_taken, and_first, granted_more}
 use Rattle.laws_guarantees.proofs.Accounts.{same_grounds, sent_more, taken_more, told_requests}
 use Rattle.laws_guarantees.proofs.Counting.{counted_grounds}

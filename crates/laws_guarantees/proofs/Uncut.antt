@@ -7,11 +7,11 @@ use Rattle.std.specs.Option.{option_map_or}
 use Rattle.std.proofs.lemmas.Bool.{ltb-false}
 use Rattle.std.proofs.lemmas.List.Sums.{fold-append}
 use Rattle.qc_stamp.specs.declared.stamp.TxId.{TxId}
-use Rattle.qc_list.specs.Names.{In}
+use Rattle.qc_list.specs.Vocabulary.{In}
 use Rattle.qc_list.proofs.Members.{every-In, every-from_In}
-use Rattle.qc_core.specs.Names.{Acts, AreSteady, IsLawful, IsSteady, posts, starts, takes}
+use Rattle.qc_core.specs.Vocabulary.{Acts, AreSteady, IsLawful, IsSteady, posts, starts, takes}
 use Rattle.qc_core.proofs.SiteHolds.{AreNoCuts, uncut}
-use Rattle.qc_decl.specs.Names.{IsAccepted, actors, administrator, client_actor, is_site}
+use Rattle.qc_decl.specs.Vocabulary.{IsAccepted, actors, administrator, client_actor, is_site}
 use Rattle.qc_decl.specs.declared.declaration.Declaration.{Declaration}
 use Rattle.qc_lock.specs.declared.held.Held.{Held}
 use Rattle.qc_msg.specs.declared.message.Envelope.{Envelope}
@@ -28,16 +28,17 @@ use Rattle.qc_msg.specs.declared.step.Input.{Input}
 use Rattle.qc_msg.specs.declared.step.Input.TheVariants as inputs
 use Rattle.qc_msg.specs.declared.turn.Posting.{Posting}
 use Rattle.qc_msg.specs.declared.turn.Turn.{Turn}
-use Rattle.qc_msg.specs.Names.{Deed, Entry, Falls, Rises, Sends, Takes, Tells, Writes, close_in, deeds, install_in}
-use Rattle.qc_msg.specs.Names.{mail, quiet, sends_of, tells_of, turn_deeds}
-use Rattle.qc_promise.specs.Names.{Account, AreDeedsDue, AreRepliesDue, Grant, Holding, IsDeedDue, account_at, cuts}
-use Rattle.qc_promise.specs.Names.{held_of_promises, held_shown, holding, new_account, prepared_shown, standing}
-use Rattle.qc_script.specs.Names.{IsScriptFor, Runs}
+use Rattle.qc_msg.specs.Vocabulary.{Deed, Entry, Falls, Rises, Sends, Takes, Tells, Writes, close_in, deeds, install_in}
+use Rattle.qc_msg.specs.Vocabulary.{mail, quiet, sends_of, tells_of, turn_deeds}
+use Rattle.qc_promise.specs.Vocabulary.{Account, AreDeedsDue, AreRepliesDue, Grant, Holding, IsDeedDue, account_at}
+use Rattle.qc_promise.specs.Vocabulary.{cuts, held_of_promises, held_shown, holding, new_account, prepared_shown}
+use Rattle.qc_promise.specs.Vocabulary.{standing}
+use Rattle.qc_script.specs.Vocabulary.{IsScriptFor, Runs}
 use Rattle.qc_script.specs.declared.script.Script.{Script}
 use Rattle.qc_site.proofs.RequestCases.{append_cases, join_cases, prepare_cases, read_cases, request_cases}
-use Rattle.qc_site.specs.Names.{SiteMove, SiteState, finishes, grants, moved, new_site, passed, site_after, site_at}
-use Rattle.qc_site.specs.Names.{site_does, site_takes}
-use Rattle.laws_turns.specs.Names.{ActsIn, AsksDeclared}
+use Rattle.qc_site.specs.Vocabulary.{SiteMove, SiteState, finishes, grants, moved, new_site, passed, site_after}
+use Rattle.qc_site.specs.Vocabulary.{site_at, site_does, site_takes}
+use Rattle.laws_turns.specs.Vocabulary.{ActsIn, AsksDeclared}
 use Rattle.laws_turns.proofs.Acted.{has_entry, run_acts}
 use Rattle.laws_turns.proofs.Idle.{IsInput, idle}
 use Rattle.laws_turns.proofs.Proper.{run_proper}

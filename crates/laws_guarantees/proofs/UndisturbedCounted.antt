@@ -1,13 +1,13 @@
 -- In each undisturbed run what counts for a request is an answer that fits it; and a Clash names a transaction that is open
 -- elsewhere.
-use Rattle.std.proofs.Common.{◌≡◌, ℕ, ◌+◌, ◌-◌, ◌≤◌, inl, inr, Bool, true, false, List, ◌∷◌, Option, Some, None}
+use Rattle.std.proofs.Common.{[], ◌≡◌, ℕ, ◌+◌, ◌-◌, ◌≤◌, inl, inr, Bool, true, false, List, ◌∷◌, Option, Some, None}
 use Rattle.std.proofs.Common.{option_map, refl, sym, ap, ◌∙◌, subst, arith}
-use Rattle.qc_list.specs.Names.{In}
+use Rattle.qc_list.specs.Vocabulary.{In}
 use Rattle.qc_list.proofs.Members.{every-In}
 use Rattle.qc_stamp.specs.declared.stamp.TxId.{TxId}
-use Rattle.qc_stamp.specs.Names.{same_tx}
-use Rattle.qc_core.specs.Names.{IsLawful}
-use Rattle.qc_decl.specs.Names.{IsAccepted, is_client}
+use Rattle.qc_stamp.specs.Vocabulary.{same_tx}
+use Rattle.qc_core.specs.Vocabulary.{IsLawful}
+use Rattle.qc_decl.specs.Vocabulary.{IsAccepted, is_client}
 use Rattle.qc_decl.specs.declared.declaration.Declaration.{Declaration}
 use Rattle.qc_lock.proofs.Entries.{same_self}
 use Rattle.qc_msg.specs.declared.message.Answer.{Answer}
@@ -17,14 +17,14 @@ use Rattle.qc_msg.specs.declared.message.Message.{Message}
 use Rattle.qc_msg.specs.declared.message.Message.TheVariants as messages
 use Rattle.qc_msg.specs.declared.message.Want.{Want}
 use Rattle.qc_msg.specs.declared.message.Want.TheVariants.{Append, Prepare, Read}
-use Rattle.qc_msg.specs.Names.{Entry, by, deeds, mail}
-use Rattle.qc_script.specs.Names.{Runs}
+use Rattle.qc_msg.specs.Vocabulary.{Entry, by, deeds, mail}
+use Rattle.qc_script.specs.Vocabulary.{Runs}
 use Rattle.qc_script.specs.declared.script.Script.{Script}
-use Rattle.laws_turns.specs.Names.{AsksDeclared}
+use Rattle.laws_turns.specs.Vocabulary.{AsksDeclared}
 use Rattle.laws_turns.proofs.Numbered.{AreNumbered, run_numbered}
-use Rattle.qc_promise.specs.Names.{ClientRequest, Current, account, new_account}
-use Rattle.laws_guarantees.specs.Names.{Fits, FitsHold, FitsPromise, IfAnswered, IsAnswered, IsUndisturbed, begun_by}
-use Rattle.laws_guarantees.specs.Names.{sent_before}
+use Rattle.qc_promise.specs.Vocabulary.{ClientRequest, Current, account, new_account}
+use Rattle.laws_guarantees.specs.Vocabulary.{Fits, FitsHold, FitsPromise, IfAnswered, IsAnswered, IsUndisturbed}
+use Rattle.laws_guarantees.specs.Vocabulary.{begun_by, sent_before}
 use Rattle.laws_guarantees.proofs.Accounts.{HasGrounds, WasSent, WasTaken}
 use Rattle.laws_guarantees.proofs.AnswersLater.{number_from}
 use Rattle.laws_guarantees.proofs.AnswerRuns.{run_answered}

@@ -1,15 +1,15 @@
 -- So in no run an open vote has an answer that says that its site has forgotten, and none counts.
-use Rattle.std.proofs.Common.{◌*◌, ◌≡◌, ◌⊎◌, ◌<◌, ◌≤◌, ◌+◌, ◌-◌, ◌==◌, ℕ, Bool, true, false, cond, List, ◌∷◌, ◌++◌, inl}
-use Rattle.std.proofs.Common.{inr, length, Some, None, slice_get, refl, sym, ap, ◌∙◌, subst, arith, eqb-true}
+use Rattle.std.proofs.Common.{[], ◌*◌, ◌≡◌, ◌⊎◌, ◌<◌, ◌≤◌, ◌+◌, ◌-◌, ◌==◌, ℕ, Bool, true, false, cond, List, ◌∷◌, ◌++◌}
+use Rattle.std.proofs.Common.{inl, inr, length, Some, None, slice_get, refl, sym, ap, ◌∙◌, subst, arith, eqb-true}
 use Rattle.std.proofs.Common.{length-append}
 use Rattle.std.specs.Prelude.{fold}
 use Rattle.qc_stamp.specs.declared.stamp.TxId.{TxId}
-use Rattle.qc_list.specs.Names.{In}
+use Rattle.qc_list.specs.Vocabulary.{In}
 use Rattle.qc_list.proofs.Members.{In-last, every-In}
 use Rattle.theory_onecopy.proofs.Lists.{in_split}
-use Rattle.qc_core.specs.Names.{IsLawful}
+use Rattle.qc_core.specs.Vocabulary.{IsLawful}
 use Rattle.qc_decl.specs.declared.declaration.Declaration.{Declaration}
-use Rattle.qc_decl.specs.Names.{IsAccepted, controller, is_client, is_site, most_committed_operations}
+use Rattle.qc_decl.specs.Vocabulary.{IsAccepted, controller, is_client, is_site, most_committed_operations}
 use Rattle.qc_msg.specs.declared.message.Answer.{Answer}
 use Rattle.qc_msg.specs.declared.message.Envelope.{Envelope}
 use Rattle.qc_msg.specs.declared.message.Message.TheVariants as messages
@@ -18,16 +18,16 @@ use Rattle.qc_msg.specs.declared.step.Input.TheVariants as inputs
 use Rattle.qc_msg.specs.declared.step.Step.TheVariants as steps
 use Rattle.qc_msg.specs.declared.turn.Posting.{Posting}
 use Rattle.qc_msg.specs.declared.turn.Turn.{Turn}
-use Rattle.qc_msg.specs.Names.{Deed, Entry, Takes, WasSentTo, by as by_actor, deeds, envelopes, mail, marked}
-use Rattle.qc_msg.specs.Names.{operations_of, posted, step_of, turn_deeds}
+use Rattle.qc_msg.specs.Vocabulary.{Deed, Entry, Takes, WasSentTo, by as by_actor, deeds, envelopes, mail, marked}
+use Rattle.qc_msg.specs.Vocabulary.{operations_of, posted, step_of, turn_deeds}
 use Rattle.qc_msg.proofs.GrownMail.{mail-append, mail-posted, mail-taken}
 use Rattle.qc_msg.proofs.Growth.{operations-grow}
-use Rattle.qc_promise.specs.Names.{Account, ClientRequest, account, account_at, account_taken}
-use Rattle.qc_script.specs.Names.{IsScriptFor, Runs, phase_of}
+use Rattle.qc_promise.specs.Vocabulary.{Account, ClientRequest, account, account_at, account_taken}
+use Rattle.qc_script.specs.Vocabulary.{IsScriptFor, Runs, phase_of}
 use Rattle.qc_script.specs.Runs.{begins, takes, posts, phase, control}
 use Rattle.qc_script.specs.declared.script.Script.{Script}
-use Rattle.qc_client.specs.Names.{ClientMove, client_after, client_takes}
-use Rattle.qc_site.specs.Names.{SiteMove, site_after}
+use Rattle.qc_client.specs.Vocabulary.{ClientMove, client_after, client_takes}
+use Rattle.qc_site.specs.Vocabulary.{SiteMove, site_after}
 use Rattle.laws_turns.proofs.Acted.{run_acts}
 use Rattle.laws_turns.proofs.Arrivals.{what_is_ready_was_sent}
 use Rattle.laws_turns.proofs.Numbered.{control_silent, mail-silent, phase_silent}
@@ -35,13 +35,13 @@ use Rattle.laws_turns.proofs.Proper.{run_proper}
 use Rattle.laws_turns.proofs.SiteReplies.{IsProperFrom}
 use Rattle.laws_turns.proofs.TurnReplies.{after_taken as after_given}
 use Rattle.laws_turns.proofs.Served.{lawful_site}
-use Rattle.laws_turns.specs.Names.{ActsIn}
+use Rattle.laws_turns.specs.Vocabulary.{ActsIn}
 use Rattle.laws_due.proofs.Commands.{lawful_turn}
 use Rattle.laws_due.proofs.Courses.{IsAtInput, client_acts}
 use Rattle.laws_due.proofs.AccountDeclared.{asks_declared}
 use Rattle.laws_refinement.proofs.Posts.{Place, placed}
 use Rattle.laws_atomic.proofs.Stood.{OpenSite}
-use Rattle.laws_guarantees.specs.Names.{IsOpenVote}
+use Rattle.laws_guarantees.specs.Vocabulary.{IsOpenVote}
 use Rattle.laws_guarantees.proofs.ClientTalks.{client_answers}
 use Rattle.laws_guarantees.proofs.Grounds.{open_before, turn_old}
 use Rattle.laws_guarantees.proofs.Mailed.{taken_mail}

@@ -7,21 +7,21 @@ use Rattle.std.specs.Prelude.{is_some, slice_get, unwrap_or}
 use Rattle.std.specs.List.{AllByRecursion as Every, range_with_len}
 use Rattle.std.specs.Option.{option_map_or, option_or}
 use Rattle.std.proofs.lemmas.Bool.{leb-false, lt-ltb, ltb-false, ltb-true}
-use Rattle.qc_list.specs.Names.{In}
+use Rattle.qc_list.specs.Vocabulary.{In}
 use Rattle.qc_list.proofs.Members.{In-filter, In-first, In-second}
 use Rattle.qc_stamp.specs.declared.stamp.TxId.{TxId}
-use Rattle.qc_decl.specs.Names.{IsAccepted, append_need_of, plan_in, read_need_of}
+use Rattle.qc_decl.specs.Vocabulary.{IsAccepted, append_need_of, plan_in, read_need_of}
 use Rattle.qc_decl.specs.declared.declaration.Declaration.{Declaration}
-use Rattle.qc_plan.specs.Names.{IsAdmitted, RoundState, all_noted, clash_at, closed_at, cyclic, first_clash}
-use Rattle.qc_plan.specs.Names.{first_closed, has_granted, is_granted, need_of, refusal, settled, total, verdict}
-use Rattle.qc_plan.specs.Names.{weighing, weight, weight_at}
+use Rattle.qc_plan.specs.Vocabulary.{IsAdmitted, RoundState, all_noted, clash_at, closed_at, cyclic, first_clash}
+use Rattle.qc_plan.specs.Vocabulary.{first_closed, has_granted, is_granted, need_of, refusal, settled, total, verdict}
+use Rattle.qc_plan.specs.Vocabulary.{weighing, weight, weight_at}
 use Rattle.qc_plan.specs.declared.plan.Plan.{Plan}
 use Rattle.qc_plan.specs.declared.standing.Asked.{Asked}
 use Rattle.qc_plan.specs.declared.standing.Standing.{Standing}
 use Rattle.qc_plan.specs.declared.standing.Standing.TheVariants as standings
 use Rattle.qc_plan.specs.declared.standing.Verdict.{Verdict}
 use Rattle.qc_plan.specs.declared.standing.Verdict.TheVariants as verdicts
-use Rattle.qc_promise.specs.Names.{weights_of}
+use Rattle.qc_promise.specs.Vocabulary.{weights_of}
 
 -- nothing is known of an asked site, or it granted, or it told of a clash with such a transaction
 

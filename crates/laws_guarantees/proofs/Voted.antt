@@ -4,15 +4,15 @@ use Rattle.std.proofs.Common.{◌*◌, ◌≡◌, ◌⊎◌, ◌≤◌, ◌-◌,
 use Rattle.std.proofs.Common.{Some, None, is_none, slice_get, refl, sym, ap, ◌∙◌, subst, lt-ltb}
 use Rattle.std.specs.Prelude.{sum_by}
 use Rattle.qc_stamp.specs.declared.stamp.TxId.{TxId}
-use Rattle.qc_list.specs.Names.{In}
+use Rattle.qc_list.specs.Vocabulary.{In}
 use Rattle.qc_list.proofs.Members.{In-passes, every-In}
 use Rattle.theory_onecopy.proofs.Lists.{in_map}
 use Rattle.qc_entry.specs.declared.record.Commit.{Commit as CommitRecord}
-use Rattle.qc_core.specs.Names.{IsLawful}
+use Rattle.qc_core.specs.Vocabulary.{IsLawful}
 use Rattle.qc_decl.specs.declared.declaration.Declaration.{Declaration}
-use Rattle.qc_decl.specs.Names.{IsAccepted, first_site, is_client, is_site, most_committed_operations}
-use Rattle.qc_decl.specs.Names.{most_record_bytes}
-use Rattle.qc_lock.specs.Names.{is_held}
+use Rattle.qc_decl.specs.Vocabulary.{IsAccepted, first_site, is_client, is_site, most_committed_operations}
+use Rattle.qc_decl.specs.Vocabulary.{most_record_bytes}
+use Rattle.qc_lock.specs.Vocabulary.{is_held}
 use Rattle.qc_msg.specs.declared.message.Envelope.{Envelope}
 use Rattle.qc_msg.specs.declared.message.Message.{Message}
 use Rattle.qc_msg.specs.declared.message.Message.TheVariants as messages
@@ -20,32 +20,32 @@ use Rattle.qc_msg.specs.declared.message.Outcome.{Outcome}
 use Rattle.qc_msg.specs.declared.message.Outcome.TheVariants as outcomes
 use Rattle.qc_msg.specs.declared.message.Want.{Want}
 use Rattle.qc_msg.specs.declared.message.Want.TheVariants.{Read, Prepare}
-use Rattle.qc_msg.specs.Names.{Entry, Sends, answered, deeds, first_epoch, has_granted, mail, operations_of}
-use Rattle.qc_plan.specs.Names.{cyclic}
-use Rattle.qc_promise.specs.Names.{Account, ClientRequest, Current, account, is_append}
-use Rattle.theory_machine.specs.Names.{IsOutcome, Status, Voting as IsVoting, state}
+use Rattle.qc_msg.specs.Vocabulary.{Entry, Sends, answered, deeds, first_epoch, has_granted, mail, operations_of}
+use Rattle.qc_plan.specs.Vocabulary.{cyclic}
+use Rattle.qc_promise.specs.Vocabulary.{Account, ClientRequest, Current, account, is_append}
+use Rattle.theory_machine.specs.Vocabulary.{IsOutcome, Status, Voting as IsVoting, state}
 use Rattle.theory_machine.proofs.Keeps.{laws}
-use Rattle.qc_script.specs.Names.{IsScriptFor, Runs}
+use Rattle.qc_script.specs.Vocabulary.{IsScriptFor, Runs}
 use Rattle.qc_script.specs.declared.script.Script.{Script}
 use Rattle.qc_commit.specs.declared.desk.Desk.{Desk}
 use Rattle.qc_commit.specs.declared.desk.Voting.{Voting}
 use Rattle.qc_front.specs.declared.front.Front.{Front}
 use Rattle.qc_front.specs.declared.transaction.Transaction.{Transaction}
-use Rattle.qc_client.specs.Names.{client_after}
+use Rattle.qc_client.specs.Vocabulary.{client_after}
 use Rattle.qc_client.specs.declared.client.Client.{Client}
-use Rattle.qc_site.specs.Names.{is_final, prepare_length, promise_of}
+use Rattle.qc_site.specs.Vocabulary.{is_final, prepare_length, promise_of}
 use Rattle.laws_turns.proofs.Acted.{run_acts}
 use Rattle.laws_turns.proofs.Proper.{run_proper}
 use Rattle.laws_turns.proofs.SiteReplies.{IsProperFrom}
-use Rattle.laws_turns.specs.Names.{ActsIn}
-use Rattle.laws_due.specs.Names.{IsOpenIn, Ties, Votes, appends, ballot_of, calls_in, reads, rests, votes}
+use Rattle.laws_turns.specs.Vocabulary.{ActsIn}
+use Rattle.laws_due.specs.Vocabulary.{IsOpenIn, Ties, Votes, appends, ballot_of, calls_in, reads, rests, votes}
 use Rattle.laws_due.proofs.Courses.{clients_tied}
 use Rattle.laws_due.proofs.AccountDeclared.{asks_declared}
-use Rattle.laws_refinement.specs.Names.{Backed, IsGrantTo, IsRequest, IsVerdictBacked, Refines}
+use Rattle.laws_refinement.specs.Vocabulary.{Backed, IsGrantTo, IsRequest, IsVerdictBacked, Refines}
 use Rattle.laws_atomic.proofs.CalmGrants.{is_of_first_epoch}
 use Rattle.laws_atomic.proofs.RunsStand.{runs_stand}
 use Rattle.laws_atomic.proofs.Stood.{Stood}
-use Rattle.laws_guarantees.specs.Names.{IsOpenVote}
+use Rattle.laws_guarantees.specs.Vocabulary.{IsOpenVote}
 use Rattle.laws_guarantees.proofs.Accounts.{HasGrounds, WasGranted, WasSent}
 use Rattle.laws_guarantees.proofs.RequestGrounds.{has_grounds}
 use Rattle.laws_guarantees.proofs.NeverRisen.{operations_written}

@@ -1,14 +1,14 @@
 -- The requests of a half went to the first sites of the client's order, in that order.
-use Rattle.std.proofs.Common.{◌≡◌, ℕ, suc, ◌+◌, ◌==◌, ◌&&◌, Bool, true, false, cond, List, ◌∷◌, ◌++◌, map, fold, length}
-use Rattle.std.proofs.Common.{Option, Some, None, option_map, refl, sym, ap, ◌∙◌, subst, arith, length-append}
+use Rattle.std.proofs.Common.{[], ◌≡◌, ℕ, suc, ◌+◌, ◌==◌, ◌&&◌, Bool, true, false, cond, List, ◌∷◌, ◌++◌, map, fold}
+use Rattle.std.proofs.Common.{length, Option, Some, None, option_map, refl, sym, ap, ◌∙◌, subst, arith, length-append}
 use Rattle.std.specs.Prelude.{drop, filter, take}
 use Rattle.std.specs.Option.{option_map_or}
 use Rattle.std.proofs.lemmas.List.{append-nil, length-map, map-append}
 use Rattle.std.proofs.lemmas.List.Elements.{filter-append}
 use Rattle.qc_stamp.specs.declared.stamp.TxId.{TxId}
-use Rattle.qc_decl.specs.Names.{read_need_of}
+use Rattle.qc_decl.specs.Vocabulary.{read_need_of}
 use Rattle.qc_decl.specs.declared.declaration.Declaration.{Declaration}
-use Rattle.qc_plan.specs.Names.{first, may_ask}
+use Rattle.qc_plan.specs.Vocabulary.{first, may_ask}
 use Rattle.qc_msg.specs.declared.message.Answer.{Answer}
 use Rattle.qc_msg.specs.declared.message.Message.{Message}
 use Rattle.qc_msg.specs.declared.message.Message.TheVariants as messages
@@ -16,12 +16,12 @@ use Rattle.qc_msg.specs.declared.message.Want.{Want}
 use Rattle.qc_msg.specs.declared.message.Want.TheVariants.{Append, Prepare, Read}
 use Rattle.qc_msg.specs.declared.step.Command.{Command}
 use Rattle.qc_msg.specs.declared.step.Command.TheVariants as commands
-use Rattle.qc_msg.specs.Names.{Deed, Falls, Rises, Sends, Takes, Tells, Writes}
-use Rattle.qc_promise.specs.Names.{Account, ClientRequest, Current, account_at, account_sent, account_taken}
-use Rattle.qc_promise.specs.Names.{account_written, answer_of, append_need, are_reads_met, asked_by, carries}
-use Rattle.qc_promise.specs.Names.{command_asks, commit_asks, do_asks, is_append, is_asked_for, is_next_voter, is_of}
-use Rattle.qc_promise.specs.Names.{is_read, is_this, new_account, requests_for, round_of}
-use Rattle.laws_due.specs.Names.{AreByRows, IsSendDue}
+use Rattle.qc_msg.specs.Vocabulary.{Deed, Falls, Rises, Sends, Takes, Tells, Writes}
+use Rattle.qc_promise.specs.Vocabulary.{Account, ClientRequest, Current, account_at, account_sent, account_taken}
+use Rattle.qc_promise.specs.Vocabulary.{account_written, answer_of, append_need, are_reads_met, asked_by, carries}
+use Rattle.qc_promise.specs.Vocabulary.{command_asks, commit_asks, do_asks, is_append, is_asked_for, is_next_voter}
+use Rattle.qc_promise.specs.Vocabulary.{is_of, is_read, is_this, new_account, requests_for, round_of}
+use Rattle.laws_due.specs.Vocabulary.{AreByRows, IsSendDue}
 use Rattle.laws_guarantees.proofs.AskingOrder.{order, sites_in, count_in, IsInOrder, first_drop, first_of_two}
 use Rattle.laws_guarantees.proofs.AskingOrder.{second_of_two, IsHalf, taken_order, written_order}
 

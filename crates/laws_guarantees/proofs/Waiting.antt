@@ -4,11 +4,11 @@ use Rattle.std.proofs.Common.{length, Option, Some, None, is_some, refl, sym, ap
 use Rattle.std.specs.Prelude.{fold, option_and_then}
 use Rattle.std.specs.List.{find, list_all}
 use Rattle.std.proofs.lemmas.List.Sums.{fold-append}
-use Rattle.qc_list.specs.Names.{In}
+use Rattle.qc_list.specs.Vocabulary.{In}
 use Rattle.qc_list.proofs.Members.{In-filter, In-first, every-In}
-use Rattle.qc_core.specs.Names.{Acts, IsLawful, posts}
+use Rattle.qc_core.specs.Vocabulary.{Acts, IsLawful, posts}
 use Rattle.qc_decl.specs.declared.declaration.Declaration.{Declaration}
-use Rattle.qc_decl.specs.Names.{is_client}
+use Rattle.qc_decl.specs.Vocabulary.{is_client}
 use Rattle.qc_msg.specs.declared.message.Answer.{Answer}
 use Rattle.qc_msg.specs.declared.message.Answer.TheVariants as answers
 use Rattle.qc_msg.specs.declared.message.Message.{Message}
@@ -25,20 +25,21 @@ use Rattle.qc_msg.specs.declared.step.Input.{Input}
 use Rattle.qc_msg.specs.declared.step.Input.TheVariants as inputs
 use Rattle.qc_msg.specs.declared.turn.Posting.{Posting}
 use Rattle.qc_msg.specs.declared.turn.Turn.{Turn}
-use Rattle.qc_msg.specs.Names.{Deed, Takes, Writes, sends_of, tells_of, turn_deeds, writes_of}
-use Rattle.qc_promise.specs.Names.{Account, ClientRequest, Current, account_at, account_heard, account_sent}
-use Rattle.qc_promise.specs.Names.{account_taken, account_written, are_votes_in, commit_row, counted, counted_for}
-use Rattle.qc_promise.specs.Names.{first_against, granted, is_asked_for, is_open, is_prepare, new_account, participants}
-use Rattle.qc_promise.specs.Names.{promised, requests_for, row_of, running_row, taken_for, told_by, vote_row}
+use Rattle.qc_msg.specs.Vocabulary.{Deed, Takes, Writes, sends_of, tells_of, turn_deeds, writes_of}
+use Rattle.qc_promise.specs.Vocabulary.{Account, ClientRequest, Current, account_at, account_heard, account_sent}
+use Rattle.qc_promise.specs.Vocabulary.{account_taken, account_written, are_votes_in, commit_row, counted, counted_for}
+use Rattle.qc_promise.specs.Vocabulary.{first_against, granted, is_asked_for, is_open, is_prepare, new_account}
+use Rattle.qc_promise.specs.Vocabulary.{participants, promised, requests_for, row_of, running_row, taken_for, told_by}
+use Rattle.qc_promise.specs.Vocabulary.{vote_row}
 use Rattle.qc_promise.specs.Rows as rows
-use Rattle.laws_due.specs.Names.{AreByRows, IsPrepare, Votes}
+use Rattle.laws_due.specs.Vocabulary.{AreByRows, IsPrepare, Votes}
 use Rattle.laws_due.proofs.Courses.{IsAtInput, account_of, client_acts, clients_due, turns_tell}
-use Rattle.qc_client.specs.Names.{client_after}
-use Rattle.laws_refinement.specs.Names.{commits_in}
+use Rattle.qc_client.specs.Vocabulary.{client_after}
+use Rattle.laws_refinement.specs.Vocabulary.{commits_in}
 use Rattle.laws_guarantees.proofs.Accounts.{found_in, told_requests}
 use Rattle.laws_guarantees.proofs.Grounds.{open_before}
 use Rattle.laws_guarantees.proofs.Requests.{due_at}
-use Rattle.laws_guarantees.specs.Names.{IsOpenVote}
+use Rattle.laws_guarantees.specs.Vocabulary.{IsOpenVote}
 use Rattle.laws_guarantees.proofs.Voted.{voting_tie}
 
 module _ (decl : Declaration) where

@@ -1,7 +1,8 @@
 -- The wrong histories are refused, each at its last reply.
 use Rattle.std.proofs.Common.{◌≡◌, Some, None, refl, arith}
-use Rattle.laws_guarantees.specs.Names.{CommitsSucceed, DosSucceed, IsOpenElsewhere, aborted, mine, others, refused}
-use Rattle.laws_guarantees.specs.Names.{refused_for_ended, refused_for_new, refused_for_own, short, two_clients}
+use Rattle.laws_guarantees.specs.Vocabulary.{CommitsSucceed, DosSucceed, IsOpenElsewhere, aborted, mine, others}
+use Rattle.laws_guarantees.specs.Vocabulary.{refused, refused_for_ended, refused_for_new, refused_for_own, short}
+use Rattle.laws_guarantees.specs.Vocabulary.{two_clients}
 
 pub takes_refused : DosSucceed two_clients refused
 takes_refused = (

@@ -1,10 +1,10 @@
 -- A client that doesn't act in this phase.
 use Rattle.std.specs.Prelude.{◌≡◌, ℕ, false, List, []}
-use Rattle.qc_core.specs.Names.{is_running}
+use Rattle.qc_core.specs.Vocabulary.{is_running}
 use Rattle.qc_decl.specs.declared.declaration.Declaration.{Declaration}
-use Rattle.laws_turns.specs.Names.{asked_until, calls_of}
-use Rattle.qc_msg.specs.Names.{Entry, deeds}
-use Rattle.qc_script.specs.Names.{phase_of}
+use Rattle.laws_turns.specs.Vocabulary.{asked_until, calls_of}
+use Rattle.qc_msg.specs.Vocabulary.{Entry, deeds}
+use Rattle.qc_script.specs.Vocabulary.{phase_of}
 use Rattle.qc_script.specs.declared.script.Script.{Script}
 use Rattle.laws_guarantees.specs.Elsewhere.{before_phase, begun_by}
 

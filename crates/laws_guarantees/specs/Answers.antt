@@ -1,7 +1,7 @@
 -- Which answers fit a request, by what the site was sent before it.
 use Rattle.std.specs.Prelude.{◌≡◌, ℕ, true, false, List, take}
 use Rattle.std.specs.List.{AllByRecursion as Every}
-use Rattle.qc_list.specs.Names.{In}
+use Rattle.qc_list.specs.Vocabulary.{In}
 use Rattle.qc_msg.specs.declared.message.Answer.{Answer}
 use Rattle.qc_msg.specs.declared.message.Answer.TheVariants as answers
 use Rattle.qc_msg.specs.declared.message.Envelope.{Envelope}
@@ -9,7 +9,7 @@ use Rattle.qc_msg.specs.declared.message.Message.{Message}
 use Rattle.qc_msg.specs.declared.message.Message.TheVariants as messages
 use Rattle.qc_msg.specs.declared.message.Want.{Want}
 use Rattle.qc_msg.specs.declared.message.Want.TheVariants.{Append, Prepare, Read}
-use Rattle.qc_stamp.specs.Names.{same_tx}
+use Rattle.qc_stamp.specs.Vocabulary.{same_tx}
 use Rattle.qc_stamp.specs.declared.stamp.TxId.{TxId}
 use Rattle.laws_guarantees.specs.Arrives.{sent_to}
 use Rattle.laws_guarantees.specs.Open.{is_open}

@@ -1,12 +1,12 @@
 -- What arrives: each message that was sent to an actor was taken, or is ready for it, in the order of sending.
 use Rattle.std.specs.Prelude.{◌≡◌, ℕ, ◌==◌, List, [], ◌++◌, Option, Some, None, filter}
 use Rattle.std.specs.List.{filter_map}
-use Rattle.qc_link.specs.Names.{no_cuts}
+use Rattle.qc_link.specs.Vocabulary.{no_cuts}
 use Rattle.qc_msg.specs.declared.message.Envelope.{Envelope}
 use Rattle.qc_msg.specs.declared.step.Input.{Input}
 use Rattle.qc_msg.specs.declared.step.Input.TheVariants as inputs
-use Rattle.qc_msg.specs.Names.{Deed, Entry, Falls, Rises, Sends, Takes, Tells, Writes, deeds, mail}
-use Rattle.qc_script.specs.Names.{Inbox, everybody, inbox}
+use Rattle.qc_msg.specs.Vocabulary.{Deed, Entry, Falls, Rises, Sends, Takes, Tells, Writes, deeds, mail}
+use Rattle.qc_script.specs.Vocabulary.{Inbox, everybody, inbox}
 use Rattle.qc_script.specs.declared.script.Script.{Script}
 
 -- the messages that an actor took, in order

@@ -9,8 +9,8 @@ use Rattle.qc_msg.specs.declared.message.Message.TheVariants.{Answer}
 use Rattle.qc_msg.specs.declared.message.Want.{Want}
 use Rattle.qc_msg.specs.declared.message.Want.TheVariants.{Read, Append, Prepare}
 use Rattle.qc_msg.specs.declared.step.Input.TheVariants.{Got}
-use Rattle.qc_msg.specs.Names.{Deed, Takes}
-use Rattle.qc_promise.specs.Names.{ClientRequest, account_at, is_open, new_account}
+use Rattle.qc_msg.specs.Vocabulary.{Deed, Takes}
+use Rattle.qc_promise.specs.Vocabulary.{ClientRequest, account_at, is_open, new_account}
 
 -- a grant of a Read or an Append, or a promise, tells this clock
 

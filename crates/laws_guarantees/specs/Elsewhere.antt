@@ -1,11 +1,11 @@
 -- Transactions of other clients that are open, and were so before this phase.
 use Rattle.std.specs.Prelude.{◌≡◌, ◌≢◌, ℕ, List, [], ◌∷◌, ◌++◌, Option, Some, fold, option_map}
-use Rattle.qc_decl.specs.Names.{client_actor}
+use Rattle.qc_decl.specs.Vocabulary.{client_actor}
 use Rattle.qc_decl.specs.declared.declaration.Declaration.{Declaration}
 use Rattle.qc_msg.specs.declared.step.Step.{Step}
 use Rattle.qc_msg.specs.declared.step.Step.TheVariants as steps
-use Rattle.qc_msg.specs.Names.{Entry}
-use Rattle.qc_promise.specs.Names.{Account, Current, account}
+use Rattle.qc_msg.specs.Vocabulary.{Entry}
+use Rattle.qc_promise.specs.Vocabulary.{Account, Current, account}
 use Rattle.qc_stamp.specs.declared.stamp.TxId.{TxId}
 
 -- the transaction that a client has begun and that hasn't ended: it was told no Committed, Aborted or Dropped of it

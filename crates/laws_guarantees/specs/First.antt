@@ -6,8 +6,8 @@ use Rattle.qc_msg.specs.declared.message.Answer.TheVariants as answers
 use Rattle.qc_msg.specs.declared.message.Envelope.{Envelope}
 use Rattle.qc_msg.specs.declared.message.Message.{Message}
 use Rattle.qc_msg.specs.declared.message.Message.TheVariants as messages
-use Rattle.qc_msg.specs.Names.{first_epoch}
-use Rattle.qc_stamp.specs.Names.{first_life}
+use Rattle.qc_msg.specs.Vocabulary.{first_epoch}
+use Rattle.qc_stamp.specs.Vocabulary.{first_life}
 
 -- no request is refused for its epoch or its life, and each promise is written
 abbrev pub IsFirstAnswer : Answer → Type 0

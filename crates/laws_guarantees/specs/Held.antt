@@ -2,7 +2,7 @@
 use Rattle.std.specs.Prelude.{◌≡◌, ℕ, true, List, ◌∷◌, ◌++◌}
 use Rattle.qc_stamp.specs.declared.stamp.Stamp.{Stamp}
 use Rattle.qc_stamp.specs.declared.stamp.TxId.{TxId}
-use Rattle.qc_list.specs.Names.{In}
+use Rattle.qc_list.specs.Vocabulary.{In}
 use Rattle.qc_entry.specs.declared.line.OwnLine.{OwnLine}
 use Rattle.qc_lock.specs.declared.held.Held.{Held}
 use Rattle.qc_msg.specs.declared.message.Envelope.{Envelope}
@@ -11,8 +11,8 @@ use Rattle.qc_msg.specs.declared.message.Outcome.TheVariants.{Committed}
 use Rattle.qc_msg.specs.declared.message.Want.{Want}
 use Rattle.qc_msg.specs.declared.message.Want.TheVariants.{Read, Append, Prepare}
 use Rattle.qc_msg.specs.declared.step.Input.TheVariants.{Got}
-use Rattle.qc_msg.specs.Names.{Deed, Takes}
-use Rattle.qc_promise.specs.Names.{is_granted}
+use Rattle.qc_msg.specs.Vocabulary.{Deed, Takes}
+use Rattle.qc_promise.specs.Vocabulary.{is_granted}
 
 -- among the deeds of a site stands a request of the transaction that was granted in the turn behind it, and no Decision
 -- Committed on the transaction was taken since

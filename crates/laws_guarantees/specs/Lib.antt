@@ -14,4 +14,4 @@ pub mod WrongUndisturbed
 pub mod Scripts
 pub mod Ordered
 pub mod WrongOrder
-pub mod Names
+pub mod Vocabulary

@@ -6,8 +6,8 @@ use Rattle.qc_msg.specs.declared.message.Message.{Message}
 use Rattle.qc_msg.specs.declared.message.Message.TheVariants as messages
 use Rattle.qc_msg.specs.declared.message.Want.{Want}
 use Rattle.qc_msg.specs.declared.message.Want.TheVariants.{Append, Prepare, Read}
-use Rattle.qc_promise.specs.Names.{is_final}
-use Rattle.qc_stamp.specs.Names.{same_tx}
+use Rattle.qc_promise.specs.Vocabulary.{is_final}
+use Rattle.qc_stamp.specs.Vocabulary.{same_tx}
 use Rattle.qc_stamp.specs.declared.stamp.TxId.{TxId}
 use Rattle.laws_guarantees.specs.Arrives.{sent_to}
 

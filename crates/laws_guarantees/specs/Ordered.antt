@@ -1,19 +1,19 @@
 -- Two committed operations one of which depends on the other: which is stamped first, and what the one had seen.
 use Rattle.std.specs.Prelude.{◌≡◌, ◌≢◌, ℕ, ◌<◌, ◌⊎◌, Bool, false, IsTrue, List, [], ◌∷◌, ◌++◌, Option, Some, None}
 use Rattle.std.specs.Prelude.{slice_get}
-use Rattle.qc_core.specs.Names.{IsLawful}
+use Rattle.qc_core.specs.Vocabulary.{IsLawful}
 use Rattle.qc_decl.specs.declared.declaration.Declaration.{Declaration}
 use Rattle.qc_entry.specs.declared.line.Line.{Line}
 use Rattle.qc_entry.specs.declared.line.Op.{Op}
 use Rattle.qc_entry.specs.declared.record.Commit.{Commit}
-use Rattle.qc_list.specs.Names.{In}
+use Rattle.qc_list.specs.Vocabulary.{In}
 use Rattle.qc_msg.specs.declared.record.Record.TheVariants as records
 use Rattle.qc_msg.specs.declared.reply.Reply.{Reply}
 use Rattle.qc_msg.specs.declared.step.Step.TheVariants.{Told, Wrote}
-use Rattle.qc_msg.specs.Names.{Entry, marked, written}
-use Rattle.theory_onecopy.specs.Names.{IsLogged, depends_at}
-use Rattle.qc_promise.specs.Names.{Current, account, answer_of, resp_of, view_of}
-use Rattle.qc_script.specs.Names.{Runs}
+use Rattle.qc_msg.specs.Vocabulary.{Entry, marked, written}
+use Rattle.theory_onecopy.specs.Vocabulary.{IsLogged, depends_at}
+use Rattle.qc_promise.specs.Vocabulary.{Current, account, answer_of, resp_of, view_of}
+use Rattle.qc_script.specs.Vocabulary.{Runs}
 use Rattle.qc_script.specs.declared.script.Script.{Script}
 use Rattle.qc_stamp.specs.declared.stamp.Stamp.{Stamp}
 

@@ -1,7 +1,7 @@
 -- What a reply is in a run that nothing disturbs: a `do` is answered, or refused for a transaction that is open
 -- elsewhere; a commit commits.
 use Rattle.std.specs.Prelude.{◌≡◌, ℕ, ◌<◌, false, List, [], ◌∷◌, ◌++◌, length, Option, Some, None}
-use Rattle.qc_decl.specs.Names.{most_transaction_operations}
+use Rattle.qc_decl.specs.Vocabulary.{most_transaction_operations}
 use Rattle.qc_decl.specs.declared.declaration.Declaration.{Declaration}
 use Rattle.qc_msg.specs.declared.reply.Reply.{Reply}
 use Rattle.qc_msg.specs.declared.reply.Reply.TheVariants as replies
@@ -9,8 +9,8 @@ use Rattle.qc_msg.specs.declared.step.Command.{Command}
 use Rattle.qc_msg.specs.declared.step.Command.TheVariants as commands
 use Rattle.qc_msg.specs.declared.step.Step.{Step}
 use Rattle.qc_msg.specs.declared.step.Step.TheVariants as steps
-use Rattle.qc_msg.specs.Names.{Entry}
-use Rattle.qc_promise.specs.Names.{Current, account}
+use Rattle.qc_msg.specs.Vocabulary.{Entry}
+use Rattle.qc_promise.specs.Vocabulary.{Current, account}
 use Rattle.laws_guarantees.specs.Elsewhere.{IsOpenElsewhere}
 
 -- each reply of a history has this property, of what stands before it and its actor

@@ -8,7 +8,7 @@ use Rattle.qc_msg.specs.declared.message.Message.TheVariants.{Answer, Decision, 
 use Rattle.qc_msg.specs.declared.message.Outcome.TheVariants.{Aborted}
 use Rattle.qc_msg.specs.declared.message.Want.TheVariants.{Read}
 use Rattle.qc_msg.specs.declared.step.Input.TheVariants.{Got}
-use Rattle.qc_msg.specs.Names.{Deed, Sends, Takes}
+use Rattle.qc_msg.specs.Vocabulary.{Deed, Sends, Takes}
 
 abbrev pub tx : TxId
 tx = record { client = 0; life = 1; number = 1 }

@@ -8,8 +8,8 @@ use Rattle.qc_msg.specs.declared.record.Record.TheVariants as records
 use Rattle.qc_msg.specs.declared.reply.Reply.TheVariants as replies
 use Rattle.qc_msg.specs.declared.step.Command.TheVariants as commands
 use Rattle.qc_msg.specs.declared.step.Step.TheVariants as steps
-use Rattle.qc_msg.specs.Names.{Entry, by, marked}
-use Rattle.qc_promise.specs.Names.{Current}
+use Rattle.qc_msg.specs.Vocabulary.{Entry, by, marked}
+use Rattle.qc_promise.specs.Vocabulary.{Current}
 use Rattle.qc_stamp.specs.declared.stamp.Stamp.{Stamp}
 use Rattle.qc_stamp.specs.declared.stamp.TxId.{TxId}
 

@@ -4,26 +4,26 @@ use Rattle.std.proofs.Common.{slice_get, inl, inr, refl, sym, ap, ◌∙◌, sub
 use Rattle.std.specs.Prelude.{slice_set}
 use Rattle.qc_core.specs.declared.actor.Actor.{Actor}
 use Rattle.qc_core.specs.declared.actor.Actor.TheVariants as actor
-use Rattle.qc_core.specs.Names.{ActorMove, IsLawfulWithFalls, actor_after, actor_takes, by_admin, is_up, journal_after}
-use Rattle.qc_core.specs.Names.{with_record}
+use Rattle.qc_core.specs.Vocabulary.{ActorMove, IsLawfulWithFalls, actor_after, actor_takes, by_admin, is_up}
+use Rattle.qc_core.specs.Vocabulary.{journal_after, with_record}
 use Rattle.qc_decl.specs.declared.declaration.Declaration.{Declaration}
-use Rattle.qc_decl.specs.Names.{administrator}
-use Rattle.qc_epoch.specs.Names.{AdminMove, admin_takes}
+use Rattle.qc_decl.specs.Vocabulary.{administrator}
+use Rattle.qc_epoch.specs.Vocabulary.{AdminMove, admin_takes}
 use Rattle.laws_turns.proofs.Downs.{due}
 use Rattle.qc_msg.specs.declared.message.Envelope.{Envelope}
 use Rattle.qc_msg.specs.declared.record.Record.{Record}
 use Rattle.qc_msg.specs.declared.turn.Appended.{Appended}
 use Rattle.qc_msg.specs.declared.turn.Appended.TheVariants.{Done, Failed, Stopped}
 use Rattle.qc_msg.specs.declared.turn.Turn.{Turn}
-use Rattle.qc_msg.specs.Names.{Deed, Entry, HasRecord, MayEnd, WasSentTo, by, deeds, envelopes, mail, posted_as}
-use Rattle.qc_msg.specs.Names.{sends_as}
-use Rattle.laws_refinement.specs.Names.{MayCome, Net, after_admin}
+use Rattle.qc_msg.specs.Vocabulary.{Deed, Entry, HasRecord, MayEnd, WasSentTo, by, deeds, envelopes, mail, posted_as}
+use Rattle.qc_msg.specs.Vocabulary.{sends_as}
+use Rattle.laws_refinement.specs.Vocabulary.{MayCome, Net, after_admin}
 use Rattle.laws_refinement.specs.Net as nets
 use Rattle.laws_refinement.proofs.Machine.{put_other}
-use Rattle.qc_promise.specs.Names.{pending_with}
+use Rattle.qc_promise.specs.Vocabulary.{pending_with}
 use Rattle.theory_machine.proofs.Names.{put_here}
 use Rattle.laws_atomic.proofs.Stood.{may_come}
-use Rattle.laws_reach.specs.Names.{HasTaken, TakesInputs}
+use Rattle.laws_reach.specs.Vocabulary.{HasTaken, TakesInputs}
 use Rattle.laws_reach.proofs.Growing.{actor_posted, all_sent, ended_journal, ended_up}
 use Rattle.laws_reach.proofs.PostedTurns.{takes_inputs}
 use Rattle.laws_reach.proofs.Posting.{client_posts, down_posts, fails_shows, site_posts, to_net}

@@ -3,10 +3,10 @@ use Rattle.std.proofs.Common.{◌≡◌, ℕ, Bool, true, false, List, [], ◌�
 use Rattle.std.proofs.Common.{option_to_list, slice_get, inl, inr, refl, sym, ap, ◌∙◌, subst}
 use Rattle.std.proofs.lemmas.List.{append-nil}
 use Rattle.qc_core.specs.declared.actor.Actor.TheVariants as actor
-use Rattle.qc_core.specs.Names.{ActorMove, IsLawfulWithFalls, actor_rises, by_admin, is_up, with_record}
+use Rattle.qc_core.specs.Vocabulary.{ActorMove, IsLawfulWithFalls, actor_rises, by_admin, is_up, with_record}
 use Rattle.qc_core.proofs.ByNumber.{admin_no_client, admin_no_site, admin_risen}
 use Rattle.qc_decl.specs.declared.declaration.Declaration.{Declaration}
-use Rattle.qc_decl.specs.Names.{administrator}
+use Rattle.qc_decl.specs.Vocabulary.{administrator}
 use Rattle.qc_msg.specs.declared.record.Record.{Record}
 use Rattle.qc_msg.specs.declared.record.Record.TheVariants.{Life}
 use Rattle.qc_msg.specs.declared.step.Step.TheVariants as steps
@@ -14,14 +14,14 @@ use Rattle.qc_msg.specs.declared.turn.Appended.{Appended}
 use Rattle.qc_msg.specs.declared.turn.Appended.TheVariants.{Done, Failed, Stopped}
 use Rattle.qc_msg.specs.declared.turn.Posting.{Posting}
 use Rattle.qc_msg.specs.declared.turn.Turn.{Turn}
-use Rattle.qc_msg.specs.Names.{Entry, Rises, by, deeds, envelopes, mail, marked, own, posted_as}
-use Rattle.laws_refinement.specs.Names.{Net, after_admin_rise}
+use Rattle.qc_msg.specs.Vocabulary.{Entry, Rises, by, deeds, envelopes, mail, marked, own, posted_as}
+use Rattle.laws_refinement.specs.Vocabulary.{Net, after_admin_rise}
 use Rattle.laws_refinement.specs.Net as nets
 use Rattle.laws_refinement.proofs.Machine.{put_other}
-use Rattle.qc_promise.specs.Names.{IsGivenBack, Journal, journal_of}
+use Rattle.qc_promise.specs.Vocabulary.{IsGivenBack, Journal, journal_of}
 use Rattle.theory_machine.proofs.Names.{put_here}
-use Rattle.qc_recover.specs.Names.{admin_rises}
-use Rattle.laws_reach.specs.Names.{TakesInputs}
+use Rattle.qc_recover.specs.Vocabulary.{admin_rises}
+use Rattle.laws_reach.specs.Vocabulary.{TakesInputs}
 use Rattle.laws_reach.proofs.Growing.{actor_posted, all_sent}
 use Rattle.laws_reach.proofs.PostedTurns.{takes_inputs}
 use Rattle.laws_reach.proofs.Rising as rising

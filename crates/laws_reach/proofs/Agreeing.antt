@@ -1,21 +1,21 @@
 -- In every run with falls whose records are kept no two final verdicts about one transaction differ.
 use Rattle.std.proofs.Common.{◌≡◌, ℕ, Bool, true, List, refl, sym, ap, ◌∙◌, subst}
-use Rattle.qc_core.specs.Names.{IsLawfulWithFalls}
-use Rattle.qc_decl.specs.Names.{IsAccepted}
+use Rattle.qc_core.specs.Vocabulary.{IsLawfulWithFalls}
+use Rattle.qc_decl.specs.Vocabulary.{IsAccepted}
 use Rattle.qc_decl.specs.declared.declaration.Declaration.{Declaration}
 use Rattle.qc_entry.specs.declared.record.Commit.{Commit}
 use Rattle.qc_msg.specs.declared.message.Outcome.{Outcome}
 use Rattle.qc_msg.specs.declared.message.Outcome.TheVariants.{Aborted, Active, Committed}
 use Rattle.qc_msg.specs.declared.record.Record.{Record}
-use Rattle.qc_msg.specs.Names.{Entry, mail}
-use Rattle.theory_onecopy.specs.Names.{AreApart}
-use Rattle.qc_promise.specs.Names.{DecisionAgrees, Kept, VerdictAgrees, committed, is_final}
+use Rattle.qc_msg.specs.Vocabulary.{Entry, mail}
+use Rattle.theory_onecopy.specs.Vocabulary.{AreApart}
+use Rattle.qc_promise.specs.Vocabulary.{DecisionAgrees, Kept, VerdictAgrees, committed, is_final}
 use Rattle.laws_reach.proofs.RunLaws.{committed_apart, decisions_agree_with_committed_through_falls}
-use Rattle.qc_script.specs.Names.{IsScriptFor, RunsWithFalls}
+use Rattle.qc_script.specs.Vocabulary.{IsScriptFor, RunsWithFalls}
 use Rattle.qc_script.specs.declared.script.Script.{Script}
 use Rattle.qc_stamp.specs.declared.stamp.Stamp.{Stamp}
 use Rattle.qc_stamp.specs.declared.stamp.TxId.{TxId}
-use Rattle.laws_reach.specs.Names.{AgreeOnVerdicts}
+use Rattle.laws_reach.specs.Vocabulary.{AgreeOnVerdicts}
 
 -- of one list of records, two verdicts that agree with it are one
 

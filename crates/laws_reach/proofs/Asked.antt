@@ -5,11 +5,11 @@ use Rattle.std.proofs.Common.{[], ◌∷◌, drop, filter, fold, map, Option, So
 use Rattle.std.specs.List.{AllByRecursion as Every}
 use Rattle.std.specs.Option.{option_map_or}
 use Rattle.std.specs.Prelude.{set}
-use Rattle.qc_list.specs.Names.{In}
+use Rattle.qc_list.specs.Vocabulary.{In}
 use Rattle.qc_list.proofs.Members.{every-append, every-at, every-from_In}
 use Rattle.qc_decl.specs.declared.declaration.Declaration.{Declaration}
 use Rattle.qc_link.specs.declared.rule.Fate.{Fate}
-use Rattle.qc_link.specs.Names.{fate, with_cut, without_cut}
+use Rattle.qc_link.specs.Vocabulary.{fate, with_cut, without_cut}
 use Rattle.qc_msg.specs.declared.message.Envelope.{Envelope}
 use Rattle.qc_msg.specs.declared.message.Message.{Message}
 use Rattle.qc_msg.specs.declared.message.Message.TheVariants as messages
@@ -18,15 +18,16 @@ use Rattle.qc_msg.specs.declared.step.Control.{Control}
 use Rattle.qc_msg.specs.declared.step.Input.TheVariants as inputs
 use Rattle.qc_msg.specs.declared.step.Step.{Step}
 use Rattle.qc_msg.specs.declared.step.Step.TheVariants as steps
-use Rattle.qc_msg.specs.Names.{Entry}
-use Rattle.qc_script.specs.Names.{Inbox, after_controls, command_in, empty_inbox, first_command, first_copy, first_lost}
-use Rattle.qc_script.specs.Names.{inbox, inbox_at, ready, requests_to, requests_to_others, takes_commands, with_lost}
+use Rattle.qc_msg.specs.Vocabulary.{Entry}
+use Rattle.qc_script.specs.Vocabulary.{Inbox, after_controls, command_in, empty_inbox, first_command, first_copy}
+use Rattle.qc_script.specs.Vocabulary.{first_lost, inbox, inbox_at, ready, requests_to, requests_to_others}
+use Rattle.qc_script.specs.Vocabulary.{takes_commands, with_lost}
 use Rattle.qc_script.specs.Inbox as boxes
 use Rattle.qc_script.specs.declared.script.CommandLine.{CommandLine}
 use Rattle.qc_script.specs.declared.script.PhaseLines.{PhaseLines}
 use Rattle.qc_script.specs.declared.script.Script.{Script}
-use Rattle.laws_refinement.specs.Names.{IsNamed}
-use Rattle.laws_atomic.specs.Names.{AreNamed}
+use Rattle.laws_refinement.specs.Vocabulary.{IsNamed}
+use Rattle.laws_atomic.specs.Vocabulary.{AreNamed}
 
 module _ (decl : Declaration) (script : Script) (named : AreNamed decl script) (a : ℕ) where
   abbrev AskedNamed : Inbox → Type 0

@@ -3,20 +3,20 @@
 use Rattle.std.proofs.Common.{ℕ, Bool, true, false, List, [], ◌∷◌, fold, inl, inr, Option, Some, None, option_to_list}
 use Rattle.std.proofs.Common.{sym, subst}
 use Rattle.std.specs.List.{AllByRecursion as Every}
-use Rattle.qc_client.specs.Names.{client_takes}
+use Rattle.qc_client.specs.Vocabulary.{client_takes}
 use Rattle.qc_client.specs.declared.client.Client.{Client}
 use Rattle.qc_core.specs.declared.actor.Actor.{Actor}
 use Rattle.qc_core.specs.declared.actor.Actor.TheVariants as actors
-use Rattle.qc_core.specs.Names.{ActorMove, IsLawfulWithFalls, actor_does, actor_rises, actor_sends, actor_takes, moved}
-use Rattle.qc_core.specs.Names.{new_actor, with_record}
+use Rattle.qc_core.specs.Vocabulary.{ActorMove, IsLawfulWithFalls, actor_does, actor_rises, actor_sends, actor_takes}
+use Rattle.qc_core.specs.Vocabulary.{moved, new_actor, with_record}
 use Rattle.qc_core.proofs.AdminTurns.{IsAdminTurn, IsOfAdmin, IsSentByAdmin, WritesDecision}
 use Rattle.qc_core.proofs.AdminWrites.{admin_written}
 use Rattle.qc_core.proofs.ByNumber.{new_by, rises_by}
 use Rattle.qc_core.proofs.PostsByTurns.{called_turn}
 use Rattle.qc_core.proofs.Written.{client_written}
-use Rattle.qc_decl.specs.Names.{is_client, is_site}
+use Rattle.qc_decl.specs.Vocabulary.{is_client, is_site}
 use Rattle.qc_decl.specs.declared.declaration.Declaration.{Declaration}
-use Rattle.qc_epoch.specs.Names.{Admin, admin_takes}
+use Rattle.qc_epoch.specs.Vocabulary.{Admin, admin_takes}
 use Rattle.qc_list.proofs.Members.{every-weaker}
 use Rattle.qc_msg.specs.declared.message.Message.{Message}
 use Rattle.qc_msg.specs.declared.message.Message.TheVariants as messages
@@ -28,8 +28,8 @@ use Rattle.qc_msg.specs.declared.turn.Appended.{Appended}
 use Rattle.qc_msg.specs.declared.turn.Appended.TheVariants.{Done, Failed, Stopped}
 use Rattle.qc_msg.specs.declared.turn.Posting.{Posting}
 use Rattle.qc_msg.specs.declared.turn.Turn.{Turn}
-use Rattle.qc_msg.specs.Names.{Deed, Falls, Rises, Sends, Takes, Tells, Writes, quiet, sends_as}
-use Rattle.qc_recover.specs.Names.{site_rises}
+use Rattle.qc_msg.specs.Vocabulary.{Deed, Falls, Rises, Sends, Takes, Tells, Writes, quiet, sends_as}
+use Rattle.qc_recover.specs.Vocabulary.{site_rises}
 use Rattle.laws_turns.proofs.TurnsGoOn.{IsNoInquiry, NoInquiries}
 use Rattle.laws_turns.proofs.SitesAsk.{GivenTells, HeldFor, PreparedFor}
 use Rattle.qc_stamp.specs.declared.stamp.TxId.{TxId}

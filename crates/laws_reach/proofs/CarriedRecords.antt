@@ -1,14 +1,14 @@
 -- A commit record that becomes known by an input, a record or a message has the operations that the client was told.
-use Rattle.std.proofs.Common.{◌≡◌, ◌≤◌, ◌⊎◌, inl, inr, ℕ, ◌+◌, Bool, true, false, cond, fold, List, ◌∷◌, Option, Some}
-use Rattle.std.proofs.Common.{None, option_map, option_and_then, refl, sym, ap, ◌∙◌, subst, arith}
+use Rattle.std.proofs.Common.{[], ◌≡◌, ◌≤◌, ◌⊎◌, inl, inr, ℕ, ◌+◌, Bool, true, false, cond, fold, List, ◌∷◌, Option}
+use Rattle.std.proofs.Common.{Some, None, option_map, option_and_then, refl, sym, ap, ◌∙◌, subst, arith}
 use Rattle.std.proofs.lemmas.List.Sums.{fold-append}
-use Rattle.qc_list.specs.Names.{In}
+use Rattle.qc_list.specs.Vocabulary.{In}
 use Rattle.qc_list.proofs.Members.{In-more}
-use Rattle.qc_stamp.specs.Names.{first_life}
+use Rattle.qc_stamp.specs.Vocabulary.{first_life}
 use Rattle.qc_stamp.specs.declared.stamp.Stamp.{Stamp}
 use Rattle.qc_decl.specs.declared.declaration.Declaration.{Declaration}
 use Rattle.qc_entry.specs.declared.record.Commit.{Commit as CommitRecord}
-use Rattle.qc_core.specs.Names.{journal_at}
+use Rattle.qc_core.specs.Vocabulary.{journal_at}
 use Rattle.qc_msg.specs.declared.message.Message.{Message}
 use Rattle.qc_msg.specs.declared.record.Record.{Record}
 use Rattle.qc_msg.specs.declared.record.Record.TheVariants.{Life, Prepare, Done, Close, Install, Commit, Decide}
@@ -18,10 +18,10 @@ use Rattle.qc_msg.specs.declared.step.Command.{Command}
 use Rattle.qc_msg.specs.declared.step.Command.TheVariants as commands
 use Rattle.qc_msg.specs.declared.step.Input.{Input}
 use Rattle.qc_msg.specs.declared.step.Input.TheVariants as inputs
-use Rattle.qc_msg.specs.Names.{Deed, Sends, Takes, Writes, is_life}
-use Rattle.qc_promise.specs.Names.{Account, Current, Dealing, IsInputDue, IsRecordDue, Journal, Place, account_at}
-use Rattle.qc_promise.specs.Names.{commit_of, deal, due, life_with, pending_next, reply_to}
-use Rattle.laws_reach.specs.Names.{Says, SaysIn}
+use Rattle.qc_msg.specs.Vocabulary.{Deed, Sends, Takes, Writes, is_life}
+use Rattle.qc_promise.specs.Vocabulary.{Account, Current, Dealing, IsInputDue, IsRecordDue, Journal, Place, account_at}
+use Rattle.qc_promise.specs.Vocabulary.{commit_of, deal, due, life_with, pending_next, reply_to}
+use Rattle.laws_reach.specs.Vocabulary.{Says, SaysIn}
 use Rattle.laws_reach.proofs.Gists.{Gist, gist, going, counted_same, heard_same, sent_same, with_call}
 use Rattle.laws_reach.proofs.Rows.{reply_says}
 use Rattle.laws_reach.proofs.Bases.{Base, Both, IsPast, Settled, both_as, called, none_some, some_is, true_false}

@@ -1,18 +1,18 @@
 -- A commit record that is known after a client's deeds has the operations that the client was told: deed by deed.
-use Rattle.std.proofs.Common.{◌≡◌, ◌≤◌, ◌⊎◌, inl, inr, ℕ, ◌+◌, Bool, true, fold, List, ◌∷◌, ◌++◌, Option, Some, None}
-use Rattle.std.proofs.Common.{option_to_list, refl, sym, ap, ◌∙◌, subst, arith}
+use Rattle.std.proofs.Common.{[], ◌≡◌, ◌≤◌, ◌⊎◌, inl, inr, ℕ, ◌+◌, Bool, true, fold, List, ◌∷◌, ◌++◌, Option, Some}
+use Rattle.std.proofs.Common.{None, option_to_list, refl, sym, ap, ◌∙◌, subst, arith}
 use Rattle.std.proofs.lemmas.List.Sums.{fold-append}
-use Rattle.qc_list.specs.Names.{In}
-use Rattle.qc_stamp.specs.Names.{first_life}
+use Rattle.qc_list.specs.Vocabulary.{In}
+use Rattle.qc_stamp.specs.Vocabulary.{first_life}
 use Rattle.qc_decl.specs.declared.declaration.Declaration.{Declaration}
 use Rattle.qc_entry.specs.declared.record.Commit.{Commit as CommitRecord}
-use Rattle.qc_core.specs.Names.{journal_at}
+use Rattle.qc_core.specs.Vocabulary.{journal_at}
 use Rattle.qc_msg.specs.declared.record.Record.{Record}
 use Rattle.qc_msg.specs.declared.record.Record.TheVariants.{Commit}
 use Rattle.qc_msg.specs.declared.step.Fall.{Fall}
-use Rattle.qc_msg.specs.Names.{Deed, Falls, Rises}
-use Rattle.qc_promise.specs.Names.{Account, Dealing, IsGivenBack, Journal, Place, account_at, deal, life_with}
-use Rattle.qc_promise.specs.Names.{pending_next, pending_with}
+use Rattle.qc_msg.specs.Vocabulary.{Deed, Falls, Rises}
+use Rattle.qc_promise.specs.Vocabulary.{Account, Dealing, IsGivenBack, Journal, Place, account_at, deal, life_with}
+use Rattle.qc_promise.specs.Vocabulary.{pending_next, pending_with}
 use Rattle.laws_reach.proofs.Gists.{gist, finished}
 use Rattle.laws_reach.proofs.Bases.{Both, both_as, ends, none_some, true_false}
 use Rattle.laws_reach.proofs.Steps.{risen}

@@ -1,24 +1,24 @@
 -- What each client of a run with falls has done: by turns, due, given back, and told.
 use Rattle.std.proofs.Common.{◌≡◌, ◌<◌, ◌≤◌, ℕ, ◌+◌, ◌-◌, nat_le, nat_lt, Bool, true, false, List, [], Some, slice_get}
 use Rattle.std.proofs.Common.{refl, sym, subst, le-leb, lt-ltb, arith}
-use Rattle.laws_due.specs.Names.{Declares}
+use Rattle.laws_due.specs.Vocabulary.{Declares}
 use Rattle.laws_due.proofs.Commands.{no_site}
 use Rattle.laws_due.proofs.AccountDeclared.{asks_declared}
-use Rattle.qc_core.specs.Names.{AreGivenBack, IsLawfulWithFalls}
-use Rattle.laws_reach.specs.Names.{AreCommitsTold}
-use Rattle.qc_decl.specs.Names.{IsAccepted, actors, administrator, client_actor, is_client}
+use Rattle.qc_core.specs.Vocabulary.{AreGivenBack, IsLawfulWithFalls}
+use Rattle.laws_reach.specs.Vocabulary.{AreCommitsTold}
+use Rattle.qc_decl.specs.Vocabulary.{IsAccepted, actors, administrator, client_actor, is_client}
 use Rattle.qc_decl.proofs.Clients.{client_below, client_past}
 use Rattle.qc_decl.specs.declared.declaration.Declaration.{Declaration}
 use Rattle.laws_due.proofs.Declared.{run_declares}
 use Rattle.laws_due.proofs.KeptPlanned.{kept_due, kept_planned}
-use Rattle.laws_turns.specs.Names.{AsksDeclared, LivesIn}
+use Rattle.laws_turns.specs.Vocabulary.{AsksDeclared, LivesIn}
 use Rattle.laws_turns.proofs.Places.{slice_get-within}
-use Rattle.qc_link.specs.Names.{most_actors}
+use Rattle.qc_link.specs.Vocabulary.{most_actors}
 use Rattle.laws_turns.proofs.Lived.{run_lives, run_long}
 use Rattle.qc_msg.specs.declared.record.Record.{Record}
-use Rattle.qc_msg.specs.Names.{Deed, Entry, deeds}
-use Rattle.qc_promise.specs.Names.{AreByTurns, AreRepliesDue, Due, Kept, no_journal}
-use Rattle.qc_script.specs.Names.{IsScriptFor, RunsWithFalls}
+use Rattle.qc_msg.specs.Vocabulary.{Deed, Entry, deeds}
+use Rattle.qc_promise.specs.Vocabulary.{AreByTurns, AreRepliesDue, Due, Kept, no_journal}
+use Rattle.qc_script.specs.Vocabulary.{IsScriptFor, RunsWithFalls}
 use Rattle.qc_script.specs.declared.script.Script.{Script}
 use Rattle.qc_core.proofs.KeptBack.{kept_given_back}
 use Rattle.laws_reach.proofs.Posts.{lives_told}

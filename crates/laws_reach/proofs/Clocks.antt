@@ -3,16 +3,16 @@ use Rattle.std.proofs.Common.{◌≡◌, ◌≤◌, ◌<◌, ◌⊎◌, ℕ, inl
 use Rattle.std.proofs.Common.{Some, None, refl, ap, ◌∙◌, arith}
 use Rattle.std.specs.List.{AllByRecursion as Every}
 use Rattle.qc_client.specs.declared.client.Client.{Client}
-use Rattle.qc_client.specs.Names.{ClientMove, answered, answered_by, by_desk, by_front, called, client_does}
-use Rattle.qc_client.specs.Names.{client_takes, commits, heard, moved, sent_one}
+use Rattle.qc_client.specs.Vocabulary.{ClientMove, answered, answered_by, by_desk, by_front, called, client_does}
+use Rattle.qc_client.specs.Vocabulary.{client_takes, commits, heard, moved, sent_one}
 use Rattle.qc_commit.specs.declared.desk.Voting.{Voting}
 use Rattle.qc_commit.specs.Conduct as desks
-use Rattle.qc_commit.specs.Names.{DeskMove, commit_of}
+use Rattle.qc_commit.specs.Vocabulary.{DeskMove, commit_of}
 use Rattle.qc_decl.specs.declared.declaration.Declaration.{Declaration}
 use Rattle.qc_entry.specs.declared.record.Commit.{Commit}
 use Rattle.qc_front.specs.declared.transaction.Transaction.{Transaction}
 use Rattle.qc_front.specs.Conduct as fronts
-use Rattle.qc_front.specs.Names.{FrontMove}
+use Rattle.qc_front.specs.Vocabulary.{FrontMove}
 use Rattle.qc_msg.specs.declared.begun.Begun.{Begun}
 use Rattle.qc_msg.specs.declared.message.Answer.{Answer}
 use Rattle.qc_msg.specs.declared.message.Message.{Message}
@@ -24,7 +24,7 @@ use Rattle.qc_msg.specs.declared.step.Command.TheVariants as commands
 use Rattle.qc_msg.specs.declared.step.Input.{Input}
 use Rattle.qc_msg.specs.declared.step.Input.TheVariants as inputs
 use Rattle.qc_msg.specs.declared.turn.Turn.{Turn}
-use Rattle.qc_msg.specs.Names.{Deed, Falls, Rises, Sends, Takes, Tells, Writes}
+use Rattle.qc_msg.specs.Vocabulary.{Deed, Falls, Rises, Sends, Takes, Tells, Writes}
 use Rattle.laws_turns.proofs.ClientsWithin.{IsPost}
 use Rattle.laws_turns.proofs.FrontGoesOn.{FrontKind}
 use Rattle.laws_turns.proofs.FrontKinds.{called-kind, takes-kind}

@@ -5,21 +5,21 @@ use Rattle.std.proofs.Common.{flat_map, fold, map, if◌then◌else◌, inl, inr
 use Rattle.std.proofs.Common.{eq-eqb, eqb-true}
 use Rattle.std.proofs.lemmas.List.{append-nil}
 use Rattle.std.proofs.lemmas.List.Sums.{fold-append}
-use Rattle.qc_decl.specs.Names.{is_client}
+use Rattle.qc_decl.specs.Vocabulary.{is_client}
 use Rattle.qc_decl.specs.declared.declaration.Declaration.{Declaration}
 use Rattle.qc_entry.specs.declared.record.Commit.{Commit as CommitRecord}
-use Rattle.qc_list.specs.Names.{In}
+use Rattle.qc_list.specs.Vocabulary.{In}
 use Rattle.qc_list.proofs.Members.{In-first, In-second}
-use Rattle.qc_msg.specs.Names.{Entry, commit_of, own}
+use Rattle.qc_msg.specs.Vocabulary.{Entry, commit_of, own}
 use Rattle.qc_msg.specs.declared.record.Record.{Record}
 use Rattle.qc_msg.specs.declared.record.Record.TheVariants as records
 use Rattle.qc_msg.specs.declared.step.Step.{Step}
 use Rattle.qc_msg.specs.declared.step.Step.TheVariants as steps
 use Rattle.qc_msg.proofs.DeedsGrow.{own-append}
 use Rattle.theory_onecopy.proofs.Lists.{in_split}
-use Rattle.qc_promise.specs.Names.{IsGivenBack, IsKeptAt, Journal, Kept, commits_by, commits_in, journal_of}
-use Rattle.qc_promise.specs.Names.{journal_with, no_journal, records as records_in}
-use Rattle.laws_reach.specs.Names.{AreStanding, IsOfClient, records_of}
+use Rattle.qc_promise.specs.Vocabulary.{IsGivenBack, IsKeptAt, Journal, Kept, commits_by, commits_in, journal_of}
+use Rattle.qc_promise.specs.Vocabulary.{journal_with, no_journal, records as records_in}
+use Rattle.laws_reach.specs.Vocabulary.{AreStanding, IsOfClient, records_of}
 use Rattle.laws_reach.proofs.Written.{alone, among_is, is_among}
 
 -- what is in a journal after a step was there before it, or is of the step

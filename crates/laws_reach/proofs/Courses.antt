@@ -3,12 +3,12 @@ use Rattle.std.proofs.Common.{◌≡◌, ℕ, ◌-◌, Bool, true, false, List, 
 use Rattle.std.specs.List.{AllByRecursion as Every}
 use Rattle.qc_core.specs.declared.actor.Actor.{Actor}
 use Rattle.qc_core.specs.declared.actor.Actor.TheVariants as actors
-use Rattle.qc_client.specs.Names.{client_takes}
-use Rattle.qc_core.specs.Names.{ActorMove, IsLawfulWithFalls, Lives, MayReach, MayTake, actor_after, actor_takes}
-use Rattle.qc_core.specs.Names.{by_client, is_up, with_record}
+use Rattle.qc_client.specs.Vocabulary.{client_takes}
+use Rattle.qc_core.specs.Vocabulary.{ActorMove, IsLawfulWithFalls, Lives, MayReach, MayTake, actor_after, actor_takes}
+use Rattle.qc_core.specs.Vocabulary.{by_client, is_up, with_record}
 use Rattle.qc_core.proofs.ByNumber.{client_risen}
 use Rattle.qc_core.specs.Lives as lives
-use Rattle.qc_decl.specs.Names.{is_client}
+use Rattle.qc_decl.specs.Vocabulary.{is_client}
 use Rattle.qc_decl.specs.declared.declaration.Declaration.{Declaration}
 use Rattle.qc_msg.specs.declared.record.Record.{Record}
 use Rattle.qc_msg.specs.declared.step.Command.{Command}
@@ -19,10 +19,10 @@ use Rattle.qc_msg.specs.declared.step.Input.TheVariants as inputs
 use Rattle.qc_msg.specs.declared.turn.Appended.{Appended}
 use Rattle.qc_msg.specs.declared.turn.Appended.TheVariants.{Done, Failed, Stopped}
 use Rattle.qc_msg.specs.declared.turn.Turn.{Turn}
-use Rattle.qc_msg.specs.Names.{Deed, Falls, MayEnd, Rises, Takes, Tells, deeds_as, first_epoch, telling}
+use Rattle.qc_msg.specs.Vocabulary.{Deed, Falls, MayEnd, Rises, Takes, Tells, deeds_as, first_epoch, telling}
 use Rattle.qc_msg.specs.declared.reply.Reply.TheVariants as replies
-use Rattle.qc_recover.specs.Names.{client_rises, rising}
-use Rattle.laws_due.specs.Names.{IsDeclaredDeed, IsPlanned}
+use Rattle.qc_recover.specs.Vocabulary.{client_rises, rising}
+use Rattle.laws_due.specs.Vocabulary.{IsDeclaredDeed, IsPlanned}
 use Rattle.laws_due.proofs.Fallings.{as_record}
 use Rattle.laws_due.proofs.Happenings.{takes_to}
 use Rattle.laws_due.proofs.Lifelong.{client_lives}

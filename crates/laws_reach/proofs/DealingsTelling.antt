@@ -9,14 +9,14 @@ use Rattle.qc_msg.specs.declared.reply.Reply.{Reply}
 use Rattle.qc_msg.specs.declared.reply.Reply.TheVariants as replies
 use Rattle.qc_msg.specs.declared.step.Command.{Command}
 use Rattle.qc_msg.specs.declared.step.Command.TheVariants as commands
-use Rattle.qc_msg.specs.Names.{Deed, Tells}
+use Rattle.qc_msg.specs.Vocabulary.{Deed, Tells}
 use Rattle.qc_stamp.specs.declared.stamp.TxId.{TxId}
-use Rattle.qc_promise.specs.Names.{Account, Current, Dealing, IsReplyDue, Journal, Place, account_told, answer_of}
-use Rattle.qc_promise.specs.Names.{commit_of, deal_told, dealt, due, found_absent, next_commit, next_stamp, operation}
-use Rattle.qc_promise.specs.Names.{pending_next, refused, resp_of, responded, saying_of, short_of, with_absent}
-use Rattle.qc_promise.specs.Names.{with_response}
+use Rattle.qc_promise.specs.Vocabulary.{Account, Current, Dealing, IsReplyDue, Journal, Place, account_told, answer_of}
+use Rattle.qc_promise.specs.Vocabulary.{commit_of, deal_told, dealt, due, found_absent, next_commit, next_stamp}
+use Rattle.qc_promise.specs.Vocabulary.{operation, pending_next, refused, resp_of, responded, saying_of, short_of}
+use Rattle.qc_promise.specs.Vocabulary.{with_absent, with_response}
 use Rattle.qc_promise.specs.Rows.{pending_with}
-use Rattle.laws_reach.specs.Names.{Finds, IsNoCommit, Responds, Says}
+use Rattle.laws_reach.specs.Vocabulary.{Finds, IsNoCommit, Responds, Says}
 use Rattle.laws_reach.proofs.Gists.{Gist, Going, finished, gist, going, refused_same, replied, short_same}
 use Rattle.laws_reach.proofs.Bases.{Base, Both, IsPast, Settled, answered, begins, both_as, ends, none_some, some_is}
 use Rattle.laws_reach.proofs.Steps.{adds}

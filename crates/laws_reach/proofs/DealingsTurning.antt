@@ -6,10 +6,10 @@ use Rattle.qc_msg.specs.declared.record.Record.TheVariants.{Life, Prepare, Done,
 use Rattle.qc_msg.specs.declared.step.Fall.{Fall}
 use Rattle.qc_msg.specs.declared.step.Fall.TheVariants as causes
 use Rattle.qc_msg.specs.declared.step.Input.{Input}
-use Rattle.qc_msg.specs.Names.{Deed, Falls, command_in, is_life}
-use Rattle.qc_promise.specs.Names.{Called, Failing, Fallen, Faulted, Idle, Open, Place, Rising, Saying, SaysDown}
-use Rattle.qc_promise.specs.Names.{SaysFault, SaysNeither, SaysUnwritten, Sending, Written, comes_at, falls_at}
-use Rattle.qc_promise.specs.Names.{pending_next, rises_at, sends_at, tells_at, writes_at}
+use Rattle.qc_msg.specs.Vocabulary.{Deed, Falls, command_in, is_life}
+use Rattle.qc_promise.specs.Vocabulary.{Called, Failing, Fallen, Faulted, Idle, Open, Place, Rising, Saying, SaysDown}
+use Rattle.qc_promise.specs.Vocabulary.{SaysFault, SaysNeither, SaysUnwritten, Sending, Written, comes_at, falls_at}
+use Rattle.qc_promise.specs.Vocabulary.{pending_next, rises_at, sends_at, tells_at, writes_at}
 
 abbrev pub is_off : Place → Bool
 is_off Idle = false

@@ -1,15 +1,15 @@
 -- Over all of a client's deeds: each commit record that its journal has then has the operations that it was told.
 use Rattle.std.proofs.Common.{◌≡◌, ℕ, inl, inr, true, false, fold, List, [], ◌∷◌, Option, Some, None, is_some, refl}
 use Rattle.std.proofs.Common.{subst}
-use Rattle.qc_list.specs.Names.{In}
+use Rattle.qc_list.specs.Vocabulary.{In}
 use Rattle.qc_decl.specs.declared.declaration.Declaration.{Declaration}
 use Rattle.qc_entry.specs.declared.record.Commit.{Commit as CommitRecord}
-use Rattle.qc_core.specs.Names.{AreGivenBack, IsGivenBackAt, journal_after, journal_at}
+use Rattle.qc_core.specs.Vocabulary.{AreGivenBack, IsGivenBackAt, journal_after, journal_at}
 use Rattle.qc_msg.specs.declared.record.Record.TheVariants.{Commit}
-use Rattle.qc_msg.specs.Names.{Deed, Falls, Rises, Sends, Takes, Tells, Writes, is_life}
-use Rattle.qc_promise.specs.Names.{Account, AreByTurns, AreDeedsDue, AreRepliesDue, Dealing, Idle, IsDeedDue, Journal}
-use Rattle.qc_promise.specs.Names.{Place, account_at, deal, dealing_in, goes, goes_on, new_account, no_dealing}
-use Rattle.qc_promise.specs.Names.{no_journal, pending_next, saying_of}
+use Rattle.qc_msg.specs.Vocabulary.{Deed, Falls, Rises, Sends, Takes, Tells, Writes, is_life}
+use Rattle.qc_promise.specs.Vocabulary.{Account, AreByTurns, AreDeedsDue, AreRepliesDue, Dealing, Idle, IsDeedDue}
+use Rattle.qc_promise.specs.Vocabulary.{Journal, Place, account_at, deal, dealing_in, goes, goes_on, new_account}
+use Rattle.qc_promise.specs.Vocabulary.{no_dealing, no_journal, pending_next, saying_of}
 use Rattle.laws_reach.proofs.Bases.{none_some}
 use Rattle.laws_reach.proofs.DealingsTurning.{CameTo, FellTo, RoseTo, ToldTo, WroteTo, comes, falls, is_off, rises}
 use Rattle.laws_reach.proofs.DealingsTurning.{sends, tells, writes}

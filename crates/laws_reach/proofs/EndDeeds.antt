@@ -1,11 +1,11 @@
 -- Over all of a client's deeds: how its transactions ended agrees with the records of its journal.
 use Rattle.std.proofs.Common.{◌≡◌, ◌⊎◌, inl, inr, ℕ, Bool, true, false, fold, List, [], ◌∷◌, ◌++◌, Option, Some, None}
 use Rattle.std.proofs.Common.{is_some, option_to_list, refl, sym, ap, ◌∙◌, subst}
-use Rattle.qc_list.specs.Names.{In}
+use Rattle.qc_list.specs.Vocabulary.{In}
 use Rattle.qc_list.proofs.Members.{In-first, In-last}
 use Rattle.qc_decl.specs.declared.declaration.Declaration.{Declaration}
 use Rattle.qc_entry.specs.declared.record.Commit.{Commit as CommitRecord}
-use Rattle.qc_core.specs.Names.{AreGivenBack, IsGivenBackAt, journal_after, journal_at}
+use Rattle.qc_core.specs.Vocabulary.{AreGivenBack, IsGivenBackAt, journal_after, journal_at}
 use Rattle.qc_msg.specs.declared.record.Record.{Record}
 use Rattle.qc_msg.specs.declared.record.Record.TheVariants.{Life, Prepare, Done, Close, Install, Commit, Decide}
 use Rattle.qc_msg.specs.declared.reply.Reply.{Reply}
@@ -13,13 +13,14 @@ use Rattle.qc_msg.specs.declared.reply.Reply.TheVariants as replies
 use Rattle.qc_msg.specs.declared.step.Fall.{Fall}
 use Rattle.qc_msg.specs.declared.step.Input.{Input}
 use Rattle.qc_msg.specs.declared.step.Input.TheVariants as inputs
-use Rattle.qc_msg.specs.Names.{Deed, Falls, Rises, Sends, Takes, Tells, Writes, is_life}
-use Rattle.qc_stamp.specs.Names.{first_life}
+use Rattle.qc_msg.specs.Vocabulary.{Deed, Falls, Rises, Sends, Takes, Tells, Writes, is_life}
+use Rattle.qc_stamp.specs.Vocabulary.{first_life}
 use Rattle.qc_stamp.specs.declared.stamp.Stamp.{Stamp}
-use Rattle.qc_promise.specs.Names.{Account, AreByTurns, AreDeedsDue, AreRepliesDue, Dealing, Idle, IsDeedDue}
-use Rattle.qc_promise.specs.Names.{IsGivenBack, IsRecordDue, Journal, Place, account_at, deal, dealing_in, due, goes}
-use Rattle.qc_promise.specs.Names.{goes_on, life_with, new_account, no_dealing, no_journal, pending_next, saying_of}
-use Rattle.laws_reach.specs.Names.{AreCommitsTold, HasRecord, IsDeedTold, IsToldOf, TellsNext}
+use Rattle.qc_promise.specs.Vocabulary.{Account, AreByTurns, AreDeedsDue, AreRepliesDue, Dealing, Idle, IsDeedDue}
+use Rattle.qc_promise.specs.Vocabulary.{IsGivenBack, IsRecordDue, Journal, Place, account_at, deal, dealing_in, due}
+use Rattle.qc_promise.specs.Vocabulary.{goes, goes_on, life_with, new_account, no_dealing, no_journal, pending_next}
+use Rattle.qc_promise.specs.Vocabulary.{saying_of}
+use Rattle.laws_reach.specs.Vocabulary.{AreCommitsTold, HasRecord, IsDeedTold, IsToldOf, TellsNext}
 use Rattle.laws_reach.proofs.EndTies.{AwaitsReply, IsOver, closed_life, closed_off, closed_rise, ended_as}
 use Rattle.laws_reach.proofs.EndTies.{goes_on as moves_on}
 use Rattle.laws_reach.proofs.EndReplies.{Ending, ends_on, recorded_begun}

@@ -1,18 +1,18 @@
 -- What a client was told of the ends of its transactions agrees with its records: the laws, one by one.
 use Rattle.std.proofs.Common.{◌≡◌, ◌≢◌, ℕ, false, List, [], sym, subst}
-use Rattle.qc_list.specs.Names.{In}
+use Rattle.qc_list.specs.Vocabulary.{In}
 use Rattle.qc_decl.specs.declared.declaration.Declaration.{Declaration}
 use Rattle.qc_entry.specs.declared.record.Commit.{Commit as CommitRecord}
-use Rattle.qc_core.specs.Names.{AreGivenBack, journal_after}
+use Rattle.qc_core.specs.Vocabulary.{AreGivenBack, journal_after}
 use Rattle.qc_msg.specs.declared.record.Record.TheVariants.{Commit}
 use Rattle.qc_msg.specs.declared.reply.Reply.{Reply}
 use Rattle.qc_msg.specs.declared.reply.Reply.TheVariants as replies
 use Rattle.qc_msg.specs.declared.reply.AbortCause.{AbortCause}
-use Rattle.qc_msg.specs.Names.{Deed}
+use Rattle.qc_msg.specs.Vocabulary.{Deed}
 use Rattle.qc_stamp.specs.declared.stamp.Stamp.{Stamp}
 use Rattle.qc_stamp.specs.declared.stamp.TxId.{TxId}
-use Rattle.qc_promise.specs.Names.{AreByTurns, AreRepliesDue, dealing_in, no_journal}
-use Rattle.laws_reach.specs.Names.{AreCommitsTold, HasRecord, IsToldOf}
+use Rattle.qc_promise.specs.Vocabulary.{AreByTurns, AreRepliesDue, dealing_in, no_journal}
+use Rattle.laws_reach.specs.Vocabulary.{AreCommitsTold, HasRecord, IsToldOf}
 use Rattle.laws_reach.proofs.EndDeeds.{other_end, recorded_own, recorded_told, told_committed, told_own}
 
 -- any record of a transaction

@@ -10,15 +10,15 @@ use Rattle.qc_msg.specs.declared.reply.Reply.{Reply}
 use Rattle.qc_msg.specs.declared.reply.Reply.TheVariants as replies
 use Rattle.qc_msg.specs.declared.step.Command.{Command}
 use Rattle.qc_msg.specs.declared.step.Command.TheVariants as commands
-use Rattle.qc_msg.specs.Names.{Deed, Tells}
+use Rattle.qc_msg.specs.Vocabulary.{Deed, Tells}
 use Rattle.qc_stamp.proofs.Orders.{same_tx_itself}
 use Rattle.qc_stamp.specs.declared.stamp.Stamp.{Stamp}
 use Rattle.qc_stamp.specs.declared.stamp.TxId.{TxId}
-use Rattle.qc_promise.specs.Names.{Account, Current, Dealing, IsReplyDue, Journal, Place, account_told, commit_of}
-use Rattle.qc_promise.specs.Names.{deal_told, dealt, due, ended, found_absent, is_begun, next_commit, next_stamp}
-use Rattle.qc_promise.specs.Names.{pending_next, record_with, refused, responded, saying_of, short_of}
+use Rattle.qc_promise.specs.Vocabulary.{Account, Current, Dealing, IsReplyDue, Journal, Place, account_told, commit_of}
+use Rattle.qc_promise.specs.Vocabulary.{deal_told, dealt, due, ended, found_absent, is_begun, next_commit, next_stamp}
+use Rattle.qc_promise.specs.Vocabulary.{pending_next, record_with, refused, responded, saying_of, short_of}
 use Rattle.qc_promise.specs.Rows.{pending_with}
-use Rattle.laws_reach.specs.Names.{Finds, HasRecord, IsToldOf, Responds, Says, TellsNext}
+use Rattle.laws_reach.specs.Vocabulary.{Finds, HasRecord, IsToldOf, Responds, Says, TellsNext}
 use Rattle.laws_reach.proofs.EndTies.{AwaitsReply, IsOver, EndTie, IsGoing, closed_begin, finishes, goes_on, going_one}
 use Rattle.laws_reach.proofs.EndTies.{told_of}
 use Rattle.laws_reach.proofs.Gists.{Gist, Going, finished, gist, going, refused_same, replied, short_same}

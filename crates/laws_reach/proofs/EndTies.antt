@@ -2,7 +2,7 @@
 use Rattle.std.proofs.Common.{◌≡◌, ◌≢◌, ◌⊎◌, inl, inr, ℕ, ◌+◌, ◌≤◌, Bool, true, false, cond, List, [], ◌∷◌, ◌++◌}
 use Rattle.std.proofs.Common.{Option, Some, None, option_map, refl, sym, ap, ◌∙◌, subst}
 use Rattle.std.proofs.lemmas.List.{append-nil}
-use Rattle.qc_list.specs.Names.{In}
+use Rattle.qc_list.specs.Vocabulary.{In}
 use Rattle.qc_list.proofs.Members.{In-first, In-more, In-second}
 use Rattle.qc_stamp.proofs.Orders.{same_tx_is}
 use Rattle.qc_stamp.specs.declared.stamp.Stamp.{Stamp}
@@ -12,8 +12,8 @@ use Rattle.qc_msg.specs.declared.record.Record.{Record}
 use Rattle.qc_msg.specs.declared.record.Record.TheVariants.{Commit}
 use Rattle.qc_msg.specs.declared.reply.Reply.{Reply}
 use Rattle.qc_msg.specs.declared.reply.Reply.TheVariants as replies
-use Rattle.qc_promise.specs.Names.{Dealing, ended, is_begun}
-use Rattle.laws_reach.specs.Names.{HasRecord, IsToldOf}
+use Rattle.qc_promise.specs.Vocabulary.{Dealing, ended, is_begun}
+use Rattle.laws_reach.specs.Vocabulary.{HasRecord, IsToldOf}
 use Rattle.laws_reach.proofs.Gists.{Gist, Going, finished}
 use Rattle.laws_reach.proofs.Bases.{Base, IsPast, begun_with, next_past, none_some, not_new, off_past, some_is}
 use Rattle.laws_reach.proofs.Bases.{true_false}

@@ -3,15 +3,15 @@ use Rattle.std.proofs.Common.{◌≡◌, ◌⊎◌, ◌<◌, inl, inr, ℕ, Bool
 use Rattle.std.proofs.Common.{refl, sym, ap, subst, arith}
 use Rattle.qc_entry.specs.declared.line.Op.{Op}
 use Rattle.qc_entry.specs.declared.record.Commit.{Commit as CommitRecord}
-use Rattle.qc_list.specs.Names.{In}
-use Rattle.laws_reach.specs.Names.{AreCommitsTold, Deals, Tells, crashed, cut_off, decl, fallen, first, kept, mine}
-use Rattle.laws_reach.specs.Names.{none_read, read_it, reading_on, record_of, second, tx}
-use Rattle.qc_msg.specs.Names.{Entry, deeds}
+use Rattle.qc_list.specs.Vocabulary.{In}
+use Rattle.laws_reach.specs.Vocabulary.{AreCommitsTold, Deals, Tells, crashed, cut_off, decl, fallen, first, kept, mine}
+use Rattle.laws_reach.specs.Vocabulary.{none_read, read_it, reading_on, record_of, second, tx}
+use Rattle.qc_msg.specs.Vocabulary.{Entry, deeds}
 use Rattle.qc_msg.specs.declared.reply.Reply.{Reply}
 use Rattle.qc_msg.specs.declared.reply.Reply.TheVariants as replies
 use Rattle.qc_msg.specs.declared.reply.AbortCause.TheVariants as causes
-use Rattle.qc_promise.specs.Names.{HasCommit, committed, deals, endings}
-use Rattle.qc_stamp.specs.Names.{same_tx}
+use Rattle.qc_promise.specs.Vocabulary.{HasCommit, committed, deals, endings}
+use Rattle.qc_stamp.specs.Vocabulary.{same_tx}
 use Rattle.qc_stamp.proofs.Orders.{same_tx_is}
 use Rattle.qc_stamp.specs.declared.stamp.Stamp.{Stamp}
 use Rattle.qc_stamp.specs.declared.stamp.TxId.{TxId}

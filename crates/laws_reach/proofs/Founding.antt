@@ -1,12 +1,12 @@
 -- What a client's deeds through falls and rises have to rest on; and so have those before them.
 use Rattle.std.proofs.Common.{List, ◌++◌, sym, subst}
 use Rattle.std.proofs.lemmas.List.Sums.{fold-append}
-use Rattle.qc_list.specs.Names.{In}
-use Rattle.qc_core.specs.Names.{AreGivenBack, journal_after, journal_at}
+use Rattle.qc_list.specs.Vocabulary.{In}
+use Rattle.qc_core.specs.Vocabulary.{AreGivenBack, journal_after, journal_at}
 use Rattle.qc_entry.specs.declared.record.Commit.{Commit}
 use Rattle.qc_msg.specs.declared.record.Record.TheVariants as records
-use Rattle.qc_msg.specs.Names.{Deed}
-use Rattle.qc_promise.specs.Names.{Journal, no_journal}
+use Rattle.qc_msg.specs.Vocabulary.{Deed}
+use Rattle.qc_promise.specs.Vocabulary.{Journal, no_journal}
 use Rattle.laws_atomic.proofs.Founded.{AreFounded, founded-first}
 use Rattle.qc_core.proofs.KeptBack.{back_first, back_second}
 use Rattle.laws_reach.proofs.Making.{all_stay}

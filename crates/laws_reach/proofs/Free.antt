@@ -5,12 +5,12 @@ use Rattle.std.proofs.Common.{is_some, refl, sym, ap, ◌∙◌, subst, append_a
 use Rattle.std.proofs.lemmas.List.Sums.{fold-append}
 use Rattle.qc_core.specs.declared.actor.Actor.{Actor}
 use Rattle.qc_core.specs.declared.actor.Actor.TheVariants as actor
-use Rattle.qc_core.specs.Names.{ActorMove, Lives, MayTake, actor_after, actor_does, actor_rises, actor_sends}
-use Rattle.qc_core.specs.Names.{actor_takes, by_client, is_running, runs_given, with_record}
+use Rattle.qc_core.specs.Vocabulary.{ActorMove, Lives, MayTake, actor_after, actor_does, actor_rises, actor_sends}
+use Rattle.qc_core.specs.Vocabulary.{actor_takes, by_client, is_running, runs_given, with_record}
 use Rattle.qc_core.proofs.ByNumber.{new_by, rises_by}
 use Rattle.qc_core.specs.Lives as lives
 use Rattle.qc_decl.specs.declared.declaration.Declaration.{Declaration}
-use Rattle.qc_decl.specs.Names.{is_client, is_site}
+use Rattle.qc_decl.specs.Vocabulary.{is_client, is_site}
 use Rattle.qc_msg.specs.declared.record.Record.{Record}
 use Rattle.qc_msg.specs.declared.reply.Reply.{Reply}
 use Rattle.qc_msg.specs.declared.step.Command.{Command}
@@ -23,14 +23,15 @@ use Rattle.qc_msg.specs.declared.turn.Appended.{Appended}
 use Rattle.qc_msg.specs.declared.turn.Appended.TheVariants.{Done, Failed, Stopped}
 use Rattle.qc_msg.specs.declared.turn.Posting.{Posting}
 use Rattle.qc_msg.specs.declared.turn.Turn.{Turn}
-use Rattle.qc_msg.specs.Names.{Deed, Falls, Rises, Sends, Takes, deeds_as, sends_of, tells_of, turn_deeds, writes_of}
+use Rattle.qc_msg.specs.Vocabulary.{Deed, Falls, Rises, Sends, Takes, deeds_as, sends_of, tells_of, turn_deeds}
+use Rattle.qc_msg.specs.Vocabulary.{writes_of}
 use Rattle.qc_client.specs.declared.client.Client.{Client}
-use Rattle.qc_client.specs.Names.{IsFree, client_takes}
-use Rattle.qc_front.specs.Names.{is_idle}
+use Rattle.qc_client.specs.Vocabulary.{IsFree, client_takes}
+use Rattle.qc_front.specs.Vocabulary.{is_idle}
 use Rattle.qc_front.specs.declared.doing.Doing.{Doing}
 use Rattle.qc_front.specs.declared.doing.Doing.TheVariants.{Idle, Reading, Appending}
 use Rattle.laws_turns.proofs.Downs.{due}
-use Rattle.laws_turns.specs.Names.{is_waiting}
+use Rattle.laws_turns.specs.Vocabulary.{is_waiting}
 use Rattle.laws_turns.proofs.TurnReplies.{running_more, running_turn}
 use Rattle.laws_turns.proofs.Waiting.{IsNoCall, called_ends, epoch_rests, round_none, sent_waits, takes_ends}
 use Rattle.laws_turns.proofs.Waiting.{takes_rests, votes_none}

@@ -16,9 +16,10 @@ use Rattle.qc_msg.specs.declared.message.Want.TheVariants.{Read, Append, Prepare
 use Rattle.qc_msg.specs.declared.reply.Half.{Half}
 use Rattle.qc_msg.specs.declared.reply.Half.TheVariants as halves
 use Rattle.qc_msg.specs.declared.step.Command.{Command}
-use Rattle.qc_promise.specs.Names.{Account, ClientRequest, Current, account_heard, account_sent, counted, counted_for}
-use Rattle.qc_promise.specs.Names.{doomed_if, granted, is_append, is_asked_for, is_open, lived, promised, refused}
-use Rattle.qc_promise.specs.Names.{requested, requests_for, short_of, taken_for, told_by, with_current, with_read}
+use Rattle.qc_promise.specs.Vocabulary.{Account, ClientRequest, Current, account_heard, account_sent, counted}
+use Rattle.qc_promise.specs.Vocabulary.{counted_for, doomed_if, granted, is_append, is_asked_for, is_open, lived}
+use Rattle.qc_promise.specs.Vocabulary.{promised, refused, requested, requests_for, short_of, taken_for, told_by}
+use Rattle.qc_promise.specs.Vocabulary.{with_current, with_read}
 
 pub record Going : Type 0 where
   pub tx : TxId

@@ -5,8 +5,8 @@ use Rattle.std.proofs.lemmas.List.{append-nil}
 use Rattle.std.proofs.lemmas.List.Sums.{fold-append}
 use Rattle.qc_core.specs.declared.actor.Actor.{Actor}
 use Rattle.qc_core.specs.declared.actor.Actor.TheVariants as actor
-use Rattle.qc_core.specs.Names.{ActorMove, actor_after, actor_does, actor_sends, is_up, journal_after, journal_at}
-use Rattle.qc_core.specs.Names.{up_at}
+use Rattle.qc_core.specs.Vocabulary.{ActorMove, actor_after, actor_does, actor_sends, is_up, journal_after, journal_at}
+use Rattle.qc_core.specs.Vocabulary.{up_at}
 use Rattle.qc_decl.specs.declared.declaration.Declaration.{Declaration}
 use Rattle.qc_msg.specs.declared.record.Record.{Record}
 use Rattle.qc_msg.specs.declared.reply.Reply.{Reply}
@@ -15,10 +15,10 @@ use Rattle.qc_msg.specs.declared.turn.Appended.{Appended}
 use Rattle.qc_msg.specs.declared.turn.Appended.TheVariants.{Done, Failed, Stopped}
 use Rattle.qc_msg.specs.declared.turn.Posting.{Posting}
 use Rattle.qc_msg.specs.declared.turn.Turn.{Turn}
-use Rattle.qc_msg.specs.Names.{Deed, Falls, Sends, deeds_as, sends_of, tells_of, turn_deeds, writes_of}
-use Rattle.laws_refinement.specs.Names.{sent_all}
+use Rattle.qc_msg.specs.Vocabulary.{Deed, Falls, Sends, deeds_as, sends_of, tells_of, turn_deeds, writes_of}
+use Rattle.laws_refinement.specs.Vocabulary.{sent_all}
 use Rattle.laws_refinement.specs.Net as nets
-use Rattle.qc_promise.specs.Names.{Journal, no_journal, pending_with}
+use Rattle.qc_promise.specs.Vocabulary.{Journal, no_journal, pending_with}
 
 -- whether it is up
 

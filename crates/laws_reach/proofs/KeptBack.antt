@@ -2,10 +2,10 @@
 -- rise.
 use Rattle.std.proofs.Common.{ℕ, List, []}
 use Rattle.qc_core.proofs.KeptBack.{kept_given_back}
-use Rattle.qc_msg.specs.Names.{Entry, deeds}
-use Rattle.qc_promise.specs.Names.{AreRight, Kept, Unborn, no_journal}
+use Rattle.qc_msg.specs.Vocabulary.{Entry, deeds}
+use Rattle.qc_promise.specs.Vocabulary.{AreRight, Kept, Unborn, no_journal}
 use Rattle.qc_stamp.specs.declared.stamp.TxId.{TxId}
-use Rattle.laws_reach.specs.Names.{AreRightButWritten}
+use Rattle.laws_reach.specs.Vocabulary.{AreRightButWritten}
 use Rattle.laws_reach.proofs.Rises.{written_right}
 
 pub kept_right : (h : List Entry) → Kept h → (a : ℕ) (tx : TxId)

@@ -3,20 +3,20 @@ use Rattle.std.proofs.Common.{◌≡◌, ℕ, Bool, true, false, List, [], ◌�
 use Rattle.std.specs.List.{AllByRecursion as Every}
 use Rattle.std.proofs.lemmas.List.Sums.{fold-append}
 use Rattle.qc_stamp.specs.declared.stamp.TxId.{TxId}
-use Rattle.qc_list.specs.Names.{In}
+use Rattle.qc_list.specs.Vocabulary.{In}
 use Rattle.qc_list.proofs.Members.{In-second}
-use Rattle.qc_core.specs.Names.{IsLawfulWithFalls, Lives, MayReach, MayTake, is_up, journal_after, journal_at}
+use Rattle.qc_core.specs.Vocabulary.{IsLawfulWithFalls, Lives, MayReach, MayTake, is_up, journal_after, journal_at}
 use Rattle.qc_core.specs.Lives as lives
 use Rattle.qc_decl.specs.declared.declaration.Declaration.{Declaration}
-use Rattle.qc_decl.specs.Names.{is_client}
+use Rattle.qc_decl.specs.Vocabulary.{is_client}
 use Rattle.qc_entry.specs.declared.record.Commit.{Commit}
 use Rattle.qc_msg.specs.declared.record.Record.{Record}
 use Rattle.qc_msg.specs.declared.record.Record.TheVariants as records
 use Rattle.qc_msg.specs.declared.step.Input.{Input}
 use Rattle.qc_msg.specs.declared.turn.Turn.{Turn}
-use Rattle.qc_msg.specs.Names.{Deed, Rises, Takes, Writes, deeds_as, first_epoch}
-use Rattle.qc_promise.specs.Names.{Journal, no_journal}
-use Rattle.laws_due.specs.Names.{IsDeclaredDeed, IsPlanned}
+use Rattle.qc_msg.specs.Vocabulary.{Deed, Rises, Takes, Writes, deeds_as, first_epoch}
+use Rattle.qc_promise.specs.Vocabulary.{Journal, no_journal}
+use Rattle.laws_due.specs.Vocabulary.{IsDeclaredDeed, IsPlanned}
 use Rattle.laws_due.proofs.Lifelong.{client_lives}
 use Rattle.laws_due.proofs.Standing.{IsAtRest, Stands as StandsThere}
 use Rattle.laws_reach.proofs.Founding.{IsFounded, first_founded}

@@ -3,14 +3,14 @@
 use Rattle.std.proofs.Common.{◌≡◌, ◌⊎◌, List, [], ◌∷◌, inl, inr, fold, Some, option_and_then, option_to_list, sym}
 use Rattle.std.proofs.Common.{subst}
 use Rattle.std.specs.List.{cons_option}
-use Rattle.qc_list.specs.Names.{In}
+use Rattle.qc_list.specs.Vocabulary.{In}
 use Rattle.qc_list.proofs.Members.{In-first, In-last}
-use Rattle.qc_core.specs.Names.{AreGivenBack, IsGivenBackAt, journal_at}
+use Rattle.qc_core.specs.Vocabulary.{AreGivenBack, IsGivenBackAt, journal_at}
 use Rattle.qc_entry.specs.declared.record.Commit.{Commit}
 use Rattle.qc_msg.specs.declared.record.Record.{Record}
 use Rattle.qc_msg.specs.declared.record.Record.TheVariants as records
-use Rattle.qc_msg.specs.Names.{Deed, Falls, Rises, Sends, Takes, Tells, Writes, commit_of}
-use Rattle.qc_promise.specs.Names.{IsGivenBack, Journal}
+use Rattle.qc_msg.specs.Vocabulary.{Deed, Falls, Rises, Sends, Takes, Tells, Writes, commit_of}
+use Rattle.qc_promise.specs.Vocabulary.{IsGivenBack, Journal}
 
 abbrev pub made_at : List Commit → Deed → List Commit
 made_at made (Takes given) = made

@@ -9,7 +9,8 @@ use Rattle.qc_msg.specs.declared.step.Command.{Command}
 use Rattle.qc_msg.specs.declared.step.Command.TheVariants as commands
 use Rattle.qc_msg.specs.declared.step.Input.{Input}
 use Rattle.qc_msg.specs.declared.step.Input.TheVariants as inputs
-use Rattle.qc_promise.specs.Names.{Account, account_sent, account_taken, found_absent, refused, responded, short_of}
+use Rattle.qc_promise.specs.Vocabulary.{Account, account_sent, account_taken, found_absent, refused, responded}
+use Rattle.qc_promise.specs.Vocabulary.{short_of}
 use Rattle.laws_reach.proofs.Gists.{Gist, counted_same, gist, heard_same, refused_same, sent_same, short_same}
 
 -- a transaction of this client that it has begun: in an earlier life, or in the present one, among those that began

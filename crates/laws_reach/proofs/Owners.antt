@@ -8,8 +8,8 @@ use Rattle.qc_msg.specs.declared.reply.Reply.TheVariants as replies
 use Rattle.qc_msg.specs.declared.step.Command.{Command}
 use Rattle.qc_msg.specs.declared.step.Command.TheVariants as commands
 use Rattle.qc_msg.specs.declared.step.Input.TheVariants as inputs
-use Rattle.qc_msg.specs.Names.{Deed, Falls, Rises, Sends, Takes, Tells, Writes}
-use Rattle.qc_promise.specs.Names.{Account, account_at, account_told, account_written, found_absent, responded}
+use Rattle.qc_msg.specs.Vocabulary.{Deed, Falls, Rises, Sends, Takes, Tells, Writes}
+use Rattle.qc_promise.specs.Vocabulary.{Account, account_at, account_told, account_written, found_absent, responded}
 use Rattle.laws_reach.proofs.Gists.{Gist, counted_same, heard_same, sent_same, short_same}
 
 absent_client : (d : Account) (o : Option Command) → (found_absent d o).client ≡ d.client

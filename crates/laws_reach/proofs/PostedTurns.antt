@@ -1,20 +1,20 @@
 -- An actor that posts a turn, or falls in it: what history it leaves, and what the next net has to show.
-use Rattle.std.proofs.Common.{◌≡◌, ◌≢◌, ℕ, ◌==◌, Bool, true, false, cond, List, ◌++◌, length, Option, Some, None}
+use Rattle.std.proofs.Common.{[], ◌≡◌, ◌≢◌, ℕ, ◌==◌, Bool, true, false, cond, List, ◌++◌, length, Option, Some, None}
 use Rattle.std.proofs.Common.{slice_get, inl, inr, refl, sym, ap, ◌∙◌, eqb-true}
 use Rattle.qc_core.specs.declared.actor.Actor.TheVariants as actor
-use Rattle.qc_core.specs.Names.{IsLawfulWithFalls, actor_after, is_up, journal_after, with_record}
+use Rattle.qc_core.specs.Vocabulary.{IsLawfulWithFalls, actor_after, is_up, journal_after, with_record}
 use Rattle.qc_decl.specs.declared.declaration.Declaration.{Declaration}
-use Rattle.qc_decl.specs.Names.{administrator, is_administrator, is_client, is_site}
+use Rattle.qc_decl.specs.Vocabulary.{administrator, is_administrator, is_client, is_site}
 use Rattle.qc_msg.specs.declared.message.Envelope.{Envelope}
 use Rattle.qc_msg.specs.declared.record.Record.{Record}
 use Rattle.qc_msg.specs.declared.turn.Appended.{Appended}
 use Rattle.qc_msg.specs.declared.turn.Posting.{Posting}
 use Rattle.qc_msg.specs.declared.turn.Turn.{Turn}
-use Rattle.qc_msg.specs.Names.{Deed, Entry, by, deeds, deeds_as, envelopes, mail, sends_as}
-use Rattle.laws_refinement.specs.Names.{Net, Reaches, after_fall}
+use Rattle.qc_msg.specs.Vocabulary.{Deed, Entry, by, deeds, deeds_as, envelopes, mail, sends_as}
+use Rattle.laws_refinement.specs.Vocabulary.{Net, Reaches, after_fall}
 use Rattle.laws_refinement.proofs.Machine.{put_other}
-use Rattle.qc_promise.specs.Names.{Journal}
-use Rattle.laws_reach.specs.Names.{TakesInputs, actor_in}
+use Rattle.qc_promise.specs.Vocabulary.{Journal}
+use Rattle.laws_reach.specs.Vocabulary.{TakesInputs, actor_in}
 use Rattle.laws_reach.proofs.Growing.{ended_journal, ended_up, journal_posted, up_posted}
 use Rattle.laws_reach.proofs.Stood.{Leaves, Stands, Stood, moves}
 

@@ -1,17 +1,17 @@
 -- A site or a client posts its turn: the net takes and posts in one step, or falls in it. One that is down only tells a
 -- reply, which is nothing to the net.
-use Rattle.std.proofs.Common.{◌≡◌, ℕ, not, Bool, true, false, List, ◌++◌, length, Option, Some, None, option_to_list}
-use Rattle.std.proofs.Common.{slice_get, inl, inr, refl, sym, ap, ◌∙◌, subst}
+use Rattle.std.proofs.Common.{[], ◌≡◌, ℕ, not, Bool, true, false, List, ◌++◌, length, Option, Some, None}
+use Rattle.std.proofs.Common.{option_to_list, slice_get, inl, inr, refl, sym, ap, ◌∙◌, subst}
 use Rattle.std.specs.Prelude.{slice_set}
 use Rattle.std.proofs.lemmas.List.{append-nil}
 use Rattle.qc_core.specs.declared.actor.Actor.{Actor}
 use Rattle.qc_core.specs.declared.actor.Actor.TheVariants as actor
-use Rattle.qc_core.specs.Names.{ActorMove, IsLawfulWithFalls, actor_after, actor_takes, by_client, by_site, is_up}
-use Rattle.qc_core.specs.Names.{journal_after, with_record}
+use Rattle.qc_core.specs.Vocabulary.{ActorMove, IsLawfulWithFalls, actor_after, actor_takes, by_client, by_site, is_up}
+use Rattle.qc_core.specs.Vocabulary.{journal_after, with_record}
 use Rattle.qc_decl.specs.declared.declaration.Declaration.{Declaration}
-use Rattle.qc_decl.specs.Names.{is_client, is_site}
-use Rattle.qc_client.specs.Names.{ClientMove, client_takes}
-use Rattle.qc_inbox.specs.Names.{is_down}
+use Rattle.qc_decl.specs.Vocabulary.{is_client, is_site}
+use Rattle.qc_client.specs.Vocabulary.{ClientMove, client_takes}
+use Rattle.qc_mailbox.specs.Vocabulary.{is_down}
 use Rattle.laws_turns.proofs.Downs.{due, tells, up_is}
 use Rattle.qc_msg.specs.declared.message.Envelope.{Envelope}
 use Rattle.qc_msg.specs.declared.record.Record.{Record}
@@ -19,19 +19,19 @@ use Rattle.qc_msg.specs.declared.turn.Appended.{Appended}
 use Rattle.qc_msg.specs.declared.turn.Appended.TheVariants.{Done, Failed, Stopped}
 use Rattle.qc_msg.specs.declared.turn.Posting.{Posting}
 use Rattle.qc_msg.specs.declared.turn.Turn.{Turn}
-use Rattle.qc_msg.specs.Names.{Deed, Entry, HasRecord, MayEnd, WasSentTo, by, deeds, envelopes, mail, posted_as}
-use Rattle.qc_msg.specs.Names.{sends_as}
+use Rattle.qc_msg.specs.Vocabulary.{Deed, Entry, HasRecord, MayEnd, WasSentTo, by, deeds, envelopes, mail, posted_as}
+use Rattle.qc_msg.specs.Vocabulary.{sends_as}
 use Rattle.qc_msg.proofs.GrownMail.{mail-append}
 use Rattle.qc_msg.proofs.DeedsGrow.{deeds-other}
 use Rattle.qc_msg.proofs.Growth.{deeds-posted_as, mail-posted_as}
-use Rattle.laws_refinement.specs.Names.{MayCome, Net, Reaches, after_client, after_fall, after_site, sent_all}
+use Rattle.laws_refinement.specs.Vocabulary.{MayCome, Net, Reaches, after_client, after_fall, after_site, sent_all}
 use Rattle.laws_refinement.specs.Net as nets
 use Rattle.laws_refinement.proofs.Machine.{put_other}
-use Rattle.qc_promise.specs.Names.{Journal, pending_with}
+use Rattle.qc_promise.specs.Vocabulary.{Journal, pending_with}
 use Rattle.theory_machine.proofs.Names.{put_here}
-use Rattle.qc_site.specs.Names.{SiteMove, site_takes}
+use Rattle.qc_site.specs.Vocabulary.{SiteMove, site_takes}
 use Rattle.laws_atomic.proofs.Stood.{may_come, not_now, false_true, slot_other}
-use Rattle.laws_reach.specs.Names.{HasTaken}
+use Rattle.laws_reach.specs.Vocabulary.{HasTaken}
 use Rattle.laws_reach.proofs.Growing.{actor_posted, all_sent, ended_journal, ended_up}
 use Rattle.laws_reach.proofs.Stood.{Stands, Stood, in_client, in_site, itself}
 use Rattle.laws_reach.proofs.PostedTurns.{fell_leaves, never_up, Shows, turned}

@@ -3,11 +3,11 @@ use Rattle.std.proofs.Common.{◌≡◌, ℕ, ◌+◌, ◌-◌, Bool, true, fals
 use Rattle.std.proofs.Common.{refl, sym, ap, ◌∙◌, subst}
 use Rattle.std.specs.List.{AllByRecursion as Every}
 use Rattle.qc_core.specs.declared.actor.Actor.{Actor}
-use Rattle.qc_core.specs.Names.{ActorMove, IsLawfulWithFalls, Lives, actor_after, actor_takes, down_takes}
+use Rattle.qc_core.specs.Vocabulary.{ActorMove, IsLawfulWithFalls, Lives, actor_after, actor_takes, down_takes}
 use Rattle.qc_core.proofs.ByNumber.{client_risen}
 use Rattle.qc_core.specs.Lives as lives
-use Rattle.qc_client.specs.Names.{client_takes}
-use Rattle.qc_decl.specs.Names.{is_client}
+use Rattle.qc_client.specs.Vocabulary.{client_takes}
+use Rattle.qc_decl.specs.Vocabulary.{is_client}
 use Rattle.qc_decl.specs.declared.declaration.Declaration.{Declaration}
 use Rattle.qc_entry.specs.declared.record.Commit.{Commit as CommitRecord}
 use Rattle.qc_msg.specs.declared.record.Record.{Record}
@@ -20,16 +20,16 @@ use Rattle.qc_msg.specs.declared.turn.Appended.{Appended}
 use Rattle.qc_msg.specs.declared.turn.Appended.TheVariants as ends
 use Rattle.qc_msg.specs.declared.turn.Posting.{Posting}
 use Rattle.qc_msg.specs.declared.turn.Turn.{Turn}
-use Rattle.qc_msg.specs.Names.{Deed, Falls, Rises, Sends, Takes, Tells, Writes, deeds_as, first_epoch, sends_of}
-use Rattle.qc_msg.specs.Names.{tells_of, turn_deeds, writes_of}
-use Rattle.qc_promise.specs.Names.{account_taken}
-use Rattle.laws_due.specs.Names.{Goes, IsDeclaredDeed, IsPlanned}
+use Rattle.qc_msg.specs.Vocabulary.{Deed, Falls, Rises, Sends, Takes, Tells, Writes, deeds_as, first_epoch, sends_of}
+use Rattle.qc_msg.specs.Vocabulary.{tells_of, turn_deeds, writes_of}
+use Rattle.qc_promise.specs.Vocabulary.{account_taken}
+use Rattle.laws_due.specs.Vocabulary.{Goes, IsDeclaredDeed, IsPlanned}
 use Rattle.laws_due.specs.ByRows as rows
 use Rattle.laws_due.proofs.Commands.{free_for}
 use Rattle.laws_due.proofs.Lifelong.{client_lives}
 use Rattle.laws_due.proofs.Standing.{IsAtInput, IsTied, Stands, account_is, actor_more, turn_is}
 use Rattle.laws_due.proofs.Step.{inputs_are_answered_as_is_due}
-use Rattle.laws_reach.specs.Names.{AreCommitsTold, IsRecordTold, TellsNext}
+use Rattle.laws_reach.specs.Vocabulary.{AreCommitsTold, IsRecordTold, TellsNext}
 
 -- deeds behind deeds
 

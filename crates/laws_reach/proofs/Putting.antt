@@ -15,8 +15,8 @@ use Rattle.qc_msg.specs.declared.turn.Appended.{Appended}
 use Rattle.qc_msg.specs.declared.turn.Appended.TheVariants.{Done, Failed, Stopped}
 use Rattle.qc_msg.specs.declared.turn.Posting.{Posting}
 use Rattle.qc_msg.specs.declared.turn.Turn.{Turn}
-use Rattle.qc_msg.specs.Names.{Entry, by, fell, own, posted_as, sents, step_of, told, wrote}
-use Rattle.qc_promise.specs.Names.{IsGivenBack, Journal, Kept, journal_of, journal_with, no_journal, pending_with}
+use Rattle.qc_msg.specs.Vocabulary.{Entry, by, fell, own, posted_as, sents, step_of, told, wrote}
+use Rattle.qc_promise.specs.Vocabulary.{IsGivenBack, Journal, Kept, journal_of, journal_with, no_journal, pending_with}
 
 -- of a longer history
 pub part_kept : (h k : List Entry) → Kept (h ++ k) → Kept h

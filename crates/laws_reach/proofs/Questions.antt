@@ -2,10 +2,10 @@
 use Rattle.std.proofs.Common.{◌≡◌, ℕ, ◌+◌, ◌==◌, Bool, true, false, cond, List, [], ◌∷◌, ◌++◌, length, Option, Some}
 use Rattle.std.proofs.Common.{None, option_to_list, slice_get, refl, sym, subst, append_assoc}
 use Rattle.std.specs.List.{AllByRecursion as Every, cons_option}
-use Rattle.qc_core.specs.Names.{IsLawfulWithFalls, with_record}
-use Rattle.qc_decl.specs.Names.{controller}
+use Rattle.qc_core.specs.Vocabulary.{IsLawfulWithFalls, with_record}
+use Rattle.qc_decl.specs.Vocabulary.{controller}
 use Rattle.qc_decl.specs.declared.declaration.Declaration.{Declaration}
-use Rattle.qc_list.specs.Names.{In}
+use Rattle.qc_list.specs.Vocabulary.{In}
 use Rattle.qc_list.proofs.Members.{In-first, In-second, every-In, every-append, every-at, every-from_In, every-weaker}
 use Rattle.qc_msg.specs.declared.message.Envelope.{Envelope}
 use Rattle.qc_msg.specs.declared.message.Message.{Message}
@@ -22,14 +22,14 @@ use Rattle.qc_msg.specs.declared.step.Step.{Step}
 use Rattle.qc_msg.specs.declared.step.Step.TheVariants as steps
 use Rattle.qc_msg.specs.declared.turn.Posting.{Posting}
 use Rattle.qc_msg.specs.declared.turn.Turn.{Turn}
-use Rattle.qc_msg.specs.Names.{Entry, by, deed_at, deeds, envelope_of, envelopes, heard, mail, marked, posted_as}
-use Rattle.qc_msg.specs.Names.{sends_as, step_of}
+use Rattle.qc_msg.specs.Vocabulary.{Entry, by, deed_at, deeds, envelope_of, envelopes, heard, mail, marked, posted_as}
+use Rattle.qc_msg.specs.Vocabulary.{sends_as, step_of}
 use Rattle.qc_msg.proofs.GrownMail.{mail-append}
 use Rattle.qc_msg.proofs.Growth.{mail-posted_as}
-use Rattle.qc_promise.specs.Names.{Kept}
+use Rattle.qc_promise.specs.Vocabulary.{Kept}
 use Rattle.laws_turns.proofs.SitesAsk.{Tells}
-use Rattle.qc_script.specs.Names.{RunsWithFalls, begins, control, controller_step, damaged, falls, phase, phase_of}
-use Rattle.qc_script.specs.Names.{posts, rises, takes, unopened}
+use Rattle.qc_script.specs.Vocabulary.{RunsWithFalls, begins, control, controller_step, damaged, falls, phase, phase_of}
+use Rattle.qc_script.specs.Vocabulary.{posts, rises, takes, unopened}
 use Rattle.qc_script.specs.declared.script.Script.{Script}
 use Rattle.qc_stamp.specs.declared.stamp.TxId.{TxId}
 use Rattle.laws_reach.proofs.Asking.{IsTold, asks_as, lawful_asks}

@@ -1,15 +1,15 @@
 -- So each such run has its net.
 use Rattle.std.proofs.Common.{ℕ, Bool, List, ap, ◌∙◌}
-use Rattle.qc_core.specs.Names.{IsLawfulWithFalls}
+use Rattle.qc_core.specs.Vocabulary.{IsLawfulWithFalls}
 use Rattle.qc_core.proofs.LivesLaws.{journal}
-use Rattle.qc_decl.specs.Names.{IsAccepted}
+use Rattle.qc_decl.specs.Vocabulary.{IsAccepted}
 use Rattle.qc_decl.specs.declared.declaration.Declaration.{Declaration}
 use Rattle.qc_msg.specs.declared.record.Record.{Record}
-use Rattle.qc_msg.specs.Names.{Entry}
-use Rattle.qc_promise.specs.Names.{Journal, Kept}
-use Rattle.qc_script.specs.Names.{IsScriptFor, RunsWithFalls}
+use Rattle.qc_msg.specs.Vocabulary.{Entry}
+use Rattle.qc_promise.specs.Vocabulary.{Journal, Kept}
+use Rattle.qc_script.specs.Vocabulary.{IsScriptFor, RunsWithFalls}
 use Rattle.qc_script.specs.declared.script.Script.{Script}
-use Rattle.laws_reach.specs.Names.{IsReachedWithFalls}
+use Rattle.laws_reach.specs.Vocabulary.{IsReachedWithFalls}
 use Rattle.laws_reach.proofs.RunsStand.{runs_stand}
 use Rattle.laws_reach.proofs.Stood.{Stood}
 

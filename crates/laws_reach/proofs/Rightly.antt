@@ -3,29 +3,29 @@
 use Rattle.std.proofs.Common.{◌≡◌, ◌≢◌, ℕ, ◌-◌, Bool, true, false, List, [], ◌∷◌, ◌++◌, None, refl, sym, ap, ◌∙◌, subst}
 use Rattle.std.specs.List.{AllByRecursion as Every}
 use Rattle.std.proofs.lemmas.List.Sums.{fold-append}
-use Rattle.qc_core.specs.Names.{AreGivenBack, Lives, actor_after, journal_after, journal_at}
-use Rattle.qc_client.specs.Names.{client_takes}
-use Rattle.qc_decl.specs.Names.{is_client}
+use Rattle.qc_core.specs.Vocabulary.{AreGivenBack, Lives, actor_after, journal_after, journal_at}
+use Rattle.qc_client.specs.Vocabulary.{client_takes}
+use Rattle.qc_decl.specs.Vocabulary.{is_client}
 use Rattle.qc_decl.specs.declared.declaration.Declaration.{Declaration}
 use Rattle.qc_msg.specs.declared.step.Input.{Input}
 use Rattle.qc_msg.specs.declared.step.Input.TheVariants as inputs
 use Rattle.qc_msg.specs.declared.step.Fall.TheVariants as causes
 use Rattle.qc_msg.specs.declared.reply.Reply.TheVariants as replies
-use Rattle.qc_msg.specs.Names.{Deed, Falls, Rises, Takes, Tells, deeds_as, first_epoch}
-use Rattle.qc_promise.specs.Names.{AreRight, Committed, Journal, Unborn, no_journal, status, status_at}
+use Rattle.qc_msg.specs.Vocabulary.{Deed, Falls, Rises, Takes, Tells, deeds_as, first_epoch}
+use Rattle.qc_promise.specs.Vocabulary.{AreRight, Committed, Journal, Unborn, no_journal, status, status_at}
 use Rattle.laws_turns.proofs.KnownDeeds.{IsKnown, KnownFrom, known-first, known-second, right-append}
-use Rattle.qc_recover.specs.Names.{rising}
+use Rattle.qc_recover.specs.Vocabulary.{rising}
 use Rattle.laws_turns.proofs.StatusInputs.{page_of}
 use Rattle.qc_list.proofs.Members.{every-In}
 use Rattle.qc_msg.specs.declared.record.Record.TheVariants as records
 use Rattle.qc_stamp.specs.declared.stamp.Stamp.{Stamp}
 use Rattle.qc_stamp.specs.declared.stamp.TxId.{TxId}
-use Rattle.qc_stamp.specs.Names.{same_tx}
+use Rattle.qc_stamp.specs.Vocabulary.{same_tx}
 use Rattle.qc_stamp.proofs.Orders.{same_tx_itself}
 use Rattle.laws_due.proofs.Lifelong.{client_lives}
 use Rattle.laws_due.proofs.Standing.{IsAt, IsAtRest, Stands}
-use Rattle.laws_due.specs.Names.{IsDeclaredDeed, IsPlanned}
-use Rattle.laws_reach.specs.Names.{IsRecorded}
+use Rattle.laws_due.specs.Vocabulary.{IsDeclaredDeed, IsPlanned}
+use Rattle.laws_reach.specs.Vocabulary.{IsRecorded}
 use Rattle.laws_reach.proofs.Courses.{IsNow, Lasts, course}
 use Rattle.laws_reach.proofs.VerdictsFalling.{called_rests, crashed_rests, down_here, new_rests, risen_rests}
 use Rattle.laws_reach.proofs.VerdictsFalling.{turn_rests, unopened_rests}

@@ -3,18 +3,19 @@ use Rattle.std.proofs.Common.{◌≡◌, Bool, true, cond, List, [], ◌∷◌, 
 use Rattle.std.proofs.Common.{inr, sym, ap, ◌∙◌, subst}
 use Rattle.std.specs.List.{AllByRecursion as Every}
 use Rattle.std.proofs.lemmas.List.Sums.{fold-append}
-use Rattle.qc_core.specs.Names.{AreGivenBack, IsGivenBackAt, journal_at}
+use Rattle.qc_core.specs.Vocabulary.{AreGivenBack, IsGivenBackAt, journal_at}
 use Rattle.qc_list.proofs.Members.{every-append, every-weaker}
 use Rattle.qc_msg.specs.declared.record.Record.{Record}
 use Rattle.qc_msg.specs.declared.record.Record.TheVariants as records
-use Rattle.qc_msg.specs.Names.{Deed, Falls, Rises, Sends, Takes, Tells, Writes}
-use Rattle.qc_promise.specs.Names.{AreRight, AreRightFrom, AreRightKept, Committed, IsRight, IsRightKept, IsRightRecord}
-use Rattle.qc_promise.specs.Names.{Journal, Status, Unborn, given_up, no_journal, status_at, status_written}
+use Rattle.qc_msg.specs.Vocabulary.{Deed, Falls, Rises, Sends, Takes, Tells, Writes}
+use Rattle.qc_promise.specs.Vocabulary.{AreRight, AreRightFrom, AreRightKept, Committed, IsRight, IsRightKept}
+use Rattle.qc_promise.specs.Vocabulary.{IsRightRecord, Journal, Status, Unborn, given_up, no_journal, status_at}
+use Rattle.qc_promise.specs.Vocabulary.{status_written}
 use Rattle.laws_turns.proofs.Lasting.{HasEnd, ended_on}
 use Rattle.qc_stamp.specs.declared.stamp.Stamp.{Stamp}
 use Rattle.qc_stamp.specs.declared.stamp.TxId.{TxId}
-use Rattle.qc_stamp.specs.Names.{same_tx}
-use Rattle.laws_reach.specs.Names.{AreRightButWritten, IsRightButWritten}
+use Rattle.qc_stamp.specs.Vocabulary.{same_tx}
+use Rattle.laws_reach.specs.Vocabulary.{AreRightButWritten, IsRightButWritten}
 
 module _ (tx : TxId) where
   -- a record shows how its transaction stands

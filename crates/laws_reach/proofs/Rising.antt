@@ -5,13 +5,13 @@ use Rattle.std.proofs.Common.{option_to_list, slice_get, inl, inr, refl, sym, ap
 use Rattle.std.proofs.lemmas.List.{append-nil}
 use Rattle.std.proofs.lemmas.List.Sums.{fold-append}
 use Rattle.qc_core.specs.declared.actor.Actor.TheVariants as actor
-use Rattle.qc_core.specs.Names.{ActorMove, IsLawfulWithFalls, actor_after, actor_rises, by_client, by_site, is_up}
-use Rattle.qc_core.specs.Names.{journal_after, journal_at, up_at, with_record}
+use Rattle.qc_core.specs.Vocabulary.{ActorMove, IsLawfulWithFalls, actor_after, actor_rises, by_client, by_site, is_up}
+use Rattle.qc_core.specs.Vocabulary.{journal_after, journal_at, up_at, with_record}
 use Rattle.qc_core.proofs.ByNumber.{client_risen, site_risen}
 use Rattle.qc_core.proofs.LivesLaws.{journal}
 use Rattle.qc_core.proofs.LivesOfActors as actor_laws
 use Rattle.qc_decl.specs.declared.declaration.Declaration.{Declaration}
-use Rattle.qc_decl.specs.Names.{is_client, is_site}
+use Rattle.qc_decl.specs.Vocabulary.{is_client, is_site}
 use Rattle.qc_client.specs.declared.client.Client.{Client}
 use Rattle.qc_msg.specs.declared.message.Envelope.{Envelope}
 use Rattle.qc_msg.specs.declared.record.Record.{Record}
@@ -21,19 +21,19 @@ use Rattle.qc_msg.specs.declared.turn.Appended.{Appended}
 use Rattle.qc_msg.specs.declared.turn.Appended.TheVariants.{Done, Failed, Stopped}
 use Rattle.qc_msg.specs.declared.turn.Posting.{Posting}
 use Rattle.qc_msg.specs.declared.turn.Turn.{Turn}
-use Rattle.qc_msg.specs.Names.{Deed, Entry, Rises, by, deeds, deeds_as, envelopes, mail, marked, own, posted_as}
-use Rattle.qc_msg.specs.Names.{sends_as}
+use Rattle.qc_msg.specs.Vocabulary.{Deed, Entry, Rises, by, deeds, deeds_as, envelopes, mail, marked, own, posted_as}
+use Rattle.qc_msg.specs.Vocabulary.{sends_as}
 use Rattle.qc_msg.proofs.GrownMail.{mail-append}
 use Rattle.qc_msg.proofs.DeedsGrow.{deeds-append, deeds-other, deeds-rose}
 use Rattle.qc_msg.proofs.Growth.{deeds-posted_as, mail-posted_as}
 use Rattle.laws_turns.proofs.Downs.{due}
-use Rattle.laws_refinement.specs.Names.{Net, Reaches, after_client_rise, after_site_rise, after_vain_rise}
+use Rattle.laws_refinement.specs.Vocabulary.{Net, Reaches, after_client_rise, after_site_rise, after_vain_rise}
 use Rattle.laws_refinement.specs.Net as nets
 use Rattle.laws_refinement.proofs.Machine.{put_other}
-use Rattle.qc_promise.specs.Names.{IsGivenBack, Journal, journal_of, no_journal, pending_with}
+use Rattle.qc_promise.specs.Vocabulary.{IsGivenBack, Journal, journal_of, no_journal, pending_with}
 use Rattle.theory_machine.proofs.Names.{put_here}
-use Rattle.qc_recover.specs.Names.{client_rises, site_rises}
-use Rattle.qc_site.specs.Names.{SiteState}
+use Rattle.qc_recover.specs.Vocabulary.{client_rises, site_rises}
+use Rattle.qc_site.specs.Vocabulary.{SiteState}
 use Rattle.laws_reach.proofs.Growing.{actor_posted, all_sent, ended_journal, ended_up}
 use Rattle.laws_reach.proofs.PostedTurns.{Shows, never_up, turned}
 use Rattle.laws_reach.proofs.Stood.{Stands, Stood, in_client, in_site}

@@ -7,7 +7,7 @@ use Rattle.qc_entry.specs.declared.record.Commit.{Commit}
 use Rattle.qc_list.proofs.Members.{every-append}
 use Rattle.qc_msg.specs.declared.record.Record.{Record}
 use Rattle.qc_msg.specs.declared.record.Record.TheVariants as records
-use Rattle.qc_msg.specs.Names.{commit_of}
+use Rattle.qc_msg.specs.Vocabulary.{commit_of}
 use Rattle.qc_recover.specs.Clients.{Kept, keeps}
 
 abbrev pub commits_of : List Record → List Commit

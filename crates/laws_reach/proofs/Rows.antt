@@ -2,19 +2,19 @@
 use Rattle.std.proofs.Common.{◌≡◌, ℕ, nat_le, Bool, true, false, cond, length, Option, Some, None, refl, sym, ◌∙◌}
 use Rattle.std.proofs.Common.{subst}
 use Rattle.qc_decl.specs.declared.declaration.Declaration.{Declaration}
-use Rattle.qc_decl.specs.Names.{append_need_of, most_transaction_operations, read_need_of}
+use Rattle.qc_decl.specs.Vocabulary.{append_need_of, most_transaction_operations, read_need_of}
 use Rattle.qc_plan.specs.declared.standing.Verdict.{Verdict}
 use Rattle.qc_plan.specs.declared.standing.Verdict.TheVariants as verdicts
-use Rattle.qc_plan.specs.Names.{verdict}
+use Rattle.qc_plan.specs.Vocabulary.{verdict}
 use Rattle.qc_msg.specs.declared.reply.Reply.TheVariants as replies
 use Rattle.qc_msg.specs.declared.reply.AbortCause.{AbortCause}
 use Rattle.qc_msg.specs.declared.reply.AbortCause.TheVariants as causes
 use Rattle.qc_msg.specs.declared.step.Command.{Command}
 use Rattle.qc_msg.specs.declared.step.Command.TheVariants as commands
-use Rattle.qc_promise.specs.Names.{Account, Current, answer_of, answer_row, append_row, are_votes_in, commit_row}
-use Rattle.qc_promise.specs.Names.{do_row, first_against, is_append, is_declared_for, is_prepare, is_read, read_row}
-use Rattle.qc_promise.specs.Names.{reply_to, requests_for, round_of, row_of, vote_row}
-use Rattle.laws_reach.specs.Names.{IsNoCommit, SaysIn}
+use Rattle.qc_promise.specs.Vocabulary.{Account, Current, answer_of, answer_row, append_row, are_votes_in, commit_row}
+use Rattle.qc_promise.specs.Vocabulary.{do_row, first_against, is_append, is_declared_for, is_prepare, is_read}
+use Rattle.qc_promise.specs.Vocabulary.{read_row, reply_to, requests_for, round_of, row_of, vote_row}
+use Rattle.laws_reach.specs.Vocabulary.{IsNoCommit, SaysIn}
 
 abbrev IsCommitCommand : Command → Type 0
 IsCommitCommand commands.Begin = ⊥

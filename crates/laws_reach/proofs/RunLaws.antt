@@ -1,13 +1,13 @@
 -- So what every net keeps, every run with falls keeps whose records are kept.
 use Rattle.std.proofs.Common.{◌≡◌, ℕ, Bool, true, false, List, [], Some, slice_get, inl, inr, refl, sym, ◌∙◌, subst}
 use Rattle.qc_core.specs.declared.actor.Actor.TheVariants as actor
-use Rattle.qc_core.specs.Names.{IsLawfulWithFalls, actor_after, is_up}
-use Rattle.qc_decl.specs.Names.{IsAccepted, is_site}
+use Rattle.qc_core.specs.Vocabulary.{IsLawfulWithFalls, actor_after, is_up}
+use Rattle.qc_decl.specs.Vocabulary.{IsAccepted, is_site}
 use Rattle.qc_decl.specs.declared.declaration.Declaration.{Declaration}
 use Rattle.qc_entry.specs.declared.line.Line.{Line}
 use Rattle.qc_entry.specs.declared.line.OwnLine.{OwnLine}
 use Rattle.qc_entry.specs.declared.record.Commit.{Commit as CommitRecord}
-use Rattle.qc_list.specs.Names.{In}
+use Rattle.qc_list.specs.Vocabulary.{In}
 use Rattle.qc_msg.specs.declared.message.Answer.TheVariants.{Yes}
 use Rattle.qc_msg.specs.declared.message.Envelope.{Envelope}
 use Rattle.qc_msg.specs.declared.message.Message.{Message}
@@ -18,20 +18,20 @@ use Rattle.qc_msg.specs.declared.message.Outcome.TheVariants as outcomes
 use Rattle.qc_msg.specs.declared.message.Want.TheVariants.{Append}
 use Rattle.qc_msg.specs.declared.record.Record.{Record}
 use Rattle.qc_msg.specs.declared.record.Record.TheVariants as records
-use Rattle.qc_msg.specs.Names.{Entry, deeds, mail}
-use Rattle.laws_refinement.specs.Names.{IsRecorded, IsTrueVerdict, Refines, lines_in}
+use Rattle.qc_msg.specs.Vocabulary.{Entry, deeds, mail}
+use Rattle.laws_refinement.specs.Vocabulary.{IsRecorded, IsTrueVerdict, Refines, lines_in}
 use Rattle.laws_refinement.proofs.Refining.{nets_refine}
 use Rattle.laws_refinement.proofs.NetLaws as nets
 use Rattle.laws_refinement.proofs.VotesKept.{votes_stand_on_records}
-use Rattle.theory_onecopy.specs.Names.{AreApart, IsClosedLog, IsLogged, OneCopy, sorted}
+use Rattle.theory_onecopy.specs.Vocabulary.{AreApart, IsClosedLog, IsLogged, OneCopy, sorted}
 use Rattle.theory_onecopy.proofs.Committed.{records_are_sorted}
-use Rattle.qc_promise.specs.Names.{DecisionAgrees, Kept, committed, records as written_in}
-use Rattle.qc_script.specs.Names.{IsScriptFor, RunsWithFalls}
+use Rattle.qc_promise.specs.Vocabulary.{DecisionAgrees, Kept, committed, records as written_in}
+use Rattle.qc_script.specs.Vocabulary.{IsScriptFor, RunsWithFalls}
 use Rattle.qc_script.specs.declared.script.Script.{Script}
-use Rattle.qc_site.specs.Names.{SiteState, known}
+use Rattle.qc_site.specs.Vocabulary.{SiteState, known}
 use Rattle.qc_stamp.specs.declared.stamp.TxId.{TxId}
 use Rattle.laws_atomic.proofs.Closed as closed_logs
-use Rattle.laws_reach.specs.Names.{AreStanding, IsOfClient, IsPromiseRecorded, IsReachedWithFalls, records_of}
+use Rattle.laws_reach.specs.Vocabulary.{AreStanding, IsOfClient, IsPromiseRecorded, IsReachedWithFalls, records_of}
 use Rattle.laws_reach.proofs.Committing.{committed_records_stand}
 use Rattle.laws_reach.proofs.Reaching.{net_of}
 use Rattle.laws_reach.proofs.Sorted.{apart_too, sorted_alike}

@@ -9,18 +9,19 @@ use Rattle.std.proofs.lemmas.List.Sums.{fold-append}
 use Rattle.qc_decl.proofs.Clients.{client_within}
 use Rattle.qc_core.specs.declared.actor.Actor.{Actor}
 use Rattle.qc_core.specs.declared.actor.Actor.TheVariants as actor
-use Rattle.qc_core.specs.Names.{IsLawfulWithFalls, actor_after, actor_does, actor_takes, is_up, journal_after}
-use Rattle.qc_core.specs.Names.{journal_at, up_at}
-use Rattle.qc_decl.specs.Names.{IsAccepted, actors, administrator, controller, is_administrator, is_client, is_site}
+use Rattle.qc_core.specs.Vocabulary.{IsLawfulWithFalls, actor_after, actor_does, actor_takes, is_up, journal_after}
+use Rattle.qc_core.specs.Vocabulary.{journal_at, up_at}
+use Rattle.qc_decl.specs.Vocabulary.{IsAccepted, actors, administrator, controller, is_administrator, is_client}
+use Rattle.qc_decl.specs.Vocabulary.{is_site}
 use Rattle.qc_msg.specs.declared.step.Command.{Command}
 use Rattle.qc_decl.specs.declared.declaration.Declaration.{Declaration}
-use Rattle.qc_inbox.proofs.FallLaws.{crashes_up, lines_close, restarts_down, up_by_deeds}
-use Rattle.qc_inbox.proofs.FallMail.{ready_sent}
+use Rattle.qc_mailbox.proofs.FallLaws.{crashes_up, lines_close, restarts_down, up_by_deeds}
+use Rattle.qc_mailbox.proofs.FallMail.{ready_sent}
 use Rattle.laws_turns.proofs.Acted.{deeds-silent}
 use Rattle.laws_turns.proofs.Numbered.{IsSilent, mail-silent, phase_silent}
 use Rattle.laws_turns.proofs.Places.{replicate_at}
-use Rattle.qc_link.specs.Names.{most_actors}
-use Rattle.laws_turns.specs.Names.{LivesIn}
+use Rattle.qc_link.specs.Vocabulary.{most_actors}
+use Rattle.laws_turns.specs.Vocabulary.{LivesIn}
 use Rattle.laws_turns.proofs.Commands.{may_take}
 use Rattle.laws_turns.proofs.Downs.{tells, up_is}
 use Rattle.laws_turns.proofs.Lived.{deeds-fall, line_silent, run_lives}
@@ -35,21 +36,21 @@ use Rattle.qc_msg.specs.declared.step.Input.TheVariants as given
 use Rattle.qc_msg.specs.declared.step.Step.{Step}
 use Rattle.qc_msg.specs.declared.step.Step.TheVariants as steps
 use Rattle.qc_msg.specs.declared.turn.Turn.{Turn}
-use Rattle.qc_msg.specs.Names.{Entry, Falls, Takes, WasSentTo, by, deeds, mail, marked, own, posted_as, step_of}
+use Rattle.qc_msg.specs.Vocabulary.{Entry, Falls, Takes, WasSentTo, by, deeds, mail, marked, own, posted_as, step_of}
 use Rattle.qc_msg.proofs.GrownMail.{mail-append, mail-taken}
 use Rattle.qc_msg.proofs.DeedsGrow.{deeds-other}
 use Rattle.qc_msg.proofs.Growth.{deeds-taken}
-use Rattle.laws_refinement.specs.Names.{IsNamed, MayAdminister, MayCommand, Net, Reaches, after_fall, first_net}
+use Rattle.laws_refinement.specs.Vocabulary.{IsNamed, MayAdminister, MayCommand, Net, Reaches, after_fall, first_net}
 use Rattle.laws_refinement.specs.Net as nets
-use Rattle.qc_promise.specs.Names.{IsGivenBack, Journal, Kept, journal_of, no_journal}
+use Rattle.qc_promise.specs.Vocabulary.{IsGivenBack, Journal, Kept, journal_of, no_journal}
 use Rattle.theory_machine.proofs.Names.{put_here}
-use Rattle.qc_script.specs.Names.{IsScriptFor, RunsWithFalls, begins, control, controls_left, damaged, falls, inbox}
-use Rattle.qc_script.specs.Names.{phase, phase_of, posts, ready, rises, takes, unopened}
+use Rattle.qc_script.specs.Vocabulary.{IsScriptFor, RunsWithFalls, begins, control, controls_left, damaged, falls}
+use Rattle.qc_script.specs.Vocabulary.{inbox, phase, phase_of, posts, ready, rises, takes, unopened}
 use Rattle.qc_script.specs.Inbox as boxes
 use Rattle.qc_script.specs.declared.script.Script.{Script}
 use Rattle.laws_atomic.proofs.Names.{script_named}
 use Rattle.laws_atomic.proofs.Stood.{not_now, slot_other, true_false}
-use Rattle.laws_reach.specs.Names.{TakesInputs}
+use Rattle.laws_reach.specs.Vocabulary.{TakesInputs}
 use Rattle.laws_reach.proofs.Asked.{ready_named}
 use Rattle.laws_reach.proofs.Free.{client_free}
 use Rattle.laws_reach.proofs.PostedTurns.{fell_leaves, never_up}
@@ -105,8 +106,7 @@ module _ (decl : Declaration) (script : Script) (fits : ℕ → List Record → 
       may_admin (given.Got envelope) is = tt
       may_admin (given.Lost number) is = tt
 
-      may : (x : Input) → g ≡ x → (c : _) → (actor_after decl a (deeds a [] h)).actor ≡ actor.Client c
-          → MayCommand decl c x
+      may : (x : Input) → g ≡ x → (c : _) → (actor_after decl a (deeds a [] h)).actor ≡ actor.Client c → MayCommand decl c x
       may (given.Called command) is c state = (
         client_free decl a (deeds a [] h) life.above c life.lives
             (may_take decl script a h (given.Called command) (rdy ∙ ap (λ (x : Input). Some x) is)) state,

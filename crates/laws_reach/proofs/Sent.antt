@@ -2,12 +2,12 @@
 use Rattle.std.proofs.Common.{◌≡◌, ℕ, ◌==◌, Bool, true, cond, List, [], ◌∷◌, ◌++◌, Option, Some, None, option_to_list}
 use Rattle.std.proofs.Common.{inl, inr, ◌⊎◌, refl, sym, ap, subst, eq-eqb}
 use Rattle.std.specs.List.{cons_option}
-use Rattle.qc_list.specs.Names.{In}
+use Rattle.qc_list.specs.Vocabulary.{In}
 use Rattle.qc_list.proofs.Members.{In-first, In-second}
 use Rattle.qc_msg.specs.declared.message.Envelope.{Envelope}
 use Rattle.qc_msg.specs.declared.step.Step.{Step}
 use Rattle.qc_msg.specs.declared.step.Step.TheVariants as steps
-use Rattle.qc_msg.specs.Names.{Entry, Sends, deed_at, deeds, envelope_at, envelope_of, mail}
+use Rattle.qc_msg.specs.Vocabulary.{Entry, Sends, deed_at, deeds, envelope_at, envelope_of, mail}
 
 record IsSent (a : ℕ) (ms : List Envelope) (step : Step) (e : Envelope) : Type 0 where
   from : e.from ≡ a

@@ -5,8 +5,8 @@ use Rattle.std.proofs.Common.{Option, Some, None, option_to_list, refl, sym, ap,
 use Rattle.std.specs.Option.{option_map_or}
 use Rattle.std.proofs.lemmas.List.Sums.{fold-append}
 use Rattle.qc_stamp.specs.declared.stamp.TxId.{TxId}
-use Rattle.qc_stamp.specs.Names.{first_life}
-use Rattle.qc_list.specs.Names.{In}
+use Rattle.qc_stamp.specs.Vocabulary.{first_life}
+use Rattle.qc_list.specs.Vocabulary.{In}
 use Rattle.qc_list.proofs.Members.{In-first, In-more}
 use Rattle.qc_decl.specs.declared.declaration.Declaration.{Declaration}
 use Rattle.qc_entry.specs.declared.record.Commit.{Commit}
@@ -16,9 +16,9 @@ use Rattle.qc_msg.specs.declared.reply.Reply.TheVariants as replies
 use Rattle.qc_msg.specs.declared.step.Command.{Command}
 use Rattle.qc_msg.specs.declared.step.Fall.{Fall}
 use Rattle.qc_msg.specs.declared.step.Input.TheVariants as inputs
-use Rattle.qc_msg.specs.Names.{Falls, Rises, Takes, Tells, Writes, commit_of}
-use Rattle.qc_promise.specs.Names.{Account, IsGivenBack, Journal, Sight, account_at, account_fallen, clock_with}
-use Rattle.qc_promise.specs.Names.{is_begun, life_with}
+use Rattle.qc_msg.specs.Vocabulary.{Falls, Rises, Takes, Tells, Writes, commit_of}
+use Rattle.qc_promise.specs.Vocabulary.{Account, IsGivenBack, Journal, Sight, account_at, account_fallen, clock_with}
+use Rattle.qc_promise.specs.Vocabulary.{is_begun, life_with}
 use Rattle.laws_reach.proofs.CarriedRecords.{life_up}
 use Rattle.laws_atomic.proofs.Counted.{IsOpen, name_of}
 use Rattle.laws_atomic.proofs.Seeing.{IsUpTo, in_split}

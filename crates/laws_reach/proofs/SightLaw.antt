@@ -4,16 +4,16 @@ use Rattle.std.proofs.Common.{refl, sym, ap, ◌∙◌, subst, arith}
 use Rattle.qc_decl.proofs.Clients.{client_past, client_within}
 use Rattle.qc_stamp.specs.declared.stamp.Stamp.{Stamp}
 use Rattle.qc_stamp.specs.declared.stamp.TxId.{TxId}
-use Rattle.qc_list.specs.Names.{In}
-use Rattle.qc_core.specs.Names.{IsLawfulWithFalls, journal_after}
+use Rattle.qc_list.specs.Vocabulary.{In}
+use Rattle.qc_core.specs.Vocabulary.{IsLawfulWithFalls, journal_after}
 use Rattle.qc_core.proofs.LivesLaws.{journal}
-use Rattle.qc_decl.specs.Names.{IsAccepted, actors, client_actor, is_client}
+use Rattle.qc_decl.specs.Vocabulary.{IsAccepted, actors, client_actor, is_client}
 use Rattle.qc_decl.specs.declared.declaration.Declaration.{Declaration}
 use Rattle.qc_entry.specs.declared.line.Line.{Line}
 use Rattle.qc_entry.specs.declared.record.Commit.{Commit}
 use Rattle.laws_turns.proofs.Places.{slice_get-within}
-use Rattle.qc_link.specs.Names.{most_actors}
-use Rattle.laws_turns.specs.Names.{LivesIn}
+use Rattle.qc_link.specs.Vocabulary.{most_actors}
+use Rattle.laws_turns.specs.Vocabulary.{LivesIn}
 use Rattle.laws_turns.proofs.Lived.{run_lives, run_long}
 use Rattle.qc_msg.specs.declared.message.Answer.TheVariants.{Granted}
 use Rattle.qc_msg.specs.declared.message.Envelope.{Envelope}
@@ -23,20 +23,20 @@ use Rattle.qc_msg.specs.declared.message.Want.{Want}
 use Rattle.qc_msg.specs.declared.record.Record.{Record}
 use Rattle.qc_msg.specs.declared.record.Record.TheVariants as journals
 use Rattle.qc_msg.specs.declared.step.Input.TheVariants as inputs
-use Rattle.qc_msg.specs.Names.{Entry, Sends, Takes, deeds}
-use Rattle.laws_refinement.specs.Names.{IsGrantTo, IsGrantable, Refines, lines_in}
+use Rattle.qc_msg.specs.Vocabulary.{Entry, Sends, Takes, deeds}
+use Rattle.laws_refinement.specs.Vocabulary.{IsGrantTo, IsGrantable, Refines, lines_in}
 use Rattle.laws_refinement.proofs.Refining.{nets_refine}
-use Rattle.theory_onecopy.specs.Names.{AreApart, IsLogged}
+use Rattle.theory_onecopy.specs.Vocabulary.{AreApart, IsLogged}
 use Rattle.theory_onecopy.proofs.Committed.{records_are_sorted}
-use Rattle.qc_promise.specs.Names.{IsAfterSeen, Journal, Kept, committed, is_prepare, no_journal, records, seen_in}
-use Rattle.theory_machine.specs.Names.{state}
-use Rattle.qc_script.specs.Names.{IsScriptFor, RunsWithFalls}
+use Rattle.qc_promise.specs.Vocabulary.{IsAfterSeen, Journal, Kept, committed, is_prepare, no_journal, records, seen_in}
+use Rattle.theory_machine.specs.Vocabulary.{state}
+use Rattle.qc_script.specs.Vocabulary.{IsScriptFor, RunsWithFalls}
 use Rattle.qc_script.specs.declared.script.Script.{Script}
-use Rattle.laws_due.specs.Names.{Declares}
+use Rattle.laws_due.specs.Vocabulary.{Declares}
 use Rattle.laws_due.proofs.AccountDeclared.{asks_declared}
 use Rattle.laws_due.proofs.Declared.{run_declares}
 use Rattle.laws_due.proofs.KeptPlanned.{kept_planned}
-use Rattle.laws_reach.specs.Names.{AreStanding, IsOfClient, IsReachedWithFalls, records_of}
+use Rattle.laws_reach.specs.Vocabulary.{AreStanding, IsOfClient, IsReachedWithFalls, records_of}
 use Rattle.laws_reach.proofs.Committing.{committed_records_stand}
 use Rattle.laws_reach.proofs.Reaching.{net_of}
 use Rattle.laws_reach.proofs.RunLaws as reached

@@ -6,11 +6,11 @@ use Rattle.std.specs.List.{AllByRecursion as Every}
 use Rattle.std.proofs.lemmas.List.Sums.{fold-append}
 use Rattle.qc_stamp.specs.declared.stamp.Stamp.{Stamp}
 use Rattle.qc_stamp.specs.declared.stamp.TxId.{TxId}
-use Rattle.qc_stamp.specs.Names.{first_life, same_tx}
+use Rattle.qc_stamp.specs.Vocabulary.{first_life, same_tx}
 use Rattle.qc_stamp.proofs.Orders.{same_tx_itself}
-use Rattle.qc_list.specs.Names.{In}
+use Rattle.qc_list.specs.Vocabulary.{In}
 use Rattle.qc_list.proofs.Members.{In-first, In-last, In-more}
-use Rattle.qc_core.specs.Names.{journal_at}
+use Rattle.qc_core.specs.Vocabulary.{journal_at}
 use Rattle.qc_decl.specs.declared.declaration.Declaration.{Declaration}
 use Rattle.qc_entry.specs.declared.record.Commit.{Commit}
 use Rattle.qc_msg.specs.declared.record.Record.{Record}
@@ -20,10 +20,11 @@ use Rattle.qc_msg.specs.declared.reply.Reply.TheVariants as replies
 use Rattle.qc_msg.specs.declared.step.Fall.{Fall}
 use Rattle.qc_msg.specs.declared.turn.Posting.{Posting}
 use Rattle.qc_msg.specs.declared.turn.Turn.{Turn}
-use Rattle.qc_msg.specs.Names.{Deed, Falls, Sends, Tells, Writes, sends_of, tells_of, turn_deeds, writes_of}
-use Rattle.qc_promise.specs.Names.{Account, Current, HasBefore, IsRecordDue, Journal, Sight, account_at, account_sent}
-use Rattle.qc_promise.specs.Names.{account_written, is_begun, life_with, running_row, sight, sight_sent}
-use Rattle.laws_due.specs.Names.{AreByRows}
+use Rattle.qc_msg.specs.Vocabulary.{Deed, Falls, Sends, Tells, Writes, sends_of, tells_of, turn_deeds, writes_of}
+use Rattle.qc_promise.specs.Vocabulary.{Account, Current, HasBefore, IsRecordDue, Journal, Sight, account_at}
+use Rattle.qc_promise.specs.Vocabulary.{account_sent, account_written, is_begun, life_with, running_row, sight}
+use Rattle.qc_promise.specs.Vocabulary.{sight_sent}
+use Rattle.laws_due.specs.Vocabulary.{AreByRows}
 use Rattle.laws_due.proofs.Writing.{IsClientTurn}
 use Rattle.laws_atomic.proofs.Alone.{AsksNothing, IsAlone}
 use Rattle.laws_atomic.proofs.Counted.{name_of}

@@ -3,12 +3,12 @@ use Rattle.std.proofs.Common.{◌≡◌, ℕ, List, [], ◌∷◌, ◌++◌, fol
 use Rattle.std.specs.List.{AllByRecursion as Every}
 use Rattle.std.specs.declared.cmp.Ordering.{Ordering}
 use Rattle.std.specs.declared.cmp.Ordering.TheVariants.{Equal, Greater, Less}
-use Rattle.qc_list.specs.Names.{by_order, inserted}
+use Rattle.qc_list.specs.Vocabulary.{by_order, inserted}
 use Rattle.qc_list.proofs.Members.{every-append, every-weaker}
 use Rattle.qc_stamp.specs.declared.stamp.TxId.{TxId}
-use Rattle.qc_stamp.specs.Names.{tx_cmp}
+use Rattle.qc_stamp.specs.Vocabulary.{tx_cmp}
 use Rattle.qc_entry.specs.declared.record.Prepared.{Prepared}
-use Rattle.qc_decl.specs.Names.{client_actor}
+use Rattle.qc_decl.specs.Vocabulary.{client_actor}
 use Rattle.qc_decl.specs.declared.declaration.Declaration.{Declaration}
 use Rattle.qc_msg.specs.declared.message.Answer.{Answer}
 use Rattle.qc_msg.specs.declared.message.Answer.TheVariants as says
@@ -23,11 +23,11 @@ use Rattle.qc_msg.specs.declared.step.Input.{Input}
 use Rattle.qc_msg.specs.declared.step.Input.TheVariants as inputs
 use Rattle.qc_msg.specs.declared.turn.Posting.{Posting}
 use Rattle.qc_msg.specs.declared.turn.Turn.{Turn}
-use Rattle.qc_msg.specs.Names.{quiet}
+use Rattle.qc_msg.specs.Vocabulary.{quiet}
 use Rattle.qc_recover.proofs.Asked.{first_every}
-use Rattle.qc_recover.specs.Names.{Kept, inquiry, keeps, kept_by, most_inquiries, nothing_kept, site_rises}
-use Rattle.qc_site.specs.Names.{SiteMove, SiteState, answers, grants, in_order, moved, passed, site_at, site_takes}
-use Rattle.qc_site.specs.Names.{without_prepared}
+use Rattle.qc_recover.specs.Vocabulary.{Kept, inquiry, keeps, kept_by, most_inquiries, nothing_kept, site_rises}
+use Rattle.qc_site.specs.Vocabulary.{SiteMove, SiteState, answers, grants, in_order, moved, passed, site_at, site_takes}
+use Rattle.qc_site.specs.Vocabulary.{without_prepared}
 use Rattle.laws_turns.proofs.SitesAsk.{Asks, GivenTells, HeldFor, PreparedFor, SiteTells, Tells, held-promised}
 use Rattle.laws_turns.proofs.SitesAsk.{prepared-left, site_asks}
 use Rattle.qc_site.proofs.RequestCases.{append_cases, close_cases, join_cases, prepare_cases, read_cases, request_cases}

@@ -3,11 +3,11 @@
 use Rattle.std.proofs.Common.{◌≡◌, List, [], ◌∷◌, inl, inr, refl, sym, ◌∙◌, subst}
 use Rattle.std.proofs.lemmas.Cmp.{tied_itself}
 use Rattle.std.specs.declared.cmp.Ordering.TheVariants.{Equal}
-use Rattle.qc_stamp.specs.Names.{stamp_cmp}
+use Rattle.qc_stamp.specs.Vocabulary.{stamp_cmp}
 use Rattle.qc_stamp.proofs.Orders.{stamp_order}
 use Rattle.qc_entry.specs.declared.record.Commit.{Commit}
-use Rattle.qc_list.specs.Names.{In}
-use Rattle.theory_onecopy.specs.Names.{AreApart, IsOrdered, IsStampedBefore, sorted}
+use Rattle.qc_list.specs.Vocabulary.{In}
+use Rattle.theory_onecopy.specs.Vocabulary.{AreApart, IsOrdered, IsStampedBefore, sorted}
 use Rattle.theory_onecopy.proofs.Committed.{records_are_sorted}
 
 never_itself : (c : Commit) → IsStampedBefore c c → ⊥

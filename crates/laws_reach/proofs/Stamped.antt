@@ -1,18 +1,18 @@
 -- Over all of a client's deeds, through its falls and rises, the stamps of its commit records rise, and its clock has
 -- passed them.
-use Rattle.std.proofs.Common.{◌≡◌, ◌<◌, ℕ, ◌-◌, Bool, true, false, List, ◌∷◌, ◌++◌, fold, inl, inr, Option, Some, None}
-use Rattle.std.proofs.Common.{refl, sym, ap, ◌∙◌, subst, append_assoc, arith}
+use Rattle.std.proofs.Common.{[], ◌≡◌, ◌<◌, ℕ, ◌-◌, Bool, true, false, List, ◌∷◌, ◌++◌, fold, inl, inr, Option, Some}
+use Rattle.std.proofs.Common.{None, refl, sym, ap, ◌∙◌, subst, append_assoc, arith}
 use Rattle.std.specs.List.{AllByRecursion as Every}
 use Rattle.std.proofs.lemmas.List.{append-nil}
 use Rattle.std.proofs.lemmas.List.Sums.{fold-append}
 use Rattle.qc_core.specs.declared.actor.Actor.{Actor}
 use Rattle.qc_core.specs.declared.actor.Actor.TheVariants as actors
-use Rattle.qc_core.specs.Names.{ActorMove, AreGivenBack, Lives, actor_after, actor_does, actor_takes, is_up}
-use Rattle.qc_core.specs.Names.{journal_after, journal_at}
+use Rattle.qc_core.specs.Vocabulary.{ActorMove, AreGivenBack, Lives, actor_after, actor_does, actor_takes, is_up}
+use Rattle.qc_core.specs.Vocabulary.{journal_after, journal_at}
 use Rattle.qc_core.proofs.Steady.{turn_steady}
 use Rattle.qc_client.specs.declared.client.Client.{Client}
-use Rattle.qc_client.specs.Names.{ClientMove, client_does, client_takes}
-use Rattle.qc_decl.specs.Names.{is_client}
+use Rattle.qc_client.specs.Vocabulary.{ClientMove, client_does, client_takes}
+use Rattle.qc_decl.specs.Vocabulary.{is_client}
 use Rattle.qc_decl.specs.declared.declaration.Declaration.{Declaration}
 use Rattle.qc_entry.specs.declared.record.Commit.{Commit}
 use Rattle.qc_list.proofs.Members.{every-append}
@@ -26,13 +26,13 @@ use Rattle.qc_msg.specs.declared.step.Input.{Input}
 use Rattle.qc_msg.specs.declared.step.Input.TheVariants as inputs
 use Rattle.qc_msg.specs.declared.turn.Appended.{Appended}
 use Rattle.qc_msg.specs.declared.turn.Appended.TheVariants.{Done, Failed, Stopped}
-use Rattle.qc_msg.specs.Names.{Deed, Falls, MayEnd, Rises, Takes, Tells, Writes, deeds_as, first_epoch, sends_of}
-use Rattle.qc_msg.specs.Names.{tells_of, turn_deeds, writes_of}
-use Rattle.qc_promise.specs.Names.{Journal, no_journal}
+use Rattle.qc_msg.specs.Vocabulary.{Deed, Falls, MayEnd, Rises, Takes, Tells, Writes, deeds_as, first_epoch, sends_of}
+use Rattle.qc_msg.specs.Vocabulary.{tells_of, turn_deeds, writes_of}
+use Rattle.qc_promise.specs.Vocabulary.{Journal, no_journal}
 use Rattle.laws_turns.proofs.Bounding.{turn-posts}
-use Rattle.qc_recover.specs.Names.{client_rises, rising}
+use Rattle.qc_recover.specs.Vocabulary.{client_rises, rising}
 use Rattle.qc_recover.specs.Clients.{nothing_kept}
-use Rattle.laws_due.specs.Names.{IsDeclaredDeed, IsPlanned}
+use Rattle.laws_due.specs.Vocabulary.{IsDeclaredDeed, IsPlanned}
 use Rattle.laws_due.proofs.Standing.{IsAtRest, IsTied, actor_more, steady_client, steady_up, up_more}
 use Rattle.laws_due.proofs.Writing.{IsClientTurn, IsCommitTurn, takes_turn}
 use Rattle.laws_reach.proofs.Clocks.{Stamps, clock_posts, takes_stamps}

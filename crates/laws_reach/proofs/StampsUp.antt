@@ -1,12 +1,12 @@
 -- A client's clock has passed its records; what pends is above it, whether it is up, down, or rises.
-use Rattle.std.proofs.Common.{◌≡◌, ◌<◌, ℕ, ◌-◌, List, ◌∷◌, ◌++◌, inl, inr, Option, None, option_to_list, sym, ◌∙◌}
+use Rattle.std.proofs.Common.{[], ◌≡◌, ◌<◌, ℕ, ◌-◌, List, ◌∷◌, ◌++◌, inl, inr, Option, None, option_to_list, sym, ◌∙◌}
 use Rattle.std.proofs.Common.{subst}
 use Rattle.std.specs.List.{AllByRecursion as Every}
 use Rattle.std.proofs.lemmas.List.{append-nil}
 use Rattle.qc_entry.specs.declared.record.Commit.{Commit}
 use Rattle.qc_msg.specs.declared.record.Record.{Record}
 use Rattle.qc_msg.specs.declared.record.Record.TheVariants as records
-use Rattle.qc_promise.specs.Names.{IsGivenBack, Journal}
+use Rattle.qc_promise.specs.Vocabulary.{IsGivenBack, Journal}
 use Rattle.laws_reach.proofs.RisingStamps.{IsUpTo, Rise, commits_more, commits_of, rise_first, rise_more}
 
 -- while it is up its clock has passed its records, and none is pending; while it is down the pending one is above them

@@ -3,9 +3,9 @@
 use Rattle.std.proofs.Common.{◌≡◌, ℕ, Bool, true, false, cond, List, [], ◌∷◌, ◌++◌, fold, Some, None, refl, sym, ap}
 use Rattle.std.proofs.Common.{◌∙◌, subst}
 use Rattle.std.proofs.lemmas.List.Sums.{fold-append}
-use Rattle.qc_stamp.specs.Names.{first_life}
+use Rattle.qc_stamp.specs.Vocabulary.{first_life}
 use Rattle.qc_stamp.specs.declared.stamp.TxId.{TxId}
-use Rattle.qc_list.specs.Names.{In}
+use Rattle.qc_list.specs.Vocabulary.{In}
 use Rattle.qc_decl.specs.declared.declaration.Declaration.{Declaration}
 use Rattle.qc_entry.specs.declared.record.Commit.{Commit}
 use Rattle.qc_msg.specs.declared.message.Message.{Message}
@@ -14,10 +14,10 @@ use Rattle.qc_msg.specs.declared.record.Record.{Record}
 use Rattle.qc_msg.specs.declared.record.Record.TheVariants as records
 use Rattle.qc_msg.specs.declared.step.Input.{Input}
 use Rattle.qc_msg.specs.declared.step.Input.TheVariants as inputs
-use Rattle.qc_msg.specs.Names.{Deed, Rises}
-use Rattle.qc_promise.specs.Names.{Account, Journal, Sight, Status, account_at, account_of, account_sent, account_taken}
-use Rattle.qc_promise.specs.Names.{answered, is_asked_for, is_begun, life_with, new_account, sees, sight_sent}
-use Rattle.qc_promise.specs.Names.{sight_taken, waits}
+use Rattle.qc_msg.specs.Vocabulary.{Deed, Rises}
+use Rattle.qc_promise.specs.Vocabulary.{Account, Journal, Sight, Status, account_at, account_of, account_sent}
+use Rattle.qc_promise.specs.Vocabulary.{account_taken, answered, is_asked_for, is_begun, life_with, new_account, sees}
+use Rattle.qc_promise.specs.Vocabulary.{sight_sent, sight_taken, waits}
 use Rattle.qc_promise.specs.Seen.{granted}
 use Rattle.qc_promise.specs.Status as statuses
 use Rattle.laws_due.proofs.Anew.{begins_anew}

@@ -1,23 +1,23 @@
 -- How a transaction stands at its client while that is up, down, and risen: lives only grow.
-use Rattle.std.proofs.Common.{◌≡◌, ◌≢◌, ℕ, ◌<◌, ◌≤◌, ◌⊎◌, inl, inr, Bool, true, false, cond, List, ◌∷◌, ◌++◌, fold}
+use Rattle.std.proofs.Common.{[], ◌≡◌, ◌≢◌, ℕ, ◌<◌, ◌≤◌, ◌⊎◌, inl, inr, Bool, true, false, cond, List, ◌∷◌, ◌++◌, fold}
 use Rattle.std.proofs.Common.{Option, Some, None, option_to_list, refl, sym, ap, ◌∙◌, subst, arith}
 use Rattle.std.specs.List.{AllByRecursion as Every}
 use Rattle.std.proofs.lemmas.List.Sums.{fold-append}
-use Rattle.qc_list.specs.Names.{In}
+use Rattle.qc_list.specs.Vocabulary.{In}
 use Rattle.qc_list.proofs.Members.{In-first, every-In}
 use Rattle.qc_entry.specs.declared.record.Commit.{Commit}
 use Rattle.qc_msg.specs.declared.record.Record.{Record}
 use Rattle.qc_msg.specs.declared.record.Record.TheVariants as records
-use Rattle.qc_promise.specs.Names.{AreRightKept, Begun, Committed, Dead, IsGivenBack, IsRightKept, IsRightRecord}
-use Rattle.qc_promise.specs.Names.{Journal, Status, Unborn, given_up, status_risen, status_written}
+use Rattle.qc_promise.specs.Vocabulary.{AreRightKept, Begun, Committed, Dead, IsGivenBack, IsRightKept, IsRightRecord}
+use Rattle.qc_promise.specs.Vocabulary.{Journal, Status, Unborn, given_up, status_risen, status_written}
 use Rattle.laws_turns.proofs.DealingParts.{HasRecord}
 use Rattle.laws_turns.proofs.Statuses.{IsStatus, Page}
 use Rattle.qc_recover.specs.Clients.{Kept, keeps, kept_by, nothing_kept}
 use Rattle.qc_stamp.specs.declared.stamp.Stamp.{Stamp}
 use Rattle.qc_stamp.specs.declared.stamp.TxId.{TxId}
-use Rattle.qc_stamp.specs.Names.{same_tx}
+use Rattle.qc_stamp.specs.Vocabulary.{same_tx}
 use Rattle.qc_stamp.proofs.Orders.{same_tx_is, same_tx_itself}
-use Rattle.laws_reach.specs.Names.{IsRecorded}
+use Rattle.laws_reach.specs.Vocabulary.{IsRecorded}
 
 pub listed_more : (tx : TxId) (stamp : Stamp) (xs ys : List Record) → IsRecorded tx stamp xs
     → IsRecorded tx stamp (xs ++ ys)

@@ -1,9 +1,9 @@
 -- What ties a client's account to its dealings in one transaction, whose record may be known: how it stays.
-use Rattle.std.proofs.Common.{◌≡◌, ◌<◌, ◌≤◌, ◌⊎◌, inl, inr, ℕ, ◌+◌, Bool, true, false, List, Option, None, option_map}
-use Rattle.std.proofs.Common.{refl, ap, ◌∙◌, arith}
+use Rattle.std.proofs.Common.{[], ◌≡◌, ◌<◌, ◌≤◌, ◌⊎◌, inl, inr, ℕ, ◌+◌, Bool, true, false, List, Option, None}
+use Rattle.std.proofs.Common.{option_map, refl, ap, ◌∙◌, arith}
 use Rattle.qc_stamp.specs.declared.stamp.TxId.{TxId}
 use Rattle.qc_entry.specs.declared.line.Op.{Op}
-use Rattle.qc_promise.specs.Names.{Dealing}
+use Rattle.qc_promise.specs.Vocabulary.{Dealing}
 use Rattle.laws_reach.proofs.Gists.{Gist, Going}
 use Rattle.laws_reach.proofs.Bases.{none_some, true_false, Settled, Both}
 

@@ -5,23 +5,23 @@ use Rattle.std.proofs.Common.{◌≡◌, ◌≢◌, ℕ, ◌==◌, Bool, true, f
 use Rattle.std.proofs.Common.{inl, inr, refl, sym, ap, ◌∙◌, subst}
 use Rattle.qc_core.specs.declared.actor.Actor.{Actor}
 use Rattle.qc_core.specs.declared.actor.Actor.TheVariants as actor
-use Rattle.qc_core.specs.Names.{actor_after, actor_takes, is_up, journal_after}
+use Rattle.qc_core.specs.Vocabulary.{actor_after, actor_takes, is_up, journal_after}
 use Rattle.qc_core.proofs.ByNumber.{admin_no_client, admin_no_site}
 use Rattle.qc_decl.specs.declared.declaration.Declaration.{Declaration}
 use Rattle.qc_decl.proofs.Clients.{client_no_site}
-use Rattle.qc_decl.specs.Names.{administrator, is_client, is_site}
+use Rattle.qc_decl.specs.Vocabulary.{administrator, is_client, is_site}
 use Rattle.qc_client.specs.declared.client.Client.{Client}
 use Rattle.qc_msg.specs.declared.message.Envelope.{Envelope}
 use Rattle.qc_msg.specs.declared.step.Input.{Input}
 use Rattle.qc_msg.specs.declared.step.Input.TheVariants as given
-use Rattle.qc_msg.specs.Names.{Deed, Entry, WasSentTo, deeds, mail}
-use Rattle.laws_refinement.specs.Names.{MayCommand, Net, Reaches}
+use Rattle.qc_msg.specs.Vocabulary.{Deed, Entry, WasSentTo, deeds, mail}
+use Rattle.laws_refinement.specs.Vocabulary.{MayCommand, Net, Reaches}
 use Rattle.laws_refinement.proofs.SiteNets.{place}
 use Rattle.laws_turns.proofs.Places.{slice_get-more}
-use Rattle.qc_epoch.specs.Names.{Admin}
-use Rattle.qc_site.specs.Names.{SiteState}
+use Rattle.qc_epoch.specs.Vocabulary.{Admin}
+use Rattle.qc_site.specs.Vocabulary.{SiteState}
 use Rattle.laws_atomic.proofs.Stood.{apart}
-use Rattle.laws_reach.specs.Names.{HasTaken, TakesInputs, actor_in}
+use Rattle.laws_reach.specs.Vocabulary.{HasTaken, TakesInputs, actor_in}
 
 still_sent : (a : ℕ) (ms more : List Envelope) (g : Input) → WasSentTo a ms g → WasSentTo a (ms ++ more) g
 still_sent a ms more (given.Called command) sent = tt

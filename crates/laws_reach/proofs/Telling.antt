@@ -4,19 +4,19 @@ use Rattle.std.proofs.Common.{option_to_list, refl, sym, ap, ◌∙◌, subst}
 use Rattle.std.specs.Prelude.{option_and_then}
 use Rattle.qc_stamp.specs.declared.stamp.Stamp.{Stamp}
 use Rattle.qc_stamp.specs.declared.stamp.TxId.{TxId}
-use Rattle.qc_stamp.specs.Names.{same_tx}
+use Rattle.qc_stamp.specs.Vocabulary.{same_tx}
 use Rattle.qc_stamp.proofs.Orders.{same_tx_is}
-use Rattle.qc_list.specs.Names.{In}
+use Rattle.qc_list.specs.Vocabulary.{In}
 use Rattle.qc_decl.specs.declared.declaration.Declaration.{Declaration}
 use Rattle.qc_entry.specs.declared.record.Commit.{Commit}
 use Rattle.qc_msg.specs.declared.reply.Reply.{Reply}
 use Rattle.qc_msg.specs.declared.reply.Reply.TheVariants as replies
 use Rattle.qc_msg.specs.declared.step.Command.{Command}
-use Rattle.qc_msg.specs.Names.{Tells}
-use Rattle.qc_promise.specs.Names.{Account, Current, IsReplyDue, Journal, Sight, account_told, commit_of, is_begun}
-use Rattle.qc_promise.specs.Names.{row_of, running_row, sight_told}
+use Rattle.qc_msg.specs.Vocabulary.{Tells}
+use Rattle.qc_promise.specs.Vocabulary.{Account, Current, IsReplyDue, Journal, Sight, account_told, commit_of, is_begun}
+use Rattle.qc_promise.specs.Vocabulary.{row_of, running_row, sight_told}
 use Rattle.qc_promise.specs.Status as statuses
-use Rattle.laws_reach.specs.Names.{SaysIn}
+use Rattle.laws_reach.specs.Vocabulary.{SaysIn}
 use Rattle.laws_reach.proofs.Rows.{row_says}
 use Rattle.laws_atomic.proofs.Counted.{name_of}
 use Rattle.laws_atomic.proofs.Seeing.{Sees, in_split}

@@ -1,25 +1,25 @@
 -- What clients were told agrees with the records, in every run with falls whose records are kept.
 use Rattle.std.proofs.Common.{◌≡◌, ◌≢◌, ◌↔◌, ◌⊎◌, ◌<◌, ℕ, ◌-◌, Bool, List, [], sym, ap, ◌∙◌, subst}
-use Rattle.qc_core.specs.Names.{IsLawfulWithFalls, journal_after}
+use Rattle.qc_core.specs.Vocabulary.{IsLawfulWithFalls, journal_after}
 use Rattle.qc_core.proofs.LivesLaws.{journal}
-use Rattle.laws_reach.specs.Names.{AreCommitsTold, AreStanding, HasRecord, IsOfClient, records_of}
+use Rattle.laws_reach.specs.Vocabulary.{AreCommitsTold, AreStanding, HasRecord, IsOfClient, records_of}
 use Rattle.laws_reach.proofs.Deeds.{deeds_deal}
 use Rattle.laws_reach.proofs.EndLaws.{ends_aborted, ends_committed, ends_dropped, ends_own, records_own, records_told}
-use Rattle.qc_decl.specs.Names.{IsAccepted, client_actor}
+use Rattle.qc_decl.specs.Vocabulary.{IsAccepted, client_actor}
 use Rattle.qc_decl.specs.declared.declaration.Declaration.{Declaration}
 use Rattle.qc_entry.specs.declared.record.Commit.{Commit as CommitRecord}
-use Rattle.qc_list.specs.Names.{In}
+use Rattle.qc_list.specs.Vocabulary.{In}
 use Rattle.qc_msg.specs.declared.record.Record.{Record}
 use Rattle.qc_msg.specs.declared.record.Record.TheVariants.{Commit}
 use Rattle.qc_msg.specs.declared.reply.Reply.{Reply}
 use Rattle.qc_msg.specs.declared.reply.Reply.TheVariants as replies
 use Rattle.qc_msg.specs.declared.reply.AbortCause.{AbortCause}
-use Rattle.qc_msg.specs.Names.{Deed, Entry, deeds}
+use Rattle.qc_msg.specs.Vocabulary.{Deed, Entry, deeds}
 use Rattle.theory_onecopy.proofs.Committed.{records_are_sorted}
-use Rattle.qc_promise.specs.Names.{AreDealt, AreTold, HasCommit, Journal, Kept, committed, endings, records}
+use Rattle.qc_promise.specs.Vocabulary.{AreDealt, AreTold, HasCommit, Journal, Kept, committed, endings, records}
 use Rattle.laws_reach.proofs.Committing.{committed_records_stand}
 use Rattle.laws_reach.proofs.RunLaws.{apart}
-use Rattle.qc_script.specs.Names.{IsScriptFor, RunsWithFalls}
+use Rattle.qc_script.specs.Vocabulary.{IsScriptFor, RunsWithFalls}
 use Rattle.qc_script.specs.declared.script.Script.{Script}
 use Rattle.qc_stamp.specs.declared.stamp.Stamp.{Stamp}
 use Rattle.qc_stamp.specs.declared.stamp.TxId.{TxId}

@@ -4,15 +4,15 @@ use Rattle.std.proofs.Common.{sym, ap, ◌∙◌, subst, append_assoc}
 use Rattle.std.specs.Prelude.{is_some}
 use Rattle.std.proofs.lemmas.List.Sums.{fold-append}
 use Rattle.qc_stamp.specs.declared.stamp.TxId.{TxId}
-use Rattle.qc_list.specs.Names.{In}
+use Rattle.qc_list.specs.Vocabulary.{In}
 use Rattle.qc_core.specs.declared.actor.Actor.{Actor}
-use Rattle.qc_core.specs.Names.{ActorMove, IsLawfulWithFalls, MayReach, MayTake, actor_after, actor_takes, by_client}
-use Rattle.qc_core.specs.Names.{is_up, journal_after, journal_at}
+use Rattle.qc_core.specs.Vocabulary.{ActorMove, IsLawfulWithFalls, MayReach, MayTake, actor_after, actor_takes}
+use Rattle.qc_core.specs.Vocabulary.{by_client, is_up, journal_after, journal_at}
 use Rattle.qc_core.proofs.ByNumber.{client_risen}
 use Rattle.qc_core.proofs.Steady.{turn_steady}
-use Rattle.qc_client.specs.Names.{ClientMove, client_takes}
+use Rattle.qc_client.specs.Vocabulary.{ClientMove, client_takes}
 use Rattle.qc_decl.specs.declared.declaration.Declaration.{Declaration}
-use Rattle.qc_decl.specs.Names.{is_client}
+use Rattle.qc_decl.specs.Vocabulary.{is_client}
 use Rattle.qc_entry.specs.declared.record.Commit.{Commit}
 use Rattle.qc_msg.specs.declared.record.Record.{Record}
 use Rattle.qc_msg.specs.declared.record.Record.TheVariants as records
@@ -26,12 +26,12 @@ use Rattle.qc_msg.specs.declared.step.Input.TheVariants as inputs
 use Rattle.qc_msg.specs.declared.turn.Appended.{Appended}
 use Rattle.qc_msg.specs.declared.turn.Appended.TheVariants.{Done, Failed, Stopped}
 use Rattle.qc_msg.specs.declared.turn.Turn.{Turn}
-use Rattle.qc_msg.specs.Names.{Deed, Falls, MayEnd, Rises, Takes, Tells, Writes, deeds_as, sends_of, telling, tells_of}
-use Rattle.qc_msg.specs.Names.{turn_deeds, writes_of}
-use Rattle.qc_promise.specs.Names.{Account, IsGivenBack, IsRecordDue, Journal, Sight, account_at, account_taken}
-use Rattle.qc_promise.specs.Names.{new_account, no_journal, no_sight, running_row, sight, sight_taken}
-use Rattle.qc_recover.specs.Names.{client_rises, rising}
-use Rattle.laws_due.specs.Names.{AreByRows, Goes}
+use Rattle.qc_msg.specs.Vocabulary.{Deed, Falls, MayEnd, Rises, Takes, Tells, Writes, deeds_as, sends_of, telling}
+use Rattle.qc_msg.specs.Vocabulary.{tells_of, turn_deeds, writes_of}
+use Rattle.qc_promise.specs.Vocabulary.{Account, IsGivenBack, IsRecordDue, Journal, Sight, account_at, account_taken}
+use Rattle.qc_promise.specs.Vocabulary.{new_account, no_journal, no_sight, running_row, sight, sight_taken}
+use Rattle.qc_recover.specs.Vocabulary.{client_rises, rising}
+use Rattle.laws_due.specs.Vocabulary.{AreByRows, Goes}
 use Rattle.laws_due.proofs.Commands.{free_for}
 use Rattle.laws_due.proofs.Fallings.{as_record}
 use Rattle.laws_due.proofs.Standing.{IsFallen, IsTied, account_is, actor_more, steady_up, turn_is, up_more}

@@ -10,11 +10,11 @@ use Rattle.qc_msg.specs.declared.reply.Reply.{Reply}
 use Rattle.qc_msg.specs.declared.reply.Reply.TheVariants as replies
 use Rattle.qc_msg.specs.declared.turn.Posting.{Posting}
 use Rattle.qc_msg.specs.declared.turn.Turn.{Turn}
-use Rattle.qc_msg.specs.Names.{sends_of, tells_of, turn_deeds, writes_of}
-use Rattle.qc_promise.specs.Names.{AreRightFrom, Begun, Committed, IsRightRecord, Status, Unborn, status_at}
-use Rattle.qc_promise.specs.Names.{status_sent, status_told, status_written}
+use Rattle.qc_msg.specs.Vocabulary.{sends_of, tells_of, turn_deeds, writes_of}
+use Rattle.qc_promise.specs.Vocabulary.{AreRightFrom, Begun, Committed, IsRightRecord, Status, Unborn, status_at}
+use Rattle.qc_promise.specs.Vocabulary.{status_sent, status_told, status_written}
 use Rattle.qc_stamp.specs.declared.stamp.TxId.{TxId}
-use Rattle.qc_stamp.specs.Names.{same_tx}
+use Rattle.qc_stamp.specs.Vocabulary.{same_tx}
 
 module _ (tx : TxId) where
   either : (t : Bool) (s : Status) → (t ≡ true → ⊥) → cond t s Unborn ≡ Unborn

@@ -1,23 +1,23 @@
 -- In every run with falls whose records are kept a client's deeds are right, and the stamps of its records rise.
-use Rattle.std.proofs.Common.{◌≡◌, ◌↔◌, ◌-◌, ◌≢◌, ◌≤◌, ◌<◌, ℕ, ◌+◌, ◌==◌, Bool, true, false, List, ◌∷◌, ◌++◌, length}
-use Rattle.std.proofs.Common.{option_to_list, Some, None, slice_get, refl, sym, ap, ◌∙◌, subst, arith, append_assoc}
-use Rattle.std.proofs.Common.{eqb-true}
+use Rattle.std.proofs.Common.{[], ◌≡◌, ◌↔◌, ◌-◌, ◌≢◌, ◌≤◌, ◌<◌, ℕ, ◌+◌, ◌==◌, Bool, true, false, List, ◌∷◌, ◌++◌}
+use Rattle.std.proofs.Common.{length, option_to_list, Some, None, slice_get, refl, sym, ap, ◌∙◌, subst, arith}
+use Rattle.std.proofs.Common.{append_assoc, eqb-true}
 use Rattle.std.specs.List.{AllPairs, filter_map}
 use Rattle.std.proofs.lemmas.List.Sums.{fold-append}
 use Rattle.qc_decl.proofs.Clients.{client_past, client_within}
-use Rattle.qc_core.specs.Names.{IsLawfulWithFalls, journal_after}
+use Rattle.qc_core.specs.Vocabulary.{IsLawfulWithFalls, journal_after}
 use Rattle.qc_entry.specs.declared.record.Commit.{Commit}
-use Rattle.qc_msg.specs.Names.{Deed, Entry, Falls, Rises, Sends, Takes, WasSentTo, by, commit_of, deeds, deeds_as, mail}
-use Rattle.qc_msg.specs.Names.{marked, posted_as, step_of}
-use Rattle.qc_decl.specs.Names.{IsAccepted, actors, client_actor, controller, is_client}
+use Rattle.qc_msg.specs.Vocabulary.{Deed, Entry, Falls, Rises, Sends, Takes, WasSentTo, by, commit_of, deeds, deeds_as}
+use Rattle.qc_msg.specs.Vocabulary.{mail, marked, posted_as, step_of}
+use Rattle.qc_decl.specs.Vocabulary.{IsAccepted, actors, client_actor, controller, is_client}
 use Rattle.qc_decl.specs.declared.declaration.Declaration.{Declaration}
-use Rattle.qc_inbox.proofs.FallMail.{ready_sent}
+use Rattle.qc_mailbox.proofs.FallMail.{ready_sent}
 use Rattle.laws_turns.proofs.Acted.{deeds-silent}
 use Rattle.laws_turns.proofs.Numbered.{IsSilent, phase_silent}
 use Rattle.laws_turns.proofs.Places.{slice_get-within}
-use Rattle.qc_list.specs.Names.{In}
+use Rattle.qc_list.specs.Vocabulary.{In}
 use Rattle.qc_list.proofs.Members.{every-at}
-use Rattle.laws_turns.specs.Names.{LivesIn}
+use Rattle.laws_turns.specs.Vocabulary.{LivesIn}
 use Rattle.laws_turns.proofs.Lived.{deeds-fall, deeds-rise, line_silent, run_lives, run_long}
 use Rattle.qc_msg.specs.declared.message.Envelope.{Envelope}
 use Rattle.qc_msg.specs.declared.message.Message.{Message}
@@ -31,25 +31,25 @@ use Rattle.qc_msg.specs.declared.step.Step.TheVariants as steps
 use Rattle.qc_msg.specs.declared.turn.Turn.{Turn}
 use Rattle.qc_msg.proofs.DeedsGrow.{deeds-other}
 use Rattle.qc_msg.proofs.Growth.{deeds-posted_as, deeds-taken}
-use Rattle.laws_refinement.specs.Names.{Backed, Refines}
+use Rattle.laws_refinement.specs.Vocabulary.{Backed, Refines}
 use Rattle.laws_refinement.proofs.Refining.{nets_refine}
-use Rattle.qc_promise.specs.Names.{AreRight, Begun, Committed, Dead, HasEnded, Journal, Kept, Status, Unborn, status}
-use Rattle.qc_promise.specs.Names.{status_at}
-use Rattle.theory_machine.specs.Names.{state}
+use Rattle.qc_promise.specs.Vocabulary.{AreRight, Begun, Committed, Dead, HasEnded, Journal, Kept, Status, Unborn}
+use Rattle.qc_promise.specs.Vocabulary.{status, status_at}
+use Rattle.theory_machine.specs.Vocabulary.{state}
 use Rattle.laws_turns.proofs.KnownDeeds.{IsKnown, IsKnownIn, KnownFrom, known-append, known-posts, known-second}
 use Rattle.laws_turns.proofs.Lasting.{HasEnd, ended_on, request_born}
 use Rattle.laws_turns.proofs.SitesAsk.{Tells}
-use Rattle.qc_script.specs.Names.{IsScriptFor, RunsWithFalls, begins, control, damaged, falls, phase, phase_of, posts}
-use Rattle.qc_script.specs.Names.{rises, takes, unopened}
+use Rattle.qc_script.specs.Vocabulary.{IsScriptFor, RunsWithFalls, begins, control, damaged, falls, phase, phase_of}
+use Rattle.qc_script.specs.Vocabulary.{posts, rises, takes, unopened}
 use Rattle.qc_script.specs.declared.script.Script.{Script}
 use Rattle.qc_stamp.specs.declared.stamp.Stamp.{Stamp}
 use Rattle.qc_stamp.specs.declared.stamp.TxId.{TxId}
 use Rattle.qc_stamp.proofs.Orders.{same_tx_is, same_tx_itself}
-use Rattle.laws_due.specs.Names.{Declares}
+use Rattle.laws_due.specs.Vocabulary.{Declares}
 use Rattle.laws_due.proofs.AccountDeclared.{asks_declared}
 use Rattle.laws_due.proofs.Declared.{run_declares}
 use Rattle.laws_due.proofs.KeptPlanned.{kept_planned}
-use Rattle.laws_reach.specs.Names.{IsReachedWithFalls, IsRecorded}
+use Rattle.laws_reach.specs.Vocabulary.{IsReachedWithFalls, IsRecorded}
 use Rattle.laws_reach.proofs.Reaching.{net_of}
 use Rattle.laws_reach.proofs.Rightly.{Shows, course_shows}
 use Rattle.qc_core.proofs.KeptBack.{kept_given_back}
@@ -71,8 +71,7 @@ module _ (decl : Declaration) (script : Script) (fits : ℕ → List Record → 
   abbrev AreKnown : List Entry → Type 0
   AreKnown h = (a : ℕ) → is_client decl a ≡ true → (tx : TxId) → KnownFrom tx Unborn (deeds a [] h)
 
-  declares : (h : List Entry) (open_inputs : List Bool) → IsRun h open_inputs → Kept h → (a : ℕ)
-      → Declares decl (deeds a [] h)
+  declares : (h : List Entry) (open_inputs : List Bool) → IsRun h open_inputs → Kept h → (a : ℕ) → Declares decl (deeds a [] h)
   declares h open_inputs run kept a =
       run_declares decl script fits accepted (asks_declared decl script accepted sound) h open_inputs run
       (kept_planned decl script fits accepted (asks_declared decl script accepted sound) h open_inputs run kept) a
@@ -284,15 +283,13 @@ module _ (decl : Declaration) (script : Script) (fits : ℕ → List Record → 
       course_rises decl a client d.first (deeds a [] h) l.is_open l.in_run.above l.in_run.lives d.deeds
       (kept_given_back h kept a)
 
-  pub pending_rise : (h : List Entry) (open_inputs : List Bool) → IsRun h open_inputs → Kept h → (a : ℕ)
-      → is_client decl a ≡ true
+  pub pending_rise : (h : List Entry) (open_inputs : List Bool) → IsRun h open_inputs → Kept h → (a : ℕ) → is_client decl a ≡ true
       → AllPairs (λ (c d : Commit). c.stamp.clock < d.stamp.clock)
       (filter_map commit_of
       ((journal_after (deeds a [] h)).records ++ option_to_list (journal_after (deeds a [] h)).pending))
   pending_rise h open_inputs run kept a client = rise_pairs _ (journal_rises h open_inputs run kept a client)
 
-  pub records_rise : (h : List Entry) (open_inputs : List Bool) → IsRun h open_inputs → Kept h → (a : ℕ)
-      → is_client decl a ≡ true
+  pub records_rise : (h : List Entry) (open_inputs : List Bool) → IsRun h open_inputs → Kept h → (a : ℕ) → is_client decl a ≡ true
       → AllPairs (λ (c d : Commit). c.stamp.clock < d.stamp.clock)
       (filter_map commit_of (journal_after (deeds a [] h)).records)
   records_rise h open_inputs run kept a client =

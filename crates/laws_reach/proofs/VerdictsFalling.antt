@@ -4,11 +4,11 @@ use Rattle.std.proofs.Common.{◌≡◌, ℕ, ◌-◌, Bool, true, false, List, 
 use Rattle.std.proofs.Common.{option_to_list, refl, sym, ap, ◌∙◌, subst, append_assoc}
 use Rattle.std.specs.List.{AllByRecursion as Every}
 use Rattle.qc_core.specs.declared.actor.Actor.{Actor}
-use Rattle.qc_core.specs.Names.{ActorMove, AreGivenBack, actor_after, actor_does, is_up, journal_after}
+use Rattle.qc_core.specs.Vocabulary.{ActorMove, AreGivenBack, actor_after, actor_does, is_up, journal_after}
 use Rattle.qc_core.proofs.ActorLaws.{at_client}
 use Rattle.qc_client.specs.declared.client.Client.{Client}
-use Rattle.qc_client.specs.Names.{client_takes, new_client}
-use Rattle.qc_decl.specs.Names.{is_client}
+use Rattle.qc_client.specs.Vocabulary.{client_takes, new_client}
+use Rattle.qc_decl.specs.Vocabulary.{is_client}
 use Rattle.qc_decl.specs.declared.declaration.Declaration.{Declaration}
 use Rattle.qc_list.proofs.Members.{every-append}
 use Rattle.qc_msg.specs.declared.record.Record.{Record}
@@ -22,17 +22,17 @@ use Rattle.qc_msg.specs.declared.step.Input.TheVariants as inputs
 use Rattle.qc_msg.specs.declared.turn.Appended.{Appended}
 use Rattle.qc_msg.specs.declared.turn.Appended.TheVariants.{Done, Failed, Stopped}
 use Rattle.qc_msg.specs.declared.turn.Turn.{Turn}
-use Rattle.qc_msg.specs.Names.{Deed, Falls, MayEnd, Rises, Takes, Tells, Writes, deeds_as, sends_of, tells_of}
-use Rattle.qc_msg.specs.Names.{turn_deeds, writes_of}
-use Rattle.qc_promise.specs.Names.{AreRightFrom, IsGivenBack, IsRightRecord, Journal, Status, Unborn, no_journal}
-use Rattle.qc_promise.specs.Names.{status, status_risen}
+use Rattle.qc_msg.specs.Vocabulary.{Deed, Falls, MayEnd, Rises, Takes, Tells, Writes, deeds_as, sends_of, tells_of}
+use Rattle.qc_msg.specs.Vocabulary.{turn_deeds, writes_of}
+use Rattle.qc_promise.specs.Vocabulary.{AreRightFrom, IsGivenBack, IsRightRecord, Journal, Status, Unborn, no_journal}
+use Rattle.qc_promise.specs.Vocabulary.{status, status_risen}
 use Rattle.laws_turns.proofs.KnownDeeds.{IsKnown}
 use Rattle.laws_turns.proofs.TurnsGoOn.{TurnRight}
 use Rattle.laws_turns.proofs.StatusInputs.{input_right, page_of}
 use Rattle.laws_turns.proofs.Statuses.{new_status}
-use Rattle.qc_recover.specs.Names.{client_rises, rising}
+use Rattle.qc_recover.specs.Vocabulary.{client_rises, rising}
 use Rattle.qc_stamp.specs.declared.stamp.TxId.{TxId}
-use Rattle.qc_stamp.specs.Names.{first_life}
+use Rattle.qc_stamp.specs.Vocabulary.{first_life}
 use Rattle.laws_due.proofs.Commands.{no_site}
 use Rattle.laws_due.proofs.Standing.{IsAtRest, IsTied, actor_more, up_more}
 use Rattle.laws_due.proofs.Writing.{IsClientTurn, IsCommitTurn, takes_turn}

@@ -4,29 +4,29 @@ use Rattle.std.proofs.Common.{◌≡◌, ℕ, ◌-◌, Bool, true, false, List, 
 use Rattle.std.proofs.lemmas.List.Sums.{fold-append}
 use Rattle.qc_core.specs.declared.actor.Actor.{Actor}
 use Rattle.qc_core.specs.declared.actor.Actor.TheVariants as actors
-use Rattle.qc_core.specs.Names.{ActorMove, actor_after, actor_does, actor_takes, is_up, journal_after, journal_at}
+use Rattle.qc_core.specs.Vocabulary.{ActorMove, actor_after, actor_does, actor_takes, is_up, journal_after, journal_at}
 use Rattle.qc_core.proofs.Steady.{turn_steady}
 use Rattle.qc_client.specs.declared.client.Client.{Client}
-use Rattle.qc_client.specs.Names.{client_does, client_takes}
+use Rattle.qc_client.specs.Vocabulary.{client_does, client_takes}
 use Rattle.qc_commit.specs.declared.desk.Desk.{Desk}
 use Rattle.qc_commit.specs.declared.desk.Voting.{Voting}
 use Rattle.qc_front.specs.declared.front.Front.{Front}
-use Rattle.laws_turns.specs.Names.{begun_in}
-use Rattle.qc_decl.specs.Names.{is_client}
+use Rattle.laws_turns.specs.Vocabulary.{begun_in}
+use Rattle.qc_decl.specs.Vocabulary.{is_client}
 use Rattle.qc_decl.specs.declared.declaration.Declaration.{Declaration}
 use Rattle.qc_msg.specs.declared.step.Input.{Input}
-use Rattle.qc_msg.specs.Names.{Deed, Takes, turn_deeds}
-use Rattle.qc_promise.specs.Names.{Account, Journal, Status, Unborn, no_journal, status, status_at}
+use Rattle.qc_msg.specs.Vocabulary.{Deed, Takes, turn_deeds}
+use Rattle.qc_promise.specs.Vocabulary.{Account, Journal, Status, Unborn, no_journal, status, status_at}
 use Rattle.laws_turns.proofs.Bounding.{turn-posts}
 use Rattle.laws_turns.proofs.DealtCommands.{IsInHand}
 use Rattle.laws_turns.proofs.KnownDeeds.{IsKnown}
 use Rattle.laws_turns.proofs.TurnsGoOn.{TurnRight}
 use Rattle.laws_turns.proofs.StatusInputs.{input_right, page_of}
 use Rattle.laws_turns.proofs.Statuses.{Page}
-use Rattle.laws_due.specs.Names.{Ties, appends, reads, rests, votes}
+use Rattle.laws_due.specs.Vocabulary.{Ties, appends, reads, rests, votes}
 use Rattle.laws_due.proofs.Standing.{IsAtRest, IsTied, actor_more, steady_client, steady_up, up_more}
 use Rattle.qc_stamp.specs.declared.stamp.TxId.{TxId}
-use Rattle.laws_reach.specs.Names.{AreRightButWritten}
+use Rattle.laws_reach.specs.Vocabulary.{AreRightButWritten}
 use Rattle.laws_reach.proofs.Changes.{input_changes, page_posts}
 use Rattle.laws_reach.proofs.VerdictsPosting.{but_append, but_steady, posts_up}
 use Rattle.laws_reach.proofs.StatusFalls.{Down, Up}

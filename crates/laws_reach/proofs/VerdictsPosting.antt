@@ -1,8 +1,8 @@
 -- A client that is up posts a turn, and stands as before.
 use Rattle.std.proofs.Common.{◌≡◌, ℕ, ◌+◌, ◌<◌, ◌⊎◌, inl, inr, List, [], ◌∷◌, ◌++◌, fold, Option, Some, None, refl, sym}
 use Rattle.std.proofs.Common.{ap, ◌∙◌, subst, arith}
-use Rattle.qc_core.specs.Names.{AreSteady, journal_at}
-use Rattle.qc_list.specs.Names.{In}
+use Rattle.qc_core.specs.Vocabulary.{AreSteady, journal_at}
+use Rattle.qc_list.specs.Vocabulary.{In}
 use Rattle.qc_list.proofs.Members.{In-first, In-last, In-more}
 use Rattle.qc_entry.specs.declared.record.Commit.{Commit}
 use Rattle.qc_msg.specs.declared.record.Record.{Record}
@@ -10,16 +10,16 @@ use Rattle.qc_msg.specs.declared.record.Record.TheVariants as records
 use Rattle.qc_msg.specs.declared.reply.Reply.{Reply}
 use Rattle.qc_msg.specs.declared.turn.Posting.{Posting}
 use Rattle.qc_msg.specs.declared.turn.Turn.{Turn}
-use Rattle.qc_msg.specs.Names.{Deed, Falls, Rises, Sends, Takes, Tells, Writes, sends_of, tells_of, turn_deeds}
-use Rattle.qc_msg.specs.Names.{writes_of}
-use Rattle.qc_promise.specs.Names.{AreRightFrom, Journal, Status, Unborn, status_at}
+use Rattle.qc_msg.specs.Vocabulary.{Deed, Falls, Rises, Sends, Takes, Tells, Writes, sends_of, tells_of, turn_deeds}
+use Rattle.qc_msg.specs.Vocabulary.{writes_of}
+use Rattle.qc_promise.specs.Vocabulary.{AreRightFrom, Journal, Status, Unborn, status_at}
 use Rattle.laws_turns.proofs.TurnsGoOn.{TurnRight}
 use Rattle.laws_turns.proofs.Statuses.{Page}
 use Rattle.qc_recover.specs.Clients.{Kept, keeps, nothing_kept}
 use Rattle.std.proofs.lemmas.List.Sums.{fold-append}
 use Rattle.qc_stamp.specs.declared.stamp.TxId.{TxId}
 use Rattle.qc_stamp.proofs.Orders.{same_tx_is}
-use Rattle.laws_reach.specs.Names.{AreRightButWritten}
+use Rattle.laws_reach.specs.Vocabulary.{AreRightButWritten}
 use Rattle.laws_reach.proofs.Changes.{Changes, WritesNone, WritesOne}
 use Rattle.laws_reach.proofs.StatusFalls.{Up}
 use Rattle.laws_reach.proofs.Unborn.{turn_unborn}

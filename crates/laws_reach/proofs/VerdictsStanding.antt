@@ -1,22 +1,22 @@
 -- How a transaction stands at its client, while that is up and while it is down, and as it rises.
-use Rattle.std.proofs.Common.{◌≡◌, ℕ, ◌<◌, ◌⊎◌, not, inl, inr, Bool, true, false, List, ◌∷◌, ◌++◌, filter, fold, None}
-use Rattle.std.proofs.Common.{refl, sym, ap, ◌∙◌, subst, arith}
+use Rattle.std.proofs.Common.{[], ◌≡◌, ℕ, ◌<◌, ◌⊎◌, not, inl, inr, Bool, true, false, List, ◌∷◌, ◌++◌, filter, fold}
+use Rattle.std.proofs.Common.{None, refl, sym, ap, ◌∙◌, subst, arith}
 use Rattle.std.specs.List.{AllByRecursion as Every}
 use Rattle.std.proofs.lemmas.List.Sums.{fold-append}
-use Rattle.qc_list.specs.Names.{In}
+use Rattle.qc_list.specs.Vocabulary.{In}
 use Rattle.qc_list.proofs.Members.{In-filter, In-first, In-last, In-more, In-unfiltered, every-In}
 use Rattle.qc_entry.specs.declared.record.Commit.{Commit}
 use Rattle.qc_msg.specs.declared.record.Record.{Record}
 use Rattle.qc_msg.specs.declared.record.Record.TheVariants as records
-use Rattle.qc_promise.specs.Names.{Committed, Status}
+use Rattle.qc_promise.specs.Vocabulary.{Committed, Status}
 use Rattle.laws_turns.proofs.DealingParts.{HasRecord}
 use Rattle.laws_turns.proofs.Statuses.{Page}
 use Rattle.qc_recover.specs.Clients.{Kept, keeps, kept_by, nothing_kept}
 use Rattle.qc_stamp.specs.declared.stamp.Stamp.{Stamp}
 use Rattle.qc_stamp.specs.declared.stamp.TxId.{TxId}
-use Rattle.qc_stamp.specs.Names.{same_tx}
+use Rattle.qc_stamp.specs.Vocabulary.{same_tx}
 use Rattle.qc_stamp.proofs.Orders.{same_tx_is, same_tx_itself}
-use Rattle.laws_reach.specs.Names.{IsRecorded}
+use Rattle.laws_reach.specs.Vocabulary.{IsRecorded}
 use Rattle.laws_reach.proofs.Rises.{IsShown}
 use Rattle.laws_reach.proofs.StatusFalls.{Up, Risen}
 

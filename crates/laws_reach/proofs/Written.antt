@@ -4,26 +4,26 @@ use Rattle.std.proofs.Common.{refl, sym, ap, ◌∙◌, subst, append_assoc}
 use Rattle.std.specs.List.{cons_option, filter_map}
 use Rattle.std.proofs.lemmas.List.{append-nil}
 use Rattle.std.proofs.lemmas.List.Elements.{filter_map-append}
-use Rattle.qc_list.specs.Names.{In}
+use Rattle.qc_list.specs.Vocabulary.{In}
 use Rattle.qc_list.proofs.Members.{In-first, In-second}
-use Rattle.qc_client.specs.Names.{client_takes}
-use Rattle.qc_decl.specs.Names.{IsAccepted, administrator, is_client, is_site}
+use Rattle.qc_client.specs.Vocabulary.{client_takes}
+use Rattle.qc_decl.specs.Vocabulary.{IsAccepted, administrator, is_client, is_site}
 use Rattle.qc_decl.specs.declared.declaration.Declaration.{Declaration}
 use Rattle.qc_entry.specs.declared.record.Commit.{Commit as CommitRecord}
 use Rattle.qc_msg.specs.declared.record.Record.{Record}
 use Rattle.qc_msg.specs.declared.record.Record.TheVariants as records
-use Rattle.qc_msg.specs.Names.{commit_of}
-use Rattle.laws_refinement.specs.Names.{IsPendingAt, IsPendingRule, Net, Reaches, Refines, commits_in}
+use Rattle.qc_msg.specs.Vocabulary.{commit_of}
+use Rattle.laws_refinement.specs.Vocabulary.{IsPendingAt, IsPendingRule, Net, Reaches, Refines, commits_in}
 use Rattle.laws_refinement.specs.Net as nets
 use Rattle.laws_refinement.proofs.Kepts.{no_client, no_ruling}
 use Rattle.laws_refinement.proofs.Machine.{put_other}
 use Rattle.laws_refinement.proofs.SiteNets.{place}
 use Rattle.theory_onecopy.proofs.Lists.{in_split}
 use Rattle.laws_refinement.proofs.Refining.{nets_refine}
-use Rattle.theory_machine.specs.Names.{Deed, State, put}
-use Rattle.qc_recover.specs.Names.{Kept}
+use Rattle.theory_machine.specs.Vocabulary.{Deed, State, put}
+use Rattle.qc_recover.specs.Vocabulary.{Kept}
 use Rattle.theory_machine.proofs.Names.{put_here}
-use Rattle.laws_reach.specs.Names.{IsOfClient}
+use Rattle.laws_reach.specs.Vocabulary.{IsOfClient}
 
 -- the commit records among records
 

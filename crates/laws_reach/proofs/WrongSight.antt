@@ -3,17 +3,17 @@ use Rattle.std.proofs.Common.{◌≡◌, ◌≢◌, ℕ, true, List, [], ◌∷�
 use Rattle.std.specs.declared.cmp.Ordering.{Ordering}
 use Rattle.std.specs.declared.cmp.Ordering.TheVariants.{Less, Greater}
 use Rattle.qc_entry.specs.declared.record.Commit.{Commit}
-use Rattle.qc_list.specs.Names.{In}
-use Rattle.qc_decl.specs.Names.{client_actor, is_client}
+use Rattle.qc_list.specs.Vocabulary.{In}
+use Rattle.qc_decl.specs.Vocabulary.{client_actor, is_client}
 use Rattle.qc_msg.specs.declared.record.Record.TheVariants as records
-use Rattle.laws_reach.specs.Names.{anew, asked_before, record_pending, records_of, rises_with_others, shown_anew}
-use Rattle.laws_reach.specs.Names.{shown_before, told_before}
-use Rattle.qc_msg.specs.Names.{Entry}
-use Rattle.qc_promise.specs.Names.{HasBefore, IsAfterSeen, committed, seen}
-use Rattle.qc_stamp.specs.Names.{stamp_cmp}
+use Rattle.laws_reach.specs.Vocabulary.{anew, asked_before, record_pending, records_of, rises_with_others, shown_anew}
+use Rattle.laws_reach.specs.Vocabulary.{shown_before, told_before}
+use Rattle.qc_msg.specs.Vocabulary.{Entry}
+use Rattle.qc_promise.specs.Vocabulary.{HasBefore, IsAfterSeen, committed, seen}
+use Rattle.qc_stamp.specs.Vocabulary.{stamp_cmp}
 use Rattle.qc_stamp.specs.declared.stamp.Stamp.{Stamp}
 use Rattle.qc_stamp.specs.declared.stamp.TxId.{TxId}
-use Rattle.laws_atomic.specs.Names.{commit, decl, first, stamp, theirs}
+use Rattle.laws_atomic.specs.Vocabulary.{commit, decl, first, stamp, theirs}
 
 other_life : first ≢ anew
 other_life same = let e : first.life ≡ anew.life = ap (λ (t : TxId). t.life) same in omega arith

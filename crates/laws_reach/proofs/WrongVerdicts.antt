@@ -2,21 +2,21 @@
 use Rattle.std.proofs.Common.{◌≡◌, ◌≢◌, ◌<◌, ◌↔◌, ◌⊎◌, inl, inr, List, [], ◌∷◌, ◌++◌, option_to_list, refl, ap, arith}
 use Rattle.std.proofs.Common.{true, sym, ◌∙◌, ℕ}
 use Rattle.std.specs.List.{AllPairs, filter_map}
-use Rattle.qc_core.specs.Names.{journal_after}
-use Rattle.qc_decl.specs.Names.{client_actor, three}
+use Rattle.qc_core.specs.Vocabulary.{journal_after}
+use Rattle.qc_decl.specs.Vocabulary.{client_actor, three}
 use Rattle.qc_entry.specs.declared.record.Commit.{Commit}
 use Rattle.qc_msg.specs.declared.message.Envelope.{Envelope}
-use Rattle.qc_list.specs.Names.{In}
+use Rattle.qc_list.specs.Vocabulary.{In}
 use Rattle.qc_msg.specs.declared.message.Message.TheVariants.{Decision, Inquiry}
 use Rattle.qc_msg.specs.declared.message.Outcome.{Outcome}
-use Rattle.qc_promise.specs.Names.{AreRight, Begun, Committed, Dead, HasEnded, Status, Unborn, is_final, status}
-use Rattle.laws_reach.specs.Names.{AgreeOnVerdicts, IsRecorded, asked, begins_anew, crashes, falls_rising}
-use Rattle.laws_reach.specs.Names.{falls_writing, is_asked, lives, recorded, rises, told}
+use Rattle.qc_promise.specs.Vocabulary.{AreRight, Begun, Committed, Dead, HasEnded, Status, Unborn, is_final, status}
+use Rattle.laws_reach.specs.Vocabulary.{AgreeOnVerdicts, IsRecorded, asked, begins_anew, crashes, falls_rising}
+use Rattle.laws_reach.specs.Vocabulary.{falls_writing, is_asked, lives, recorded, rises, told}
 use Rattle.qc_msg.specs.declared.message.Outcome.TheVariants as outcomes
 use Rattle.qc_msg.specs.declared.step.Input.TheVariants.{Got}
-use Rattle.qc_msg.specs.Names.{Deed, Takes, Tells, commit_of}
+use Rattle.qc_msg.specs.Vocabulary.{Deed, Takes, Tells, commit_of}
 use Rattle.qc_msg.specs.declared.reply.Reply.TheVariants as replies
-use Rattle.laws_turns.specs.Names.{asks, begun, commit, committed, first, says, second, tx}
+use Rattle.laws_turns.specs.Vocabulary.{asks, begun, commit, committed, first, says, second, tx}
 use Rattle.qc_stamp.specs.declared.stamp.Stamp.{Stamp}
 use Rattle.qc_stamp.specs.declared.stamp.TxId.{TxId}
 use Rattle.laws_reach.specs.WrongVerdicts.{anew}

@@ -1,8 +1,8 @@
 -- What a client was told that its transactions ended with, beside the commit records of its journal.
 use Rattle.std.specs.Prelude.{◌≡◌, ◌⊎◌, List, [], ◌∷◌}
 use Rattle.qc_entry.specs.declared.record.Commit.{Commit as CommitRecord}
-use Rattle.qc_list.specs.Names.{In}
-use Rattle.qc_msg.specs.Names.{Deed, Falls, Rises, Sends, Takes, Tells, Writes}
+use Rattle.qc_list.specs.Vocabulary.{In}
+use Rattle.qc_msg.specs.Vocabulary.{Deed, Falls, Rises, Sends, Takes, Tells, Writes}
 use Rattle.qc_msg.specs.declared.record.Record.{Record}
 use Rattle.qc_msg.specs.declared.record.Record.TheVariants.{Life, Prepare, Done, Close, Install, Commit, Decide}
 use Rattle.qc_msg.specs.declared.reply.Reply.{Reply}

@@ -8,4 +8,4 @@ pub mod Agreement
 pub mod Pending
 pub mod Recorded
 pub mod WrongVerdicts
-pub mod Names
+pub mod Vocabulary

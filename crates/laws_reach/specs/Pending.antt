@@ -2,9 +2,9 @@
 -- record that was being written is looked at, and its transaction is begun.
 use Rattle.std.specs.Prelude.{List, [], ◌∷◌, option_to_list}
 use Rattle.std.specs.List.{AllByRecursion as Every}
-use Rattle.qc_core.specs.Names.{journal_at}
-use Rattle.qc_msg.specs.Names.{Deed, Falls, Rises, Sends, Takes, Tells, Writes}
-use Rattle.qc_promise.specs.Names.{IsRightMessage, IsRightRecord, IsRightReply, Journal, Status, status_at}
+use Rattle.qc_core.specs.Vocabulary.{journal_at}
+use Rattle.qc_msg.specs.Vocabulary.{Deed, Falls, Rises, Sends, Takes, Tells, Writes}
+use Rattle.qc_promise.specs.Vocabulary.{IsRightMessage, IsRightRecord, IsRightReply, Journal, Status, status_at}
 use Rattle.qc_stamp.specs.declared.stamp.TxId.{TxId}
 
 abbrev pub IsRightButWritten : TxId → Status → Journal → Deed → Type 0

@@ -3,13 +3,13 @@
 use Rattle.std.specs.Prelude.{◌≡◌, ◌⊎◌, ℕ, Bool, true, false, if◌then◌else◌, List, [], ◌∷◌, ◌++◌, Some, slice_get}
 use Rattle.qc_core.specs.declared.actor.Actor.{Actor}
 use Rattle.qc_core.specs.declared.actor.Actor.TheVariants.{Site, Client, Admin}
-use Rattle.qc_core.specs.Names.{actor_after, actor_takes, is_up}
-use Rattle.qc_decl.specs.Names.{administrator, is_client, is_site}
+use Rattle.qc_core.specs.Vocabulary.{actor_after, actor_takes, is_up}
+use Rattle.qc_decl.specs.Vocabulary.{administrator, is_client, is_site}
 use Rattle.qc_decl.specs.declared.declaration.Declaration.{Declaration}
 use Rattle.qc_msg.specs.declared.step.Input.{Input}
-use Rattle.qc_msg.specs.Names.{Deed, Entry, Takes, WasSentTo, deeds, mail, own}
-use Rattle.laws_refinement.specs.Names.{MayAdminister, MayCommand, Net, Reaches}
-use Rattle.qc_promise.specs.Names.{journal_of}
+use Rattle.qc_msg.specs.Vocabulary.{Deed, Entry, Takes, WasSentTo, deeds, mail, own}
+use Rattle.laws_refinement.specs.Vocabulary.{MayAdminister, MayCommand, Net, Reaches}
+use Rattle.qc_promise.specs.Vocabulary.{journal_of}
 
 -- a site, a client, or the administrator
 abbrev pub TakesInputs : Declaration → ℕ → Type 0

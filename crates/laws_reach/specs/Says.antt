@@ -5,7 +5,7 @@ use Rattle.qc_msg.specs.declared.reply.Reply.{Reply}
 use Rattle.qc_msg.specs.declared.reply.Reply.TheVariants as replies
 use Rattle.qc_msg.specs.declared.step.Command.{Command}
 use Rattle.qc_msg.specs.declared.step.Command.TheVariants as commands
-use Rattle.qc_promise.specs.Names.{Account, Current, answer_of, resp_of}
+use Rattle.qc_promise.specs.Vocabulary.{Account, Current, answer_of, resp_of}
 
 -- the response of a `do` is that of the view
 pub record Responds (decl : Declaration) (d : Account) (command : Command) (resp : ℕ) : Type 0 where

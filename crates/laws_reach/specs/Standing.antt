@@ -1,17 +1,17 @@
 -- Which commit records stand after a history with falls: those in the journals of clients.
 use Rattle.std.specs.Prelude.{◌≡◌, ℕ, true, List}
-use Rattle.qc_decl.specs.Names.{is_client}
+use Rattle.qc_decl.specs.Vocabulary.{is_client}
 use Rattle.qc_decl.specs.declared.declaration.Declaration.{Declaration}
 use Rattle.qc_entry.specs.declared.record.Commit.{Commit as CommitRecord}
 use Rattle.qc_entry.specs.declared.record.Prepared.{Prepared}
-use Rattle.qc_list.specs.Names.{In}
+use Rattle.qc_list.specs.Vocabulary.{In}
 use Rattle.qc_msg.specs.declared.message.Envelope.{Envelope}
 use Rattle.qc_msg.specs.declared.message.Message.TheVariants.{Request}
 use Rattle.qc_msg.specs.declared.message.Want.TheVariants as wants
 use Rattle.qc_msg.specs.declared.record.Record.{Record}
 use Rattle.qc_msg.specs.declared.record.Record.TheVariants.{Commit, Prepare}
-use Rattle.qc_msg.specs.Names.{Entry, mail, own}
-use Rattle.qc_promise.specs.Names.{journal_of}
+use Rattle.qc_msg.specs.Vocabulary.{Entry, mail, own}
+use Rattle.qc_promise.specs.Vocabulary.{journal_of}
 
 -- the record is among those of a client, whatever its journal is
 pub record IsOfClient (decl : Declaration) (records : ℕ → List Record) (commit : CommitRecord) : Type 0 where

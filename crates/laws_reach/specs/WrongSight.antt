@@ -8,9 +8,10 @@ use Rattle.qc_msg.specs.declared.record.Record.TheVariants as records
 use Rattle.qc_msg.specs.declared.reply.Reply.TheVariants.{Unknown}
 use Rattle.qc_msg.specs.declared.step.Fall.TheVariants.{Disk, Script}
 use Rattle.qc_msg.specs.declared.step.Step.TheVariants.{Fell, Rose, Sent, Told, Wrote}
-use Rattle.qc_msg.specs.Names.{Entry, marked}
+use Rattle.qc_msg.specs.Vocabulary.{Entry, marked}
 use Rattle.qc_stamp.specs.declared.stamp.TxId.{TxId}
-use Rattle.laws_atomic.specs.Names.{asks, begins, commit, first, hears, is_granted, is_told, stamp, they_commit, writes}
+use Rattle.laws_atomic.specs.Vocabulary.{asks, begins, commit, first, hears, is_granted, is_told, stamp, they_commit}
+use Rattle.laws_atomic.specs.Vocabulary.{writes}
 
 -- the transaction of the client's second life
 abbrev pub anew : TxId

@@ -8,8 +8,8 @@ use Rattle.qc_msg.specs.declared.record.Record.TheVariants as records
 use Rattle.qc_msg.specs.declared.reply.Reply.TheVariants as replies
 use Rattle.qc_msg.specs.declared.step.Fall.TheVariants.{Disk, Script}
 use Rattle.qc_msg.specs.declared.step.Input.TheVariants.{Got}
-use Rattle.qc_msg.specs.Names.{Deed, Falls, Rises, Takes, Tells, Writes}
-use Rattle.laws_turns.specs.Names.{commit, tx}
+use Rattle.qc_msg.specs.Vocabulary.{Deed, Falls, Rises, Takes, Tells, Writes}
+use Rattle.laws_turns.specs.Vocabulary.{commit, tx}
 use Rattle.qc_stamp.specs.declared.stamp.Stamp.{Stamp}
 use Rattle.qc_stamp.specs.declared.stamp.TxId.{TxId}
 

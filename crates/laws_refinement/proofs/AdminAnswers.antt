@@ -1,7 +1,7 @@
 -- The administrator takes a command, or what comes of a Close.
-use Rattle.std.proofs.Common.{◌≡◌, ◌≤◌, ℕ, suc, ◌+◌, ◌==◌, Bool, true, false, cond, inl, inr, List, ◌∷◌, ◌++◌, length}
-use Rattle.std.proofs.Common.{map, Option, Some, None, refl, sym, ◌∙◌, subst, eqb-true, arith}
-use Rattle.qc_list.specs.Names.{In}
+use Rattle.std.proofs.Common.{[], ◌≡◌, ◌≤◌, ℕ, suc, ◌+◌, ◌==◌, Bool, true, false, cond, inl, inr, List, ◌∷◌, ◌++◌}
+use Rattle.std.proofs.Common.{length, map, Option, Some, None, refl, sym, ◌∙◌, subst, eqb-true, arith}
+use Rattle.qc_list.specs.Vocabulary.{In}
 use Rattle.qc_list.proofs.Members.{In-second, In-unfiltered}
 use Rattle.qc_entry.specs.declared.line.Line.{Line}
 use Rattle.qc_entry.specs.declared.record.Prepared.{Prepared}
@@ -10,11 +10,11 @@ use Rattle.qc_plan.specs.declared.standing.Standing.{Standing}
 use Rattle.qc_plan.specs.declared.standing.Standing.TheVariants as standings
 use Rattle.qc_plan.specs.declared.standing.Verdict.{Verdict}
 use Rattle.qc_plan.specs.declared.standing.Verdict.TheVariants as verdicts
-use Rattle.qc_plan.specs.Names.{RoundState, asking_all, has_granted, note, verdict, wanted, weight}
+use Rattle.qc_plan.specs.Vocabulary.{RoundState, asking_all, has_granted, note, verdict, wanted, weight}
 use Rattle.qc_plan.proofs.Least.{close_weight_is_least}
 use Rattle.qc_plan.proofs.RoundsMet.{met_weighs}
 use Rattle.qc_decl.specs.declared.declaration.Declaration.{Declaration}
-use Rattle.qc_decl.specs.Names.{administrator}
+use Rattle.qc_decl.specs.Vocabulary.{administrator}
 use Rattle.theory_onecopy.proofs.Lists.{Mapped, in_split, map_in}
 use Rattle.qc_msg.specs.declared.call.Call.{Call}
 use Rattle.qc_msg.specs.declared.message.Answer.{Answer}
@@ -23,14 +23,15 @@ use Rattle.qc_msg.specs.declared.message.Message.TheVariants as messages
 use Rattle.qc_msg.specs.declared.reply.Half.TheVariants as halves
 use Rattle.qc_msg.specs.declared.reply.Reply.TheVariants as replies
 use Rattle.qc_msg.specs.declared.turn.Posting.{Posting}
-use Rattle.qc_msg.specs.Names.{envelopes, site_called, without_call}
-use Rattle.theory_machine.specs.Names.{Act, IsRun, state}
-use Rattle.qc_epoch.specs.Names.{Admin, ShutSite, again, close_need, close_of, close_round, close_round_by, closes}
-use Rattle.qc_epoch.specs.Names.{closes_by, closing_takes, doing, goes_on, in_asked_order, moves_to, replies_with}
-use Rattle.qc_epoch.specs.Names.{standing_of, with_shut_of}
+use Rattle.qc_msg.specs.Vocabulary.{envelopes, site_called, without_call}
+use Rattle.theory_machine.specs.Vocabulary.{Act, IsRun, state}
+use Rattle.qc_epoch.specs.Vocabulary.{Admin, ShutSite, again, close_need, close_of, close_round, close_round_by, closes}
+use Rattle.qc_epoch.specs.Vocabulary.{closes_by, closing_takes, doing, goes_on, in_asked_order, moves_to, replies_with}
+use Rattle.qc_epoch.specs.Vocabulary.{standing_of, with_shut_of}
 use Rattle.qc_epoch.specs.Admin as admins
-use Rattle.laws_refinement.specs.Names.{AdminMirrors, AreEnough, AreSnapshots, Backed, DoingMirrors, IsAnswerBacked}
-use Rattle.laws_refinement.specs.Names.{IsMessage, IsPlanned, IsShutTo, IsSnapshot, Mirrors, Net, RoundMirrors}
+use Rattle.laws_refinement.specs.Vocabulary.{AdminMirrors, AreEnough, AreSnapshots, Backed, DoingMirrors}
+use Rattle.laws_refinement.specs.Vocabulary.{IsAnswerBacked, IsMessage, IsPlanned, IsShutTo, IsSnapshot, Mirrors, Net}
+use Rattle.laws_refinement.specs.Vocabulary.{RoundMirrors}
 use Rattle.laws_refinement.proofs.Asks.{IsCalled, called, order_among, order_told}
 use Rattle.laws_refinement.proofs.MessagesStay.{message_later}
 use Rattle.laws_refinement.proofs.Posts.{at_number}

@@ -2,10 +2,10 @@
 use Rattle.std.proofs.Common.{◌≡◌, ℕ, ◌==◌, Bool, true, false, cond, List, length, map, Option, Some, None, is_none}
 use Rattle.std.proofs.Common.{refl, sym, ap, ◌∙◌, subst, eqb-true}
 use Rattle.qc_stamp.specs.declared.stamp.TxId.{TxId}
-use Rattle.qc_list.specs.Names.{In}
-use Rattle.qc_plan.specs.Names.{verdict}
+use Rattle.qc_list.specs.Vocabulary.{In}
+use Rattle.qc_plan.specs.Vocabulary.{verdict}
 use Rattle.qc_decl.specs.declared.declaration.Declaration.{Declaration}
-use Rattle.qc_decl.specs.Names.{administrator, client_actor}
+use Rattle.qc_decl.specs.Vocabulary.{administrator, client_actor}
 use Rattle.theory_onecopy.proofs.Lists.{Mapped, in_map, map_in}
 use Rattle.qc_msg.specs.declared.call.Call.{Call}
 use Rattle.qc_msg.specs.declared.message.Answer.{Answer}
@@ -16,14 +16,15 @@ use Rattle.qc_msg.specs.declared.reply.Reply.TheVariants as replies
 use Rattle.qc_msg.specs.declared.step.Command.TheVariants as commands
 use Rattle.qc_msg.specs.declared.step.Input.{Input}
 use Rattle.qc_msg.specs.declared.step.Input.TheVariants.{Called, Got, Lost}
-use Rattle.qc_msg.specs.Names.{quiet, site_called, without_call}
-use Rattle.theory_machine.specs.Names.{Act, IsRun, state}
-use Rattle.qc_epoch.specs.Names.{Asking, Doing, Installing, Question, Resting, ShutSite, admin_takes, all_taken}
-use Rattle.qc_epoch.specs.Names.{answered_in, asking_takes, doing, heard, installing_takes, is_number, moved}
-use Rattle.qc_epoch.specs.Names.{outcome_in, replies_with, settles, site_set, taken_for, with_installed}
+use Rattle.qc_msg.specs.Vocabulary.{quiet, site_called, without_call}
+use Rattle.theory_machine.specs.Vocabulary.{Act, IsRun, state}
+use Rattle.qc_epoch.specs.Vocabulary.{Asking, Doing, Installing, Question, Resting, ShutSite, admin_takes, all_taken}
+use Rattle.qc_epoch.specs.Vocabulary.{answered_in, asking_takes, doing, heard, installing_takes, is_number, moved}
+use Rattle.qc_epoch.specs.Vocabulary.{outcome_in, replies_with, settles, site_set, taken_for, with_installed}
 use Rattle.qc_epoch.specs.Admin as admins
-use Rattle.laws_refinement.specs.Names.{Backed, DoingMirrors, IsAnswerBacked, IsCovered, IsMessage, IsNumbered, IsTaken}
-use Rattle.laws_refinement.specs.Names.{IsVerdictBacked, MayAdminister, MayCome, Mirrors, Net, QuestionMirrors}
+use Rattle.laws_refinement.specs.Vocabulary.{Backed, DoingMirrors, IsAnswerBacked, IsCovered, IsMessage, IsNumbered}
+use Rattle.laws_refinement.specs.Vocabulary.{IsTaken, IsVerdictBacked, MayAdminister, MayCome, Mirrors, Net}
+use Rattle.laws_refinement.specs.Vocabulary.{QuestionMirrors}
 use Rattle.laws_refinement.proofs.AdminTurns.{Goes, ended, nothing, settles_case, stays}
 use Rattle.laws_refinement.proofs.OpenRequests.{message_same}
 use Rattle.laws_refinement.proofs.AdminAnswers.{called_case, closing_case}

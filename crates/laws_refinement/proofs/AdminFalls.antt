@@ -6,15 +6,15 @@ use Rattle.std.proofs.lemmas.List.{append-nil}
 use Rattle.qc_entry.specs.declared.line.Line.{Line}
 use Rattle.qc_entry.specs.declared.record.Commit.{Commit as CommitRecord}
 use Rattle.qc_decl.specs.declared.declaration.Declaration.{Declaration}
-use Rattle.qc_decl.specs.Names.{administrator}
+use Rattle.qc_decl.specs.Vocabulary.{administrator}
 use Rattle.qc_msg.specs.declared.record.Record.{Record}
 use Rattle.qc_msg.specs.declared.record.Record.TheVariants as records
-use Rattle.theory_machine.specs.Names.{Act, Decide, IsRun, put, state}
+use Rattle.theory_machine.specs.Vocabulary.{Act, Decide, IsRun, put, state}
 use Rattle.theory_machine.proofs.Names.{put_here}
-use Rattle.qc_epoch.specs.Names.{Decided}
+use Rattle.qc_epoch.specs.Vocabulary.{Decided}
 use Rattle.qc_recover.specs.Admins.{keeps, kept_by}
-use Rattle.laws_refinement.specs.Names.{IsDeciding, IsGivenBack, IsPendingRule, Net, Refines, RulesMirror}
-use Rattle.laws_refinement.specs.Names.{after_admin_rise, after_fall, after_vain_rise, commits_in}
+use Rattle.laws_refinement.specs.Vocabulary.{IsDeciding, IsGivenBack, IsPendingRule, Net, Refines, RulesMirror}
+use Rattle.laws_refinement.specs.Vocabulary.{after_admin_rise, after_fall, after_vain_rise, commits_in}
 use Rattle.laws_refinement.proofs.AdminTurns.{rule_more}
 use Rattle.laws_refinement.proofs.MessagesStay.{keeps_same, same_state}
 use Rattle.laws_refinement.proofs.Machine.{put_other}

@@ -1,26 +1,26 @@
 -- What the rounds of the administrator keep: which sites have told, and which requests stand under which numbers.
 use Rattle.std.proofs.Common.{◌≡◌, ◌≤◌, ◌<◌, ℕ, ◌+◌, ◌==◌, ◌&&◌, ◌||◌, Bool, true, false, cond, inl, inr, List, [], ◌∷◌}
 use Rattle.std.proofs.Common.{◌++◌, drop, map, Option, Some, None, is_none, refl, sym, ap, ◌∙◌, subst, eqb-true, arith}
-use Rattle.qc_list.specs.Names.{In}
+use Rattle.qc_list.specs.Vocabulary.{In}
 use Rattle.qc_list.proofs.Members.{In-first}
 use Rattle.qc_plan.specs.declared.plan.Plan.{Plan}
 use Rattle.qc_plan.specs.declared.standing.Asked.{Asked}
 use Rattle.qc_plan.specs.declared.standing.Standing.{Standing}
 use Rattle.qc_plan.specs.declared.standing.Standing.TheVariants as standings
-use Rattle.qc_plan.specs.Names.{Closes as Closing, RoundState, asking_all, has_granted, is_granted, need_of, note_in}
-use Rattle.qc_plan.specs.Names.{total}
+use Rattle.qc_plan.specs.Vocabulary.{Closes as Closing, RoundState, asking_all, has_granted, is_granted, need_of}
+use Rattle.qc_plan.specs.Vocabulary.{note_in, total}
 use Rattle.qc_decl.specs.declared.declaration.Declaration.{Declaration}
-use Rattle.qc_decl.specs.Names.{client_actor}
+use Rattle.qc_decl.specs.Vocabulary.{client_actor}
 use Rattle.theory_onecopy.proofs.Lists.{in_split}
 use Rattle.qc_msg.specs.declared.call.Call.{Call}
 use Rattle.qc_msg.specs.declared.message.Envelope.{Envelope}
 use Rattle.qc_msg.specs.declared.message.Message.TheVariants as messages
-use Rattle.qc_msg.specs.Names.{with_call}
-use Rattle.theory_machine.specs.Names.{State}
-use Rattle.qc_epoch.specs.Names.{Admin, AdminMove, Asking, Decided, Doing, Installing, Question, Resting, ShutSite}
-use Rattle.qc_epoch.specs.Names.{ask_of, close_of, doing, moved, numbered_first}
+use Rattle.qc_msg.specs.Vocabulary.{with_call}
+use Rattle.theory_machine.specs.Vocabulary.{State}
+use Rattle.qc_epoch.specs.Vocabulary.{Admin, AdminMove, Asking, Decided, Doing, Installing, Question, Resting, ShutSite}
+use Rattle.qc_epoch.specs.Vocabulary.{ask_of, close_of, doing, moved, numbered_first}
 use Rattle.qc_epoch.specs.Admin as admins
-use Rattle.laws_refinement.specs.Names.{HasTold, IsMessage, QuestionMirrors, all_sent}
+use Rattle.laws_refinement.specs.Vocabulary.{HasTold, IsMessage, QuestionMirrors, all_sent}
 use Rattle.laws_refinement.proofs.Asks.{IsBeginning, number_all, numbered_after}
 use Rattle.laws_refinement.proofs.Posts.{AtNumber, enveloped}
 

@@ -3,10 +3,10 @@
 use Rattle.std.proofs.Common.{◌≡◌, ◌≢◌, ℕ, zero, suc, ◌+◌, ◌==◌, ◌⊎◌, nat_le, Bool, true, false, cond, inl, inr, List}
 use Rattle.std.proofs.Common.{[], ◌∷◌, ◌++◌, length, fold, map, take, Option, Some, None, refl, sym, ap, ◌∙◌, subst}
 use Rattle.qc_stamp.specs.declared.stamp.TxId.{TxId}
-use Rattle.qc_list.specs.Names.{In}
+use Rattle.qc_list.specs.Vocabulary.{In}
 use Rattle.qc_entry.specs.declared.line.Line.{Line}
 use Rattle.qc_decl.specs.declared.declaration.Declaration.{Declaration}
-use Rattle.qc_decl.specs.Names.{administrator, most_record_bytes}
+use Rattle.qc_decl.specs.Vocabulary.{administrator, most_record_bytes}
 use Rattle.theory_onecopy.proofs.Lists.{Mapped, map_in}
 use Rattle.qc_msg.specs.declared.call.Call.{Call}
 use Rattle.qc_msg.specs.declared.message.Envelope.{Envelope}
@@ -14,16 +14,16 @@ use Rattle.qc_msg.specs.declared.message.Outcome.{Outcome}
 use Rattle.qc_msg.specs.declared.reply.Reply.{Reply}
 use Rattle.qc_msg.specs.declared.reply.Reply.TheVariants as replies
 use Rattle.qc_msg.specs.declared.turn.Posting.{Posting}
-use Rattle.qc_msg.specs.Names.{envelopes, epoch_length, quiet, with_call}
-use Rattle.theory_machine.specs.Names.{Act, Decide, Decision, IsRun, NotBegun, State, after_act, state}
-use Rattle.qc_epoch.specs.Names.{Admin, AdminMove, Asking, Decided, Doing, Installing, Question, Resting, ShutSite}
-use Rattle.qc_epoch.specs.Names.{again, all_sites, ask_of, asks, decides, decision, doing, first_doubt, greatest}
-use Rattle.qc_epoch.specs.Names.{install_of, install_sends, installing, merged, most_asks, moved, questions_of}
-use Rattle.qc_epoch.specs.Names.{replies_with, settles, settles_by}
-use Rattle.laws_refinement.specs.Names.{AdminMirrors, AreEnough, AreSnapshots, Backed, Continues, DecidedMirrors}
-use Rattle.laws_refinement.specs.Names.{DoingMirrors, IsCovered, IsDecided, IsNumbered, IsPendingRule, IsPlanned}
-use Rattle.laws_refinement.specs.Names.{IsTaken, IsTooLong, Mirrors, Net, QuestionMirrors, RulesMirror, after_admin}
-use Rattle.laws_refinement.specs.Names.{all_sent}
+use Rattle.qc_msg.specs.Vocabulary.{envelopes, epoch_length, quiet, with_call}
+use Rattle.theory_machine.specs.Vocabulary.{Act, Decide, Decision, IsRun, NotBegun, State, after_act, state}
+use Rattle.qc_epoch.specs.Vocabulary.{Admin, AdminMove, Asking, Decided, Doing, Installing, Question, Resting, ShutSite}
+use Rattle.qc_epoch.specs.Vocabulary.{again, all_sites, ask_of, asks, decides, decision, doing, first_doubt, greatest}
+use Rattle.qc_epoch.specs.Vocabulary.{install_of, install_sends, installing, merged, most_asks, moved, questions_of}
+use Rattle.qc_epoch.specs.Vocabulary.{replies_with, settles, settles_by}
+use Rattle.laws_refinement.specs.Vocabulary.{AdminMirrors, AreEnough, AreSnapshots, Backed, Continues, DecidedMirrors}
+use Rattle.laws_refinement.specs.Vocabulary.{DoingMirrors, IsCovered, IsDecided, IsNumbered, IsPendingRule, IsPlanned}
+use Rattle.laws_refinement.specs.Vocabulary.{IsTaken, IsTooLong, Mirrors, Net, QuestionMirrors, RulesMirror}
+use Rattle.laws_refinement.specs.Vocabulary.{after_admin, all_sent}
 use Rattle.std.specs.Prelude.{option_to_list}
 use Rattle.std.proofs.lemmas.List.{append-nil}
 use Rattle.qc_msg.specs.declared.record.Record.{Record}

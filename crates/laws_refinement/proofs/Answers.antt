@@ -4,24 +4,25 @@ use Rattle.std.proofs.Common.{None, IsSome, is_some, refl, sym, ap, ◌∙◌, s
 use Rattle.std.specs.Prelude.{option_and_then, option_map, slice_get, unwrap_or}
 use Rattle.std.specs.Option.{option_map_or}
 use Rattle.std.specs.declared.cmp.Ordering.TheVariants.{Less}
-use Rattle.qc_list.specs.Names.{In, IsBelowAll}
+use Rattle.qc_list.specs.Vocabulary.{In, IsBelowAll}
 use Rattle.qc_entry.specs.declared.line.Line.{Line}
 use Rattle.qc_entry.specs.declared.line.OwnLine.{OwnLine}
-use Rattle.qc_entry.specs.Names.{IsAscending, line_cmp}
+use Rattle.qc_entry.specs.Vocabulary.{IsAscending, line_cmp}
 use Rattle.qc_table.specs.declared.kind.Kind.{Kind}
 use Rattle.qc_table.specs.declared.row.Event.{Event}
-use Rattle.qc_table.specs.Names.{Rules, after, event, event_number, events_of, first_of, lowest_in, next_in, step_of}
+use Rattle.qc_table.specs.Vocabulary.{Rules, after, event, event_number, events_of, first_of, lowest_in, next_in}
+use Rattle.qc_table.specs.Vocabulary.{step_of}
 use Rattle.qc_table.proofs.Lowest.{lowest_legal, none_legal}
 use Rattle.qc_table.proofs.Numbered.{first_some, number_is}
-use Rattle.qc_cert.specs.Names.{allows}
+use Rattle.qc_cert.specs.Vocabulary.{allows}
 use Rattle.qc_decl.specs.declared.declaration.Declaration.{Declaration}
-use Rattle.qc_decl.specs.Names.{kind_at, table_at}
+use Rattle.qc_decl.specs.Vocabulary.{kind_at, table_at}
 use Rattle.qc_view.specs.declared.view.View.{View}
-use Rattle.qc_view.specs.Names.{answer_in, events_in}
-use Rattle.theory_onecopy.specs.Names.{IsAnswered, IsLineBefore, IsOrdered}
+use Rattle.qc_view.specs.Vocabulary.{answer_in, events_in}
+use Rattle.theory_onecopy.specs.Vocabulary.{IsAnswered, IsLineBefore, IsOrdered}
 use Rattle.qc_front.specs.declared.transaction.Transaction.{Transaction}
-use Rattle.qc_front.specs.Names.{RecordsHold, answer_of, own_on, resp_of, view_log}
-use Rattle.laws_refinement.specs.Names.{absent_of, chosen_of}
+use Rattle.qc_front.specs.Vocabulary.{RecordsHold, answer_of, own_on, resp_of, view_log}
+use Rattle.laws_refinement.specs.Vocabulary.{absent_of, chosen_of}
 
 below_in : (x : Line) (ys : List Line) → IsBelowAll line_cmp x ys → (y : Line) → In y ys → line_cmp x y ≡ Less
 below_in x [] b y among = absurd among

@@ -5,13 +5,13 @@ use Rattle.std.proofs.Common.{is_some, fold, refl, sym, ap, ◌∙◌, subst}
 use Rattle.std.specs.declared.cmp.Ordering.{Ordering}
 use Rattle.std.specs.declared.cmp.Ordering.TheVariants.{Less, Equal, Greater}
 use Rattle.qc_stamp.specs.declared.stamp.TxId.{TxId}
-use Rattle.qc_stamp.specs.Names.{same_tx, tx_cmp}
+use Rattle.qc_stamp.specs.Vocabulary.{same_tx, tx_cmp}
 use Rattle.qc_stamp.proofs.Orders.{other_tx_sym, same_tx_is, tx_order}
-use Rattle.qc_list.specs.Names.{In, by_order, inserted}
+use Rattle.qc_list.specs.Vocabulary.{In, by_order, inserted}
 use Rattle.qc_entry.specs.declared.record.Prepared.{Prepared}
 use Rattle.theory_machine.proofs.Names.{tx_test}
-use Rattle.qc_site.specs.Names.{is_prepared, prepared_of, promise_cmp, promises_in_order, without_prepared}
-use Rattle.laws_refinement.specs.Names.{AreApart, IsApart}
+use Rattle.qc_site.specs.Vocabulary.{is_prepared, prepared_of, promise_cmp, promises_in_order, without_prepared}
+use Rattle.laws_refinement.specs.Vocabulary.{AreApart, IsApart}
 
 not_prepared : (p : Prepared) (ps : List Prepared) → is_prepared ps p.tx ≡ false → (q : Prepared) → In q ps
     → same_tx q.tx p.tx ≡ false

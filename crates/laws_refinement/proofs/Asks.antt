@@ -4,18 +4,18 @@ use Rattle.std.proofs.Common.{◌++◌, fold, take, Option, Some, None, is_none,
 use Rattle.std.proofs.Common.{eqb-true, eq-eqb}
 use Rattle.std.specs.List.{find}
 use Rattle.qc_stamp.specs.declared.stamp.TxId.{TxId}
-use Rattle.qc_stamp.specs.Names.{same_tx}
+use Rattle.qc_stamp.specs.Vocabulary.{same_tx}
 use Rattle.qc_stamp.proofs.Orders.{same_tx_is}
-use Rattle.qc_list.specs.Names.{In}
+use Rattle.qc_list.specs.Vocabulary.{In}
 use Rattle.qc_list.proofs.Members.{In-first, In-second}
 use Rattle.qc_entry.specs.declared.record.Prepared.{Prepared}
 use Rattle.theory_onecopy.proofs.Lists.{in_split}
 use Rattle.qc_plan.specs.declared.standing.Asked.{Asked}
 use Rattle.qc_msg.specs.declared.call.Call.{Call}
-use Rattle.qc_msg.specs.Names.{site_called}
-use Rattle.qc_epoch.specs.Names.{Question, ShutSite, in_asked_order, is_questioned, numbered_first, questions_of}
-use Rattle.qc_epoch.specs.Names.{shut_at, shut_list, with_question, with_questions}
-use Rattle.laws_refinement.specs.Names.{HasTold, IsCovered}
+use Rattle.qc_msg.specs.Vocabulary.{site_called}
+use Rattle.qc_epoch.specs.Vocabulary.{Question, ShutSite, in_asked_order, is_questioned, numbered_first, questions_of}
+use Rattle.qc_epoch.specs.Vocabulary.{shut_at, shut_list, with_question, with_questions}
+use Rattle.laws_refinement.specs.Vocabulary.{HasTold, IsCovered}
 
 -- a call that is found
 pub record IsCalled (calls : List Call) (number site : ℕ) : Type 0 where

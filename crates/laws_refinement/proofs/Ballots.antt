@@ -5,17 +5,17 @@ use Rattle.std.proofs.Common.{eqb-true, arith}
 use Rattle.std.specs.List.{range_with_len}
 use Rattle.std.specs.Option.{option_or}
 use Rattle.std.proofs.lemmas.Bool.{cases_lt, ltb-true}
-use Rattle.qc_list.specs.Names.{In}
+use Rattle.qc_list.specs.Vocabulary.{In}
 use Rattle.qc_list.proofs.Members.{In-filter, In-first, In-second}
-use Rattle.qc_plan.specs.Names.{cyclic}
+use Rattle.qc_plan.specs.Vocabulary.{cyclic}
 use Rattle.qc_decl.specs.declared.declaration.Declaration.{Declaration}
-use Rattle.qc_decl.specs.Names.{first_site, is_site}
+use Rattle.qc_decl.specs.Vocabulary.{first_site, is_site}
 use Rattle.qc_msg.specs.declared.begun.Begun.{Begun}
-use Rattle.qc_msg.specs.Names.{has_granted}
+use Rattle.qc_msg.specs.Vocabulary.{has_granted}
 use Rattle.qc_commit.specs.declared.ballot.Ballot.{Ballot}
 use Rattle.qc_commit.specs.declared.ballot.Vote.{Vote}
 use Rattle.qc_commit.specs.declared.ballot.Vote.TheVariants.{For, Against}
-use Rattle.qc_commit.specs.Names.{against, are_cast, blank, cast, first_against, participants}
+use Rattle.qc_commit.specs.Vocabulary.{against, are_cast, blank, cast, first_against, participants}
 
 -- the sites of a declaration, in a client's order
 

@@ -2,18 +2,18 @@
 use Rattle.std.proofs.Common.{◌≡◌, ◌≢◌, ℕ, ◌⊎◌, inl, inr, List, [], ◌∷◌, Option, Some, None, refl, sym, ap, subst}
 use Rattle.qc_stamp.specs.declared.stamp.Stamp.{Stamp}
 use Rattle.qc_stamp.specs.declared.stamp.TxId.{TxId}
-use Rattle.qc_list.specs.Names.{In}
+use Rattle.qc_list.specs.Vocabulary.{In}
 use Rattle.qc_entry.specs.declared.line.Line.{Line}
 use Rattle.qc_entry.specs.declared.line.OwnLine.{OwnLine}
 use Rattle.qc_entry.specs.declared.record.Prepared.{Prepared}
 use Rattle.qc_decl.specs.declared.declaration.Declaration.{Declaration}
-use Rattle.theory_machine.specs.Names.{Closes, Deed, Grants, Installs, Item, LearnsAbort, LearnsCommit, MayPrepare}
-use Rattle.theory_machine.specs.Names.{NotBegun, Own, Prepares, Promise, Rises, Site, State, Status, after_commit}
-use Rattle.theory_machine.specs.Names.{after_deed, after_prepare, empty_site, promise_of, site_after, site_from}
-use Rattle.theory_machine.specs.Names.{without_promise}
+use Rattle.theory_machine.specs.Vocabulary.{Closes, Deed, Grants, Installs, Item, LearnsAbort, LearnsCommit, MayPrepare}
+use Rattle.theory_machine.specs.Vocabulary.{NotBegun, Own, Prepares, Promise, Rises, Site, State, Status, after_commit}
+use Rattle.theory_machine.specs.Vocabulary.{after_deed, after_prepare, empty_site, promise_of, site_after, site_from}
+use Rattle.theory_machine.specs.Vocabulary.{without_promise}
 use Rattle.theory_machine.proofs.SiteLists.{found, in_dropped}
-use Rattle.qc_site.specs.Names.{prepared_of}
-use Rattle.laws_refinement.specs.Names.{AreApart, IsDecided, IsPromiseOf, IsPromised}
+use Rattle.qc_site.specs.Vocabulary.{prepared_of}
+use Rattle.laws_refinement.specs.Vocabulary.{AreApart, IsDecided, IsPromiseOf, IsPromised}
 use Rattle.laws_refinement.proofs.Apart.{apart_found, found_in}
 
 -- what the machine has promised it was asked to prepare

@@ -3,22 +3,22 @@ use Rattle.std.proofs.Common.{◌≡◌, ◌<◌, ℕ, suc, ◌==◌, ◌&&◌, 
 use Rattle.std.proofs.Common.{◌∷◌, ◌++◌, map, filter, length, Option, Some, None, refl, sym, ap, ◌∙◌, subst, eqb-true}
 use Rattle.std.proofs.Common.{arith}
 use Rattle.std.proofs.lemmas.Bool.{lt-ltb}
-use Rattle.qc_list.specs.Names.{In}
+use Rattle.qc_list.specs.Vocabulary.{In}
 use Rattle.qc_list.proofs.Members.{In-filter, In-first, In-passes, In-unfiltered}
 use Rattle.qc_entry.specs.declared.line.Op.{Op}
 use Rattle.qc_entry.specs.declared.line.OwnLine.{OwnLine}
 use Rattle.qc_table.specs.declared.kind.Kind.{Kind}
 use Rattle.qc_decl.specs.declared.declaration.Declaration.{Declaration}
-use Rattle.qc_decl.specs.Names.{append_need_of, read_need_of}
-use Rattle.theory_onecopy.specs.Names.{IsAnswered}
+use Rattle.qc_decl.specs.Vocabulary.{append_need_of, read_need_of}
+use Rattle.theory_onecopy.specs.Vocabulary.{IsAnswered}
 use Rattle.theory_onecopy.proofs.Lists.{Mapped, in_map, in_split, map_in}
-use Rattle.theory_machine.specs.Names.{Act, Active, Choose, Count, Execute, ExecuteAbsent, Granted, HasQuorum}
-use Rattle.theory_machine.specs.Names.{IsAppendOf, IsExecutedFrom, Lock, Own, SendAppend, State, chosen_list, op_of}
-use Rattle.theory_machine.specs.Names.{state}
+use Rattle.theory_machine.specs.Vocabulary.{Act, Active, Choose, Count, Execute, ExecuteAbsent, Granted, HasQuorum}
+use Rattle.theory_machine.specs.Vocabulary.{IsAppendOf, IsExecutedFrom, Lock, Own, SendAppend, State, chosen_list}
+use Rattle.theory_machine.specs.Vocabulary.{op_of, state}
 use Rattle.qc_front.specs.declared.transaction.Transaction.{Transaction}
-use Rattle.qc_front.specs.Names.{next_own, own_appended, own_on, resp_of, view_log, weighs}
+use Rattle.qc_front.specs.Vocabulary.{next_own, own_appended, own_on, resp_of, view_log, weighs}
 use Rattle.qc_client.specs.declared.client.Client.{Client}
-use Rattle.laws_refinement.specs.Names.{IsNamedAt, absent_of, append_of, chosen_of, own_item}
+use Rattle.laws_refinement.specs.Vocabulary.{IsNamedAt, absent_of, append_of, chosen_of, own_item}
 use Rattle.laws_refinement.proofs.ClientSteps.{Core, Mid, elsewhere, mid_more, mine}
 use Rattle.laws_refinement.proofs.Machine.{put_other}
 

@@ -2,12 +2,12 @@
 use Rattle.std.proofs.Common.{◌≡◌, ℕ, nat_le, Bool, true, false, cond, inl, inr, List, [], ◌∷◌, filter, length, Option}
 use Rattle.std.proofs.Common.{Some, None, slice_get, refl, sym, ap, ◌∙◌, subst}
 use Rattle.qc_stamp.specs.declared.stamp.TxId.{TxId}
-use Rattle.qc_list.specs.Names.{In}
+use Rattle.qc_list.specs.Vocabulary.{In}
 use Rattle.qc_list.proofs.Members.{In-second}
-use Rattle.qc_plan.specs.Names.{RoundState, note, verdict}
+use Rattle.qc_plan.specs.Vocabulary.{RoundState, note, verdict}
 use Rattle.qc_plan.specs.declared.standing.Standing.TheVariants as standings
 use Rattle.qc_decl.specs.declared.declaration.Declaration.{Declaration}
-use Rattle.qc_decl.specs.Names.{append_need_of, is_client, most_transaction_operations, read_need_of}
+use Rattle.qc_decl.specs.Vocabulary.{append_need_of, is_client, most_transaction_operations, read_need_of}
 use Rattle.qc_msg.specs.declared.call.Call.{Call}
 use Rattle.qc_msg.specs.declared.message.Answer.{Answer}
 use Rattle.qc_msg.specs.declared.message.Answer.TheVariants as answers
@@ -15,28 +15,28 @@ use Rattle.qc_msg.specs.declared.message.Envelope.{Envelope}
 use Rattle.qc_msg.specs.declared.message.Want.{Want}
 use Rattle.qc_msg.specs.declared.message.Want.TheVariants.{Read}
 use Rattle.qc_msg.specs.declared.reply.Reply.TheVariants as replies
-use Rattle.qc_msg.specs.Names.{life_of, quiet, site_called, telling, with_life, without_call}
+use Rattle.qc_msg.specs.Vocabulary.{life_of, quiet, site_called, telling, with_life, without_call}
 use Rattle.theory_onecopy.proofs.Lists.{in_map}
-use Rattle.theory_machine.specs.Names.{Act, Active, Count, IsRun, Item, Lock, Own, State, state}
+use Rattle.theory_machine.specs.Vocabulary.{Act, Active, Count, IsRun, Item, Lock, Own, State, state}
 use Rattle.qc_commit.specs.declared.desk.Voting.{Voting}
 use Rattle.qc_view.specs.declared.view.View.{View}
 use Rattle.qc_front.specs.declared.doing.Doing.{Doing}
 use Rattle.qc_front.specs.declared.doing.Doing.TheVariants.{Idle, Reading, Appending}
 use Rattle.qc_front.specs.declared.front.Front.{Front}
 use Rattle.qc_front.specs.declared.transaction.Transaction.{Transaction}
-use Rattle.qc_front.specs.Names.{AppendingHolds, BegunHolds, DoingHolds, FrontHolds, IsRound, ReadingHolds, RecordsHold}
-use Rattle.qc_front.specs.Names.{append_by, append_counts, append_want, appending_takes, calls_in, learns, lived, moved}
-use Rattle.qc_front.specs.Names.{next_own, own_appended, performs, read_by, read_counts, reading_takes, round_for}
-use Rattle.qc_front.specs.Names.{standing_of, takes_in, view_log, weighs, with_granted}
+use Rattle.qc_front.specs.Vocabulary.{AppendingHolds, BegunHolds, DoingHolds, FrontHolds, IsRound, ReadingHolds}
+use Rattle.qc_front.specs.Vocabulary.{RecordsHold, append_by, append_counts, append_want, appending_takes, calls_in}
+use Rattle.qc_front.specs.Vocabulary.{learns, lived, moved, next_own, own_appended, performs, read_by, read_counts}
+use Rattle.qc_front.specs.Vocabulary.{reading_takes, round_for, standing_of, takes_in, view_log, weighs, with_granted}
 use Rattle.qc_front.proofs.CommandsKeep.{started_round}
 use Rattle.qc_front.proofs.NotedRounds.{note_round}
 use Rattle.qc_front.proofs.Recording.{granted_recorded}
-use Rattle.qc_client.specs.Names.{by_front}
+use Rattle.qc_client.specs.Vocabulary.{by_front}
 use Rattle.qc_client.specs.declared.client.Client.{Client}
-use Rattle.laws_refinement.specs.Names.{AreCounted, BegunMirrors, ClientMirrors, FrontStands, IsAskedBy, IsChosen}
-use Rattle.laws_refinement.specs.Names.{IsGrant, IsMessage, IsNamedAt, IsPlanned, IsRoundCounted, LivesMirror, Mirrors}
-use Rattle.laws_refinement.specs.Names.{Net, OwnMirrors, Refines, RunningMirrors, TransactionMirrors, after_client}
-use Rattle.laws_refinement.specs.Names.{append_of, chosen_of, own_item, status_by}
+use Rattle.laws_refinement.specs.Vocabulary.{AreCounted, BegunMirrors, ClientMirrors, FrontStands, IsAskedBy, IsChosen}
+use Rattle.laws_refinement.specs.Vocabulary.{IsGrant, IsMessage, IsNamedAt, IsPlanned, IsRoundCounted, LivesMirror}
+use Rattle.laws_refinement.specs.Vocabulary.{Mirrors, Net, OwnMirrors, Refines, RunningMirrors, TransactionMirrors}
+use Rattle.laws_refinement.specs.Vocabulary.{after_client, append_of, chosen_of, own_item, status_by}
 use Rattle.laws_refinement.proofs.Named.{core_closed, lives_more, named_on, other_site}
 use Rattle.qc_msg.specs.declared.message.Message.TheVariants as messages
 use Rattle.laws_refinement.proofs.Answers.{view_at}

@@ -1,28 +1,28 @@
 -- A client begins a transaction, gives it up, and tells how one stands.
-use Rattle.std.proofs.Common.{◌≡◌, ◌≢◌, ℕ, ◌+◌, Bool, true, false, inl, inr, List, ◌∷◌, ◌++◌, Option, Some, None, refl}
-use Rattle.std.proofs.Common.{sym, ap, ◌∙◌, subst, arith}
+use Rattle.std.proofs.Common.{[], ◌≡◌, ◌≢◌, ℕ, ◌+◌, Bool, true, false, inl, inr, List, ◌∷◌, ◌++◌, Option, Some, None}
+use Rattle.std.proofs.Common.{refl, sym, ap, ◌∙◌, subst, arith}
 use Rattle.std.proofs.lemmas.List.{append-nil}
-use Rattle.qc_stamp.specs.Names.{same_tx}
+use Rattle.qc_stamp.specs.Vocabulary.{same_tx}
 use Rattle.qc_stamp.specs.declared.stamp.Stamp.{Stamp}
 use Rattle.qc_stamp.specs.declared.stamp.TxId.{TxId}
 use Rattle.qc_stamp.proofs.Orders.{same_tx_is}
-use Rattle.qc_list.specs.Names.{In}
+use Rattle.qc_list.specs.Vocabulary.{In}
 use Rattle.qc_entry.specs.declared.record.Commit.{Commit as CommitRecord}
 use Rattle.qc_decl.specs.declared.declaration.Declaration.{Declaration}
-use Rattle.qc_decl.specs.Names.{client_actor, is_client}
+use Rattle.qc_decl.specs.Vocabulary.{client_actor, is_client}
 use Rattle.qc_msg.specs.declared.message.Envelope.{Envelope}
 use Rattle.qc_msg.specs.declared.message.Answer.TheVariants.{Answered}
 use Rattle.qc_msg.specs.declared.message.Message.{Message}
 use Rattle.qc_msg.specs.declared.message.Message.TheVariants as messages
 use Rattle.qc_msg.specs.declared.message.Outcome.TheVariants as outcomes
 use Rattle.qc_msg.specs.declared.turn.Posting.{Posting}
-use Rattle.qc_msg.specs.Names.{sending}
-use Rattle.theory_machine.specs.Names.{Aborted, Act, Active, Announce, Committed, IsRun, NotBegun, Status, state}
-use Rattle.theory_machine.specs.Names.{verdict_of}
-use Rattle.qc_commit.specs.Names.{known_by, record_of}
-use Rattle.qc_client.specs.Names.{is_begun, moved, outcome_by, outcome_of}
-use Rattle.laws_refinement.specs.Names.{Backed, ClientMirrors, IsMessage, Mirrors, Net, OwnMirrors, Refines}
-use Rattle.laws_refinement.specs.Names.{after_client}
+use Rattle.qc_msg.specs.Vocabulary.{sending}
+use Rattle.theory_machine.specs.Vocabulary.{Aborted, Act, Active, Announce, Committed, IsRun, NotBegun, Status, state}
+use Rattle.theory_machine.specs.Vocabulary.{verdict_of}
+use Rattle.qc_commit.specs.Vocabulary.{known_by, record_of}
+use Rattle.qc_client.specs.Vocabulary.{is_begun, moved, outcome_by, outcome_of}
+use Rattle.laws_refinement.specs.Vocabulary.{Backed, ClientMirrors, IsMessage, Mirrors, Net, OwnMirrors, Refines}
+use Rattle.laws_refinement.specs.Vocabulary.{after_client}
 use Rattle.laws_refinement.proofs.ClientEnds.{mid_announce}
 use Rattle.laws_refinement.proofs.RequestsSent.{IsAsking}
 use Rattle.laws_refinement.proofs.ClientSteps.{mid_first, refined, turns}

@@ -1,36 +1,36 @@
 -- A commit begins: promises are asked for, or it ends at once.
 use Rattle.std.proofs.Common.{◌≡◌, ◌≤◌, ℕ, suc, ◌==◌, Bool, true, false, cond, inl, inr, List, [], ◌∷◌, map, length}
 use Rattle.std.proofs.Common.{Option, Some, None, refl, sym, ap, ◌∙◌, subst, eqb-true, arith}
-use Rattle.qc_list.specs.Names.{In}
+use Rattle.qc_list.specs.Vocabulary.{In}
 use Rattle.qc_entry.specs.declared.record.Commit.{Commit as CommitRecord}
 use Rattle.qc_decl.specs.declared.declaration.Declaration.{Declaration}
-use Rattle.qc_decl.specs.Names.{client_actor, first_site, is_client}
+use Rattle.qc_decl.specs.Vocabulary.{client_actor, first_site, is_client}
 use Rattle.qc_msg.specs.declared.begun.Begun.{Begun}
 use Rattle.qc_msg.specs.declared.message.Envelope.{Envelope}
 use Rattle.qc_msg.specs.declared.reply.Reply.TheVariants as replies
 use Rattle.qc_msg.specs.declared.reply.AbortCause.TheVariants as causes
 use Rattle.qc_msg.specs.declared.step.Command.TheVariants as commands
 use Rattle.qc_msg.specs.declared.turn.Posting.{Posting}
-use Rattle.qc_msg.specs.Names.{has_granted, life_of, quiet, sending}
-use Rattle.theory_machine.specs.Names.{Act, Active, Granted, IsLive, IsRun, MayPrepare, NotBegun, Prepare, State}
-use Rattle.theory_machine.specs.Names.{Voting, state}
+use Rattle.qc_msg.specs.Vocabulary.{has_granted, life_of, quiet, sending}
+use Rattle.theory_machine.specs.Vocabulary.{Act, Active, Granted, IsLive, IsRun, MayPrepare, NotBegun, Prepare, State}
+use Rattle.theory_machine.specs.Vocabulary.{Voting, state}
 use Rattle.theory_machine.proofs.Keeps.{laws}
 use Rattle.theory_machine.proofs.Names.{put_tx_here}
 use Rattle.qc_commit.specs.declared.desk.Desk.{Desk}
 use Rattle.qc_commit.specs.declared.desk.Voting.{Voting as DeskVoting}
-use Rattle.qc_commit.specs.Names.{DeskMove, blank, decides, moved as desk_moved, participants, passed, prepare}
-use Rattle.qc_commit.specs.Names.{prepares, record_of, with_voting}
+use Rattle.qc_commit.specs.Vocabulary.{DeskMove, blank, decides, moved as desk_moved, participants, passed, prepare}
+use Rattle.qc_commit.specs.Vocabulary.{prepares, record_of, with_voting}
 use Rattle.qc_front.specs.declared.doing.Doing.{Doing}
 use Rattle.qc_front.specs.declared.doing.Doing.TheVariants.{Idle}
 use Rattle.qc_front.specs.declared.transaction.Transaction.{Transaction}
 use Rattle.qc_front.specs.Conduct as fronts
-use Rattle.qc_front.specs.Names.{gives_up, moved as front_moved}
-use Rattle.qc_client.specs.Names.{ClientMove, by_desk, by_front, commits}
+use Rattle.qc_front.specs.Vocabulary.{gives_up, moved as front_moved}
+use Rattle.qc_client.specs.Vocabulary.{ClientMove, by_desk, by_front, commits}
 use Rattle.qc_client.specs.declared.client.Client.{Client}
-use Rattle.laws_refinement.specs.Names.{Backed, BegunMirrors, IsChosen, IsPlanned, LivesMirror, Mirrors, Net}
-use Rattle.laws_refinement.specs.Names.{OwnMirrors, Refines, RunningMirrors, after_client, status_by}
+use Rattle.laws_refinement.specs.Vocabulary.{Backed, BegunMirrors, IsChosen, IsPlanned, LivesMirror, Mirrors, Net}
+use Rattle.laws_refinement.specs.Vocabulary.{OwnMirrors, Refines, RunningMirrors, after_client, status_by}
 use Rattle.qc_list.proofs.Members.{In-passes}
-use Rattle.qc_plan.specs.Names.{cyclic}
+use Rattle.qc_plan.specs.Vocabulary.{cyclic}
 use Rattle.laws_refinement.proofs.Ballots.{blank_in, blank_votes, participates}
 use Rattle.laws_refinement.proofs.ClientGivesUp.{gives_up_case}
 use Rattle.laws_refinement.proofs.ClientEnding.{Ending, ending_of, ends_mine, own_put}

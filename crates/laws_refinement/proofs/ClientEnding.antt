@@ -1,25 +1,25 @@
 -- What stays of a client as its transaction's status changes, and the acts that change it.
 use Rattle.std.proofs.Common.{◌≡◌, ◌≢◌, ◌≤◌, ◌<◌, ℕ, Bool, true, false, ◌⊎◌, inl, inr, List, ◌∷◌, Option, Some, None}
 use Rattle.std.proofs.Common.{refl, sym, ap, ◌∙◌, subst, arith}
-use Rattle.qc_stamp.specs.Names.{same_tx}
+use Rattle.qc_stamp.specs.Vocabulary.{same_tx}
 use Rattle.qc_stamp.specs.declared.stamp.TxId.{TxId}
 use Rattle.qc_stamp.proofs.Orders.{same_tx_is}
-use Rattle.qc_list.specs.Names.{In}
+use Rattle.qc_list.specs.Vocabulary.{In}
 use Rattle.qc_entry.specs.declared.record.Commit.{Commit as CommitRecord}
 use Rattle.qc_plan.specs.declared.plan.Plan.{Plan}
 use Rattle.qc_decl.specs.declared.declaration.Declaration.{Declaration}
-use Rattle.qc_decl.specs.Names.{client_actor, plan_in}
+use Rattle.qc_decl.specs.Vocabulary.{client_actor, plan_in}
 use Rattle.qc_msg.specs.declared.message.Envelope.{Envelope}
-use Rattle.theory_machine.specs.Names.{Abort, Aborted, Act, Active, Announce, Begin, Commit, Committed, IsLive}
-use Rattle.theory_machine.specs.Names.{MayCommit, NotBegun, Pending, Prepare, State, Status, Voting, put_tx, state}
+use Rattle.theory_machine.specs.Vocabulary.{Abort, Aborted, Act, Active, Announce, Begin, Commit, Committed, IsLive}
+use Rattle.theory_machine.specs.Vocabulary.{MayCommit, NotBegun, Pending, Prepare, State, Status, Voting, put_tx, state}
 use Rattle.theory_machine.proofs.Names.{put_tx_here, tx_test}
 use Rattle.qc_commit.specs.declared.desk.Voting.{Voting as DeskVoting}
-use Rattle.qc_commit.specs.Names.{record_of}
+use Rattle.qc_commit.specs.Vocabulary.{record_of}
 use Rattle.qc_front.specs.declared.transaction.Transaction.{Transaction}
-use Rattle.qc_client.specs.Names.{is_begun}
+use Rattle.qc_client.specs.Vocabulary.{is_begun}
 use Rattle.qc_client.specs.declared.client.Client.{Client}
-use Rattle.laws_refinement.specs.Names.{BegunMirrors, ClientMirrors, IsPlanned, OwnMirrors, RunningMirrors}
-use Rattle.laws_refinement.specs.Names.{TransactionMirrors, name_at, status_by}
+use Rattle.laws_refinement.specs.Vocabulary.{BegunMirrors, ClientMirrors, IsPlanned, OwnMirrors, RunningMirrors}
+use Rattle.laws_refinement.specs.Vocabulary.{TransactionMirrors, name_at, status_by}
 use Rattle.laws_refinement.proofs.ClientSteps.{Mid, elsewhere, mid_more, put_tx_other}
 use Rattle.laws_refinement.proofs.Machine.{put_other}
 

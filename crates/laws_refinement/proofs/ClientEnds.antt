@@ -1,10 +1,10 @@
 -- How a client's transaction ends: the machine's acts, and what the client is then.
-use Rattle.std.proofs.Common.{◌≡◌, ◌≤◌, ℕ, ◌+◌, max, Bool, true, false, cond, inl, inr, List, ◌∷◌, ◌++◌, map, Option}
-use Rattle.std.proofs.Common.{Some, None, refl, sym, ap, ◌∙◌, subst, arith}
+use Rattle.std.proofs.Common.{[], ◌≡◌, ◌≤◌, ℕ, ◌+◌, max, Bool, true, false, cond, inl, inr, List, ◌∷◌, ◌++◌, map}
+use Rattle.std.proofs.Common.{Option, Some, None, refl, sym, ap, ◌∙◌, subst, arith}
 use Rattle.std.specs.List.{find}
-use Rattle.qc_stamp.specs.Names.{same_tx}
+use Rattle.qc_stamp.specs.Vocabulary.{same_tx}
 use Rattle.qc_stamp.specs.declared.stamp.TxId.{TxId}
-use Rattle.qc_list.specs.Names.{In}
+use Rattle.qc_list.specs.Vocabulary.{In}
 use Rattle.qc_entry.specs.declared.record.Commit.{Commit as CommitRecord}
 use Rattle.qc_decl.specs.declared.declaration.Declaration.{Declaration}
 use Rattle.qc_front.specs.declared.front.Front.{Front}
@@ -15,17 +15,18 @@ use Rattle.qc_msg.specs.declared.message.Message.TheVariants as messages
 use Rattle.qc_msg.specs.declared.message.Outcome.{Outcome}
 use Rattle.qc_msg.specs.declared.message.Outcome.TheVariants as outcomes
 use Rattle.qc_msg.specs.declared.turn.Posting.{Posting}
-use Rattle.qc_msg.specs.Names.{decisions}
+use Rattle.qc_msg.specs.Vocabulary.{decisions}
 use Rattle.theory_onecopy.proofs.Lists.{in_split}
-use Rattle.theory_machine.specs.Names.{Abort, Aborted, Act, Announce, Commit, Committed, Granted, MayCommit, State}
-use Rattle.theory_machine.specs.Names.{Status, Voting, put, put_tx, state, verdict_of}
+use Rattle.theory_machine.specs.Vocabulary.{Abort, Aborted, Act, Announce, Commit, Committed, Granted, MayCommit, State}
+use Rattle.theory_machine.specs.Vocabulary.{Status, Voting, put, put_tx, state, verdict_of}
 use Rattle.theory_machine.proofs.Names.{put_here, put_tx_here}
-use Rattle.qc_commit.specs.Names.{commit_of, decides, next_stamp, record_of}
+use Rattle.qc_commit.specs.Vocabulary.{commit_of, decides, next_stamp, record_of}
 use Rattle.qc_front.specs.declared.doing.Doing.TheVariants.{Idle}
 use Rattle.qc_front.specs.declared.transaction.Transaction.{Transaction}
-use Rattle.qc_client.specs.Names.{ClientMove, by_desk}
+use Rattle.qc_client.specs.Vocabulary.{ClientMove, by_desk}
 use Rattle.qc_client.specs.declared.client.Client.{Client}
-use Rattle.laws_refinement.specs.Names.{Backed, BegunMirrors, ClientMirrors, IsPlanned, Net, OwnMirrors, commits_in}
+use Rattle.laws_refinement.specs.Vocabulary.{Backed, BegunMirrors, ClientMirrors, IsPlanned, Net, OwnMirrors}
+use Rattle.laws_refinement.specs.Vocabulary.{commits_in}
 use Rattle.laws_refinement.proofs.Planned.{planned_max}
 use Rattle.laws_refinement.proofs.RequestsSent.{IsAsking}
 use Rattle.laws_refinement.proofs.ClientSteps.{Mid, Turned, turns}

@@ -2,23 +2,23 @@
 use Rattle.std.proofs.Common.{◌≡◌, ◌≢◌, ◌<◌, ℕ, ◌+◌, ◌-◌, Bool, true, false, ◌⊎◌, inl, inr, List, [], ◌∷◌, Option, Some}
 use Rattle.std.proofs.Common.{None, refl, sym, ◌∙◌, subst, arith}
 use Rattle.qc_stamp.specs.declared.stamp.TxId.{TxId}
-use Rattle.qc_stamp.specs.Names.{same_tx}
+use Rattle.qc_stamp.specs.Vocabulary.{same_tx}
 use Rattle.qc_stamp.proofs.Orders.{same_tx_is}
-use Rattle.qc_list.specs.Names.{In}
+use Rattle.qc_list.specs.Vocabulary.{In}
 use Rattle.qc_entry.specs.declared.record.Commit.{Commit as CommitRecord}
 use Rattle.qc_decl.specs.declared.declaration.Declaration.{Declaration}
-use Rattle.qc_decl.specs.Names.{client_actor, is_client}
+use Rattle.qc_decl.specs.Vocabulary.{client_actor, is_client}
 use Rattle.qc_msg.specs.declared.record.Record.{Record}
 use Rattle.qc_msg.specs.declared.record.Record.TheVariants as records
-use Rattle.theory_machine.specs.Names.{Abort, Aborted, Act, IsRun, MayCommit, NotBegun, State, put, state}
+use Rattle.theory_machine.specs.Vocabulary.{Abort, Aborted, Act, IsRun, MayCommit, NotBegun, State, put, state}
 use Rattle.theory_machine.proofs.Keeps.{laws}
 use Rattle.theory_machine.proofs.Names.{put_here}
-use Rattle.qc_commit.specs.Names.{record_of}
+use Rattle.qc_commit.specs.Vocabulary.{record_of}
 use Rattle.qc_front.specs.declared.transaction.Transaction.{Transaction}
 use Rattle.qc_client.specs.declared.client.Client.{Client}
 use Rattle.qc_recover.specs.Clients.{Kept, kept_by}
-use Rattle.laws_refinement.specs.Names.{ClientMirrors, FallenMirrors, IsClientKeptBy, IsPlanned, Net, OwnMirrors}
-use Rattle.laws_refinement.specs.Names.{Refines, after_fall}
+use Rattle.laws_refinement.specs.Vocabulary.{ClientMirrors, FallenMirrors, IsClientKeptBy, IsPlanned, Net, OwnMirrors}
+use Rattle.laws_refinement.specs.Vocabulary.{Refines, after_fall}
 use Rattle.laws_refinement.proofs.ClientEnding.{Ending, ending_of, ends_mine, own_put}
 use Rattle.laws_refinement.proofs.ClientEnds.{mid_abort}
 use Rattle.laws_refinement.proofs.ClientSteps.{Mid, mid_first}

@@ -1,35 +1,35 @@
 -- A client gives a transaction up, or begins one.
-use Rattle.std.proofs.Common.{◌≡◌, ℕ, zero, suc, ◌+◌, Bool, true, false, cond, inl, inr, List, ◌∷◌, map, length, Option}
-use Rattle.std.proofs.Common.{Some, None, slice_get, refl, sym, ap, ◌∙◌, subst, arith}
+use Rattle.std.proofs.Common.{[], ◌≡◌, ℕ, zero, suc, ◌+◌, Bool, true, false, cond, inl, inr, List, ◌∷◌, map, length}
+use Rattle.std.proofs.Common.{Option, Some, None, slice_get, refl, sym, ap, ◌∙◌, subst, arith}
 use Rattle.std.specs.Prelude.{replicate}
 use Rattle.std.specs.List.{find}
 use Rattle.std.specs.Option.{option_map_or}
-use Rattle.qc_stamp.specs.Names.{same_tx}
+use Rattle.qc_stamp.specs.Vocabulary.{same_tx}
 use Rattle.qc_stamp.specs.declared.stamp.TxId.{TxId}
-use Rattle.qc_list.specs.Names.{In}
+use Rattle.qc_list.specs.Vocabulary.{In}
 use Rattle.qc_entry.specs.declared.line.Line.{Line}
-use Rattle.qc_entry.specs.Names.{IsAscending}
+use Rattle.qc_entry.specs.Vocabulary.{IsAscending}
 use Rattle.qc_decl.specs.declared.declaration.Declaration.{Declaration}
-use Rattle.qc_decl.specs.Names.{IsAccepted, is_client}
+use Rattle.qc_decl.specs.Vocabulary.{IsAccepted, is_client}
 use Rattle.qc_msg.specs.declared.reply.Reply.{Reply}
 use Rattle.qc_msg.specs.declared.reply.Reply.TheVariants as replies
-use Rattle.theory_onecopy.specs.Names.{Executed}
-use Rattle.theory_machine.specs.Names.{Act, Active, Begin, Committed, IsRun, NotBegun, State, op_of, own_on, state}
+use Rattle.theory_onecopy.specs.Vocabulary.{Executed}
+use Rattle.theory_machine.specs.Vocabulary.{Act, Active, Begin, Committed, IsRun, NotBegun, State, op_of, own_on, state}
 use Rattle.theory_machine.proofs.Keeps.{laws}
 use Rattle.theory_machine.proofs.LogKeeps.{log_laws}
 use Rattle.theory_machine.proofs.Names.{put_tx_here, tx_test}
 use Rattle.qc_commit.specs.declared.desk.Voting.{Voting}
 use Rattle.qc_view.specs.declared.view.View.{View}
-use Rattle.qc_view.specs.Names.{empty_view}
+use Rattle.qc_view.specs.Vocabulary.{empty_view}
 use Rattle.qc_front.specs.declared.doing.Doing.{Doing}
 use Rattle.qc_front.specs.declared.doing.Doing.TheVariants.{Idle}
 use Rattle.qc_front.specs.declared.front.Front.{Front}
 use Rattle.qc_front.specs.declared.transaction.Transaction.{Transaction}
-use Rattle.qc_front.specs.Names.{aborts, begins, fresh, gives_up, next_tx}
-use Rattle.qc_client.specs.Names.{by_front, is_begun}
+use Rattle.qc_front.specs.Vocabulary.{aborts, begins, fresh, gives_up, next_tx}
+use Rattle.qc_client.specs.Vocabulary.{by_front, is_begun}
 use Rattle.qc_client.specs.declared.client.Client.{Client}
-use Rattle.laws_refinement.specs.Names.{AreVotes, Mirrors, Net, OwnMirrors, Refines, RunningMirrors, after_client}
-use Rattle.laws_refinement.specs.Names.{name_at, status_by}
+use Rattle.laws_refinement.specs.Vocabulary.{AreVotes, Mirrors, Net, OwnMirrors, Refines, RunningMirrors, after_client}
+use Rattle.laws_refinement.specs.Vocabulary.{name_at, status_by}
 use Rattle.laws_refinement.proofs.ClientEnding.{Ending, ending_of}
 use Rattle.laws_refinement.proofs.ClientEnds.{aborts_it, mid_begin}
 use Rattle.laws_refinement.proofs.ClientRounds.{no_asks, no_sends, nothing}

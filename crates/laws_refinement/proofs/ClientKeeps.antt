@@ -1,15 +1,15 @@
 -- Each client that is up agrees with its records.
-use Rattle.std.specs.Prelude.{option_to_list}
+use Rattle.std.specs.Prelude.{[], option_to_list}
 use Rattle.std.proofs.Common.{◌≡◌, ◌≢◌, ℕ, ◌+◌, ◌-◌, not, Bool, true, false, cond, inl, inr, List, ◌∷◌, ◌++◌, Option}
 use Rattle.std.proofs.Common.{Some, None, filter, length, refl, sym, ◌∙◌, subst}
 use Rattle.std.proofs.lemmas.List.{append-nil}
 use Rattle.qc_stamp.specs.declared.stamp.TxId.{TxId}
-use Rattle.qc_stamp.specs.Names.{same_tx}
-use Rattle.qc_list.specs.Names.{In}
+use Rattle.qc_stamp.specs.Vocabulary.{same_tx}
+use Rattle.qc_list.specs.Vocabulary.{In}
 use Rattle.qc_list.proofs.Members.{In-first, In-second, In-unfiltered}
 use Rattle.qc_entry.specs.declared.record.Commit.{Commit as CommitRecord}
 use Rattle.qc_decl.specs.declared.declaration.Declaration.{Declaration}
-use Rattle.qc_decl.specs.Names.{administrator, is_client}
+use Rattle.qc_decl.specs.Vocabulary.{administrator, is_client}
 use Rattle.qc_msg.specs.declared.message.Answer.{Answer}
 use Rattle.qc_msg.specs.declared.message.Message.{Message}
 use Rattle.qc_msg.specs.declared.message.Message.TheVariants as messages
@@ -18,18 +18,18 @@ use Rattle.qc_msg.specs.declared.record.Record.{Record}
 use Rattle.qc_msg.specs.declared.record.Record.TheVariants as records
 use Rattle.qc_msg.specs.declared.turn.Posting.{Posting}
 use Rattle.theory_onecopy.proofs.Lists.{in_split}
-use Rattle.theory_machine.specs.Names.{put}
+use Rattle.theory_machine.specs.Vocabulary.{put}
 use Rattle.theory_machine.proofs.Names.{put_here}
 use Rattle.qc_commit.specs.declared.desk.Voting.{Voting}
 use Rattle.qc_commit.specs.Conduct as desks
-use Rattle.qc_commit.specs.Names.{record_of}
-use Rattle.qc_client.specs.Names.{ClientMove, client_takes, commits, sent_one}
+use Rattle.qc_commit.specs.Vocabulary.{record_of}
+use Rattle.qc_client.specs.Vocabulary.{ClientMove, client_takes, commits, sent_one}
 use Rattle.qc_client.specs.declared.client.Client.{Client}
-use Rattle.qc_recover.specs.Names.{client_rises}
+use Rattle.qc_recover.specs.Vocabulary.{client_rises}
 use Rattle.qc_recover.specs.Clients.{Kept, kept_by}
-use Rattle.laws_refinement.specs.Names.{IsClientKeptBy, Net, Reaches, after_client, after_client_rise, sent_all}
-use Rattle.qc_site.specs.Names.{site_takes}
-use Rattle.qc_epoch.specs.Names.{admin_takes}
+use Rattle.laws_refinement.specs.Vocabulary.{IsClientKeptBy, Net, Reaches, after_client, after_client_rise, sent_all}
+use Rattle.qc_site.specs.Vocabulary.{site_takes}
+use Rattle.qc_epoch.specs.Vocabulary.{admin_takes}
 use Rattle.laws_refinement.specs.Net as nets
 use Rattle.laws_refinement.proofs.ClientRecords.{client_kept_more, found_with}
 use Rattle.laws_refinement.proofs.Kepts.{no_client, no_ruling}

@@ -1,15 +1,15 @@
 -- Whatever clients do in the machine, sites and the administrator agree with it as before.
 use Rattle.std.proofs.Common.{◌≡◌, ◌≢◌, ℕ, Bool, true, false, inl, inr, List, refl, sym, ap, ◌∙◌, subst}
 use Rattle.qc_stamp.specs.declared.stamp.TxId.{TxId}
-use Rattle.qc_list.specs.Names.{In}
+use Rattle.qc_list.specs.Vocabulary.{In}
 use Rattle.qc_list.proofs.Members.{In-second}
 use Rattle.qc_entry.specs.declared.record.Commit.{Commit as CommitRecord}
 use Rattle.qc_decl.specs.declared.declaration.Declaration.{Declaration}
-use Rattle.theory_machine.specs.Names.{Abort, Aborted, Act, Active, Announce, Begin, Choose, Close, Commit}
-use Rattle.theory_machine.specs.Names.{CommitUnknown, Committed, Count, Decide, Execute, ExecuteAbsent, Grant, Granted}
-use Rattle.theory_machine.specs.Names.{Install, IsAllowed, Learn, MayPrepare, NotBegun, Pending, Prepare, PrepareLost}
-use Rattle.theory_machine.specs.Names.{Recover, Rise, RiseClient, SendAppend, State, Status, TakeSnapshot, Vote, Voting}
-use Rattle.theory_machine.specs.Names.{after_act, put_tx, recover_status, verdict_of}
+use Rattle.theory_machine.specs.Vocabulary.{Abort, Aborted, Act, Active, Announce, Begin, Choose, Close, Commit}
+use Rattle.theory_machine.specs.Vocabulary.{CommitUnknown, Committed, Count, Decide, Execute, ExecuteAbsent, Grant}
+use Rattle.theory_machine.specs.Vocabulary.{Granted, Install, IsAllowed, Learn, MayPrepare, NotBegun, Pending, Prepare}
+use Rattle.theory_machine.specs.Vocabulary.{PrepareLost, Recover, Rise, RiseClient, SendAppend, State, Status}
+use Rattle.theory_machine.specs.Vocabulary.{TakeSnapshot, Vote, Voting, after_act, put_tx, recover_status, verdict_of}
 use Rattle.theory_machine.proofs.Names.{put_tx_case}
 use Rattle.laws_refinement.proofs.MessagesStay.{Later}
 

@@ -1,29 +1,29 @@
 -- A client's turn is posted: its requests have their numbers, and all of its messages are in the mail.
-use Rattle.std.proofs.Common.{◌≡◌, ◌≢◌, ℕ, ◌==◌, ◌+◌, Bool, true, false, inl, inr, List, ◌∷◌, ◌++◌, length, Option}
+use Rattle.std.proofs.Common.{[], ◌≡◌, ◌≢◌, ℕ, ◌==◌, ◌+◌, Bool, true, false, inl, inr, List, ◌∷◌, ◌++◌, length, Option}
 use Rattle.std.proofs.Common.{Some, slice_get, refl, sym, ap, ◌∙◌, subst, eq-eqb, eqb-true}
 use Rattle.qc_stamp.specs.declared.stamp.TxId.{TxId}
-use Rattle.qc_list.specs.Names.{In}
+use Rattle.qc_list.specs.Vocabulary.{In}
 use Rattle.qc_list.proofs.Members.{In-first, In-second}
 use Rattle.qc_entry.specs.declared.record.Commit.{Commit as CommitRecord}
 use Rattle.theory_onecopy.proofs.Lists.{in_split}
 use Rattle.qc_decl.specs.declared.declaration.Declaration.{Declaration}
-use Rattle.qc_decl.specs.Names.{client_actor, is_client}
+use Rattle.qc_decl.specs.Vocabulary.{client_actor, is_client}
 use Rattle.qc_msg.specs.declared.message.Envelope.{Envelope}
 use Rattle.qc_msg.specs.declared.message.Message.{Message}
 use Rattle.qc_msg.specs.declared.message.Message.TheVariants as messages
 use Rattle.qc_msg.specs.declared.message.Want.{Want}
 use Rattle.qc_msg.specs.declared.message.Want.TheVariants.{Read, Append, Prepare}
 use Rattle.qc_msg.specs.declared.turn.Posting.{Posting}
-use Rattle.qc_msg.specs.Names.{envelopes, life_of, with_call}
-use Rattle.theory_machine.specs.Names.{Committed, State}
+use Rattle.qc_msg.specs.Vocabulary.{envelopes, life_of, with_call}
+use Rattle.theory_machine.specs.Vocabulary.{Committed, State}
 use Rattle.qc_commit.specs.declared.desk.Desk.{Desk}
 use Rattle.qc_commit.specs.declared.desk.Voting.{Voting}
-use Rattle.qc_commit.specs.Names.{prepared, prepared_in}
-use Rattle.qc_front.specs.Names.{requested}
-use Rattle.qc_client.specs.Names.{ClientMove, sent_one}
+use Rattle.qc_commit.specs.Vocabulary.{prepared, prepared_in}
+use Rattle.qc_front.specs.Vocabulary.{requested}
+use Rattle.qc_client.specs.Vocabulary.{ClientMove, sent_one}
 use Rattle.qc_client.specs.declared.client.Client.{Client}
-use Rattle.laws_refinement.specs.Names.{Backed, ClientMirrors, IsMessage, IsRequest, Mirrors, Net, after_client}
-use Rattle.laws_refinement.specs.Names.{commits_in, sent_all}
+use Rattle.laws_refinement.specs.Vocabulary.{Backed, ClientMirrors, IsMessage, IsRequest, Mirrors, Net, after_client}
+use Rattle.laws_refinement.specs.Vocabulary.{commits_in, sent_all}
 use Rattle.laws_refinement.proofs.MessagesStay.{Keeps, Later, keeps_same}
 use Rattle.laws_refinement.proofs.Frames.{keep_client}
 use Rattle.laws_refinement.proofs.Posts.{AtNumber, at_number}

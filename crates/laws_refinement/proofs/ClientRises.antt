@@ -4,26 +4,26 @@ use Rattle.std.proofs.Common.{◌≡◌, ◌≢◌, ◌≤◌, ◌<◌, ℕ, ◌
 use Rattle.std.proofs.Common.{Option, Some, None, filter, refl, sym, ap, ◌∙◌, subst, arith}
 use Rattle.std.proofs.lemmas.List.{append-nil}
 use Rattle.qc_stamp.specs.declared.stamp.TxId.{TxId}
-use Rattle.qc_stamp.specs.Names.{same_tx}
+use Rattle.qc_stamp.specs.Vocabulary.{same_tx}
 use Rattle.qc_stamp.proofs.Orders.{same_tx_is}
-use Rattle.qc_list.specs.Names.{In}
+use Rattle.qc_list.specs.Vocabulary.{In}
 use Rattle.qc_list.proofs.Members.{In-first, In-second, In-unfiltered}
 use Rattle.qc_entry.specs.declared.record.Commit.{Commit as CommitRecord}
 use Rattle.qc_decl.specs.declared.declaration.Declaration.{Declaration}
-use Rattle.qc_decl.specs.Names.{client_actor, is_client}
+use Rattle.qc_decl.specs.Vocabulary.{client_actor, is_client}
 use Rattle.qc_msg.specs.declared.record.Record.{Record}
 use Rattle.qc_msg.specs.declared.record.Record.TheVariants as records
 use Rattle.theory_onecopy.proofs.Lists.{in_split}
-use Rattle.theory_machine.specs.Names.{Abort, Aborted, Act, Active, Commit, Committed, HasRecord, IsLive, IsRun}
-use Rattle.theory_machine.specs.Names.{NotBegun, Pending, RiseClient, State, Status, Voting, put, put_tx, state}
+use Rattle.theory_machine.specs.Vocabulary.{Abort, Aborted, Act, Active, Commit, Committed, HasRecord, IsLive, IsRun}
+use Rattle.theory_machine.specs.Vocabulary.{NotBegun, Pending, RiseClient, State, Status, Voting, put, put_tx, state}
 use Rattle.theory_machine.proofs.Keeps.{laws}
 use Rattle.theory_machine.proofs.Names.{put_here, put_tx_here, tx_test}
-use Rattle.qc_commit.specs.Names.{record_of}
+use Rattle.qc_commit.specs.Vocabulary.{record_of}
 use Rattle.qc_client.specs.declared.client.Client.{Client}
-use Rattle.qc_recover.specs.Names.{client_by, client_rises}
+use Rattle.qc_recover.specs.Vocabulary.{client_by, client_rises}
 use Rattle.qc_recover.specs.Clients.{Kept, keeps, kept_by}
-use Rattle.laws_refinement.specs.Names.{ClientMirrors, FallenMirrors, IsGivenBack, IsPendingOf, IsPlanned, Net, Refines}
-use Rattle.laws_refinement.specs.Names.{after_client_rise, after_vain_rise, commits_in}
+use Rattle.laws_refinement.specs.Vocabulary.{ClientMirrors, FallenMirrors, IsGivenBack, IsPendingOf, IsPlanned, Net}
+use Rattle.laws_refinement.specs.Vocabulary.{Refines, after_client_rise, after_vain_rise, commits_in}
 use Rattle.laws_refinement.proofs.ClientEnds.{mid_abort, mid_commit}
 use Rattle.laws_refinement.proofs.ClientSteps.{Mid, mid_first, mid_more, put_tx_other}
 use Rattle.laws_refinement.proofs.Kepts.{client_place}

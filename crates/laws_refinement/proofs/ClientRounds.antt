@@ -1,12 +1,12 @@
 -- An operation's turns, as far as its round has come: acts of the machine, or none.
 use Rattle.std.proofs.Common.{◌≡◌, ℕ, true, false, inl, inr, List, [], ◌∷◌, ◌++◌, map, fold, Option, Some, None, refl}
 use Rattle.std.proofs.Common.{sym, ap, ◌∙◌, subst}
-use Rattle.qc_list.specs.Names.{In}
-use Rattle.qc_plan.specs.Names.{RoundState, asking_all, verdict, wanted}
+use Rattle.qc_list.specs.Vocabulary.{In}
+use Rattle.qc_plan.specs.Vocabulary.{RoundState, asking_all, verdict, wanted}
 use Rattle.qc_plan.specs.declared.standing.Verdict.{Verdict}
 use Rattle.qc_plan.specs.declared.standing.Verdict.TheVariants as verdicts
 use Rattle.qc_decl.specs.declared.declaration.Declaration.{Declaration}
-use Rattle.qc_decl.specs.Names.{append_need_of, client_actor, is_client, read_need_of}
+use Rattle.qc_decl.specs.Vocabulary.{append_need_of, client_actor, is_client, read_need_of}
 use Rattle.qc_msg.specs.declared.call.Call.{Call}
 use Rattle.qc_msg.specs.declared.message.Envelope.{Envelope}
 use Rattle.qc_msg.specs.declared.message.Want.{Want}
@@ -15,22 +15,22 @@ use Rattle.qc_msg.specs.declared.reply.Half.TheVariants as halves
 use Rattle.qc_msg.specs.declared.reply.Reply.{Reply}
 use Rattle.qc_msg.specs.declared.reply.Reply.TheVariants as replies
 use Rattle.qc_msg.specs.declared.begun.LifeAt.{LifeAt}
-use Rattle.qc_msg.specs.Names.{life_of, with_site}
+use Rattle.qc_msg.specs.Vocabulary.{life_of, with_site}
 use Rattle.qc_msg.specs.declared.turn.Posting.{Posting}
-use Rattle.theory_onecopy.specs.Names.{Executed}
-use Rattle.theory_machine.specs.Names.{Act, Active, Choose, Execute, ExecuteAbsent, HasQuorum, IsRun, Lock, Own}
-use Rattle.theory_machine.specs.Names.{SendAppend, State, chosen_list, state}
+use Rattle.theory_onecopy.specs.Vocabulary.{Executed}
+use Rattle.theory_machine.specs.Vocabulary.{Act, Active, Choose, Execute, ExecuteAbsent, HasQuorum, IsRun, Lock, Own}
+use Rattle.theory_machine.specs.Vocabulary.{SendAppend, State, chosen_list, state}
 use Rattle.theory_machine.proofs.Names.{put_tx_here}
 use Rattle.qc_front.specs.declared.doing.Doing.TheVariants.{Idle, Reading, Appending}
 use Rattle.qc_front.specs.declared.transaction.Transaction.{Transaction}
-use Rattle.qc_front.specs.Names.{IsRound, RecordsHold, absents, answer_of, answered, append_by, append_want, doomed}
-use Rattle.qc_front.specs.Names.{next_own, op_of as operation_of, read_by, read_want, refuses, request_of, resp_of}
-use Rattle.qc_front.specs.Names.{responds, round_for, with_asked, with_event, with_op}
+use Rattle.qc_front.specs.Vocabulary.{IsRound, RecordsHold, absents, answer_of, answered, append_by, append_want}
+use Rattle.qc_front.specs.Vocabulary.{doomed, next_own, op_of as operation_of, read_by, read_want, refuses, request_of}
+use Rattle.qc_front.specs.Vocabulary.{resp_of, responds, round_for, with_asked, with_event, with_op}
 use Rattle.qc_front.proofs.CommandsKeep.{started_round}
-use Rattle.qc_client.specs.Names.{ClientMove, by_front}
+use Rattle.qc_client.specs.Vocabulary.{ClientMove, by_front}
 use Rattle.qc_client.specs.declared.client.Client.{Client}
-use Rattle.laws_refinement.specs.Names.{AreCounted, Backed, ClientMirrors, IsAskedBy, IsNamedAt, IsWanted, Mirrors, Net}
-use Rattle.laws_refinement.specs.Names.{Refines, absent_of, after_client, append_of, chosen_of, commits_in}
+use Rattle.laws_refinement.specs.Vocabulary.{AreCounted, Backed, ClientMirrors, IsAskedBy, IsNamedAt, IsWanted, Mirrors}
+use Rattle.laws_refinement.specs.Vocabulary.{Net, Refines, absent_of, after_client, append_of, chosen_of, commits_in}
 use Rattle.laws_refinement.proofs.Answers.{absent_answered, chosen_answered}
 use Rattle.laws_refinement.proofs.ClientActs.{appended_on, mid_absent, mid_choose, mid_execute, mid_send}
 use Rattle.laws_refinement.proofs.RequestsSent.{IsAsking, IsWantOf}

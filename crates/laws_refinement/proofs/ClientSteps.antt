@@ -2,26 +2,26 @@
 use Rattle.std.proofs.Common.{◌≡◌, ◌≢◌, ℕ, Bool, true, false, cond, List, ◌∷◌, ◌++◌, Option, Some, None, refl, sym, ap}
 use Rattle.std.proofs.Common.{◌∙◌}
 use Rattle.qc_stamp.specs.declared.stamp.TxId.{TxId}
-use Rattle.qc_stamp.specs.Names.{same_tx}
+use Rattle.qc_stamp.specs.Vocabulary.{same_tx}
 use Rattle.qc_stamp.proofs.Orders.{same_tx_is}
-use Rattle.qc_list.specs.Names.{In}
+use Rattle.qc_list.specs.Vocabulary.{In}
 use Rattle.qc_decl.specs.declared.declaration.Declaration.{Declaration}
-use Rattle.qc_decl.specs.Names.{client_actor, is_client}
+use Rattle.qc_decl.specs.Vocabulary.{client_actor, is_client}
 use Rattle.qc_msg.specs.declared.call.Call.{Call}
 use Rattle.qc_msg.specs.declared.message.Envelope.{Envelope}
 use Rattle.qc_msg.specs.declared.turn.Posting.{Posting}
-use Rattle.theory_machine.specs.Names.{Act, Active, IsAllowed, IsRun, NotBegun, State, Status, put_tx, state}
+use Rattle.theory_machine.specs.Vocabulary.{Act, Active, IsAllowed, IsRun, NotBegun, State, Status, put_tx, state}
 use Rattle.theory_machine.proofs.Keeps.{laws}
 use Rattle.qc_commit.specs.declared.desk.Voting.{Voting}
 use Rattle.qc_front.specs.declared.doing.Doing.{Doing}
 use Rattle.qc_front.specs.declared.doing.Doing.TheVariants.{Idle}
 use Rattle.qc_front.specs.declared.transaction.Transaction.{Transaction}
-use Rattle.qc_front.specs.Names.{calls_in, turned}
-use Rattle.qc_client.specs.Names.{ClientMove}
+use Rattle.qc_front.specs.Vocabulary.{calls_in, turned}
+use Rattle.qc_client.specs.Vocabulary.{ClientMove}
 use Rattle.qc_client.specs.declared.client.Client.{Client}
-use Rattle.laws_refinement.specs.Names.{AreVotes, Backed, ClientMirrors, IsAskedBy, IsChosen, IsRoundCounted, Mirrors}
-use Rattle.laws_refinement.specs.Names.{Net, OwnMirrors, Refines, TransactionMirrors, after_client, commits_in}
-use Rattle.laws_refinement.specs.Names.{status_by}
+use Rattle.laws_refinement.specs.Vocabulary.{AreVotes, Backed, ClientMirrors, IsAskedBy, IsChosen, IsRoundCounted}
+use Rattle.laws_refinement.specs.Vocabulary.{Mirrors, Net, OwnMirrors, Refines, TransactionMirrors, after_client}
+use Rattle.laws_refinement.specs.Vocabulary.{commits_in, status_by}
 use Rattle.laws_refinement.proofs.RequestsSent.{IsAsking}
 use Rattle.laws_refinement.proofs.ClientPosts.{ClientGoes, client_goes}
 use Rattle.laws_refinement.proofs.ClientLater.{IsOfClient, client_later, client_stays}

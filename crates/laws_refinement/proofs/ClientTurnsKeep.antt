@@ -1,5 +1,5 @@
 -- A client's turn writes nothing, or one commit record that its desk then has.
-use Rattle.std.proofs.Common.{◌≡◌, ℕ, ◌+◌, ◌-◌, ◌==◌, Bool, true, false, cond, List, ◌∷◌, ◌++◌, Option, Some, None}
+use Rattle.std.proofs.Common.{[], ◌≡◌, ℕ, ◌+◌, ◌-◌, ◌==◌, Bool, true, false, cond, List, ◌∷◌, ◌++◌, Option, Some, None}
 use Rattle.std.proofs.Common.{is_some, length, map, refl, sym, subst}
 use Rattle.qc_entry.specs.declared.record.Commit.{Commit as CommitRecord}
 use Rattle.qc_decl.specs.declared.declaration.Declaration.{Declaration}
@@ -14,17 +14,17 @@ use Rattle.qc_msg.specs.declared.step.Command.{Command}
 use Rattle.qc_msg.specs.declared.step.Command.TheVariants as commands
 use Rattle.qc_msg.specs.declared.step.Input.{Input}
 use Rattle.qc_msg.specs.declared.step.Input.TheVariants.{Called, Got, Lost}
-use Rattle.qc_msg.specs.Names.{quiet, sending, site_called, without_call}
+use Rattle.qc_msg.specs.Vocabulary.{quiet, sending, site_called, without_call}
 use Rattle.qc_commit.specs.declared.desk.Desk.{Desk}
 use Rattle.qc_commit.specs.declared.desk.Voting.{Voting}
 use Rattle.qc_commit.specs.Conduct as desks
-use Rattle.qc_commit.specs.Names.{DeskMove, are_cast, blank, cast, first_against, moved as desk_moved, participants}
-use Rattle.qc_commit.specs.Names.{prepares, vote_of}
+use Rattle.qc_commit.specs.Vocabulary.{DeskMove, are_cast, blank, cast, first_against, moved as desk_moved}
+use Rattle.qc_commit.specs.Vocabulary.{participants, prepares, vote_of}
 use Rattle.qc_commit.proofs.Learned.{learned-commits}
 use Rattle.qc_front.specs.declared.transaction.Transaction.{Transaction}
 use Rattle.qc_front.specs.Conduct as fronts
-use Rattle.qc_front.specs.Names.{FrontMove, ended}
-use Rattle.qc_client.specs.Names.{ClientMove, answered_by, by_desk, by_front, called, client_takes, commits, heard}
+use Rattle.qc_front.specs.Vocabulary.{FrontMove, ended}
+use Rattle.qc_client.specs.Vocabulary.{ClientMove, answered_by, by_desk, by_front, called, client_takes, commits, heard}
 use Rattle.qc_client.specs.declared.client.Client.{Client}
 use Rattle.qc_front.proofs.Unwritten.{IsCalm, front_called, front_takes}
 

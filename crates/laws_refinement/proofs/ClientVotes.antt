@@ -1,29 +1,30 @@
 -- Votes come for a commit: the transaction commits, or aborts, or more votes are waited for.
-use Rattle.std.proofs.Common.{◌≡◌, ◌≤◌, ℕ, max, Bool, true, false, cond, inl, inr, List, Option, Some, None, refl, sym}
-use Rattle.std.proofs.Common.{ap, ◌∙◌, subst, arith}
-use Rattle.qc_list.specs.Names.{In}
+use Rattle.std.proofs.Common.{[], ◌≡◌, ◌≤◌, ℕ, max, Bool, true, false, cond, inl, inr, List, Option, Some, None, refl}
+use Rattle.std.proofs.Common.{sym, ap, ◌∙◌, subst, arith}
+use Rattle.qc_list.specs.Vocabulary.{In}
 use Rattle.qc_entry.specs.declared.record.Commit.{Commit as CommitRecord}
 use Rattle.qc_decl.specs.declared.declaration.Declaration.{Declaration}
-use Rattle.qc_decl.specs.Names.{is_client}
+use Rattle.qc_decl.specs.Vocabulary.{is_client}
 use Rattle.qc_msg.specs.declared.begun.Begun.{Begun}
 use Rattle.qc_msg.specs.declared.message.Answer.{Answer}
 use Rattle.qc_msg.specs.declared.message.Want.TheVariants as wants
 use Rattle.qc_msg.specs.declared.reply.AbortCause.{AbortCause}
-use Rattle.qc_msg.specs.Names.{quiet, site_called, without_call}
-use Rattle.theory_machine.specs.Names.{Act, Granted, IsRun, Voting, YesVote, state}
+use Rattle.qc_msg.specs.Vocabulary.{quiet, site_called, without_call}
+use Rattle.theory_machine.specs.Vocabulary.{Act, Granted, IsRun, Voting, YesVote, state}
 use Rattle.qc_commit.specs.declared.ballot.Ballot.{Ballot}
 use Rattle.qc_commit.specs.declared.ballot.Vote.TheVariants.{For}
 use Rattle.qc_commit.specs.declared.desk.Desk.{Desk}
 use Rattle.qc_commit.specs.declared.desk.Voting.{Voting as DeskVoting}
-use Rattle.qc_commit.specs.Names.{DeskMove, are_cast, cast, counted_out, counts, first_against}
-use Rattle.qc_commit.specs.Names.{gives_up as desk_gives_up, learns, moved as desk_moved, record_of, vote_of, votes_at}
-use Rattle.qc_commit.specs.Names.{with_voting}
+use Rattle.qc_commit.specs.Vocabulary.{DeskMove, are_cast, cast, counted_out, counts, first_against}
+use Rattle.qc_commit.specs.Vocabulary.{gives_up as desk_gives_up, learns, moved as desk_moved, record_of, vote_of}
+use Rattle.qc_commit.specs.Vocabulary.{votes_at, with_voting}
 use Rattle.qc_front.specs.declared.transaction.Transaction.{Transaction}
-use Rattle.qc_client.specs.Names.{ClientMove, by_desk}
+use Rattle.qc_client.specs.Vocabulary.{ClientMove, by_desk}
 use Rattle.qc_client.specs.declared.client.Client.{Client}
 use Rattle.qc_msg.specs.declared.record.Record.{Record}
-use Rattle.laws_refinement.specs.Names.{AreVotes, BegunMirrors, IsPlanned, IsRequest, Mirrors, Net, OwnMirrors, Refines}
-use Rattle.laws_refinement.specs.Names.{RunningMirrors, TransactionMirrors, VotesMirror, after_client, status_by}
+use Rattle.laws_refinement.specs.Vocabulary.{AreVotes, BegunMirrors, IsPlanned, IsRequest, Mirrors, Net, OwnMirrors}
+use Rattle.laws_refinement.specs.Vocabulary.{Refines, RunningMirrors, TransactionMirrors, VotesMirror, after_client}
+use Rattle.laws_refinement.specs.Vocabulary.{status_by}
 use Rattle.laws_refinement.proofs.Planned.{planned_max}
 use Rattle.laws_refinement.proofs.Ballots.{all_for, cast_each, cast_votes}
 use Rattle.laws_refinement.proofs.OpenRequests.{AnswerBacked, IsCalled, called_in, still_called}

@@ -3,31 +3,32 @@ use Rattle.std.proofs.Common.{◌≡◌, ◌≢◌, ◌≤◌, ◌<◌, ℕ, suc
 use Rattle.std.proofs.Common.{[], ◌∷◌, ◌++◌, Option, Some, None, is_some, refl, sym, ap, ◌∙◌, subst, ltb-false}
 use Rattle.std.proofs.Common.{leb-false, arith}
 use Rattle.qc_stamp.specs.declared.stamp.TxId.{TxId}
-use Rattle.qc_list.specs.Names.{In}
+use Rattle.qc_list.specs.Vocabulary.{In}
 use Rattle.qc_entry.specs.declared.line.Line.{Line}
 use Rattle.qc_entry.specs.declared.record.Prepared.{Prepared}
 use Rattle.qc_decl.specs.declared.declaration.Declaration.{Declaration}
-use Rattle.qc_decl.specs.Names.{IsAccepted, is_site}
+use Rattle.qc_decl.specs.Vocabulary.{IsAccepted, is_site}
 use Rattle.theory_onecopy.proofs.Lists.{in_split}
 use Rattle.qc_entry.specs.declared.line.OwnLine.{OwnLine}
-use Rattle.qc_lock.specs.Names.{is_held}
+use Rattle.qc_lock.specs.Vocabulary.{is_held}
 use Rattle.qc_msg.specs.declared.message.Answer.TheVariants as answers
 use Rattle.qc_msg.specs.declared.message.Message.TheVariants as messages
 use Rattle.qc_msg.specs.declared.record.Record.TheVariants as records
-use Rattle.theory_machine.specs.Names.{Act, Close, Closes, Deed, DoneRecord, Installs, IsRun, MayPrepare, NotBegun, Own}
-use Rattle.theory_machine.specs.Names.{Prepares, Site, Snapshot, State, TakeSnapshot, after_act, done_records}
-use Rattle.theory_machine.specs.Names.{empty_site, held_by_promises, items_of, promise_of, shut_from, site_after, state}
+use Rattle.theory_machine.specs.Vocabulary.{Act, Close, Closes, Deed, DoneRecord, Installs, IsRun, MayPrepare, NotBegun}
+use Rattle.theory_machine.specs.Vocabulary.{Own, Prepares, Site, Snapshot, State, TakeSnapshot, after_act, done_records}
+use Rattle.theory_machine.specs.Vocabulary.{empty_site, held_by_promises, items_of, promise_of, shut_from, site_after}
+use Rattle.theory_machine.specs.Vocabulary.{state}
 use Rattle.theory_machine.proofs.Holdings.{held_lines_are_one_an_operation}
 use Rattle.theory_machine.proofs.Keeps.{laws}
 use Rattle.theory_machine.proofs.Names.{put_here}
-use Rattle.qc_site.specs.Names.{answers as answers_with, closed, closes, held_by, is_closed_for, moved, prepared_of}
-use Rattle.qc_site.specs.Names.{promises_in_order, recording, shut_answer}
-use Rattle.laws_refinement.specs.Names.{Continues, IsKeptBy, IsMessage, IsPlanned, IsPromiseOf, KeptMirrors, Mirrors}
-use Rattle.laws_refinement.specs.Names.{Net, SiteMirrors, after_site}
+use Rattle.qc_site.specs.Vocabulary.{answers as answers_with, closed, closes, held_by, is_closed_for, moved}
+use Rattle.qc_site.specs.Vocabulary.{prepared_of, promises_in_order, recording, shut_answer}
+use Rattle.laws_refinement.specs.Vocabulary.{Continues, IsKeptBy, IsMessage, IsPlanned, IsPromiseOf, KeptMirrors}
+use Rattle.laws_refinement.specs.Vocabulary.{Mirrors, Net, SiteMirrors, after_site}
 use Rattle.laws_refinement.proofs.Apart.{apart_found, found_in, order_apart, order_found}
 use Rattle.std.proofs.lemmas.List.{append-nil}
 use Rattle.qc_msg.specs.declared.record.Record.{Record}
-use Rattle.qc_recover.specs.Names.{Kept, kept_by}
+use Rattle.qc_recover.specs.Vocabulary.{Kept, kept_by}
 use Rattle.laws_refinement.proofs.KeptLists.{kept_more}
 use Rattle.laws_refinement.proofs.KeptSteps.{kept_closes}
 use Rattle.laws_refinement.proofs.Machine.{done_last, epoch_after, put_other, shut_after, single_more, site_more}

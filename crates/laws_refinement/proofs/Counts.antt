@@ -1,21 +1,21 @@
 -- A grant that counts: its site is a participant, and the lines that it shows join the object's view.
-use Rattle.std.proofs.Common.{◌≡◌, ◌≢◌, ℕ, ◌==◌, Bool, true, false, inl, inr, List, ◌∷◌, Some, slice_get, refl, sym, ap}
-use Rattle.std.proofs.Common.{◌∙◌, subst, eq-eqb, eqb-true}
-use Rattle.qc_list.specs.Names.{In}
+use Rattle.std.proofs.Common.{[], ◌≡◌, ◌≢◌, ℕ, ◌==◌, Bool, true, false, inl, inr, List, ◌∷◌, Some, slice_get, refl, sym}
+use Rattle.std.proofs.Common.{ap, ◌∙◌, subst, eq-eqb, eqb-true}
+use Rattle.qc_list.specs.Vocabulary.{In}
 use Rattle.qc_entry.specs.declared.line.Line.{Line}
 use Rattle.qc_entry.specs.declared.line.OwnLine.{OwnLine}
 use Rattle.qc_entry.specs.declared.line.ReadLock.{ReadLock}
-use Rattle.qc_entry.specs.Names.{IsAscending, union}
+use Rattle.qc_entry.specs.Vocabulary.{IsAscending, union}
 use Rattle.qc_entry.proofs.Union.{ascending-union, in_either, in_first, in_second}
 use Rattle.qc_decl.specs.declared.declaration.Declaration.{Declaration}
 use Rattle.qc_msg.specs.declared.message.Want.TheVariants.{Read, Append}
-use Rattle.qc_msg.specs.Names.{with_life}
-use Rattle.theory_machine.specs.Names.{Count, Granted, IsShown, Item, Lock, Shows, State, after_act, site_after}
-use Rattle.qc_front.specs.Names.{lived, view_log, with_granted}
+use Rattle.qc_msg.specs.Vocabulary.{with_life}
+use Rattle.theory_machine.specs.Vocabulary.{Count, Granted, IsShown, Item, Lock, Shows, State, after_act, site_after}
+use Rattle.qc_front.specs.Vocabulary.{lived, view_log, with_granted}
 use Rattle.qc_view.specs.declared.view.View.{View}
 use Rattle.qc_front.specs.declared.transaction.Transaction.{Transaction}
 use Rattle.qc_client.specs.declared.client.Client.{Client}
-use Rattle.laws_refinement.specs.Names.{IsGrant, LivesMirror, own_items}
+use Rattle.laws_refinement.specs.Vocabulary.{IsGrant, LivesMirror, own_items}
 use Rattle.laws_refinement.proofs.ClientSteps.{Core}
 use Rattle.laws_refinement.proofs.Granting.{lived_given, granted_given, granted_here, granted_there, learned}
 use Rattle.laws_refinement.proofs.Granting.{counted_core, more_shown}

@@ -3,19 +3,19 @@ use Rattle.std.proofs.Common.{◌≡◌, ◌≤◌, ℕ, suc, ◌⊎◌, inl, in
 use Rattle.std.proofs.Common.{arith}
 use Rattle.qc_stamp.specs.declared.stamp.Stamp.{Stamp}
 use Rattle.qc_stamp.specs.declared.stamp.TxId.{TxId}
-use Rattle.qc_list.specs.Names.{In}
+use Rattle.qc_list.specs.Vocabulary.{In}
 use Rattle.qc_entry.specs.declared.line.Line.{Line}
 use Rattle.qc_entry.specs.declared.line.OwnLine.{OwnLine}
 use Rattle.qc_entry.specs.declared.record.Prepared.{Prepared}
 use Rattle.qc_decl.specs.declared.declaration.Declaration.{Declaration}
-use Rattle.qc_decl.specs.Names.{plan_in}
-use Rattle.theory_onecopy.specs.Names.{committed_line}
+use Rattle.qc_decl.specs.Vocabulary.{plan_in}
+use Rattle.theory_onecopy.specs.Vocabulary.{committed_line}
 use Rattle.qc_msg.specs.declared.message.Envelope.{Envelope}
-use Rattle.theory_machine.specs.Names.{Decision, IsMerged, IsResolved, MayDecide, Own, Promise, Snapshot, State}
-use Rattle.theory_machine.specs.Names.{Verdict, epoch_from, site_after}
-use Rattle.qc_site.specs.Names.{stamped}
-use Rattle.qc_epoch.specs.Names.{Question, ShutSite, first_doubt, greatest, merged}
-use Rattle.laws_refinement.specs.Names.{AreEnough, AreSnapshots, HasTold, IsCovered, IsSnapshot, QuestionMirrors}
+use Rattle.theory_machine.specs.Vocabulary.{Decision, IsMerged, IsResolved, MayDecide, Own, Promise, Snapshot, State}
+use Rattle.theory_machine.specs.Vocabulary.{Verdict, epoch_from, site_after}
+use Rattle.qc_site.specs.Vocabulary.{stamped}
+use Rattle.qc_epoch.specs.Vocabulary.{Question, ShutSite, first_doubt, greatest, merged}
+use Rattle.laws_refinement.specs.Vocabulary.{AreEnough, AreSnapshots, HasTold, IsCovered, IsSnapshot, QuestionMirrors}
 use Rattle.laws_refinement.proofs.BothPromises.{Before, Behind, before, behind}
 use Rattle.laws_refinement.proofs.Machine.{single_found}
 use Rattle.laws_refinement.proofs.Merged.{IsEnded, IsFrom, IsFromOne, IsLineOf, all_settled, ended, greatest_shut}

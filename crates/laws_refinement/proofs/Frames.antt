@@ -1,17 +1,17 @@
 -- What stands behind messages stays there as the machine goes on and more is sent.
 use Rattle.std.proofs.Common.{◌≡◌, ℕ, List, ◌++◌, Option, Some, None, map, arith, ◌≤◌, ap, sym, ◌∙◌, subst}
 use Rattle.qc_stamp.specs.declared.stamp.TxId.{TxId}
-use Rattle.qc_list.specs.Names.{In}
-use Rattle.laws_refinement.specs.Names.{AreCounted, AreVotes, BegunMirrors, ClientMirrors, IsAskedBy, IsChosen}
-use Rattle.laws_refinement.specs.Names.{IsRoundCounted, OwnMirrors, RunningMirrors, TransactionMirrors, name_at}
+use Rattle.qc_list.specs.Vocabulary.{In}
+use Rattle.laws_refinement.specs.Vocabulary.{AreCounted, AreVotes, BegunMirrors, ClientMirrors, IsAskedBy, IsChosen}
+use Rattle.laws_refinement.specs.Vocabulary.{IsRoundCounted, OwnMirrors, RunningMirrors, TransactionMirrors, name_at}
 use Rattle.qc_client.specs.declared.client.Client.{Client}
 use Rattle.qc_front.specs.declared.transaction.Transaction.{Transaction}
 use Rattle.qc_front.specs.declared.front.Front.{Front}
 use Rattle.qc_front.specs.declared.doing.Doing.TheVariants.{Idle, Reading, Appending}
 use Rattle.qc_front.specs.declared.doing.Doing.{Doing as FrontDoing}
 use Rattle.qc_commit.specs.declared.desk.Voting.{Voting}
-use Rattle.theory_machine.specs.Names.{Granted, IsShown, Item, State, op_of, own_on}
-use Rattle.theory_onecopy.specs.Names.{Executed}
+use Rattle.theory_machine.specs.Vocabulary.{Granted, IsShown, Item, State, op_of, own_on}
+use Rattle.theory_onecopy.specs.Vocabulary.{Executed}
 use Rattle.qc_msg.specs.declared.call.Call.{Call}
 use Rattle.qc_plan.specs.declared.standing.Asked.{Asked}
 use Rattle.qc_entry.specs.declared.line.Line.{Line}
@@ -19,7 +19,7 @@ use Rattle.qc_decl.specs.declared.declaration.Declaration.{Declaration}
 use Rattle.qc_msg.specs.declared.message.Envelope.{Envelope}
 use Rattle.qc_msg.specs.declared.message.Message.TheVariants as messages
 use Rattle.qc_msg.specs.declared.message.Want.TheVariants.{Prepare}
-use Rattle.qc_msg.specs.Names.{life_of}
+use Rattle.qc_msg.specs.Vocabulary.{life_of}
 use Rattle.laws_refinement.proofs.MessagesStay.{Keeps, message_later, request_later}
 
 module _ (decl : Declaration) where

@@ -2,32 +2,32 @@
 use Rattle.std.proofs.Common.{◌≡◌, ◌≢◌, ◌≤◌, ℕ, ◌==◌, true, false, IsTrue, ◌⊎◌, inl, inr, List, [], ◌∷◌, ◌++◌, Some}
 use Rattle.std.proofs.Common.{None, refl, sym, ap, ◌∙◌, subst, eq-eqb, eqb-true}
 use Rattle.qc_stamp.specs.declared.stamp.TxId.{TxId}
-use Rattle.qc_stamp.specs.Names.{same_tx}
-use Rattle.qc_list.specs.Names.{In}
+use Rattle.qc_stamp.specs.Vocabulary.{same_tx}
+use Rattle.qc_list.specs.Vocabulary.{In}
 use Rattle.qc_list.proofs.Members.{In-filter, In-first, In-passes, In-second, In-unfiltered}
 use Rattle.qc_entry.specs.declared.line.Line.{Line}
 use Rattle.qc_entry.specs.declared.line.OwnLine.{OwnLine}
 use Rattle.qc_entry.specs.declared.line.ReadLock.{ReadLock}
-use Rattle.qc_entry.specs.Names.{of_object}
+use Rattle.qc_entry.specs.Vocabulary.{of_object}
 use Rattle.qc_entry.proofs.Members.{ascending-of_object}
 use Rattle.qc_decl.specs.declared.declaration.Declaration.{Declaration}
-use Rattle.qc_decl.specs.Names.{IsAccepted, is_site}
-use Rattle.qc_table.specs.Names.{depends}
+use Rattle.qc_decl.specs.Vocabulary.{IsAccepted, is_site}
+use Rattle.qc_table.specs.Vocabulary.{depends}
 use Rattle.qc_lock.specs.declared.clash.Clash.{Clash}
-use Rattle.qc_lock.specs.Names.{append_clash, held_of, read_clash, with_held}
+use Rattle.qc_lock.specs.Vocabulary.{append_clash, held_of, read_clash, with_held}
 use Rattle.qc_msg.specs.declared.message.Want.{Want}
 use Rattle.qc_msg.specs.declared.message.Want.TheVariants.{Read, Append, Prepare}
-use Rattle.theory_onecopy.specs.Names.{depends_at}
+use Rattle.theory_onecopy.specs.Vocabulary.{depends_at}
 use Rattle.theory_onecopy.proofs.Lists.{Mapped, in_map, map_in}
-use Rattle.theory_machine.specs.Names.{Act, Conflict, Deed, Grant, Grants, IsRun, Item, Lock, NotBegun, Own, Site}
-use Rattle.theory_machine.specs.Names.{each_held, items_of, site_after, state}
+use Rattle.theory_machine.specs.Vocabulary.{Act, Conflict, Deed, Grant, Grants, IsRun, Item, Lock, NotBegun, Own, Site}
+use Rattle.theory_machine.specs.Vocabulary.{each_held, items_of, site_after, state}
 use Rattle.theory_machine.proofs.Holdings.{held_lines_are_one_an_operation}
 use Rattle.theory_machine.proofs.Names.{put_here}
 use Rattle.theory_machine.proofs.SiteLists.{items_of-append, items_of-each_held}
-use Rattle.qc_site.specs.Names.{SiteMove, appends, clashing, grants, known, moved, reads, relation_at}
+use Rattle.qc_site.specs.Vocabulary.{SiteMove, appends, clashing, grants, known, moved, reads, relation_at}
 use Rattle.qc_site.proofs.RequestCases.{append_cases, read_cases}
-use Rattle.laws_refinement.specs.Names.{Continues, IsHeld, IsMessage, IsWanted, Mirrors, Net, SiteMirrors, after_site}
-use Rattle.laws_refinement.specs.Names.{own_item, own_items}
+use Rattle.laws_refinement.specs.Vocabulary.{Continues, IsHeld, IsMessage, IsWanted, Mirrors, Net, SiteMirrors}
+use Rattle.laws_refinement.specs.Vocabulary.{after_site, own_item, own_items}
 use Rattle.qc_msg.specs.declared.message.Message.TheVariants as messages
 use Rattle.laws_refinement.proofs.Held.{append_holder, append_is_free, given_back, given_held, given_keeps}
 use Rattle.laws_refinement.proofs.Held.{lock_given_here, own_given_here, read_holder, read_is_free}

@@ -1,29 +1,29 @@
 -- The participants, and the transaction, with what was granted.
-use Rattle.std.proofs.Common.{◌≡◌, ◌≢◌, ◌≤◌, ℕ, ◌==◌, ◌||◌, max, Bool, true, false, cond, inr, List, ◌∷◌, ◌++◌, map}
+use Rattle.std.proofs.Common.{[], ◌≡◌, ◌≢◌, ◌≤◌, ℕ, ◌==◌, ◌||◌, max, Bool, true, false, cond, inr, List, ◌∷◌, ◌++◌, map}
 use Rattle.std.proofs.Common.{Option, Some, None, slice_get, refl, sym, ap, ◌∙◌, subst, eq-eqb, arith}
 use Rattle.std.specs.Prelude.{option_map}
 use Rattle.std.specs.Option.{option_map_or}
 use Rattle.qc_stamp.specs.declared.stamp.TxId.{TxId}
-use Rattle.qc_list.specs.Names.{In}
+use Rattle.qc_list.specs.Vocabulary.{In}
 use Rattle.qc_entry.specs.declared.line.Line.{Line}
 use Rattle.qc_entry.specs.declared.line.OwnLine.{OwnLine}
-use Rattle.qc_entry.specs.Names.{IsAscending, union}
+use Rattle.qc_entry.specs.Vocabulary.{IsAscending, union}
 use Rattle.qc_decl.specs.declared.declaration.Declaration.{Declaration}
 use Rattle.qc_msg.specs.declared.begun.LifeAt.{LifeAt}
 use Rattle.qc_msg.specs.declared.message.Want.{Want}
-use Rattle.qc_msg.specs.Names.{has_granted, with_life}
-use Rattle.theory_machine.specs.Names.{Aborted, Count, Granted, IsShown, NotBegun, State, after_act, op_of}
-use Rattle.theory_machine.specs.Names.{own_on as machine_own_on}
-use Rattle.qc_front.specs.Names.{lived, own_on, view_log, with_granted, with_view}
+use Rattle.qc_msg.specs.Vocabulary.{has_granted, with_life}
+use Rattle.theory_machine.specs.Vocabulary.{Aborted, Count, Granted, IsShown, NotBegun, State, after_act, op_of}
+use Rattle.theory_machine.specs.Vocabulary.{own_on as machine_own_on}
+use Rattle.qc_front.specs.Vocabulary.{lived, own_on, view_log, with_granted, with_view}
 use Rattle.theory_machine.proofs.Names.{put_case}
-use Rattle.qc_commit.specs.Names.{record_of}
+use Rattle.qc_commit.specs.Vocabulary.{record_of}
 use Rattle.qc_view.specs.declared.view.View.{View}
-use Rattle.qc_view.specs.Names.{with_log}
+use Rattle.qc_view.specs.Vocabulary.{with_log}
 use Rattle.qc_front.specs.declared.transaction.Transaction.{Transaction}
 use Rattle.qc_front.proofs.CommandsKeep.{view_keeps}
-use Rattle.qc_client.specs.Names.{is_begun}
+use Rattle.qc_client.specs.Vocabulary.{is_begun}
 use Rattle.qc_client.specs.declared.client.Client.{Client}
-use Rattle.laws_refinement.specs.Names.{IsGrant, LivesMirror}
+use Rattle.laws_refinement.specs.Vocabulary.{IsGrant, LivesMirror}
 use Rattle.laws_refinement.proofs.ClientSteps.{Core}
 use Rattle.laws_refinement.proofs.Recorded.{log_here, log_there, views_keep_own}
 

@@ -5,22 +5,22 @@ use Rattle.std.specs.declared.cmp.Ordering.{Ordering}
 use Rattle.std.specs.declared.cmp.Ordering.TheVariants.{Less, Equal, Greater}
 use Rattle.std.specs.Ordering.{nat_cmp}
 use Rattle.qc_stamp.specs.declared.stamp.TxId.{TxId}
-use Rattle.qc_stamp.specs.Names.{same_tx}
+use Rattle.qc_stamp.specs.Vocabulary.{same_tx}
 use Rattle.qc_stamp.proofs.Orders.{nat_apart, first_Equal, second_Equal, same_tx_is, same_tx_itself}
-use Rattle.qc_list.specs.Names.{In, by_order, inserted}
+use Rattle.qc_list.specs.Vocabulary.{In, by_order, inserted}
 use Rattle.qc_entry.specs.declared.line.OwnLine.{OwnLine}
 use Rattle.qc_entry.specs.declared.line.ReadLock.{ReadLock}
-use Rattle.qc_table.specs.Names.{depends}
+use Rattle.qc_table.specs.Vocabulary.{depends}
 use Rattle.qc_lock.specs.declared.clash.Clash.{Clash}
 use Rattle.qc_lock.specs.declared.held.Held.{Held}
-use Rattle.qc_lock.specs.Names.{In as IsAmong, IsAppendConflict, IsReadConflict, IsSmallest, append_clash, entry_of}
-use Rattle.qc_lock.specs.Names.{held_of, is_held, lock_cmp, own_cmp, read_clash, with_held, with_lock, with_locks}
-use Rattle.qc_lock.specs.Names.{with_own, with_owns, without_held}
+use Rattle.qc_lock.specs.Vocabulary.{In as IsAmong, IsAppendConflict, IsReadConflict, IsSmallest, append_clash}
+use Rattle.qc_lock.specs.Vocabulary.{entry_of, held_of, is_held, lock_cmp, own_cmp, read_clash, with_held, with_lock}
+use Rattle.qc_lock.specs.Vocabulary.{with_locks, with_own, with_owns, without_held}
 use Rattle.qc_lock.proofs.Conflicts.{append_free, read_free}
 use Rattle.qc_lock.proofs.Conflicts as conflicts
 use Rattle.qc_lock.proofs.Entries.{entry-without, entry-without_other, locks_given, own_given, others_stay}
-use Rattle.theory_machine.specs.Names.{Item, Lock, Own}
-use Rattle.laws_refinement.specs.Names.{IsHeld}
+use Rattle.theory_machine.specs.Vocabulary.{Item, Lock, Own}
+use Rattle.laws_refinement.specs.Vocabulary.{IsHeld}
 
 to_among : {A : Type 0} (x : A) (xs : List A) → In x xs → IsAmong x xs
 to_among x [] h = h

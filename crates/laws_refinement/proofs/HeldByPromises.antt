@@ -2,22 +2,22 @@
 use Rattle.std.proofs.Common.{◌≡◌, ◌≢◌, Bool, true, false, ◌⊎◌, inl, inr, List, [], ◌∷◌, Option, Some, None, fold, refl}
 use Rattle.std.proofs.Common.{sym, ap, ◌∙◌, subst}
 use Rattle.qc_stamp.specs.declared.stamp.TxId.{TxId}
-use Rattle.qc_stamp.specs.Names.{same_tx}
+use Rattle.qc_stamp.specs.Vocabulary.{same_tx}
 use Rattle.qc_stamp.proofs.Orders.{same_tx_is}
-use Rattle.qc_list.specs.Names.{In}
+use Rattle.qc_list.specs.Vocabulary.{In}
 use Rattle.qc_list.proofs.Members.{In-first, In-second}
 use Rattle.qc_entry.specs.declared.line.OwnLine.{OwnLine}
 use Rattle.qc_entry.specs.declared.line.ReadLock.{ReadLock}
 use Rattle.qc_entry.specs.declared.record.Prepared.{Prepared}
 use Rattle.qc_lock.specs.declared.held.Held.{Held}
-use Rattle.qc_lock.specs.Names.{held_of, is_held, with_lock, with_locks}
+use Rattle.qc_lock.specs.Vocabulary.{held_of, is_held, with_lock, with_locks}
 use Rattle.qc_lock.proofs.Entries.{locks_given, own_given}
 use Rattle.theory_onecopy.proofs.Lists.{in_split}
-use Rattle.theory_machine.specs.Names.{Item, Lock, Own, Promise, each_held, held_by_promises, items_of, promise_of}
+use Rattle.theory_machine.specs.Vocabulary.{Item, Lock, Own, Promise, each_held, held_by_promises, items_of, promise_of}
 use Rattle.theory_machine.proofs.Names.{tx_test}
 use Rattle.theory_machine.proofs.SiteLists.{found, items_of-append, items_of-each_held, items_of-other}
-use Rattle.qc_site.specs.Names.{held_by, holds, prepared_of}
-use Rattle.laws_refinement.specs.Names.{AreApart, AreSingle, IsApart, IsHeld, IsPromiseOf, IsPromised}
+use Rattle.qc_site.specs.Vocabulary.{held_by, holds, prepared_of}
+use Rattle.laws_refinement.specs.Vocabulary.{AreApart, AreSingle, IsApart, IsHeld, IsPromiseOf, IsPromised}
 use Rattle.laws_refinement.proofs.Held.{given_back, given_held, given_other, lock_more, lock_new, owns_new}
 use Rattle.laws_refinement.proofs.Machine.{single_found}
 use Rattle.laws_refinement.proofs.Apart.{apart_found, found_in}

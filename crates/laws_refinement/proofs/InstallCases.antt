@@ -1,21 +1,21 @@
 -- A site takes an Install: it begins the epoch with the log of the decision, holds nothing and has promised nothing.
 use Rattle.std.proofs.Common.{◌≡◌, ◌≤◌, ◌<◌, ℕ, max, nat_le, Bool, true, false, cond, ◌⊎◌, inl, inr, List, [], ◌∷◌}
 use Rattle.std.proofs.Common.{◌++◌, None, refl, sym, ◌∙◌, subst, leb-false, arith}
-use Rattle.qc_list.specs.Names.{In}
+use Rattle.qc_list.specs.Vocabulary.{In}
 use Rattle.qc_entry.specs.declared.line.Line.{Line}
 use Rattle.qc_decl.specs.declared.declaration.Declaration.{Declaration}
-use Rattle.qc_decl.specs.Names.{is_site, most_record_bytes}
+use Rattle.qc_decl.specs.Vocabulary.{is_site, most_record_bytes}
 use Rattle.theory_onecopy.proofs.Lists.{in_split}
 use Rattle.qc_msg.specs.declared.message.Answer.TheVariants as answers
 use Rattle.qc_msg.specs.declared.record.Record.TheVariants as records
-use Rattle.theory_machine.specs.Names.{Act, Deed, Install, Installs, IsRun, Site, State, after_act, empty_site}
-use Rattle.theory_machine.specs.Names.{epoch_from, items_of, promise_of, state}
+use Rattle.theory_machine.specs.Vocabulary.{Act, Deed, Install, Installs, IsRun, Site, State, after_act, empty_site}
+use Rattle.theory_machine.specs.Vocabulary.{epoch_from, items_of, promise_of, state}
 use Rattle.theory_machine.proofs.Names.{put_here}
-use Rattle.qc_site.specs.Names.{SiteState, answers as answers_with, installed, installs, latest, moved, recording}
-use Rattle.qc_msg.specs.Names.{epoch_length}
-use Rattle.laws_refinement.specs.Names.{Continues, IsDecided, IsKeptBy, IsPromiseOf, KeptMirrors, Mirrors, Net}
-use Rattle.laws_refinement.specs.Names.{SiteMirrors, after_site}
-use Rattle.qc_recover.specs.Names.{Kept, keeps, kept_by}
+use Rattle.qc_site.specs.Vocabulary.{SiteState, answers as answers_with, installed, installs, latest, moved, recording}
+use Rattle.qc_msg.specs.Vocabulary.{epoch_length}
+use Rattle.laws_refinement.specs.Vocabulary.{Continues, IsDecided, IsKeptBy, IsPromiseOf, KeptMirrors, Mirrors, Net}
+use Rattle.laws_refinement.specs.Vocabulary.{SiteMirrors, after_site}
+use Rattle.qc_recover.specs.Vocabulary.{Kept, keeps, kept_by}
 use Rattle.laws_refinement.proofs.KeptLists.{kept_more}
 use Rattle.laws_refinement.proofs.Known.{known_from, known_in}
 use Rattle.laws_refinement.proofs.KeptSteps.{kept_installs}

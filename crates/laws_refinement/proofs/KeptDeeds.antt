@@ -1,27 +1,27 @@
 -- What a site's records give of promises and of what is done, as its machine's site does one deed more.
-use Rattle.std.proofs.Common.{◌≡◌, ◌≢◌, ◌≤◌, ℕ, not, Bool, true, false, ◌⊎◌, inl, inr, List, ◌∷◌, ◌++◌, Option, Some}
-use Rattle.std.proofs.Common.{None, is_some, refl, sym, ap, ◌∙◌, subst, arith}
+use Rattle.std.proofs.Common.{[], ◌≡◌, ◌≢◌, ◌≤◌, ℕ, not, Bool, true, false, ◌⊎◌, inl, inr, List, ◌∷◌, ◌++◌, Option}
+use Rattle.std.proofs.Common.{Some, None, is_some, refl, sym, ap, ◌∙◌, subst, arith}
 use Rattle.qc_stamp.specs.declared.stamp.TxId.{TxId}
-use Rattle.qc_stamp.specs.Names.{same_tx}
+use Rattle.qc_stamp.specs.Vocabulary.{same_tx}
 use Rattle.qc_stamp.proofs.Orders.{same_tx_is}
-use Rattle.qc_list.specs.Names.{In}
+use Rattle.qc_list.specs.Vocabulary.{In}
 use Rattle.qc_list.proofs.Members.{In-first, In-second, In-unfiltered}
 use Rattle.qc_decl.specs.declared.declaration.Declaration.{Declaration}
 use Rattle.qc_entry.specs.declared.line.Line.{Line}
 use Rattle.qc_entry.specs.declared.record.Prepared.{Prepared}
-use Rattle.qc_entry.specs.Names.{IsAscending, union}
+use Rattle.qc_entry.specs.Vocabulary.{IsAscending, union}
 use Rattle.qc_entry.proofs.Union.{ascending-union}
 use Rattle.qc_msg.specs.declared.record.Record.TheVariants as records
 use Rattle.theory_onecopy.proofs.Lists.{in_split}
-use Rattle.theory_machine.specs.Names.{Closes, Deed, DoneRecord, Grants, Installs, LearnsAbort, LearnsCommit, NotBegun}
-use Rattle.theory_machine.specs.Names.{Prepares, Promise, Rises, Site, Status, after_commit, after_deed, after_prepare}
-use Rattle.theory_machine.specs.Names.{done_record, done_records, empty_site, epoch_from, items_of, promise_of}
-use Rattle.theory_machine.specs.Names.{shut_from, site_after, site_from, without_promise}
+use Rattle.theory_machine.specs.Vocabulary.{Closes, Deed, DoneRecord, Grants, Installs, LearnsAbort, LearnsCommit}
+use Rattle.theory_machine.specs.Vocabulary.{NotBegun, Prepares, Promise, Rises, Site, Status, after_commit, after_deed}
+use Rattle.theory_machine.specs.Vocabulary.{after_prepare, done_record, done_records, empty_site, epoch_from, items_of}
+use Rattle.theory_machine.specs.Vocabulary.{promise_of, shut_from, site_after, site_from, without_promise}
 use Rattle.theory_machine.proofs.Grants.{site_laws}
-use Rattle.qc_site.specs.Names.{latest, prepared_of, without_prepared}
+use Rattle.qc_site.specs.Vocabulary.{latest, prepared_of, without_prepared}
 use Rattle.qc_site.proofs.Votes.{prepared-without, prepared-without_other}
-use Rattle.qc_recover.specs.Names.{Kept, keeps, with_promise}
-use Rattle.laws_refinement.specs.Names.{AreSingle, IsPromiseOf, KeptMirrors, kept_lines}
+use Rattle.qc_recover.specs.Vocabulary.{Kept, keeps, with_promise}
+use Rattle.laws_refinement.specs.Vocabulary.{AreSingle, IsPromiseOf, KeptMirrors, kept_lines}
 use Rattle.laws_refinement.proofs.Known.{more_from, more_in}
 use Rattle.laws_refinement.proofs.Machine.{LeavesEpoch, epoch_after, epoch_stays, install_old, shut_after, shut_stays}
 use Rattle.laws_refinement.proofs.Machine.{single_from, singles_dropped, site_more}

@@ -2,13 +2,13 @@
 use Rattle.std.proofs.Common.{◌≡◌, not, Bool, true, false, cond, fold, List, [], ◌∷◌, ◌++◌, Some, None, refl, sym, ap}
 use Rattle.std.proofs.Common.{◌∙◌, subst}
 use Rattle.qc_stamp.specs.declared.stamp.TxId.{TxId}
-use Rattle.qc_stamp.specs.Names.{same_tx}
+use Rattle.qc_stamp.specs.Vocabulary.{same_tx}
 use Rattle.qc_stamp.proofs.Orders.{same_tx_is}
 use Rattle.qc_entry.specs.declared.record.Prepared.{Prepared}
 use Rattle.qc_msg.specs.declared.record.Record.{Record}
-use Rattle.qc_site.specs.Names.{prepared_of, without_prepared}
+use Rattle.qc_site.specs.Vocabulary.{prepared_of, without_prepared}
 use Rattle.qc_site.proofs.Votes.{prepared-without, prepared-without_other}
-use Rattle.qc_recover.specs.Names.{Kept, keeps, kept_by, nothing_kept}
+use Rattle.qc_recover.specs.Vocabulary.{Kept, keeps, kept_by, nothing_kept}
 
 -- one record more
 pub kept_from : (k : Kept) (rs : List Record) (r : Record) → fold keeps k (rs ++ r ∷ []) ≡ keeps (fold keeps k rs) r

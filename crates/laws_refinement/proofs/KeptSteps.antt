@@ -1,24 +1,24 @@
 -- What the records of a site give, as its machine's site does one deed more.
-use Rattle.std.proofs.Common.{◌≡◌, ◌≤◌, ℕ, suc, max, not, Bool, true, false, ◌⊎◌, inl, inr, List, ◌∷◌, ◌++◌, Option}
+use Rattle.std.proofs.Common.{[], ◌≡◌, ◌≤◌, ℕ, suc, max, not, Bool, true, false, ◌⊎◌, inl, inr, List, ◌∷◌, ◌++◌, Option}
 use Rattle.std.proofs.Common.{Some, None, refl, sym, ap, ◌∙◌, subst, arith}
 use Rattle.std.specs.Option.{option_map_or}
 use Rattle.qc_stamp.specs.declared.stamp.TxId.{TxId}
-use Rattle.qc_stamp.specs.Names.{same_tx}
+use Rattle.qc_stamp.specs.Vocabulary.{same_tx}
 use Rattle.qc_stamp.proofs.Orders.{same_tx_is}
-use Rattle.qc_list.specs.Names.{In}
+use Rattle.qc_list.specs.Vocabulary.{In}
 use Rattle.qc_list.proofs.Members.{In-unfiltered}
 use Rattle.qc_decl.specs.declared.declaration.Declaration.{Declaration}
 use Rattle.qc_entry.specs.declared.line.Line.{Line}
 use Rattle.qc_entry.specs.declared.record.Prepared.{Prepared}
-use Rattle.qc_entry.specs.Names.{IsAscending, union, without}
+use Rattle.qc_entry.specs.Vocabulary.{IsAscending, union, without}
 use Rattle.qc_msg.specs.declared.record.Record.TheVariants as records
 use Rattle.theory_onecopy.proofs.Lists.{in_split}
-use Rattle.theory_machine.specs.Names.{Closes, Deed, DoneRecord, Installs, LearnsCommit, Promise, Rises, Site, Status}
-use Rattle.theory_machine.specs.Names.{after_commit, empty_site, promise_of, site_after}
-use Rattle.qc_site.specs.Names.{SiteState, latest, lines_of, new_site, prepared_of, without_prepared}
+use Rattle.theory_machine.specs.Vocabulary.{Closes, Deed, DoneRecord, Installs, LearnsCommit, Promise, Rises, Site}
+use Rattle.theory_machine.specs.Vocabulary.{Status, after_commit, empty_site, promise_of, site_after}
+use Rattle.qc_site.specs.Vocabulary.{SiteState, latest, lines_of, new_site, prepared_of, without_prepared}
 use Rattle.qc_site.proofs.Votes.{prepared-without, prepared-without_other}
-use Rattle.qc_recover.specs.Names.{Kept, done_lines, done_stamp, keeps}
-use Rattle.laws_refinement.specs.Names.{IsClosing, IsPlanned, IsPromiseOf, KeptMirrors}
+use Rattle.qc_recover.specs.Vocabulary.{Kept, done_lines, done_stamp, keeps}
+use Rattle.laws_refinement.specs.Vocabulary.{IsClosing, IsPlanned, IsPromiseOf, KeptMirrors}
 use Rattle.laws_refinement.proofs.Known.{known_from, known_in, learned_in}
 use Rattle.laws_refinement.proofs.Machine.{done_last, epoch_after, shut_after, site_more}
 use Rattle.laws_refinement.proofs.Apart.{aparts_dropped}

@@ -6,18 +6,18 @@ use Rattle.qc_decl.proofs.Clients.{client_below, client_past}
 use Rattle.qc_stamp.specs.declared.stamp.TxId.{TxId}
 use Rattle.qc_entry.specs.declared.record.Commit.{Commit as CommitRecord}
 use Rattle.qc_decl.specs.declared.declaration.Declaration.{Declaration}
-use Rattle.qc_decl.specs.Names.{administrator, client_actor, is_client, is_site}
+use Rattle.qc_decl.specs.Vocabulary.{administrator, client_actor, is_client, is_site}
 use Rattle.qc_msg.specs.declared.record.Record.{Record}
 use Rattle.qc_msg.specs.declared.record.Record.TheVariants as records
-use Rattle.theory_onecopy.specs.Names.{Executed}
-use Rattle.theory_machine.specs.Names.{Deed, MayCommit, State, op_of}
+use Rattle.theory_onecopy.specs.Vocabulary.{Executed}
+use Rattle.theory_machine.specs.Vocabulary.{Deed, MayCommit, State, op_of}
 use Rattle.qc_recover.specs.Clients as clients
-use Rattle.qc_recover.specs.Names.{Kept, epoch_by}
-use Rattle.laws_refinement.specs.Names.{FallenMirrors, IsPendingAt, IsPendingBy, IsPendingRule, KeptMirrors}
-use Rattle.laws_refinement.specs.Names.{RulesMirror}
+use Rattle.qc_recover.specs.Vocabulary.{Kept, epoch_by}
+use Rattle.laws_refinement.specs.Vocabulary.{FallenMirrors, IsPendingAt, IsPendingBy, IsPendingRule, KeptMirrors}
+use Rattle.laws_refinement.specs.Vocabulary.{RulesMirror}
 use Rattle.laws_refinement.proofs.MessagesStay.{Keeps, Later, decided_later, decision_later}
 use Rattle.laws_refinement.proofs.LaterDecisions.{decisions_may_wait}
-use Rattle.qc_epoch.specs.Names.{Decided}
+use Rattle.qc_epoch.specs.Vocabulary.{Decided}
 
 -- no site is a client
 pub no_client : (decl : Declaration) (a : ℕ) → is_site decl a ≡ true → is_client decl a ≡ true → ⊥

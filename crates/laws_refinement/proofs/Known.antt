@@ -4,16 +4,16 @@ use Rattle.std.proofs.Common.{◌≡◌, ◌⊎◌, ◌||◌, inl, inr, not, Boo
 use Rattle.std.specs.Ordering.{is_eq}
 use Rattle.std.specs.declared.cmp.Ordering.{Ordering}
 use Rattle.std.specs.declared.cmp.Ordering.TheVariants.{Less, Equal, Greater}
-use Rattle.qc_list.specs.Names.{In}
+use Rattle.qc_list.specs.Vocabulary.{In}
 use Rattle.qc_list.proofs.Members.{In-filter, In-unfiltered}
 use Rattle.qc_entry.specs.declared.line.Line.{Line}
-use Rattle.qc_entry.specs.Names.{IsAscending, has_line, line_cmp, union, without}
+use Rattle.qc_entry.specs.Vocabulary.{IsAscending, has_line, line_cmp, union, without}
 use Rattle.qc_entry.proofs.Orders.{line_order}
 use Rattle.qc_entry.proofs.Union.{ascending-union, in_either, in_first, in_second}
-use Rattle.qc_site.specs.Names.{SiteState, known}
+use Rattle.qc_site.specs.Vocabulary.{SiteState, known}
 use Rattle.qc_site.proofs.Sorted.{ascending-without}
-use Rattle.qc_recover.specs.Names.{Kept}
-use Rattle.laws_refinement.specs.Names.{IsKeptBy, kept_lines}
+use Rattle.qc_recover.specs.Vocabulary.{Kept}
+use Rattle.laws_refinement.specs.Vocabulary.{IsKeptBy, kept_lines}
 
 -- a line is known where the epoch began with it, or it was learned since
 

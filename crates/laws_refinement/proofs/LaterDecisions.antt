@@ -1,9 +1,10 @@
 -- What may be decided may be decided later too, and what is backed stays so.
 use Rattle.std.proofs.Common.{inl, inr}
-use Rattle.qc_list.specs.Names.{In}
+use Rattle.qc_list.specs.Vocabulary.{In}
 use Rattle.qc_entry.specs.declared.line.Line.{Line}
 use Rattle.qc_decl.specs.declared.declaration.Declaration.{Declaration}
-use Rattle.theory_machine.specs.Names.{Decision, IsMerged, IsResolved, MayDecide, Promise, Snapshot, State, Verdict}
+use Rattle.theory_machine.specs.Vocabulary.{Decision, IsMerged, IsResolved, MayDecide, Promise, Snapshot, State}
+use Rattle.theory_machine.specs.Vocabulary.{Verdict}
 
 pub decisions_may_wait : (decl : Declaration) (w v : State) (d : Decision)
     → ((s : Snapshot) → In s w.snapshots → In s v.snapshots) → ((x : Verdict) → In x w.verdicts → In x v.verdicts)

@@ -5,9 +5,9 @@ use Rattle.std.specs.List.{find}
 use Rattle.std.specs.Option.{option_map_or}
 use Rattle.qc_stamp.specs.declared.stamp.TxId.{TxId}
 use Rattle.qc_msg.specs.declared.begun.LifeAt.{LifeAt}
-use Rattle.qc_msg.specs.Names.{has_granted, life_of, with_life}
-use Rattle.theory_machine.specs.Names.{Granted}
-use Rattle.laws_refinement.specs.Names.{LivesMirror}
+use Rattle.qc_msg.specs.Vocabulary.{has_granted, life_of, with_life}
+use Rattle.theory_machine.specs.Vocabulary.{Granted}
+use Rattle.laws_refinement.specs.Vocabulary.{LivesMirror}
 
 abbrev found : List LifeAt → ℕ → Option LifeAt
 found lives site = find (λ (l : LifeAt). l.site == site) lives

@@ -1,11 +1,11 @@
 -- Lives only grow; a request that isn't refused names the site's life, or none.
-use Rattle.std.specs.Prelude.{option_to_list}
+use Rattle.std.specs.Prelude.{[], option_to_list}
 use Rattle.std.proofs.Common.{◌≡◌, ◌⊎◌, ℕ, ◌==◌, nat_lt, ◌≤◌, arith, eqb-true, inl, inr, Bool, true, false, cond, fold}
 use Rattle.std.proofs.Common.{List, ◌∷◌, ◌++◌, Option, Some, None, refl, sym, ap, ◌∙◌, subst}
 use Rattle.std.proofs.lemmas.List.Sums.{fold-append}
 use Rattle.qc_stamp.specs.declared.stamp.TxId.{TxId}
-use Rattle.qc_list.specs.Names.{In}
-use Rattle.qc_decl.specs.Names.{administrator}
+use Rattle.qc_list.specs.Vocabulary.{In}
+use Rattle.qc_decl.specs.Vocabulary.{administrator}
 use Rattle.qc_decl.specs.declared.declaration.Declaration.{Declaration}
 use Rattle.qc_msg.specs.declared.message.Answer.TheVariants as answers
 use Rattle.qc_msg.specs.declared.message.Message.TheVariants as messages
@@ -13,14 +13,14 @@ use Rattle.qc_msg.specs.declared.message.Want.TheVariants.{Prepare}
 use Rattle.qc_msg.specs.declared.record.Record.{Record}
 use Rattle.qc_msg.specs.declared.record.Record.TheVariants as records
 use Rattle.qc_msg.specs.declared.turn.Posting.{Posting}
-use Rattle.theory_machine.specs.Names.{put}
+use Rattle.theory_machine.specs.Vocabulary.{put}
 use Rattle.theory_machine.proofs.Names.{put_here}
-use Rattle.qc_client.specs.Names.{client_takes}
-use Rattle.qc_site.specs.Names.{SiteMove, SiteState, closed_fault, fault_of, passed, site_on, site_takes}
-use Rattle.qc_epoch.specs.Names.{admin_takes}
+use Rattle.qc_client.specs.Vocabulary.{client_takes}
+use Rattle.qc_site.specs.Vocabulary.{SiteMove, SiteState, closed_fault, fault_of, passed, site_on, site_takes}
+use Rattle.qc_epoch.specs.Vocabulary.{admin_takes}
 use Rattle.qc_site.proofs.RequestCases.{request_cases}
-use Rattle.qc_recover.specs.Names.{Kept, keeps, kept_by, nothing_kept}
-use Rattle.laws_refinement.specs.Names.{Net, Reaches, Step}
+use Rattle.qc_recover.specs.Vocabulary.{Kept, keeps, kept_by, nothing_kept}
+use Rattle.laws_refinement.specs.Vocabulary.{Net, Reaches, Step}
 use Rattle.laws_refinement.specs.Net as nets
 use Rattle.laws_refinement.proofs.Machine.{put_other}
 use Rattle.laws_refinement.proofs.SiteNets.{place}

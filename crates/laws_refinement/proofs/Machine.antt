@@ -3,19 +3,19 @@ use Rattle.std.proofs.Common.{◌≡◌, ◌≢◌, ℕ, ◌==◌, Bool, true, f
 use Rattle.std.proofs.Common.{Some, None, refl, sym, subst, eqb-true, zero, suc, slice_get, eq-eqb}
 use Rattle.qc_stamp.specs.declared.stamp.TxId.{TxId}
 use Rattle.qc_stamp.specs.declared.stamp.Stamp.{Stamp}
-use Rattle.qc_stamp.specs.Names.{same_tx}
+use Rattle.qc_stamp.specs.Vocabulary.{same_tx}
 use Rattle.qc_stamp.proofs.Orders.{other_tx_sym}
 use Rattle.qc_entry.specs.declared.line.Line.{Line}
-use Rattle.qc_list.specs.Names.{In}
+use Rattle.qc_list.specs.Vocabulary.{In}
 use Rattle.qc_list.proofs.Members.{In-first, In-second}
 use Rattle.theory_onecopy.proofs.Lists.{in_split}
-use Rattle.theory_machine.specs.Names.{Closes, Deed, DoneRecord, Grants, Installs, LearnsAbort, LearnsCommit, Prepares}
-use Rattle.theory_machine.specs.Names.{Promise, Rises, Site, after_commit, after_deed, after_prepare, done_record}
-use Rattle.theory_machine.specs.Names.{done_records, empty_site, epoch_from, promise_of, put, shut_from, site_after}
-use Rattle.theory_machine.specs.Names.{without_promise}
+use Rattle.theory_machine.specs.Vocabulary.{Closes, Deed, DoneRecord, Grants, Installs, LearnsAbort, LearnsCommit}
+use Rattle.theory_machine.specs.Vocabulary.{Prepares, Promise, Rises, Site, after_commit, after_deed, after_prepare}
+use Rattle.theory_machine.specs.Vocabulary.{done_record, done_records, empty_site, epoch_from, promise_of, put}
+use Rattle.theory_machine.specs.Vocabulary.{shut_from, site_after, without_promise}
 use Rattle.theory_machine.proofs.Names.{tx_test}
 use Rattle.theory_machine.proofs.SiteOrder.{after_append}
-use Rattle.laws_refinement.specs.Names.{AreSingle, IsSingle}
+use Rattle.laws_refinement.specs.Vocabulary.{AreSingle, IsSingle}
 
 pub slice_get-append : {X : Type 0} (xs ys : List X) (n : ℕ) (x : X) → slice_get xs n ≡ Some x
     → slice_get (xs ++ ys) n ≡ Some x

@@ -3,22 +3,22 @@ use Rattle.std.proofs.Common.{◌≡◌, ◌≤◌, ℕ, max, Bool, true, false,
 use Rattle.std.proofs.Common.{None, fold, refl, sym, ap, ◌∙◌, subst, arith}
 use Rattle.qc_stamp.specs.declared.stamp.Stamp.{Stamp}
 use Rattle.qc_stamp.specs.declared.stamp.TxId.{TxId}
-use Rattle.qc_stamp.specs.Names.{same_tx}
+use Rattle.qc_stamp.specs.Vocabulary.{same_tx}
 use Rattle.qc_stamp.proofs.Orders.{same_tx_is}
-use Rattle.qc_list.specs.Names.{In}
+use Rattle.qc_list.specs.Vocabulary.{In}
 use Rattle.qc_entry.specs.declared.line.Line.{Line}
 use Rattle.qc_entry.specs.declared.line.OwnLine.{OwnLine}
 use Rattle.qc_entry.specs.declared.record.Prepared.{Prepared}
-use Rattle.qc_entry.specs.Names.{IsAscending, union}
+use Rattle.qc_entry.specs.Vocabulary.{IsAscending, union}
 use Rattle.qc_entry.proofs.Union.{ascending-union, in_either, in_first, in_second}
 use Rattle.qc_msg.specs.declared.message.Outcome.{Outcome}
 use Rattle.qc_msg.specs.declared.message.Outcome.TheVariants.{Committed, Aborted, Active}
-use Rattle.theory_machine.specs.Names.{State, Verdict}
+use Rattle.theory_machine.specs.Vocabulary.{State, Verdict}
 use Rattle.theory_machine.proofs.Names.{tx_test}
-use Rattle.qc_site.specs.Names.{stamped}
-use Rattle.qc_epoch.specs.Names.{Question, ShutSite, clock_in, first_doubt, greatest, is_settled, merged}
-use Rattle.qc_epoch.specs.Names.{promised_lines, stamp_in, stamp_of, with_promised, with_shut}
-use Rattle.laws_refinement.specs.Names.{IsTaken}
+use Rattle.qc_site.specs.Vocabulary.{stamped}
+use Rattle.qc_epoch.specs.Vocabulary.{Question, ShutSite, clock_in, first_doubt, greatest, is_settled, merged}
+use Rattle.qc_epoch.specs.Vocabulary.{promised_lines, stamp_in, stamp_of, with_promised, with_shut}
+use Rattle.laws_refinement.specs.Vocabulary.{IsTaken}
 use Rattle.laws_refinement.proofs.Promises.{ascending-stamped, in_stamped, stamped_in}
 
 -- a line of a promise, with its transaction's stamp

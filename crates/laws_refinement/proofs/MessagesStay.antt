@@ -1,12 +1,12 @@
 -- What was sent, granted, voted, announced, told and decided stays so as the machine goes on.
 use Rattle.std.proofs.Common.{◌≡◌, ◌≢◌, ℕ, List, ◌++◌, Option, Some, None, refl, sym, ◌∙◌, subst}
 use Rattle.qc_stamp.specs.declared.stamp.TxId.{TxId}
-use Rattle.qc_list.specs.Names.{In}
-use Rattle.laws_refinement.specs.Names.{AdminMirrors, AreSnapshots, Backed, DecidedMirrors, DoingMirrors}
-use Rattle.laws_refinement.specs.Names.{IsAnswerBacked, IsDecided, IsGrant, IsMessage, IsNumbered, IsRequest}
-use Rattle.laws_refinement.specs.Names.{IsSnapshot, IsTaken, IsVerdictBacked, IsWanted, QuestionMirrors}
-use Rattle.theory_machine.specs.Names.{AppendRequest, Decision, Granted, MayPrepare, NotBegun, Snapshot, State, Verdict}
-use Rattle.theory_machine.specs.Names.{YesVote}
+use Rattle.qc_list.specs.Vocabulary.{In}
+use Rattle.laws_refinement.specs.Vocabulary.{AdminMirrors, AreSnapshots, Backed, DecidedMirrors, DoingMirrors}
+use Rattle.laws_refinement.specs.Vocabulary.{IsAnswerBacked, IsDecided, IsGrant, IsMessage, IsNumbered, IsRequest}
+use Rattle.laws_refinement.specs.Vocabulary.{IsSnapshot, IsTaken, IsVerdictBacked, IsWanted, QuestionMirrors}
+use Rattle.theory_machine.specs.Vocabulary.{AppendRequest, Decision, Granted, MayPrepare, NotBegun, Snapshot, State}
+use Rattle.theory_machine.specs.Vocabulary.{Verdict, YesVote}
 use Rattle.qc_entry.specs.declared.line.Line.{Line}
 use Rattle.qc_entry.specs.declared.record.Prepared.{Prepared}
 use Rattle.qc_decl.specs.declared.declaration.Declaration.{Declaration}
@@ -19,8 +19,8 @@ use Rattle.qc_msg.specs.declared.message.Outcome.{Outcome}
 use Rattle.qc_msg.specs.declared.message.Outcome.TheVariants as outcomes
 use Rattle.qc_msg.specs.declared.message.Want.{Want}
 use Rattle.qc_msg.specs.declared.message.Want.TheVariants.{Read, Append, Prepare}
-use Rattle.qc_decl.specs.Names.{client_actor}
-use Rattle.qc_epoch.specs.Names.{Admin, Asking, Decided, Doing, Installing, Question, Resting, ShutSite}
+use Rattle.qc_decl.specs.Vocabulary.{client_actor}
+use Rattle.qc_epoch.specs.Vocabulary.{Admin, Asking, Decided, Doing, Installing, Question, Resting, ShutSite}
 use Rattle.qc_epoch.specs.Admin as admins
 use Rattle.laws_refinement.proofs.Machine.{slice_get-append}
 

@@ -1,26 +1,26 @@
 -- What a client's open requests name stays named as a grant counts; and a closed epoch that counts.
 use Rattle.std.proofs.Common.{◌≡◌, ◌≢◌, ◌<◌, ◌⊎◌, inl, inr, ℕ, ◌==◌, not, Bool, true, false, cond, List, [], ◌∷◌, ◌++◌}
 use Rattle.std.proofs.Common.{filter, is_none, map, max, Some, refl, sym, ap, ◌∙◌, subst, eq-eqb}
-use Rattle.qc_list.specs.Names.{In}
+use Rattle.qc_list.specs.Vocabulary.{In}
 use Rattle.qc_list.proofs.Members.{In-passes}
 use Rattle.qc_entry.specs.declared.line.Line.{Line}
 use Rattle.qc_plan.specs.declared.standing.Asked.{Asked}
-use Rattle.qc_plan.specs.Names.{RoundState}
+use Rattle.qc_plan.specs.Vocabulary.{RoundState}
 use Rattle.qc_decl.specs.declared.declaration.Declaration.{Declaration}
-use Rattle.qc_decl.specs.Names.{first_site}
+use Rattle.qc_decl.specs.Vocabulary.{first_site}
 use Rattle.theory_onecopy.proofs.Lists.{in_map}
 use Rattle.qc_msg.specs.declared.begun.LifeAt.{LifeAt}
 use Rattle.qc_msg.specs.declared.call.Call.{Call}
 use Rattle.qc_msg.specs.declared.message.Envelope.{Envelope}
 use Rattle.qc_msg.specs.declared.message.Message.TheVariants as messages
 use Rattle.qc_msg.specs.declared.message.Want.{Want}
-use Rattle.qc_msg.specs.Names.{has_granted, life_of, site_called, with_life, without_call}
-use Rattle.theory_machine.specs.Names.{State}
+use Rattle.qc_msg.specs.Vocabulary.{has_granted, life_of, site_called, with_life, without_call}
+use Rattle.theory_machine.specs.Vocabulary.{State}
 use Rattle.qc_front.specs.declared.transaction.Transaction.{Transaction}
-use Rattle.qc_front.specs.Names.{AreOpen, IsPrefix, IsRound, awaited, sites_called, sites_of, weights_of}
+use Rattle.qc_front.specs.Vocabulary.{AreOpen, IsPrefix, IsRound, awaited, sites_called, sites_of, weights_of}
 use Rattle.qc_front.proofs.Apart.{AreApart, apart_first, apart_weighing}
 use Rattle.qc_client.specs.declared.client.Client.{Client}
-use Rattle.laws_refinement.specs.Names.{IsGrant, IsMessage, IsPlanned, LivesMirror}
+use Rattle.laws_refinement.specs.Vocabulary.{IsGrant, IsMessage, IsPlanned, LivesMirror}
 use Rattle.laws_refinement.proofs.ClientSteps.{Core}
 use Rattle.laws_refinement.proofs.Granting.{IsGiven}
 use Rattle.laws_refinement.proofs.Lives.{counted_once_more, life_other}

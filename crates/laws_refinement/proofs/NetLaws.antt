@@ -2,13 +2,13 @@
 use Rattle.std.proofs.Common.{◌≡◌, ◌↔◌, ℕ, true, inl, inr, List, [], ◌∷◌, Option, Some, None, refl, sym, subst}
 use Rattle.qc_stamp.specs.declared.stamp.Stamp.{Stamp}
 use Rattle.qc_stamp.specs.declared.stamp.TxId.{TxId}
-use Rattle.qc_list.specs.Names.{In}
-use Rattle.qc_site.specs.Names.{known}
+use Rattle.qc_list.specs.Vocabulary.{In}
+use Rattle.qc_site.specs.Vocabulary.{known}
 use Rattle.qc_entry.specs.declared.line.Line.{Line}
 use Rattle.qc_entry.specs.declared.record.Prepared.{Prepared}
 use Rattle.qc_entry.specs.declared.record.Commit.{Commit as CommitRecord}
 use Rattle.qc_decl.specs.declared.declaration.Declaration.{Declaration}
-use Rattle.qc_decl.specs.Names.{IsAccepted, is_site}
+use Rattle.qc_decl.specs.Vocabulary.{IsAccepted, is_site}
 use Rattle.qc_msg.specs.declared.message.Answer.{Answer}
 use Rattle.qc_msg.specs.declared.message.Answer.TheVariants as answers
 use Rattle.qc_msg.specs.declared.message.Envelope.{Envelope}
@@ -18,15 +18,15 @@ use Rattle.qc_msg.specs.declared.message.Outcome.{Outcome}
 use Rattle.qc_msg.specs.declared.message.Outcome.TheVariants as outcomes
 use Rattle.qc_msg.specs.declared.message.Want.{Want}
 use Rattle.qc_msg.specs.declared.message.Want.TheVariants.{Read, Append, Prepare}
-use Rattle.theory_onecopy.specs.Names.{AreApart, IsLogged, IsOrdered, IsStampedBefore, OneCopy, sorted}
+use Rattle.theory_onecopy.specs.Vocabulary.{AreApart, IsLogged, IsOrdered, IsStampedBefore, OneCopy, sorted}
 use Rattle.theory_onecopy.proofs.Committed.{records_are_sorted}
 use Rattle.theory_onecopy.proofs.Lists.{in_split}
-use Rattle.theory_machine.specs.Names.{Decide, Decision, IsVerdictOf, MayDecide, OfAppend, OfDecision, OfGrant, OfSite}
-use Rattle.theory_machine.specs.Names.{OfSnapshot, site_after, state}
+use Rattle.theory_machine.specs.Vocabulary.{Decide, Decision, IsVerdictOf, MayDecide, OfAppend, OfDecision, OfGrant}
+use Rattle.theory_machine.specs.Vocabulary.{OfSite, OfSnapshot, site_after, state}
 use Rattle.theory_machine.proofs.ClaimLaws as claims
 use Rattle.theory_machine.proofs.OneCopyLaw.{records_in_order_are_one_copy}
-use Rattle.laws_refinement.specs.Names.{Backed, IsDecided, IsSnapshot, IsTrueVerdict, Net, Reaches, Refines, lines_in}
-use Rattle.laws_refinement.specs.Names.{lines_promised, own_items}
+use Rattle.laws_refinement.specs.Vocabulary.{Backed, IsDecided, IsSnapshot, IsTrueVerdict, Net, Reaches, Refines}
+use Rattle.laws_refinement.specs.Vocabulary.{lines_in, lines_promised, own_items}
 use Rattle.laws_refinement.proofs.Refining.{nets_refine}
 
 of_promise : (l : Line) (ps : List Prepared) → In l (lines_promised ps) → (p : Prepared) × In p ps × In l p.lines

@@ -4,7 +4,7 @@ use Rattle.std.proofs.Common.{None, refl, sym, ap, ◌∙◌, subst, eqb-true}
 use Rattle.std.specs.Prelude.{option_map}
 use Rattle.std.specs.List.{find}
 use Rattle.qc_stamp.specs.declared.stamp.TxId.{TxId}
-use Rattle.qc_list.specs.Names.{In}
+use Rattle.qc_list.specs.Vocabulary.{In}
 use Rattle.qc_list.proofs.Members.{In-unfiltered}
 use Rattle.qc_entry.specs.declared.line.Line.{Line}
 use Rattle.qc_decl.specs.declared.declaration.Declaration.{Declaration}
@@ -14,9 +14,9 @@ use Rattle.qc_msg.specs.declared.message.Envelope.{Envelope}
 use Rattle.qc_msg.specs.declared.message.Message.{Message}
 use Rattle.qc_msg.specs.declared.message.Message.TheVariants as messages
 use Rattle.qc_msg.specs.declared.message.Want.{Want}
-use Rattle.qc_msg.specs.Names.{site_called, without_call}
-use Rattle.theory_machine.specs.Names.{State}
-use Rattle.laws_refinement.specs.Names.{IsAnswerBacked, IsGrant, IsGrantTo, IsMessage, IsRequest}
+use Rattle.qc_msg.specs.Vocabulary.{site_called, without_call}
+use Rattle.theory_machine.specs.Vocabulary.{State}
+use Rattle.laws_refinement.specs.Vocabulary.{IsAnswerBacked, IsGrant, IsGrantTo, IsMessage, IsRequest}
 
 -- an open request of a number
 

@@ -1,17 +1,18 @@
 -- A record that was being written as its site fell, and stays: what the machine does for it as the site rises.
-use Rattle.std.proofs.Common.{◌≡◌, ◌<◌, ℕ, suc, arith, true, List, ◌∷◌, ◌++◌, Option, Some, None, refl, sym, subst}
+use Rattle.std.proofs.Common.{[], ◌≡◌, ◌<◌, ℕ, suc, arith, true, List, ◌∷◌, ◌++◌, Option, Some, None, refl, sym, subst}
 use Rattle.qc_stamp.specs.declared.stamp.TxId.{TxId}
-use Rattle.qc_list.specs.Names.{In}
+use Rattle.qc_list.specs.Vocabulary.{In}
 use Rattle.qc_entry.specs.declared.record.Prepared.{Prepared}
 use Rattle.qc_decl.specs.declared.declaration.Declaration.{Declaration}
-use Rattle.qc_decl.specs.Names.{is_site}
+use Rattle.qc_decl.specs.Vocabulary.{is_site}
 use Rattle.qc_msg.specs.declared.record.Record.{Record}
 use Rattle.qc_msg.specs.declared.record.Record.TheVariants as records
-use Rattle.theory_machine.specs.Names.{Act, Close, Closes, Deed, Granted, Install, Installs, IsRun, Learn, LearnsCommit}
-use Rattle.theory_machine.specs.Names.{MayPrepare, PrepareLost, Prepares, Rise, Rises, State, epoch_from, put, state}
+use Rattle.theory_machine.specs.Vocabulary.{Act, Close, Closes, Deed, Granted, Install, Installs, IsRun, Learn}
+use Rattle.theory_machine.specs.Vocabulary.{LearnsCommit, MayPrepare, PrepareLost, Prepares, Rise, Rises, State}
+use Rattle.theory_machine.specs.Vocabulary.{epoch_from, put, state}
 use Rattle.theory_machine.proofs.Names.{put_here}
-use Rattle.qc_recover.specs.Names.{Kept, done_stamp, keeps}
-use Rattle.laws_refinement.specs.Names.{IsClosing, IsDecided, IsPendingAt, KeptMirrors, commits_in}
+use Rattle.qc_recover.specs.Vocabulary.{Kept, done_stamp, keeps}
+use Rattle.laws_refinement.specs.Vocabulary.{IsClosing, IsDecided, IsPendingAt, KeptMirrors, commits_in}
 use Rattle.qc_entry.specs.declared.line.Line.{Line}
 use Rattle.laws_refinement.proofs.BothPromises.{deed_is}
 use Rattle.laws_refinement.proofs.KeptDeeds.{kept_prepares}

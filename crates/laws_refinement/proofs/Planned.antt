@@ -2,7 +2,7 @@
 use Rattle.std.proofs.Common.{◌≡◌, inl, inr, ℕ, max, sym, subst, arith}
 use Rattle.qc_decl.specs.declared.declaration.Declaration.{Declaration}
 use Rattle.theory_machine.proofs.PlacedOperations.{le_cases}
-use Rattle.laws_refinement.specs.Names.{IsPlanned}
+use Rattle.laws_refinement.specs.Vocabulary.{IsPlanned}
 
 pub planned_max : (decl : Declaration) (a b : ℕ) → IsPlanned decl a → IsPlanned decl b → IsPlanned decl (max a b)
 planned_max decl a b p q = elim (le_cases a b) [

@@ -1,15 +1,15 @@
 -- A turn is posted: its messages are in the mail, each at its number and backed.
 use Rattle.std.proofs.Common.{◌≡◌, ℕ, ◌+◌, inl, inr, List, [], ◌∷◌, ◌++◌, length, Some, slice_get, refl, sym, ap, subst}
 use Rattle.std.proofs.Common.{arith, append_assoc, length-append}
-use Rattle.qc_list.specs.Names.{In}
+use Rattle.qc_list.specs.Vocabulary.{In}
 use Rattle.theory_onecopy.proofs.Lists.{in_split}
 use Rattle.qc_decl.specs.declared.declaration.Declaration.{Declaration}
 use Rattle.qc_msg.specs.declared.message.Envelope.{Envelope}
 use Rattle.qc_msg.specs.declared.message.Message.{Message}
 use Rattle.qc_msg.specs.declared.turn.Posting.{Posting}
-use Rattle.qc_msg.specs.Names.{envelopes}
-use Rattle.theory_machine.specs.Names.{State}
-use Rattle.laws_refinement.specs.Names.{Backed}
+use Rattle.qc_msg.specs.Vocabulary.{envelopes}
+use Rattle.theory_machine.specs.Vocabulary.{State}
+use Rattle.laws_refinement.specs.Vocabulary.{Backed}
 use Rattle.laws_refinement.proofs.MessagesStay.{Later, backed_later, same_state}
 use Rattle.laws_refinement.proofs.Machine.{slice_get-append}
 

@@ -3,29 +3,29 @@
 use Rattle.std.proofs.Common.{◌≡◌, ◌≤◌, inl, inr, ℕ, ◌∙◌, Bool, true, false, List, [], ◌∷◌, ◌++◌, Option, Some, None}
 use Rattle.std.proofs.Common.{is_some, refl, ap, subst, ◌≢◌, sym}
 use Rattle.qc_stamp.specs.declared.stamp.TxId.{TxId}
-use Rattle.qc_stamp.specs.Names.{same_tx}
-use Rattle.qc_list.specs.Names.{In}
+use Rattle.qc_stamp.specs.Vocabulary.{same_tx}
+use Rattle.qc_list.specs.Vocabulary.{In}
 use Rattle.qc_entry.specs.declared.record.Prepared.{Prepared}
 use Rattle.qc_entry.specs.declared.line.Line.{Line}
-use Rattle.qc_entry.specs.Names.{union}
+use Rattle.qc_entry.specs.Vocabulary.{union}
 use Rattle.theory_onecopy.proofs.Lists.{in_split}
 use Rattle.qc_decl.specs.declared.declaration.Declaration.{Declaration}
-use Rattle.qc_decl.specs.Names.{IsAccepted, is_site}
-use Rattle.qc_lock.specs.Names.{held_of}
+use Rattle.qc_decl.specs.Vocabulary.{IsAccepted, is_site}
+use Rattle.qc_lock.specs.Vocabulary.{held_of}
 use Rattle.qc_msg.specs.declared.message.Want.TheVariants.{Prepare}
-use Rattle.theory_machine.specs.Names.{Act, Granted, IsRun, Item, Lock, MayPrepare, NotBegun, Own, Prepares, Promise}
-use Rattle.theory_machine.specs.Names.{Site, after_prepare, items_of, promise_of, site_after, state}
-use Rattle.qc_site.specs.Names.{SiteMove, answers as answers_with, dropped, is_prepared, joins, known, lines_of, moved}
-use Rattle.qc_site.specs.Names.{prepared_of, prepares, promised, votes, without_prepared}
+use Rattle.theory_machine.specs.Vocabulary.{Act, Granted, IsRun, Item, Lock, MayPrepare, NotBegun, Own, Prepares}
+use Rattle.theory_machine.specs.Vocabulary.{Promise, Site, after_prepare, items_of, promise_of, site_after, state}
+use Rattle.qc_site.specs.Vocabulary.{SiteMove, answers as answers_with, dropped, is_prepared, joins, known, lines_of}
+use Rattle.qc_site.specs.Vocabulary.{moved, prepared_of, prepares, promised, votes, without_prepared}
 use Rattle.qc_site.proofs.RequestCases.{prepare_cases}
-use Rattle.laws_refinement.specs.Names.{AreLined, Continues, IsHeld, IsKeptBy, IsPromiseOf, IsPromised, IsRequest}
-use Rattle.laws_refinement.specs.Names.{KeptMirrors, Mirrors, Net, SiteMirrors, after_site}
+use Rattle.laws_refinement.specs.Vocabulary.{AreLined, Continues, IsHeld, IsKeptBy, IsPromiseOf, IsPromised, IsRequest}
+use Rattle.laws_refinement.specs.Vocabulary.{KeptMirrors, Mirrors, Net, SiteMirrors, after_site}
 use Rattle.laws_refinement.proofs.Apart.{apart_more}
 use Rattle.laws_refinement.proofs.Promises.{more_promise, found_last, found_other}
 use Rattle.laws_refinement.proofs.SiteGrants.{says}
 use Rattle.laws_refinement.proofs.SiteActs.{votes_it}
 use Rattle.std.proofs.lemmas.List.{append-nil}
-use Rattle.qc_recover.specs.Names.{Kept, kept_by, with_promise}
+use Rattle.qc_recover.specs.Vocabulary.{Kept, kept_by, with_promise}
 use Rattle.qc_msg.specs.declared.record.Record.{Record}
 use Rattle.qc_site.proofs.Sorted.{ascending-without}
 use Rattle.laws_refinement.proofs.KeptLists.{kept_more}

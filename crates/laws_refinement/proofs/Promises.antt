@@ -4,22 +4,23 @@ use Rattle.std.proofs.Common.{◌≡◌, ◌≤◌, ℕ, Bool, true, false, cond
 use Rattle.std.proofs.Common.{None, fold, refl, sym, ap, ◌∙◌, subst, arith}
 use Rattle.qc_stamp.specs.declared.stamp.Stamp.{Stamp}
 use Rattle.qc_stamp.specs.declared.stamp.TxId.{TxId}
-use Rattle.qc_stamp.specs.Names.{same_tx}
+use Rattle.qc_stamp.specs.Vocabulary.{same_tx}
 use Rattle.qc_stamp.proofs.Orders.{other_tx_sym, same_tx_is}
-use Rattle.qc_list.specs.Names.{In}
+use Rattle.qc_list.specs.Vocabulary.{In}
 use Rattle.qc_list.proofs.Members.{In-first, In-second}
 use Rattle.qc_entry.specs.declared.line.Line.{Line}
 use Rattle.qc_entry.specs.declared.line.OwnLine.{OwnLine}
 use Rattle.qc_entry.specs.declared.record.Prepared.{Prepared}
-use Rattle.qc_entry.specs.Names.{IsAscending, union}
+use Rattle.qc_entry.specs.Vocabulary.{IsAscending, union}
 use Rattle.qc_entry.proofs.Union.{ascending-union, in_either, in_first, in_second}
 use Rattle.theory_onecopy.proofs.Lists.{in_split}
-use Rattle.theory_machine.specs.Names.{Item, Lock, Own, Promise, Site, after_commit, promise_of, stamped_lines}
-use Rattle.theory_machine.specs.Names.{without_promise}
+use Rattle.theory_machine.specs.Vocabulary.{Item, Lock, Own, Promise, Site, after_commit, promise_of, stamped_lines}
+use Rattle.theory_machine.specs.Vocabulary.{without_promise}
 use Rattle.theory_machine.proofs.Names.{tx_test}
-use Rattle.qc_site.specs.Names.{SiteState, joins, known, lines_of, prepared_of, stamped, with_stamped, without_prepared}
+use Rattle.qc_site.specs.Vocabulary.{SiteState, joins, known, lines_of, prepared_of, stamped, with_stamped}
+use Rattle.qc_site.specs.Vocabulary.{without_prepared}
 use Rattle.qc_site.proofs.Votes.{prepared-without, prepared-without_other}
-use Rattle.laws_refinement.specs.Names.{IsPromiseOf}
+use Rattle.laws_refinement.specs.Vocabulary.{IsPromiseOf}
 use Rattle.laws_refinement.proofs.Known.{learned_ascends, learned_from, learned_in}
 
 -- the machine's

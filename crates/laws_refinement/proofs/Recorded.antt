@@ -7,26 +7,26 @@ use Rattle.std.specs.Option.{option_map_or}
 use Rattle.std.proofs.lemmas.List.{map-append}
 use Rattle.std.proofs.lemmas.List.Elements.{filter-append}
 use Rattle.qc_stamp.specs.declared.stamp.TxId.{TxId}
-use Rattle.qc_list.specs.Names.{In}
+use Rattle.qc_list.specs.Vocabulary.{In}
 use Rattle.qc_entry.specs.declared.line.Line.{Line}
 use Rattle.qc_entry.specs.declared.line.Op.{Op}
 use Rattle.qc_entry.specs.declared.line.OwnLine.{OwnLine}
-use Rattle.qc_entry.specs.Names.{IsAscending}
+use Rattle.qc_entry.specs.Vocabulary.{IsAscending}
 use Rattle.qc_decl.specs.declared.declaration.Declaration.{Declaration}
 use Rattle.qc_msg.specs.declared.begun.LifeAt.{LifeAt}
-use Rattle.theory_onecopy.specs.Names.{Executed, own_line}
-use Rattle.theory_machine.specs.Names.{Aborted, Active, Committed, Granted, IsShown, NotBegun, State, Status, op_of}
-use Rattle.theory_machine.specs.Names.{own_on as machine_own_on}
-use Rattle.qc_commit.specs.Names.{record_of}
+use Rattle.theory_onecopy.specs.Vocabulary.{Executed, own_line}
+use Rattle.theory_machine.specs.Vocabulary.{Aborted, Active, Committed, Granted, IsShown, NotBegun, State, Status}
+use Rattle.theory_machine.specs.Vocabulary.{op_of, own_on as machine_own_on}
+use Rattle.qc_commit.specs.Vocabulary.{record_of}
 use Rattle.qc_view.specs.declared.view.View.{View}
-use Rattle.qc_view.specs.Names.{with_own}
+use Rattle.qc_view.specs.Vocabulary.{with_own}
 use Rattle.qc_front.specs.declared.transaction.Transaction.{Transaction}
-use Rattle.qc_front.specs.Names.{next_own, op_of as operation_of, own_on, resp_of, view_log, with_event, with_op}
-use Rattle.qc_front.specs.Names.{with_view}
+use Rattle.qc_front.specs.Vocabulary.{next_own, op_of as operation_of, own_on, resp_of, view_log, with_event, with_op}
+use Rattle.qc_front.specs.Vocabulary.{with_view}
 use Rattle.qc_front.proofs.CommandsKeep.{view_keeps}
-use Rattle.qc_client.specs.Names.{is_begun}
+use Rattle.qc_client.specs.Vocabulary.{is_begun}
 use Rattle.qc_client.specs.declared.client.Client.{Client}
-use Rattle.laws_refinement.specs.Names.{LivesMirror, absent_of, chosen_of, name_at}
+use Rattle.laws_refinement.specs.Vocabulary.{LivesMirror, absent_of, chosen_of, name_at}
 use Rattle.laws_refinement.proofs.ClientSteps.{Core}
 
 -- logs of views, where one view has another log or the same

@@ -1,16 +1,16 @@
 -- Every net that may come about is what a run of the machine may look like.
-use Rattle.std.proofs.Common.{◌≡◌, ◌++◌, ℕ, ◌+◌, true, List, Some, None, sym, ◌∙◌, subst, ap, inl, inr}
+use Rattle.std.proofs.Common.{[], ◌≡◌, ◌++◌, ℕ, ◌+◌, true, List, Some, None, sym, ◌∙◌, subst, ap, inl, inr}
 use Rattle.qc_decl.specs.declared.declaration.Declaration.{Declaration}
-use Rattle.qc_decl.specs.Names.{IsAccepted, administrator, is_client}
-use Rattle.theory_machine.specs.Names.{Act, state}
-use Rattle.qc_commit.specs.Names.{record_of}
+use Rattle.qc_decl.specs.Vocabulary.{IsAccepted, administrator, is_client}
+use Rattle.theory_machine.specs.Vocabulary.{Act, state}
+use Rattle.qc_commit.specs.Vocabulary.{record_of}
 use Rattle.laws_refinement.proofs.AdminFalls.{admin_falls, admin_rises_in_vain, admin_rises_up}
-use Rattle.laws_refinement.specs.Names.{Continues, IsClientKeptBy, Net, Reaches, Refines, after_fall}
+use Rattle.laws_refinement.specs.Vocabulary.{Continues, IsClientKeptBy, Net, Reaches, Refines, after_fall}
 use Rattle.laws_refinement.proofs.AdminCases.{admin_case}
 use Rattle.laws_refinement.proofs.SiteCases.{serve_case}
 use Rattle.laws_refinement.proofs.Standing.{front_ends_stand}
 use Rattle.qc_stamp.specs.declared.stamp.TxId.{TxId}
-use Rattle.qc_list.specs.Names.{In}
+use Rattle.qc_list.specs.Vocabulary.{In}
 use Rattle.qc_entry.specs.declared.record.Commit.{Commit as CommitRecord}
 use Rattle.qc_msg.specs.declared.record.Record.{Record}
 use Rattle.qc_msg.specs.declared.turn.Posting.{Posting}

@@ -1,22 +1,22 @@
 -- At the beginning, and as a client's turn whose record isn't written, a net is what a run of the machine may look
 -- like.
-use Rattle.std.proofs.Common.{◌≡◌, ◌<◌, ◌≤◌, ◌∷◌, length, slice_get, ℕ, ◌+◌, ◌-◌, ◌&&◌, Bool, true, false, List, Option}
-use Rattle.std.proofs.Common.{Some, None, refl, sym, ◌∙◌, subst, arith}
+use Rattle.std.proofs.Common.{[], ◌≡◌, ◌<◌, ◌≤◌, ◌∷◌, length, slice_get, ℕ, ◌+◌, ◌-◌, ◌&&◌, Bool, true, false, List}
+use Rattle.std.proofs.Common.{Option, Some, None, refl, sym, ◌∙◌, subst, arith}
 use Rattle.qc_decl.proofs.Clients.{client_past}
 use Rattle.qc_decl.specs.declared.declaration.Declaration.{Declaration}
-use Rattle.qc_decl.specs.Names.{IsAccepted, is_client}
+use Rattle.qc_decl.specs.Vocabulary.{IsAccepted, is_client}
 use Rattle.qc_plan.specs.declared.plan.Plan.{Plan}
 use Rattle.qc_msg.specs.declared.message.Answer.{Answer}
 use Rattle.qc_msg.specs.declared.message.Message.{Message}
 use Rattle.qc_msg.specs.declared.step.Input.{Input}
 use Rattle.qc_msg.specs.declared.step.Input.TheVariants.{Called, Got, Lost}
-use Rattle.qc_msg.specs.Names.{quiet, site_called}
-use Rattle.theory_machine.specs.Names.{Act, IsRun, state}
+use Rattle.qc_msg.specs.Vocabulary.{quiet, site_called}
+use Rattle.theory_machine.specs.Vocabulary.{Act, IsRun, state}
 use Rattle.qc_commit.specs.declared.desk.Voting.{Voting}
-use Rattle.qc_commit.specs.Names.{votes_in}
-use Rattle.qc_client.specs.Names.{ClientMove, answered_by, by_desk, by_front, client_takes, heard, moved}
-use Rattle.laws_refinement.specs.Names.{Backed, FrontStands, IsPlanned, MayCome, MayCommand, Mirrors, Net, Refines}
-use Rattle.laws_refinement.specs.Names.{after_client, first_net}
+use Rattle.qc_commit.specs.Vocabulary.{votes_in}
+use Rattle.qc_client.specs.Vocabulary.{ClientMove, answered_by, by_desk, by_front, client_takes, heard, moved}
+use Rattle.laws_refinement.specs.Vocabulary.{Backed, FrontStands, IsPlanned, MayCome, MayCommand, Mirrors, Net, Refines}
+use Rattle.laws_refinement.specs.Vocabulary.{after_client, first_net}
 use Rattle.laws_refinement.proofs.ClientAnswers.{do_case, takes_case}
 use Rattle.laws_refinement.proofs.OpenRequests.{AnswerBacked}
 use Rattle.laws_refinement.proofs.ClientGivesUp.{abort_case, begin_case}
@@ -25,7 +25,7 @@ use Rattle.laws_refinement.proofs.ClientCommits.{commit_case, commit_fails}
 use Rattle.laws_refinement.proofs.ClientVotes.{vote_case, vote_fails}
 use Rattle.laws_refinement.proofs.ClientRounds.{nothing}
 use Rattle.qc_msg.specs.declared.record.Record.{Record}
-use Rattle.qc_front.specs.Names.{FrontMove}
+use Rattle.qc_front.specs.Vocabulary.{FrontMove}
 use Rattle.laws_refinement.proofs.ClientEnds.{Pends}
 use Rattle.qc_front.proofs.Unwritten.{IsCalm, front_called, front_takes}
 use Rattle.qc_msg.specs.declared.message.Message.TheVariants as messages

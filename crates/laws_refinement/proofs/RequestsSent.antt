@@ -1,7 +1,7 @@
 -- A request of a client's turn is one of what runs there, with its number.
-use Rattle.std.proofs.Common.{◌≡◌, ℕ, inl, inr, List, ◌∷◌, Option, Some, None, sym, ap, ◌∙◌, subst}
+use Rattle.std.proofs.Common.{[], ◌≡◌, ℕ, inl, inr, List, ◌∷◌, Option, Some, None, sym, ap, ◌∙◌, subst}
 use Rattle.qc_stamp.specs.declared.stamp.TxId.{TxId}
-use Rattle.qc_list.specs.Names.{In}
+use Rattle.qc_list.specs.Vocabulary.{In}
 use Rattle.theory_onecopy.proofs.Lists.{in_split}
 use Rattle.qc_decl.specs.declared.declaration.Declaration.{Declaration}
 use Rattle.qc_msg.specs.declared.call.Call.{Call}
@@ -10,18 +10,18 @@ use Rattle.qc_msg.specs.declared.message.Message.{Message}
 use Rattle.qc_msg.specs.declared.message.Message.TheVariants as messages
 use Rattle.qc_msg.specs.declared.message.Want.{Want}
 use Rattle.qc_msg.specs.declared.message.Want.TheVariants.{Read, Append, Prepare}
-use Rattle.qc_msg.specs.Names.{life_of, with_call}
-use Rattle.theory_machine.specs.Names.{State}
+use Rattle.qc_msg.specs.Vocabulary.{life_of, with_call}
+use Rattle.theory_machine.specs.Vocabulary.{State}
 use Rattle.qc_commit.specs.declared.desk.Voting.{Voting}
-use Rattle.qc_commit.specs.Names.{prepared, prepared_in, with_voting}
+use Rattle.qc_commit.specs.Vocabulary.{prepared, prepared_in, with_voting}
 use Rattle.qc_front.specs.declared.doing.Doing.{Doing}
 use Rattle.qc_front.specs.declared.doing.Doing.TheVariants.{Idle, Reading, Appending}
 use Rattle.qc_front.specs.declared.transaction.Transaction.{Transaction}
-use Rattle.qc_front.specs.Names.{IsFor, calls_in, requested, requested_in}
+use Rattle.qc_front.specs.Vocabulary.{IsFor, calls_in, requested, requested_in}
 use Rattle.qc_client.specs.declared.client.Client.{Client}
-use Rattle.laws_refinement.specs.Names.{AreVotes, BegunMirrors, ClientMirrors, IsAskedBy, IsChosen, IsMessage}
-use Rattle.laws_refinement.specs.Names.{IsRequest, IsRoundCounted, RunningMirrors, TransactionMirrors, VotesMirror}
-use Rattle.laws_refinement.specs.Names.{status_by}
+use Rattle.laws_refinement.specs.Vocabulary.{AreVotes, BegunMirrors, ClientMirrors, IsAskedBy, IsChosen, IsMessage}
+use Rattle.laws_refinement.specs.Vocabulary.{IsRequest, IsRoundCounted, RunningMirrors, TransactionMirrors, VotesMirror}
+use Rattle.laws_refinement.specs.Vocabulary.{status_by}
 
 module _ (decl : Declaration) where
   -- a request of a client's turn is one of what runs there

@@ -1,16 +1,16 @@
 -- A site rises: it is what its records give, and what the machine's site is after a rise.
 use Rattle.std.proofs.Common.{◌≡◌, ◌≢◌, suc, ℕ, arith, true, List, [], ◌∷◌, ◌++◌, sym, subst}
 use Rattle.qc_stamp.specs.declared.stamp.TxId.{TxId}
-use Rattle.qc_list.specs.Names.{In}
+use Rattle.qc_list.specs.Vocabulary.{In}
 use Rattle.qc_decl.specs.declared.declaration.Declaration.{Declaration}
 use Rattle.qc_entry.specs.declared.line.OwnLine.{OwnLine}
-use Rattle.qc_lock.specs.Names.{is_held}
+use Rattle.qc_lock.specs.Vocabulary.{is_held}
 use Rattle.qc_msg.specs.declared.record.Record.TheVariants as records
-use Rattle.theory_machine.specs.Names.{Deed, NotBegun, Own, Rises, Site, Status, empty_site, held_by_promises, items_of}
-use Rattle.theory_machine.specs.Names.{promise_of, site_after}
-use Rattle.qc_site.specs.Names.{prepared_of}
-use Rattle.qc_recover.specs.Names.{Kept, keeps, site_by}
-use Rattle.laws_refinement.specs.Names.{AreSingle, IsPromiseOf, KeptMirrors, SiteMirrors}
+use Rattle.theory_machine.specs.Vocabulary.{Deed, NotBegun, Own, Rises, Site, Status, empty_site, held_by_promises}
+use Rattle.theory_machine.specs.Vocabulary.{items_of, promise_of, site_after}
+use Rattle.qc_site.specs.Vocabulary.{prepared_of}
+use Rattle.qc_recover.specs.Vocabulary.{Kept, keeps, site_by}
+use Rattle.laws_refinement.specs.Vocabulary.{AreSingle, IsPromiseOf, KeptMirrors, SiteMirrors}
 use Rattle.laws_refinement.proofs.HeldByPromises.{by_promises_held, by_promises_holder, by_promises_owned}
 use Rattle.laws_refinement.proofs.KeptDeeds.{single_promises}
 use Rattle.laws_refinement.proofs.KeptSteps.{kept_rises}

@@ -2,8 +2,8 @@
 use Rattle.std.proofs.Common.{◌≡◌, ℕ, ◌≤◌, ◌==◌, ◌&&◌, ◌||◌, Bool, true, false, cond, inl, inr, List, [], ◌∷◌, ◌++◌}
 use Rattle.std.proofs.Common.{drop, Option, Some, None, refl, sym, ap, ◌∙◌, subst, eqb-true}
 use Rattle.qc_stamp.specs.declared.stamp.TxId.{TxId}
-use Rattle.qc_list.specs.Names.{In}
-use Rattle.qc_plan.specs.Names.{RoundState, asking_all, has_granted, is_granted, note_in, verdict, weight}
+use Rattle.qc_list.specs.Vocabulary.{In}
+use Rattle.qc_plan.specs.Vocabulary.{RoundState, asking_all, has_granted, is_granted, note_in, verdict, weight}
 use Rattle.qc_plan.specs.declared.standing.Asked.{Asked}
 use Rattle.qc_plan.specs.declared.standing.Standing.{Standing}
 use Rattle.qc_plan.specs.declared.standing.Standing.TheVariants as standings
@@ -12,9 +12,9 @@ use Rattle.qc_plan.proofs.RoundsMet.{met_weighs}
 use Rattle.qc_decl.specs.declared.declaration.Declaration.{Declaration}
 use Rattle.theory_onecopy.proofs.Lists.{in_split}
 use Rattle.theory_machine.specs.Quorums.{HasGranted, HasQuorum, weights_of}
-use Rattle.theory_machine.specs.Names.{Granted, Item}
-use Rattle.qc_front.specs.Names.{IsRound}
-use Rattle.laws_refinement.specs.Names.{AreCounted}
+use Rattle.theory_machine.specs.Vocabulary.{Granted, Item}
+use Rattle.qc_front.specs.Vocabulary.{IsRound}
+use Rattle.laws_refinement.specs.Vocabulary.{AreCounted}
 
 -- those that are asked now have granted nothing
 pub asked_counted : (counted : List Granted) (tx : TxId) (item : Item) (r : RoundState) (sites : List ℕ)

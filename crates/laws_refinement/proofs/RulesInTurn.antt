@@ -3,19 +3,20 @@ use Rattle.std.specs.Prelude.{option_to_list}
 use Rattle.std.proofs.Common.{◌≡◌, ◌≢◌, ℕ, suc, ◌+◌, true, false, inl, inr, List, [], ◌∷◌, ◌++◌, fold, length, Option}
 use Rattle.std.proofs.Common.{Some, None, refl, sym, ap, ◌∙◌, subst}
 use Rattle.std.proofs.lemmas.List.{append-nil}
-use Rattle.qc_decl.specs.Names.{IsAccepted, administrator, is_client, is_site}
+use Rattle.qc_decl.specs.Vocabulary.{IsAccepted, administrator, is_client, is_site}
 use Rattle.qc_decl.specs.declared.declaration.Declaration.{Declaration}
 use Rattle.qc_msg.specs.declared.message.Message.{Message}
 use Rattle.qc_msg.specs.declared.message.Message.TheVariants as messages
 use Rattle.qc_msg.specs.declared.record.Record.{Record}
 use Rattle.qc_msg.specs.declared.record.Record.TheVariants as records
 use Rattle.qc_msg.specs.declared.turn.Posting.{Posting}
-use Rattle.theory_machine.specs.Names.{put}
+use Rattle.theory_machine.specs.Vocabulary.{put}
 use Rattle.theory_machine.proofs.Names.{put_here}
-use Rattle.qc_epoch.specs.Names.{Admin, AdminMove, Decided, admin_takes, sent_one}
-use Rattle.qc_recover.specs.Names.{epoch_by}
+use Rattle.qc_epoch.specs.Vocabulary.{Admin, AdminMove, Decided, admin_takes, sent_one}
+use Rattle.qc_recover.specs.Vocabulary.{epoch_by}
 use Rattle.qc_recover.specs.Admins.{keeps, kept_by}
-use Rattle.laws_refinement.specs.Names.{AreInTurn, IsGivenBack, IsNextRule, Net, Reaches, Refines, all_sent, rule_after}
+use Rattle.laws_refinement.specs.Vocabulary.{AreInTurn, IsGivenBack, IsNextRule, Net, Reaches, Refines, all_sent}
+use Rattle.laws_refinement.specs.Vocabulary.{rule_after}
 use Rattle.laws_refinement.specs.Net as nets
 use Rattle.laws_refinement.proofs.AdminCases.{admin_case}
 use Rattle.laws_refinement.proofs.AdminTurns.{IsInTurn, rule_more}

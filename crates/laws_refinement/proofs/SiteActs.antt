@@ -1,29 +1,29 @@
 -- What a site does for a message, as an act of the machine: it grants, votes, learns a verdict, or nothing happens.
-use Rattle.std.proofs.Common.{◌≡◌, ◌≢◌, ◌≤◌, ℕ, true, inl, inr, List, ◌∷◌, ◌++◌, refl, sym, ◌∙◌, subst, arith}
+use Rattle.std.proofs.Common.{[], ◌≡◌, ◌≢◌, ◌≤◌, ℕ, true, inl, inr, List, ◌∷◌, ◌++◌, refl, sym, ◌∙◌, subst, arith}
 use Rattle.qc_stamp.specs.declared.stamp.TxId.{TxId}
-use Rattle.qc_list.specs.Names.{In}
+use Rattle.qc_list.specs.Vocabulary.{In}
 use Rattle.qc_entry.specs.declared.line.Line.{Line}
 use Rattle.qc_entry.specs.declared.record.Prepared.{Prepared}
-use Rattle.qc_entry.specs.Names.{IsAscending}
+use Rattle.qc_entry.specs.Vocabulary.{IsAscending}
 use Rattle.qc_decl.specs.declared.declaration.Declaration.{Declaration}
-use Rattle.qc_decl.specs.Names.{is_site}
+use Rattle.qc_decl.specs.Vocabulary.{is_site}
 use Rattle.qc_lock.specs.declared.held.Held.{Held}
-use Rattle.qc_lock.specs.Names.{held_of, is_held, without_held}
+use Rattle.qc_lock.specs.Vocabulary.{held_of, is_held, without_held}
 use Rattle.qc_msg.specs.declared.message.Answer.{Answer}
 use Rattle.qc_msg.specs.declared.message.Answer.TheVariants as answers
 use Rattle.qc_msg.specs.declared.message.Message.TheVariants as messages
 use Rattle.qc_msg.specs.declared.message.Want.TheVariants.{Prepare}
 use Rattle.qc_msg.specs.declared.turn.Posting.{Posting}
-use Rattle.theory_machine.specs.Names.{Act, Deed, DoneRecord, Granted, IsRun, Learn, MayPrepare, NotBegun, Own}
-use Rattle.theory_machine.specs.Names.{Prepares, Site, State, Verdict, Vote, after_act, after_deed, after_prepare}
-use Rattle.theory_machine.specs.Names.{deed_of, items_of, promise_of, site_after, state, without_tx}
+use Rattle.theory_machine.specs.Vocabulary.{Act, Deed, DoneRecord, Granted, IsRun, Learn, MayPrepare, NotBegun, Own}
+use Rattle.theory_machine.specs.Vocabulary.{Prepares, Site, State, Verdict, Vote, after_act, after_deed, after_prepare}
+use Rattle.theory_machine.specs.Vocabulary.{deed_of, items_of, promise_of, site_after, state, without_tx}
 use Rattle.theory_machine.specs.Site as machine
 use Rattle.theory_machine.proofs.Names.{put_here}
-use Rattle.qc_site.specs.Names.{SiteMove, SiteState, known, prepared_of}
-use Rattle.laws_refinement.specs.Names.{AreApart, AreLined, Continues, IsHeld, IsKeptBy, IsPromiseOf, IsRequest}
-use Rattle.laws_refinement.specs.Names.{KeptMirrors, Mirrors, Net, SiteMirrors, after_site}
+use Rattle.qc_site.specs.Vocabulary.{SiteMove, SiteState, known, prepared_of}
+use Rattle.laws_refinement.specs.Vocabulary.{AreApart, AreLined, Continues, IsHeld, IsKeptBy, IsPromiseOf, IsRequest}
+use Rattle.laws_refinement.specs.Vocabulary.{KeptMirrors, Mirrors, Net, SiteMirrors, after_site}
 use Rattle.std.specs.Prelude.{option_to_list}
-use Rattle.qc_recover.specs.Names.{kept_by}
+use Rattle.qc_recover.specs.Vocabulary.{kept_by}
 use Rattle.laws_refinement.proofs.Held.{dropped_held}
 use Rattle.laws_refinement.proofs.Machine.{IsDoneOf, LeavesEpoch, put_other}
 use Rattle.laws_refinement.proofs.Nets.{site_goes}

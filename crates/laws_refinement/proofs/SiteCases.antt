@@ -2,9 +2,9 @@
 use Rattle.std.proofs.Common.{◌≡◌, ◌≤◌, ◌⊎◌, inl, inr, ℕ, ◌==◌, ◌∙◌, nat_lt, Bool, true, false, cond, List, Option}
 use Rattle.std.proofs.Common.{Some, None, refl, subst, arith, ◌<◌}
 use Rattle.qc_stamp.specs.declared.stamp.TxId.{TxId}
-use Rattle.qc_list.specs.Names.{In}
+use Rattle.qc_list.specs.Vocabulary.{In}
 use Rattle.qc_decl.specs.declared.declaration.Declaration.{Declaration}
-use Rattle.qc_decl.specs.Names.{IsAccepted, is_site}
+use Rattle.qc_decl.specs.Vocabulary.{IsAccepted, is_site}
 use Rattle.qc_msg.specs.declared.message.Answer.{Answer}
 use Rattle.qc_msg.specs.declared.message.Envelope.{Envelope}
 use Rattle.qc_msg.specs.declared.message.Message.{Message}
@@ -12,13 +12,13 @@ use Rattle.qc_msg.specs.declared.message.Want.{Want}
 use Rattle.qc_msg.specs.declared.message.Want.TheVariants.{Read, Append, Prepare}
 use Rattle.qc_msg.specs.declared.step.Input.{Input}
 use Rattle.qc_msg.specs.declared.step.Input.TheVariants.{Called, Got, Lost}
-use Rattle.qc_msg.specs.Names.{quiet}
-use Rattle.theory_machine.specs.Names.{Act, IsRun, state}
-use Rattle.qc_site.specs.Names.{SiteMove, SiteState, clock_after, closed_fault, fault_of, grants, latest, moved, passed}
-use Rattle.qc_site.specs.Names.{site_on, site_takes}
+use Rattle.qc_msg.specs.Vocabulary.{quiet}
+use Rattle.theory_machine.specs.Vocabulary.{Act, IsRun, state}
+use Rattle.qc_site.specs.Vocabulary.{SiteMove, SiteState, clock_after, closed_fault, fault_of, grants, latest, moved}
+use Rattle.qc_site.specs.Vocabulary.{passed, site_on, site_takes}
 use Rattle.qc_site.proofs.RequestCases.{request_cases}
-use Rattle.laws_refinement.specs.Names.{Backed, Continues, IsClosing, IsMessage, IsPlanned, MayCome, Mirrors, Net}
-use Rattle.laws_refinement.specs.Names.{after_site}
+use Rattle.laws_refinement.specs.Vocabulary.{Backed, Continues, IsClosing, IsMessage, IsPlanned, MayCome, Mirrors, Net}
+use Rattle.laws_refinement.specs.Vocabulary.{after_site}
 use Rattle.laws_refinement.proofs.Closing.{close_case}
 use Rattle.laws_refinement.proofs.InstallCases.{install_case}
 use Rattle.laws_refinement.proofs.SiteGrants.{says, stands}

@@ -1,26 +1,27 @@
 -- A Decision that a site takes, as an act of the machine.
-use Rattle.std.proofs.Common.{◌≡◌, ◌≤◌, ◌⊎◌, inl, inr, ℕ, ◌==◌, ◌∙◌, max, nat_lt, ltb-false, eqb-true, Bool, true}
+use Rattle.std.proofs.Common.{[], ◌≡◌, ◌≤◌, ◌⊎◌, inl, inr, ℕ, ◌==◌, ◌∙◌, max, nat_lt, ltb-false, eqb-true, Bool, true}
 use Rattle.std.proofs.Common.{false, cond, List, ◌∷◌, ◌++◌, Option, Some, None, not, refl, ap, subst, arith, sym}
 use Rattle.qc_stamp.specs.declared.stamp.Stamp.{Stamp}
 use Rattle.qc_stamp.specs.declared.stamp.TxId.{TxId}
-use Rattle.qc_stamp.specs.Names.{same_tx}
-use Rattle.qc_list.specs.Names.{In}
+use Rattle.qc_stamp.specs.Vocabulary.{same_tx}
+use Rattle.qc_list.specs.Vocabulary.{In}
 use Rattle.qc_entry.specs.declared.record.Prepared.{Prepared}
 use Rattle.qc_entry.specs.declared.line.Line.{Line}
-use Rattle.qc_entry.specs.Names.{union, without}
+use Rattle.qc_entry.specs.Vocabulary.{union, without}
 use Rattle.qc_list.proofs.Members.{In-unfiltered}
 use Rattle.qc_decl.specs.declared.declaration.Declaration.{Declaration}
-use Rattle.qc_decl.specs.Names.{IsAccepted, is_site}
-use Rattle.qc_lock.specs.Names.{without_held}
+use Rattle.qc_decl.specs.Vocabulary.{IsAccepted, is_site}
+use Rattle.qc_lock.specs.Vocabulary.{without_held}
 use Rattle.qc_msg.specs.declared.message.Outcome.{Outcome}
-use Rattle.qc_msg.specs.Names.{quiet}
-use Rattle.theory_machine.specs.Names.{Aborted, Act, Active, Committed, Deed, DoneRecord, HasRecord, IsOutcome, IsRun}
-use Rattle.theory_machine.specs.Names.{LearnsAbort, LearnsCommit, NotBegun, Pending, Promise, Site, Status, Voting}
-use Rattle.theory_machine.specs.Names.{after_commit, done_record, promise_of, site_after, state, without_tx}
-use Rattle.qc_site.specs.Names.{SiteMove, SiteState, closed_fault, dropped, fault_of, joins, known, lines_of, moved}
-use Rattle.qc_site.specs.Names.{passed, prepared_of, site_on, without_prepared}
-use Rattle.laws_refinement.specs.Names.{AreApart, AreLined, Continues, IsKeptBy, IsPromiseOf, IsVerdictBacked}
-use Rattle.laws_refinement.specs.Names.{KeptMirrors, Mirrors, Net, after_site}
+use Rattle.qc_msg.specs.Vocabulary.{quiet}
+use Rattle.theory_machine.specs.Vocabulary.{Aborted, Act, Active, Committed, Deed, DoneRecord, HasRecord, IsOutcome}
+use Rattle.theory_machine.specs.Vocabulary.{IsRun, LearnsAbort, LearnsCommit, NotBegun, Pending, Promise, Site, Status}
+use Rattle.theory_machine.specs.Vocabulary.{Voting, after_commit, done_record, promise_of, site_after, state}
+use Rattle.theory_machine.specs.Vocabulary.{without_tx}
+use Rattle.qc_site.specs.Vocabulary.{SiteMove, SiteState, closed_fault, dropped, fault_of, joins, known, lines_of}
+use Rattle.qc_site.specs.Vocabulary.{moved, passed, prepared_of, site_on, without_prepared}
+use Rattle.laws_refinement.specs.Vocabulary.{AreApart, AreLined, Continues, IsKeptBy, IsPromiseOf, IsVerdictBacked}
+use Rattle.laws_refinement.specs.Vocabulary.{KeptMirrors, Mirrors, Net, after_site}
 use Rattle.laws_refinement.proofs.Apart.{aparts_dropped}
 use Rattle.laws_refinement.proofs.Known.{learned_in}
 use Rattle.laws_refinement.proofs.Promises.{commit_log, commit_logged, commit_passed, commit_promised, commit_sorted}
@@ -31,7 +32,7 @@ use Rattle.laws_refinement.proofs.SiteSteps.{Stays}
 use Rattle.std.specs.Prelude.{option_to_list}
 use Rattle.std.specs.Option.{option_map_or}
 use Rattle.std.proofs.lemmas.List.{append-nil}
-use Rattle.qc_recover.specs.Names.{Kept, done_stamp, keeps, kept_by}
+use Rattle.qc_recover.specs.Vocabulary.{Kept, done_stamp, keeps, kept_by}
 use Rattle.qc_msg.specs.declared.record.Record.{Record}
 use Rattle.theory_machine.proofs.Keeps.{laws}
 use Rattle.laws_refinement.proofs.KeptLists.{kept_more, still_promised, undropped_site}

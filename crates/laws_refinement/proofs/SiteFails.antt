@@ -3,12 +3,12 @@ use Rattle.std.proofs.Common.{◌≡◌, inl, inr, ℕ, suc, ◌+◌, ◌<◌, �
 use Rattle.std.proofs.Common.{true, false, List, [], ◌∷◌, Option, Some, None, is_some, refl, sym, ap, ◌∙◌, subst}
 use Rattle.qc_stamp.specs.declared.stamp.Stamp.{Stamp}
 use Rattle.qc_stamp.specs.declared.stamp.TxId.{TxId}
-use Rattle.qc_list.specs.Names.{In}
+use Rattle.qc_list.specs.Vocabulary.{In}
 use Rattle.qc_entry.specs.declared.line.Line.{Line}
 use Rattle.qc_entry.specs.declared.record.Prepared.{Prepared}
 use Rattle.qc_decl.specs.declared.declaration.Declaration.{Declaration}
-use Rattle.qc_decl.specs.Names.{is_site}
-use Rattle.qc_lock.specs.Names.{held_of}
+use Rattle.qc_decl.specs.Vocabulary.{is_site}
+use Rattle.qc_lock.specs.Vocabulary.{held_of}
 use Rattle.qc_msg.specs.declared.message.Envelope.{Envelope}
 use Rattle.qc_msg.specs.declared.message.Message.{Message}
 use Rattle.qc_msg.specs.declared.message.Message.TheVariants as messages
@@ -21,19 +21,20 @@ use Rattle.qc_msg.specs.declared.record.Record.TheVariants as records
 use Rattle.qc_msg.specs.declared.step.Input.{Input}
 use Rattle.qc_msg.specs.declared.step.Input.TheVariants.{Called, Got, Lost}
 use Rattle.qc_msg.specs.declared.turn.Posting.{Posting}
-use Rattle.theory_machine.specs.Names.{Aborted, Act, Active, Committed, HasRecord, IsOutcome, IsRun, Item, Lock}
-use Rattle.theory_machine.specs.Names.{MayPrepare, NotBegun, Own, Pending, Promise, Status, Voting, promise_of}
-use Rattle.theory_machine.specs.Names.{site_after, state}
+use Rattle.theory_machine.specs.Vocabulary.{Aborted, Act, Active, Committed, HasRecord, IsOutcome, IsRun, Item, Lock}
+use Rattle.theory_machine.specs.Vocabulary.{MayPrepare, NotBegun, Own, Pending, Promise, Status, Voting, promise_of}
+use Rattle.theory_machine.specs.Vocabulary.{site_after, state}
 use Rattle.theory_machine.proofs.Keeps.{laws}
-use Rattle.qc_site.specs.Names.{SiteMove, answering, closes, grants, installs, is_prepared, joins, latest, passed}
-use Rattle.qc_site.specs.Names.{prepared_of, prepares, site_on, site_takes}
+use Rattle.qc_site.specs.Vocabulary.{SiteMove, answering, closes, grants, installs, is_prepared, joins, latest, passed}
+use Rattle.qc_site.specs.Vocabulary.{prepared_of, prepares, site_on, site_takes}
 use Rattle.qc_site.specs.Promise as sites
 use Rattle.qc_site.proofs.RequestCases.{append_cases, close_cases, prepare_cases, read_cases, request_cases}
 use Rattle.qc_site.proofs.Cases.{install_cases}
 use Rattle.qc_msg.specs.declared.message.Answer.TheVariants as answers
-use Rattle.qc_recover.specs.Names.{done_stamp, kept_by}
-use Rattle.laws_refinement.specs.Names.{Backed, IsDecided, IsFinishing, IsHeld, IsPendingAt, IsPlanned, IsPreparing}
-use Rattle.laws_refinement.specs.Names.{IsPromiseOf, IsPromised, IsVerdictBacked, MayCome, Mirrors, Net}
+use Rattle.qc_recover.specs.Vocabulary.{done_stamp, kept_by}
+use Rattle.laws_refinement.specs.Vocabulary.{Backed, IsDecided, IsFinishing, IsHeld, IsPendingAt, IsPlanned}
+use Rattle.laws_refinement.specs.Vocabulary.{IsPreparing, IsPromiseOf, IsPromised, IsVerdictBacked, MayCome, Mirrors}
+use Rattle.laws_refinement.specs.Vocabulary.{Net}
 use Rattle.qc_site.proofs.Sorted.{ascending-without}
 use Rattle.laws_refinement.proofs.Known.{promised_known, unrecorded}
 

@@ -4,24 +4,24 @@ use Rattle.std.proofs.Common.{None, map, take, refl, sym, ap, ◌∙◌, subst}
 use Rattle.std.specs.Prelude.{option_to_list}
 use Rattle.std.proofs.lemmas.List.{append-nil}
 use Rattle.qc_stamp.specs.declared.stamp.TxId.{TxId}
-use Rattle.qc_list.specs.Names.{In}
-use Rattle.qc_lock.specs.Names.{is_held}
-use Rattle.qc_site.specs.Names.{SiteState, in_order}
+use Rattle.qc_list.specs.Vocabulary.{In}
+use Rattle.qc_lock.specs.Vocabulary.{is_held}
+use Rattle.qc_site.specs.Vocabulary.{SiteState, in_order}
 use Rattle.theory_onecopy.proofs.Lists.{Mapped, map_in}
 use Rattle.qc_entry.specs.declared.record.Prepared.{Prepared}
 use Rattle.qc_entry.specs.declared.record.Commit.{Commit as CommitRecord}
 use Rattle.qc_decl.specs.declared.declaration.Declaration.{Declaration}
-use Rattle.qc_decl.specs.Names.{IsAccepted, is_site}
+use Rattle.qc_decl.specs.Vocabulary.{IsAccepted, is_site}
 use Rattle.qc_msg.specs.declared.record.Record.{Record}
 use Rattle.qc_msg.specs.declared.record.Record.TheVariants as records
 use Rattle.qc_msg.specs.declared.turn.Posting.{Posting}
-use Rattle.theory_machine.specs.Names.{Deed, NotBegun, Own, Rises, items_of, put, site_after, state}
+use Rattle.theory_machine.specs.Vocabulary.{Deed, NotBegun, Own, Rises, items_of, put, site_after, state}
 use Rattle.theory_machine.proofs.Holdings.{held_lines_are_one_an_operation}
 use Rattle.theory_machine.proofs.Names.{put_here}
 use Rattle.qc_site.proofs.InOrder.{In_order_is}
-use Rattle.qc_recover.specs.Names.{Kept, inquiry, keeps, kept_by, most_inquiries, site_by, site_of, site_rises}
-use Rattle.laws_refinement.specs.Names.{Backed, IsGivenBack, IsKeptBy, IsPendingAt, KeptMirrors, Net, Refines}
-use Rattle.laws_refinement.specs.Names.{SiteMirrors, after_fall, after_site_rise, after_vain_rise, commits_in}
+use Rattle.qc_recover.specs.Vocabulary.{Kept, inquiry, keeps, kept_by, most_inquiries, site_by, site_of, site_rises}
+use Rattle.laws_refinement.specs.Vocabulary.{Backed, IsGivenBack, IsKeptBy, IsPendingAt, KeptMirrors, Net, Refines}
+use Rattle.laws_refinement.specs.Vocabulary.{SiteMirrors, after_fall, after_site_rise, after_vain_rise, commits_in}
 use Rattle.laws_refinement.proofs.KeptLists.{kept_more}
 use Rattle.laws_refinement.proofs.Machine.{put_other}
 use Rattle.laws_refinement.proofs.SiteNets.{site_net}

@@ -1,17 +1,17 @@
 -- Where the machine does nothing, and where its site grants, a site agrees with it.
-use Rattle.std.proofs.Common.{◌≡◌, ◌≢◌, ◌≤◌, ℕ, Bool, true, false, ◌⊎◌, inl, inr, List, ◌∷◌, ◌++◌, Option, Some, None}
-use Rattle.std.proofs.Common.{unwrap_or, refl, sym, subst}
+use Rattle.std.proofs.Common.{[], ◌≡◌, ◌≢◌, ◌≤◌, ℕ, Bool, true, false, ◌⊎◌, inl, inr, List, ◌∷◌, ◌++◌, Option, Some}
+use Rattle.std.proofs.Common.{None, unwrap_or, refl, sym, subst}
 use Rattle.qc_stamp.specs.declared.stamp.TxId.{TxId}
-use Rattle.qc_stamp.specs.Names.{same_tx}
+use Rattle.qc_stamp.specs.Vocabulary.{same_tx}
 use Rattle.qc_stamp.proofs.Orders.{other_tx_sym, same_tx_is}
-use Rattle.qc_list.specs.Names.{In}
+use Rattle.qc_list.specs.Vocabulary.{In}
 use Rattle.qc_entry.specs.declared.line.Line.{Line}
 use Rattle.qc_entry.specs.declared.line.OwnLine.{OwnLine}
-use Rattle.qc_entry.specs.Names.{IsAscending}
+use Rattle.qc_entry.specs.Vocabulary.{IsAscending}
 use Rattle.qc_decl.specs.declared.declaration.Declaration.{Declaration}
-use Rattle.qc_decl.specs.Names.{is_site}
+use Rattle.qc_decl.specs.Vocabulary.{is_site}
 use Rattle.qc_lock.specs.declared.held.Held.{Held}
-use Rattle.qc_lock.specs.Names.{entry_of, held_of, is_held, without_held}
+use Rattle.qc_lock.specs.Vocabulary.{entry_of, held_of, is_held, without_held}
 use Rattle.qc_lock.proofs.Entries.{entry-without, held-without_other}
 use Rattle.qc_msg.specs.declared.message.Answer.{Answer}
 use Rattle.qc_msg.specs.declared.message.Answer.TheVariants as answers
@@ -19,17 +19,18 @@ use Rattle.qc_msg.specs.declared.message.Message.TheVariants as messages
 use Rattle.qc_msg.specs.declared.message.Want.{Want}
 use Rattle.qc_msg.specs.declared.message.Want.TheVariants.{Read}
 use Rattle.qc_msg.specs.declared.turn.Posting.{Posting}
-use Rattle.theory_machine.specs.Names.{Act, Deed, Grant, Granted, Grants, IsRun, Item, NotBegun, Own, Promise, Site}
-use Rattle.theory_machine.specs.Names.{State, after_act, after_prepare, items_of, site_after, state, without_tx}
+use Rattle.theory_machine.specs.Vocabulary.{Act, Deed, Grant, Granted, Grants, IsRun, Item, NotBegun, Own, Promise}
+use Rattle.theory_machine.specs.Vocabulary.{Site, State, after_act, after_prepare, items_of, site_after, state}
+use Rattle.theory_machine.specs.Vocabulary.{without_tx}
 use Rattle.theory_machine.proofs.Names.{put_here}
 use Rattle.theory_machine.proofs.SiteLists.{items_of-dropped, items_of-kept}
-use Rattle.qc_site.specs.Names.{SiteMove, SiteState, answers as answers_with, moved, view_in}
-use Rattle.laws_refinement.specs.Names.{Backed, Continues, IsGrantable, IsHeld, IsKeptBy, IsMessage, KeptMirrors}
-use Rattle.laws_refinement.specs.Names.{Mirrors, Net, SiteMirrors, after_site, items_wanted}
+use Rattle.qc_site.specs.Vocabulary.{SiteMove, SiteState, answers as answers_with, moved, view_in}
+use Rattle.laws_refinement.specs.Vocabulary.{Backed, Continues, IsGrantable, IsHeld, IsKeptBy, IsMessage, KeptMirrors}
+use Rattle.laws_refinement.specs.Vocabulary.{Mirrors, Net, SiteMirrors, after_site, items_wanted}
 use Rattle.std.specs.Prelude.{option_to_list}
 use Rattle.std.proofs.lemmas.List.{append-nil}
 use Rattle.qc_msg.specs.declared.record.Record.{Record}
-use Rattle.qc_recover.specs.Names.{kept_by}
+use Rattle.qc_recover.specs.Vocabulary.{kept_by}
 use Rattle.laws_refinement.proofs.KeptDeeds.{kept_same, leaves_epoch}
 use Rattle.laws_refinement.proofs.MessagesStay.{keeps_same, same_state}
 use Rattle.laws_refinement.proofs.Machine.{put_other}

@@ -2,24 +2,24 @@
 use Rattle.std.proofs.Common.{◌≡◌, ◌≢◌, ℕ, ◌==◌, ◌-◌, Bool, true, false, ◌⊎◌, inl, inr, List, ◌++◌, Option, length}
 use Rattle.std.proofs.Common.{slice_get, Some, refl, sym, ◌∙◌, subst, eqb-true, eq-eqb}
 use Rattle.qc_stamp.specs.declared.stamp.TxId.{TxId}
-use Rattle.qc_list.specs.Names.{In}
+use Rattle.qc_list.specs.Vocabulary.{In}
 use Rattle.qc_entry.specs.declared.record.Commit.{Commit as CommitRecord}
 use Rattle.qc_decl.specs.declared.declaration.Declaration.{Declaration}
-use Rattle.qc_decl.specs.Names.{administrator, is_client, is_site}
-use Rattle.qc_lock.specs.Names.{is_held}
+use Rattle.qc_decl.specs.Vocabulary.{administrator, is_client, is_site}
+use Rattle.qc_lock.specs.Vocabulary.{is_held}
 use Rattle.qc_msg.specs.declared.message.Envelope.{Envelope}
 use Rattle.qc_msg.specs.declared.record.Record.{Record}
 use Rattle.qc_msg.specs.declared.turn.Posting.{Posting}
-use Rattle.qc_msg.specs.Names.{envelopes}
-use Rattle.theory_machine.specs.Names.{Deed, Granted, NotBegun, State}
+use Rattle.qc_msg.specs.Vocabulary.{envelopes}
+use Rattle.theory_machine.specs.Vocabulary.{Deed, Granted, NotBegun, State}
 use Rattle.qc_client.specs.declared.client.Client.{Client}
-use Rattle.qc_site.specs.Names.{SiteState}
-use Rattle.qc_epoch.specs.Names.{Admin}
+use Rattle.qc_site.specs.Vocabulary.{SiteState}
+use Rattle.qc_epoch.specs.Vocabulary.{Admin}
 use Rattle.qc_recover.specs.Admins as admins
 use Rattle.qc_recover.specs.Clients as clients
-use Rattle.laws_refinement.specs.Names.{AdminMirrors, Backed, ClientMirrors, FallenMirrors, IsKeptBy, IsPendingAt}
-use Rattle.laws_refinement.specs.Names.{IsPendingRule, KeptMirrors, Mirrors, Net, RulesMirror, SiteMirrors}
-use Rattle.qc_recover.specs.Names.{kept_by}
+use Rattle.laws_refinement.specs.Vocabulary.{AdminMirrors, Backed, ClientMirrors, FallenMirrors, IsKeptBy, IsPendingAt}
+use Rattle.laws_refinement.specs.Vocabulary.{IsPendingRule, KeptMirrors, Mirrors, Net, RulesMirror, SiteMirrors}
+use Rattle.qc_recover.specs.Vocabulary.{kept_by}
 use Rattle.laws_refinement.proofs.MessagesStay.{Keeps, Later, admin_later}
 use Rattle.laws_refinement.proofs.Frames.{keep_client}
 use Rattle.laws_refinement.proofs.Kepts.{fallen_keeps, kept_later, no_client, no_ruler, pends_later, rules_later}

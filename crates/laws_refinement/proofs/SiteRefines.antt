@@ -1,10 +1,10 @@
 -- Whatever a site takes, the net after it is still what a run of the machine may look like.
 use Rattle.std.proofs.Common.{◌≡◌, ℕ, true, ◌++◌}
-use Rattle.qc_decl.specs.Names.{IsAccepted, is_site}
+use Rattle.qc_decl.specs.Vocabulary.{IsAccepted, is_site}
 use Rattle.qc_decl.specs.declared.declaration.Declaration.{Declaration}
 use Rattle.qc_msg.specs.declared.step.Input.{Input}
-use Rattle.qc_site.specs.Names.{site_takes}
-use Rattle.laws_refinement.specs.Names.{Continues, MayCome, Net, Refines, after_site}
+use Rattle.qc_site.specs.Vocabulary.{site_takes}
+use Rattle.laws_refinement.specs.Vocabulary.{Continues, MayCome, Net, Refines, after_site}
 use Rattle.laws_refinement.proofs.SiteCases.{serve_case}
 
 pub site_refines : (decl : Declaration) (net : Net) (a : ℕ) (given : Input) → IsAccepted decl → Refines decl net

@@ -3,33 +3,34 @@ use Rattle.std.proofs.Common.{◌≡◌, ◌≢◌, ◌<◌, ◌≤◌, ℕ, max
 use Rattle.std.proofs.Common.{Option, Some, None, is_some, refl, sym, ap, ◌∙◌, subst, arith}
 use Rattle.std.specs.Option.{option_map_or}
 use Rattle.qc_stamp.specs.declared.stamp.TxId.{TxId}
-use Rattle.qc_stamp.specs.Names.{same_tx}
+use Rattle.qc_stamp.specs.Vocabulary.{same_tx}
 use Rattle.qc_stamp.proofs.Orders.{same_tx_is}
-use Rattle.qc_list.specs.Names.{In}
+use Rattle.qc_list.specs.Vocabulary.{In}
 use Rattle.qc_list.proofs.Members.{In-first, In-second}
 use Rattle.qc_entry.specs.declared.line.Line.{Line}
 use Rattle.qc_entry.specs.declared.line.OwnLine.{OwnLine}
 use Rattle.qc_entry.specs.declared.record.Prepared.{Prepared}
-use Rattle.qc_entry.specs.Names.{IsAscending}
-use Rattle.qc_table.specs.Names.{depends}
+use Rattle.qc_entry.specs.Vocabulary.{IsAscending}
+use Rattle.qc_table.specs.Vocabulary.{depends}
 use Rattle.qc_table.specs.declared.kind.Kind.{Kind}
 use Rattle.qc_decl.specs.declared.declaration.Declaration.{Declaration}
-use Rattle.qc_decl.specs.Names.{is_site, kind_at}
-use Rattle.theory_onecopy.specs.Names.{depends_at}
+use Rattle.qc_decl.specs.Vocabulary.{is_site, kind_at}
+use Rattle.theory_onecopy.specs.Vocabulary.{depends_at}
 use Rattle.theory_onecopy.proofs.Lists.{in_split}
 use Rattle.qc_lock.specs.declared.clash.Clash.{Clash}
-use Rattle.qc_lock.specs.Names.{held_of}
+use Rattle.qc_lock.specs.Vocabulary.{held_of}
 use Rattle.qc_msg.specs.declared.message.Answer.{Answer}
 use Rattle.qc_msg.specs.declared.message.Message.TheVariants as messages
 use Rattle.qc_msg.specs.declared.message.Envelope.{Envelope}
 use Rattle.qc_msg.specs.declared.turn.Posting.{Posting}
-use Rattle.theory_machine.specs.Names.{Act, Conflict, Deed, DoneRecord, Grant, Granted, Grants, IsAllowed, IsRequested}
-use Rattle.theory_machine.specs.Names.{IsRun, Item, NotBegun, Own, Site, State, after_deed, done_records, each_held}
-use Rattle.theory_machine.specs.Names.{empty_site, items_of, promise_of, site_after, state}
+use Rattle.theory_machine.specs.Vocabulary.{Act, Conflict, Deed, DoneRecord, Grant, Granted, Grants, IsAllowed}
+use Rattle.theory_machine.specs.Vocabulary.{IsRequested, IsRun, Item, NotBegun, Own, Site, State, after_deed}
+use Rattle.theory_machine.specs.Vocabulary.{done_records, each_held, empty_site, items_of, promise_of, site_after}
+use Rattle.theory_machine.specs.Vocabulary.{state}
 use Rattle.theory_machine.proofs.SiteLists.{items_of-append, items_of-each_held, items_of-other}
-use Rattle.qc_site.specs.Names.{SiteState, answers, clashing, known, latest, prepared_of, relation_at}
-use Rattle.laws_refinement.specs.Names.{AreApart, AreLined, Backed, IsClosing, IsHeld, IsPlanned, IsPromiseOf, Mirrors}
-use Rattle.laws_refinement.specs.Names.{Net, SiteMirrors}
+use Rattle.qc_site.specs.Vocabulary.{SiteState, answers, clashing, known, latest, prepared_of, relation_at}
+use Rattle.laws_refinement.specs.Vocabulary.{AreApart, AreLined, Backed, IsClosing, IsHeld, IsPlanned, IsPromiseOf}
+use Rattle.laws_refinement.specs.Vocabulary.{Mirrors, Net, SiteMirrors}
 use Rattle.laws_refinement.proofs.Machine.{IsDoneOf, LeavesEpoch, done_last, epoch_stays, install_old, shut_stays}
 use Rattle.laws_refinement.proofs.Machine.{single_more, site_more}
 

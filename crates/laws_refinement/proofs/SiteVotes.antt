@@ -3,8 +3,8 @@
 use Rattle.std.proofs.Common.{◌≡◌, ◌⊎◌, ℕ, ◌==◌, ◌+◌, nat_le, nat_lt, inl, inr, not, Bool, true, false, cond, fold, map}
 use Rattle.std.proofs.Common.{List, [], ◌∷◌, Option, Some, None, is_some, refl, sym, ap, ◌∙◌, subst}
 use Rattle.qc_stamp.specs.declared.stamp.TxId.{TxId}
-use Rattle.qc_stamp.specs.Names.{same_tx}
-use Rattle.qc_list.specs.Names.{In}
+use Rattle.qc_stamp.specs.Vocabulary.{same_tx}
+use Rattle.qc_list.specs.Vocabulary.{In}
 use Rattle.qc_list.proofs.Members.{In-unfiltered}
 use Rattle.qc_entry.specs.declared.line.Line.{Line}
 use Rattle.qc_entry.specs.declared.record.Prepared.{Prepared}
@@ -23,14 +23,15 @@ use Rattle.qc_msg.specs.declared.record.Record.TheVariants as records
 use Rattle.qc_msg.specs.declared.step.Input.{Input}
 use Rattle.qc_msg.specs.declared.step.Input.TheVariants.{Called, Got, Lost}
 use Rattle.qc_msg.specs.declared.turn.Posting.{Posting}
-use Rattle.qc_site.specs.Names.{SiteMove, SiteState, answering, answers as answers_with, closed, closed_fault, closes}
-use Rattle.qc_site.specs.Names.{fault_of, grants, installed, installs, is_closed_for, latest, moved, passed}
-use Rattle.qc_site.specs.Names.{prepared_of, promise_of, recording, shut_answer, site_on, site_takes, without_prepared}
-use Rattle.qc_decl.specs.Names.{most_record_bytes}
-use Rattle.qc_msg.specs.Names.{epoch_length}
+use Rattle.qc_site.specs.Vocabulary.{SiteMove, SiteState, answering, answers as answers_with, closed, closed_fault}
+use Rattle.qc_site.specs.Vocabulary.{closes, fault_of, grants, installed, installs, is_closed_for, latest, moved}
+use Rattle.qc_site.specs.Vocabulary.{passed, prepared_of, promise_of, recording, shut_answer, site_on, site_takes}
+use Rattle.qc_site.specs.Vocabulary.{without_prepared}
+use Rattle.qc_decl.specs.Vocabulary.{most_record_bytes}
+use Rattle.qc_msg.specs.Vocabulary.{epoch_length}
 use Rattle.qc_site.proofs.RequestCases.{append_cases, close_cases, join_cases, prepare_cases, read_cases, request_cases}
 use Rattle.qc_site.proofs.Cases.{install_cases}
-use Rattle.qc_recover.specs.Names.{Kept, inquiry, keeps, kept_by, nothing_kept}
+use Rattle.qc_recover.specs.Vocabulary.{Kept, inquiry, keeps, kept_by, nothing_kept}
 use Rattle.laws_refinement.proofs.Apart.{found_in}
 
 -- each promise of records is one of them

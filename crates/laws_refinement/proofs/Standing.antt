@@ -2,7 +2,7 @@
 use Rattle.std.proofs.Common.{◌≡◌, ℕ, ◌+◌, ◌-◌, Bool, true, false, cond, inl, inr, List, [], ◌∷◌, ◌++◌, map, length}
 use Rattle.std.proofs.Common.{is_some, Option, Some, None, refl, sym, ap, ◌∙◌, subst}
 use Rattle.qc_stamp.specs.declared.stamp.TxId.{TxId}
-use Rattle.qc_list.specs.Names.{In}
+use Rattle.qc_list.specs.Vocabulary.{In}
 use Rattle.qc_list.proofs.Members.{every-In}
 use Rattle.qc_decl.specs.declared.declaration.Declaration.{Declaration}
 use Rattle.qc_msg.specs.declared.message.Answer.{Answer}
@@ -19,7 +19,7 @@ use Rattle.qc_msg.specs.declared.turn.Posting.{Posting}
 use Rattle.qc_msg.specs.declared.turn.Turn.{Turn}
 use Rattle.qc_commit.specs.declared.desk.Desk.{Desk}
 use Rattle.qc_commit.specs.declared.desk.Voting.{Voting}
-use Rattle.qc_commit.specs.Names.{DeskMove}
+use Rattle.qc_commit.specs.Vocabulary.{DeskMove}
 use Rattle.qc_commit.specs.Conduct as desks
 use Rattle.qc_commit.proofs.Moves.{IsMove, IsPrepare, prepare-moves, vote-moves}
 use Rattle.qc_front.specs.declared.doing.Doing.{Doing}
@@ -27,18 +27,18 @@ use Rattle.qc_front.specs.declared.doing.Doing.TheVariants.{Idle, Reading, Appen
 use Rattle.qc_front.specs.declared.front.Front.{Front}
 use Rattle.qc_front.specs.declared.transaction.Transaction.{Transaction}
 use Rattle.qc_front.specs.Conduct as fronts
-use Rattle.qc_front.specs.Names.{AreSent, AsksAtOnce, FrontHolds, FrontMove, IsFor, IsNumbered, IsSent, ended}
-use Rattle.qc_front.specs.Names.{numbered_all, numbered_one}
+use Rattle.qc_front.specs.Vocabulary.{AreSent, AsksAtOnce, FrontHolds, FrontMove, IsFor, IsNumbered, IsSent, ended}
+use Rattle.qc_front.specs.Vocabulary.{numbered_all, numbered_one}
 use Rattle.qc_front.proofs.AtOnce.{called_at_once, takes_at_once}
 use Rattle.qc_front.proofs.CommandsKeep.{called_holds}
 use Rattle.qc_front.proofs.Keeping.{ended_holds, new_holds, takes_holds}
 use Rattle.qc_front.proofs.Numbering.{sent_holds}
 use Rattle.qc_front.proofs.Sending.{called_sent, takes_sent}
-use Rattle.qc_client.specs.Names.{answered_by, by_desk, by_front, called, client_takes, commits, heard, sent_one}
+use Rattle.qc_client.specs.Vocabulary.{answered_by, by_desk, by_front, called, client_takes, commits, heard, sent_one}
 use Rattle.qc_client.specs.declared.client.Client.{Client}
 use Rattle.std.specs.Prelude.{option_to_list}
-use Rattle.qc_recover.specs.Names.{client_rises}
-use Rattle.laws_refinement.specs.Names.{FrontStands, Net, Reaches, after_client, after_site, sent_all}
+use Rattle.qc_recover.specs.Vocabulary.{client_rises}
+use Rattle.laws_refinement.specs.Vocabulary.{FrontStands, Net, Reaches, after_client, after_site, sent_all}
 use Rattle.laws_refinement.specs.Net as nets
 use Rattle.laws_refinement.proofs.Machine.{put_one}
 

@@ -1,21 +1,21 @@
 -- A site that a transaction waits for a vote of hasn't forgotten what it granted, whatever epochs came.
 use Rattle.std.proofs.Common.{◌≡◌, ◌≤◌, ◌<◌, ◌⊎◌, inl, inr, ℕ, true, List, ◌∷◌, None, sym, ap, ◌∙◌, subst, arith}
 use Rattle.qc_stamp.specs.declared.stamp.TxId.{TxId}
-use Rattle.qc_list.specs.Names.{In}
-use Rattle.qc_decl.specs.Names.{IsAccepted, is_site}
+use Rattle.qc_list.specs.Vocabulary.{In}
+use Rattle.qc_decl.specs.Vocabulary.{IsAccepted, is_site}
 use Rattle.qc_decl.specs.declared.declaration.Declaration.{Declaration}
-use Rattle.qc_lock.specs.Names.{held_of}
+use Rattle.qc_lock.specs.Vocabulary.{held_of}
 use Rattle.qc_msg.specs.declared.message.Envelope.{Envelope}
 use Rattle.qc_msg.specs.declared.message.Message.{Message}
 use Rattle.qc_msg.specs.declared.message.Message.TheVariants as messages
 use Rattle.qc_msg.specs.declared.message.Want.TheVariants.{Prepare}
-use Rattle.theory_machine.specs.Names.{Act, CountedLaw, Deed, Granted, Grants, HasRisingEpochs, Item, StateLaws, Voting}
-use Rattle.theory_machine.specs.Names.{epoch_from, items_of, site_after, state}
+use Rattle.theory_machine.specs.Vocabulary.{Act, CountedLaw, Deed, Granted, Grants, HasRisingEpochs, Item, StateLaws}
+use Rattle.theory_machine.specs.Vocabulary.{Voting, epoch_from, items_of, site_after, state}
 use Rattle.theory_machine.proofs.Epochs.{epoch-append, rising-right, upward}
 use Rattle.theory_machine.proofs.Holdings.{granted_items_are_held}
 use Rattle.theory_machine.proofs.Keeps.{laws}
-use Rattle.qc_site.specs.Names.{fault_of}
-use Rattle.laws_refinement.specs.Names.{Backed, IsHeld, Net, RefinesBy, SiteMirrors}
+use Rattle.qc_site.specs.Vocabulary.{fault_of}
+use Rattle.laws_refinement.specs.Vocabulary.{Backed, IsHeld, Net, RefinesBy, SiteMirrors}
 use Rattle.laws_refinement.proofs.SiteDecisions.{Passes, passes}
 
 module _ (decl : Declaration) (accepted : IsAccepted decl) (acts : List Act) (net : Net) (r : RefinesBy decl acts net)

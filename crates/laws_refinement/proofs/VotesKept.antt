@@ -3,11 +3,11 @@ use Rattle.std.specs.Prelude.{option_to_list}
 use Rattle.std.proofs.Common.{◌≡◌, ℕ, inl, inr, true, map, take, List, [], ◌∷◌, ◌++◌, Option, Some, length, refl, sym}
 use Rattle.std.proofs.Common.{◌∙◌, subst}
 use Rattle.std.proofs.lemmas.List.{append-nil}
-use Rattle.qc_list.specs.Names.{In}
+use Rattle.qc_list.specs.Vocabulary.{In}
 use Rattle.qc_list.proofs.Members.{In-first, In-second}
 use Rattle.qc_entry.specs.declared.record.Prepared.{Prepared}
 use Rattle.theory_onecopy.proofs.Lists.{in_split}
-use Rattle.qc_decl.specs.Names.{IsAccepted, administrator, is_site}
+use Rattle.qc_decl.specs.Vocabulary.{IsAccepted, administrator, is_site}
 use Rattle.qc_decl.specs.declared.declaration.Declaration.{Declaration}
 use Rattle.qc_msg.specs.declared.message.Answer.TheVariants as answers
 use Rattle.qc_msg.specs.declared.message.Envelope.{Envelope}
@@ -17,14 +17,14 @@ use Rattle.qc_msg.specs.declared.record.Record.TheVariants as records
 use Rattle.qc_msg.specs.declared.step.Input.{Input}
 use Rattle.qc_msg.specs.declared.step.Input.TheVariants.{Called, Got, Lost}
 use Rattle.qc_msg.specs.declared.turn.Posting.{Posting}
-use Rattle.qc_msg.specs.Names.{envelopes}
-use Rattle.theory_machine.specs.Names.{put}
+use Rattle.qc_msg.specs.Vocabulary.{envelopes}
+use Rattle.theory_machine.specs.Vocabulary.{put}
 use Rattle.theory_machine.proofs.Names.{put_here}
-use Rattle.qc_client.specs.Names.{client_takes}
-use Rattle.qc_epoch.specs.Names.{admin_takes}
-use Rattle.qc_site.specs.Names.{SiteMove, in_order, prepared_of, site_takes}
-use Rattle.qc_recover.specs.Names.{kept_by, most_inquiries, site_rises}
-use Rattle.laws_refinement.specs.Names.{IsRecorded, Net, Reaches, Refines}
+use Rattle.qc_client.specs.Vocabulary.{client_takes}
+use Rattle.qc_epoch.specs.Vocabulary.{admin_takes}
+use Rattle.qc_site.specs.Vocabulary.{SiteMove, in_order, prepared_of, site_takes}
+use Rattle.qc_recover.specs.Vocabulary.{kept_by, most_inquiries, site_rises}
+use Rattle.laws_refinement.specs.Vocabulary.{IsRecorded, Net, Reaches, Refines}
 use Rattle.laws_refinement.specs.Net as nets
 use Rattle.laws_refinement.proofs.Kepts.{no_client, no_ruler}
 use Rattle.laws_refinement.proofs.Machine.{put_other}

@@ -1,13 +1,13 @@
 -- A vote that is cast later is cast in the life that its request names.
-use Rattle.std.specs.Prelude.{option_to_list}
+use Rattle.std.specs.Prelude.{[], option_to_list}
 use Rattle.std.proofs.Common.{◌≡◌, ◌⊎◌, ℕ, ◌≤◌, arith, inl, inr, true, map, take, List, ◌++◌, length, refl, sym, ◌∙◌}
 use Rattle.std.proofs.Common.{subst}
 use Rattle.std.proofs.lemmas.List.{append-nil}
-use Rattle.qc_list.specs.Names.{In}
+use Rattle.qc_list.specs.Vocabulary.{In}
 use Rattle.qc_list.proofs.Members.{In-first}
 use Rattle.qc_entry.specs.declared.record.Prepared.{Prepared}
 use Rattle.theory_onecopy.proofs.Lists.{in_split}
-use Rattle.qc_decl.specs.Names.{IsAccepted, administrator, is_site}
+use Rattle.qc_decl.specs.Vocabulary.{IsAccepted, administrator, is_site}
 use Rattle.qc_decl.specs.declared.declaration.Declaration.{Declaration}
 use Rattle.qc_msg.specs.declared.message.Answer.TheVariants as answers
 use Rattle.qc_msg.specs.declared.message.Envelope.{Envelope}
@@ -18,12 +18,12 @@ use Rattle.qc_msg.specs.declared.record.Record.TheVariants as records
 use Rattle.qc_msg.specs.declared.step.Input.{Input}
 use Rattle.qc_msg.specs.declared.step.Input.TheVariants.{Called, Got, Lost}
 use Rattle.qc_msg.specs.declared.turn.Posting.{Posting}
-use Rattle.qc_msg.specs.Names.{envelopes}
-use Rattle.qc_client.specs.Names.{client_takes}
-use Rattle.qc_site.specs.Names.{in_order, site_on, site_takes}
-use Rattle.qc_epoch.specs.Names.{admin_takes}
-use Rattle.qc_recover.specs.Names.{kept_by, most_inquiries, site_rises}
-use Rattle.laws_refinement.specs.Names.{IsLater, IsNamedLater, Net, Reaches, Refines}
+use Rattle.qc_msg.specs.Vocabulary.{envelopes}
+use Rattle.qc_client.specs.Vocabulary.{client_takes}
+use Rattle.qc_site.specs.Vocabulary.{in_order, site_on, site_takes}
+use Rattle.qc_epoch.specs.Vocabulary.{admin_takes}
+use Rattle.qc_recover.specs.Vocabulary.{kept_by, most_inquiries, site_rises}
+use Rattle.laws_refinement.specs.Vocabulary.{IsLater, IsNamedLater, Net, Reaches, Refines}
 use Rattle.laws_refinement.specs.Net as nets
 use Rattle.laws_refinement.proofs.Kepts.{no_client, no_ruler}
 use Rattle.laws_refinement.proofs.Posts.{Place, placed}

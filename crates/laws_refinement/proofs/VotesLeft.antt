@@ -1,18 +1,18 @@
 -- What a desk learns leaves the rest of it; a vote for the commit was voted.
 use Rattle.std.proofs.Common.{◌≡◌, ◌≤◌, ℕ, List, Option, Some, None, refl, sym, subst, arith}
 use Rattle.qc_stamp.specs.declared.stamp.TxId.{TxId}
-use Rattle.qc_list.specs.Names.{In}
+use Rattle.qc_list.specs.Vocabulary.{In}
 use Rattle.qc_decl.specs.declared.declaration.Declaration.{Declaration}
 use Rattle.qc_msg.specs.declared.begun.Begun.{Begun}
 use Rattle.qc_msg.specs.declared.message.Answer.{Answer}
 use Rattle.qc_msg.specs.declared.message.Answer.TheVariants as answers
 use Rattle.qc_msg.specs.declared.message.Envelope.{Envelope}
 use Rattle.qc_msg.specs.declared.message.Want.TheVariants as wants
-use Rattle.theory_machine.specs.Names.{Granted, State}
+use Rattle.theory_machine.specs.Vocabulary.{Granted, State}
 use Rattle.qc_commit.specs.declared.ballot.Vote.TheVariants.{For}
 use Rattle.qc_commit.specs.declared.desk.Desk.{Desk}
-use Rattle.qc_commit.specs.Names.{learns, vote_of}
-use Rattle.laws_refinement.specs.Names.{IsPlanned, IsRequest}
+use Rattle.qc_commit.specs.Vocabulary.{learns, vote_of}
+use Rattle.laws_refinement.specs.Vocabulary.{IsPlanned, IsRequest}
 use Rattle.laws_refinement.proofs.Planned.{planned_max}
 use Rattle.laws_refinement.proofs.OpenRequests.{AnswerBacked, one_request}
 

@@ -1,26 +1,27 @@
 -- The administrator agrees with what the machine says that was told and decided.
 use Rattle.std.specs.Prelude.{◌≡◌, ℕ, suc, nat_le, Bool, false, IsTrue, List, Option, Some, None}
 use Rattle.qc_stamp.specs.declared.stamp.TxId.{TxId}
-use Rattle.qc_list.specs.Names.{In}
+use Rattle.qc_list.specs.Vocabulary.{In}
 use Rattle.qc_entry.specs.declared.record.Prepared.{Prepared}
 use Rattle.qc_plan.specs.declared.plan.Plan.{Plan}
 use Rattle.qc_plan.specs.declared.standing.Asked.{Asked}
 use Rattle.qc_plan.specs.declared.standing.Standing.TheVariants as standings
-use Rattle.qc_plan.specs.Names.{Closes as Closing, RoundState, weight}
+use Rattle.qc_plan.specs.Vocabulary.{Closes as Closing, RoundState, weight}
 use Rattle.qc_decl.specs.declared.declaration.Declaration.{Declaration}
-use Rattle.qc_decl.specs.Names.{client_actor, most_record_bytes, plan_in}
-use Rattle.qc_msg.specs.Names.{epoch_length}
+use Rattle.qc_decl.specs.Vocabulary.{client_actor, most_record_bytes, plan_in}
+use Rattle.qc_msg.specs.Vocabulary.{epoch_length}
 use Rattle.qc_msg.specs.declared.call.Call.{Call}
 use Rattle.qc_msg.specs.declared.message.Envelope.{Envelope}
 use Rattle.qc_msg.specs.declared.message.Message.TheVariants as messages
 use Rattle.qc_msg.specs.declared.message.Outcome.{Outcome}
 use Rattle.qc_entry.specs.declared.line.Line.{Line}
-use Rattle.qc_entry.specs.Names.{IsAscending}
+use Rattle.qc_entry.specs.Vocabulary.{IsAscending}
 use Rattle.qc_msg.specs.declared.record.Record.{Record}
 use Rattle.qc_msg.specs.declared.record.Record.TheVariants as records
-use Rattle.theory_machine.specs.Names.{Decision, MayDecide, NotBegun, State}
-use Rattle.qc_recover.specs.Names.{epoch_by}
-use Rattle.qc_epoch.specs.Names.{Admin, Asking, Decided, Doing, Installing, Question, Resting, ShutSite, close_need}
+use Rattle.theory_machine.specs.Vocabulary.{Decision, MayDecide, NotBegun, State}
+use Rattle.qc_recover.specs.Vocabulary.{epoch_by}
+use Rattle.qc_epoch.specs.Vocabulary.{Admin, Asking, Decided, Doing, Installing, Question, Resting, ShutSite}
+use Rattle.qc_epoch.specs.Vocabulary.{close_need}
 use Rattle.qc_epoch.specs.Admin as admins
 use Rattle.laws_refinement.specs.Messages.{IsMessage, IsSnapshot, IsVerdictBacked}
 use Rattle.laws_refinement.specs.Sites.{IsDecided, IsPlanned}

@@ -1,38 +1,38 @@
 -- A client agrees with what the machine says of its transactions, and so do its records.
 use Rattle.std.specs.Prelude.{◌≡◌, ◌≢◌, ◌⊎◌, ℕ, ◌+◌, ◌<◌, ◌≤◌, false, List, Option, Some, None, length, map}
 use Rattle.qc_stamp.specs.declared.stamp.TxId.{TxId}
-use Rattle.qc_list.specs.Names.{In}
+use Rattle.qc_list.specs.Vocabulary.{In}
 use Rattle.qc_entry.specs.declared.line.Line.{Line}
 use Rattle.qc_entry.specs.declared.record.Commit.{Commit as CommitRecord}
-use Rattle.qc_entry.specs.Names.{IsAscending}
+use Rattle.qc_entry.specs.Vocabulary.{IsAscending}
 use Rattle.qc_plan.specs.declared.standing.Asked.{Asked}
 use Rattle.qc_plan.specs.declared.standing.Standing.TheVariants as standings
-use Rattle.qc_decl.specs.Names.{client_actor}
+use Rattle.qc_decl.specs.Vocabulary.{client_actor}
 use Rattle.qc_decl.specs.declared.declaration.Declaration.{Declaration}
 use Rattle.qc_msg.specs.declared.call.Call.{Call}
 use Rattle.qc_msg.specs.declared.message.Envelope.{Envelope}
 use Rattle.qc_msg.specs.declared.message.Want.{Want}
 use Rattle.qc_msg.specs.declared.message.Want.TheVariants.{Prepare}
-use Rattle.qc_msg.specs.Names.{life_of}
+use Rattle.qc_msg.specs.Vocabulary.{life_of}
 use Rattle.qc_msg.specs.declared.message.Message.TheVariants as messages
 use Rattle.laws_refinement.specs.Lives.{LivesMirror}
 use Rattle.laws_refinement.specs.Sites.{IsPlanned}
-use Rattle.theory_onecopy.specs.Names.{Executed}
-use Rattle.theory_machine.specs.Names.{Aborted, Active, AppendRequest, Committed, Granted, HasGranted, IsShown, Item}
-use Rattle.theory_machine.specs.Names.{Lock, MayCommit, NotBegun, Own, State, Status, YesVote, op_of}
-use Rattle.theory_machine.specs.Names.{own_on as machine_own_on}
+use Rattle.theory_onecopy.specs.Vocabulary.{Executed}
+use Rattle.theory_machine.specs.Vocabulary.{Aborted, Active, AppendRequest, Committed, Granted, HasGranted, IsShown}
+use Rattle.theory_machine.specs.Vocabulary.{Item, Lock, MayCommit, NotBegun, Own, State, Status, YesVote, op_of}
+use Rattle.theory_machine.specs.Vocabulary.{own_on as machine_own_on}
 use Rattle.theory_machine.specs.State as machine
 use Rattle.qc_commit.specs.declared.ballot.Ballot.{Ballot}
 use Rattle.qc_commit.specs.declared.ballot.Vote.TheVariants.{For}
 use Rattle.qc_commit.specs.declared.desk.Voting.{Voting}
-use Rattle.qc_commit.specs.Names.{record_of}
+use Rattle.qc_commit.specs.Vocabulary.{record_of}
 use Rattle.qc_front.specs.declared.doing.Doing.{Doing}
 use Rattle.qc_front.specs.declared.doing.Doing.TheVariants.{Idle, Reading, Appending}
 use Rattle.qc_front.specs.declared.front.Front.{Front}
 use Rattle.qc_front.specs.declared.transaction.Transaction.{Transaction}
-use Rattle.qc_front.specs.Names.{IsFor, calls_in, next_own, op_of as operation_of, own_appended, own_on, resp_of}
-use Rattle.qc_front.specs.Names.{view_log}
-use Rattle.qc_client.specs.Names.{is_begun}
+use Rattle.qc_front.specs.Vocabulary.{IsFor, calls_in, next_own, op_of as operation_of, own_appended, own_on, resp_of}
+use Rattle.qc_front.specs.Vocabulary.{view_log}
+use Rattle.qc_client.specs.Vocabulary.{is_begun}
 use Rattle.qc_client.specs.declared.client.Client.{Client}
 use Rattle.qc_msg.specs.declared.record.Record.{Record}
 use Rattle.qc_msg.specs.declared.record.Record.TheVariants as records

@@ -3,7 +3,7 @@ use Rattle.std.specs.Prelude.{List, [], ◌∷◌, map}
 use Rattle.qc_entry.specs.declared.line.OwnLine.{OwnLine}
 use Rattle.qc_msg.specs.declared.message.Want.{Want}
 use Rattle.qc_msg.specs.declared.message.Want.TheVariants.{Read, Append, Prepare}
-use Rattle.theory_machine.specs.Names.{Item, Lock, Own}
+use Rattle.theory_machine.specs.Vocabulary.{Item, Lock, Own}
 
 abbrev pub own_item : OwnLine → Item
 own_item own = Own own

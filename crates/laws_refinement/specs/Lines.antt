@@ -10,8 +10,8 @@ use Rattle.qc_msg.specs.declared.message.Message.{Message}
 use Rattle.qc_msg.specs.declared.message.Message.TheVariants as messages
 use Rattle.qc_msg.specs.declared.message.Outcome.{Outcome}
 use Rattle.qc_msg.specs.declared.message.Outcome.TheVariants as outcomes
-use Rattle.theory_machine.specs.Names.{IsVerdictOf}
-use Rattle.qc_site.specs.Names.{view_in}
+use Rattle.theory_machine.specs.Vocabulary.{IsVerdictOf}
+use Rattle.qc_site.specs.Vocabulary.{view_in}
 
 -- the lines of a grant's log, and of a snapshot's log and promises
 

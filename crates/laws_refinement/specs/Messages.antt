@@ -1,12 +1,12 @@
 -- What stands behind each message: what its sender has done in the machine.
 use Rattle.std.specs.Prelude.{◌≡◌, ◌≢◌, ◌⊎◌, ℕ, suc, ◌<◌, true, List, Some, None, slice_get}
 use Rattle.qc_stamp.specs.declared.stamp.TxId.{TxId}
-use Rattle.qc_list.specs.Names.{In}
+use Rattle.qc_list.specs.Vocabulary.{In}
 use Rattle.qc_entry.specs.declared.line.Line.{Line}
 use Rattle.qc_entry.specs.declared.line.OwnLine.{OwnLine}
 use Rattle.qc_entry.specs.declared.record.Prepared.{Prepared}
-use Rattle.qc_entry.specs.Names.{IsAscending}
-use Rattle.qc_decl.specs.Names.{client_actor, is_site}
+use Rattle.qc_entry.specs.Vocabulary.{IsAscending}
+use Rattle.qc_decl.specs.Vocabulary.{client_actor, is_site}
 use Rattle.qc_decl.specs.declared.declaration.Declaration.{Declaration}
 use Rattle.qc_msg.specs.declared.message.Answer.{Answer}
 use Rattle.qc_msg.specs.declared.message.Answer.TheVariants as answers
@@ -17,9 +17,9 @@ use Rattle.qc_msg.specs.declared.message.Outcome.{Outcome}
 use Rattle.qc_msg.specs.declared.message.Outcome.TheVariants as outcomes
 use Rattle.qc_msg.specs.declared.message.Want.{Want}
 use Rattle.qc_msg.specs.declared.message.Want.TheVariants.{Read, Append, Prepare}
-use Rattle.theory_machine.specs.Names.{Granted, MayPrepare, NotBegun, Snapshot, State, YesVote, epoch_from, promise_of}
-use Rattle.theory_machine.specs.Names.{site_after}
-use Rattle.qc_site.specs.Names.{prepared_of}
+use Rattle.theory_machine.specs.Vocabulary.{Granted, MayPrepare, NotBegun, Snapshot, State, YesVote, epoch_from}
+use Rattle.theory_machine.specs.Vocabulary.{promise_of, site_after}
+use Rattle.qc_site.specs.Vocabulary.{prepared_of}
 use Rattle.laws_refinement.specs.Items.{items_wanted, own_items}
 use Rattle.laws_refinement.specs.Sites.{AreApart, AreLined, AreSingle, IsDecided, IsPlanned, IsPromiseOf}
 

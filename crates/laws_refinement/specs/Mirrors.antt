@@ -1,14 +1,14 @@
 -- The net agrees with a state of the protocol's machine, and is thereby what a run of the machine may look like.
 use Rattle.std.specs.Prelude.{◌≡◌, ◌≢◌, ℕ, ◌-◌, true, false, List, ◌++◌, Some, slice_get}
 use Rattle.qc_stamp.specs.declared.stamp.TxId.{TxId}
-use Rattle.qc_list.specs.Names.{In}
+use Rattle.qc_list.specs.Vocabulary.{In}
 use Rattle.qc_entry.specs.declared.record.Commit.{Commit as CommitRecord}
-use Rattle.qc_decl.specs.Names.{administrator, client_actor, is_client, is_site}
+use Rattle.qc_decl.specs.Vocabulary.{administrator, client_actor, is_client, is_site}
 use Rattle.qc_decl.specs.declared.declaration.Declaration.{Declaration}
-use Rattle.qc_lock.specs.Names.{is_held}
+use Rattle.qc_lock.specs.Vocabulary.{is_held}
 use Rattle.qc_msg.specs.declared.message.Envelope.{Envelope}
-use Rattle.qc_front.specs.Names.{FrontHolds, IsNumbered}
-use Rattle.theory_machine.specs.Names.{Act, Committed, Granted, IsRun, NotBegun, State, state}
+use Rattle.qc_front.specs.Vocabulary.{FrontHolds, IsNumbered}
+use Rattle.theory_machine.specs.Vocabulary.{Act, Committed, Granted, IsRun, NotBegun, State, state}
 use Rattle.qc_recover.specs.Admins as admin_records
 use Rattle.qc_recover.specs.Clients as client_records
 use Rattle.qc_recover.specs.Sites as site_records

@@ -6,25 +6,25 @@ use Rattle.std.specs.Prelude.{◌≡◌, ℕ, ◌+◌, true, List, [], ◌∷◌
 use Rattle.std.specs.Prelude.{None, option_to_list}
 use Rattle.qc_entry.specs.declared.record.Commit.{Commit as CommitRecord}
 use Rattle.qc_table.specs.declared.kind.Kind.{Kind}
-use Rattle.qc_decl.specs.Names.{administrator, is_client, is_site, kind_at}
+use Rattle.qc_decl.specs.Vocabulary.{administrator, is_client, is_site, kind_at}
 use Rattle.qc_msg.specs.declared.record.Record.{Record}
 use Rattle.qc_msg.specs.declared.record.Record.TheVariants.{Life}
 use Rattle.qc_msg.specs.declared.step.Command.{Command}
 use Rattle.qc_msg.specs.declared.step.Command.TheVariants.{Begin, Do, Commit, Abort, Epoch}
-use Rattle.qc_msg.specs.Names.{commit_of, envelopes}
-use Rattle.qc_epoch.specs.Names.{Admin, AdminMove, admin_takes, new_admin, sent_one}
-use Rattle.qc_client.specs.Names.{ClientMove, IsFree, client_takes, new_client, sent_one as client_sent_one}
+use Rattle.qc_msg.specs.Vocabulary.{commit_of, envelopes}
+use Rattle.qc_epoch.specs.Vocabulary.{Admin, AdminMove, admin_takes, new_admin, sent_one}
+use Rattle.qc_client.specs.Vocabulary.{ClientMove, IsFree, client_takes, new_client, sent_one as client_sent_one}
 use Rattle.qc_client.specs.declared.client.Client.{Client}
-use Rattle.qc_list.specs.Names.{In}
+use Rattle.qc_list.specs.Vocabulary.{In}
 use Rattle.qc_decl.specs.declared.declaration.Declaration.{Declaration}
 use Rattle.qc_msg.specs.declared.message.Envelope.{Envelope}
 use Rattle.qc_msg.specs.declared.step.Input.{Input}
 use Rattle.qc_msg.specs.declared.step.Input.TheVariants.{Called, Got, Lost}
 use Rattle.qc_msg.specs.declared.turn.Posting.{Posting}
 use Rattle.qc_msg.specs.declared.turn.Turn.{Turn}
-use Rattle.theory_machine.specs.Names.{put}
-use Rattle.qc_site.specs.Names.{SiteMove, SiteState, new_site, site_takes}
-use Rattle.qc_recover.specs.Names.{admin_rises, client_rises, site_rises}
+use Rattle.theory_machine.specs.Vocabulary.{put}
+use Rattle.qc_site.specs.Vocabulary.{SiteMove, SiteState, new_site, site_takes}
+use Rattle.qc_recover.specs.Vocabulary.{admin_rises, client_rises, site_rises}
 use Rattle.laws_refinement.specs.Sites.{IsPlanned}
 
 pub record Net : Type 0 where

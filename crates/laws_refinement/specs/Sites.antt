@@ -1,24 +1,24 @@
 -- A site agrees with what the machine says that it did, in whichever life and epoch it is, and so do its records.
 use Rattle.std.specs.Prelude.{◌≡◌, ◌≢◌, ◌⊎◌, ℕ, suc, ◌<◌, ◌≤◌, false, List, [], ◌∷◌, Option, Some, None, is_some}
 use Rattle.qc_stamp.specs.declared.stamp.TxId.{TxId}
-use Rattle.qc_stamp.specs.Names.{same_tx}
-use Rattle.qc_list.specs.Names.{In}
+use Rattle.qc_stamp.specs.Vocabulary.{same_tx}
+use Rattle.qc_list.specs.Vocabulary.{In}
 use Rattle.qc_entry.specs.declared.line.Line.{Line}
 use Rattle.qc_entry.specs.declared.line.OwnLine.{OwnLine}
 use Rattle.qc_entry.specs.declared.record.Prepared.{Prepared}
-use Rattle.qc_entry.specs.Names.{IsAscending, union}
+use Rattle.qc_entry.specs.Vocabulary.{IsAscending, union}
 use Rattle.qc_plan.specs.declared.plan.Plan.{Plan}
 use Rattle.qc_decl.specs.declared.declaration.Declaration.{Declaration}
-use Rattle.qc_decl.specs.Names.{plan_in}
+use Rattle.qc_decl.specs.Vocabulary.{plan_in}
 use Rattle.qc_lock.specs.declared.held.Held.{Held}
-use Rattle.qc_lock.specs.Names.{held_of}
-use Rattle.theory_machine.specs.Names.{Decision, Deed, DoneRecord, Installs, Item, Lock, MayPrepare, NotBegun, Own}
-use Rattle.theory_machine.specs.Names.{Promise, State, Status, Verdict, done_records, empty_site, epoch_from, items_of}
-use Rattle.theory_machine.specs.Names.{promise_of, shut_from, site_after}
+use Rattle.qc_lock.specs.Vocabulary.{held_of}
+use Rattle.theory_machine.specs.Vocabulary.{Decision, Deed, DoneRecord, Installs, Item, Lock, MayPrepare, NotBegun, Own}
+use Rattle.theory_machine.specs.Vocabulary.{Promise, State, Status, Verdict, done_records, empty_site, epoch_from}
+use Rattle.theory_machine.specs.Vocabulary.{items_of, promise_of, shut_from, site_after}
 use Rattle.qc_msg.specs.declared.record.Record.{Record}
 use Rattle.qc_msg.specs.declared.record.Record.TheVariants as records
-use Rattle.qc_recover.specs.Names.{Kept, done_stamp}
-use Rattle.qc_site.specs.Names.{SiteState, known, prepared_of}
+use Rattle.qc_recover.specs.Vocabulary.{Kept, done_stamp}
+use Rattle.qc_site.specs.Vocabulary.{SiteState, known, prepared_of}
 
 -- the epoch has a plan
 abbrev pub IsPlanned : Declaration → ℕ → Type 0

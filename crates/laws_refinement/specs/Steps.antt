@@ -1,8 +1,8 @@
 -- A net and a later one: each step, and any number of them.
 use Rattle.std.specs.Prelude.{◌≡◌, ◌⊎◌, ◌≤◌, ℕ, true, false, List, [], Option, Some, None}
-use Rattle.qc_list.specs.Names.{In}
+use Rattle.qc_list.specs.Vocabulary.{In}
 use Rattle.qc_stamp.specs.declared.stamp.TxId.{TxId}
-use Rattle.qc_decl.specs.Names.{administrator, is_client, is_site}
+use Rattle.qc_decl.specs.Vocabulary.{administrator, is_client, is_site}
 use Rattle.qc_decl.specs.declared.declaration.Declaration.{Declaration}
 use Rattle.qc_msg.specs.declared.message.Envelope.{Envelope}
 use Rattle.qc_msg.specs.declared.message.Message.TheVariants.{Request}
@@ -10,10 +10,10 @@ use Rattle.qc_msg.specs.declared.message.Want.TheVariants as wants
 use Rattle.qc_msg.specs.declared.record.Record.{Record}
 use Rattle.qc_msg.specs.declared.step.Input.{Input}
 use Rattle.qc_msg.specs.declared.turn.Posting.{Posting}
-use Rattle.qc_epoch.specs.Names.{admin_takes}
-use Rattle.qc_client.specs.Names.{client_takes}
-use Rattle.qc_site.specs.Names.{site_takes}
-use Rattle.qc_recover.specs.Names.{kept_by}
+use Rattle.qc_epoch.specs.Vocabulary.{admin_takes}
+use Rattle.qc_client.specs.Vocabulary.{client_takes}
+use Rattle.qc_site.specs.Vocabulary.{site_takes}
+use Rattle.qc_recover.specs.Vocabulary.{kept_by}
 use Rattle.laws_refinement.specs.Net.{AreFailedSends, IsGivenBack, MayAdminister, MayCome, MayCommand, Net, after_admin}
 use Rattle.laws_refinement.specs.Net.{after_admin_rise, after_client, after_client_rise, after_fall, after_site}
 use Rattle.laws_refinement.specs.Net.{after_site_rise, after_vain_rise}

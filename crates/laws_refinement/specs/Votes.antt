@@ -1,6 +1,6 @@
 -- What a vote stands on: the record of a promise, which the site that voted keeps whatever falls.
 use Rattle.std.specs.Prelude.{◌≡◌, ℕ}
-use Rattle.qc_list.specs.Names.{In}
+use Rattle.qc_list.specs.Vocabulary.{In}
 use Rattle.qc_entry.specs.declared.record.Prepared.{Prepared}
 use Rattle.qc_msg.specs.declared.message.Envelope.{Envelope}
 use Rattle.qc_msg.specs.declared.message.Message.TheVariants.{Request}

@@ -3,19 +3,19 @@ use Rattle.std.proofs.Common.{◌≡◌, ℕ, ◌+◌, ◌<◌, ◌≤◌, ◌==
 use Rattle.std.proofs.Common.{slice_get, refl, sym, ap, ◌∙◌, subst, arith, eq-eqb, eqb-true, length-append, zero-le}
 use Rattle.std.specs.Prelude.{slice_set}
 use Rattle.std.proofs.lemmas.List.{append-nil}
-use Rattle.qc_core.specs.Names.{Acts, IsLawful}
+use Rattle.qc_core.specs.Vocabulary.{Acts, IsLawful}
 use Rattle.qc_core.specs.Acts as acts
 use Rattle.qc_decl.specs.declared.declaration.Declaration.{Declaration}
-use Rattle.qc_decl.specs.Names.{actors, controller}
+use Rattle.qc_decl.specs.Vocabulary.{actors, controller}
 use Rattle.qc_msg.specs.declared.step.Input.{Input}
 use Rattle.qc_msg.specs.declared.step.Step.{Step}
 use Rattle.qc_msg.specs.declared.step.Step.TheVariants as steps
 use Rattle.qc_msg.specs.declared.turn.Turn.{Turn}
-use Rattle.qc_msg.specs.Names.{Deed, Entry, WasSentTo, by, deed_at, deeds, mail, marked, posted, step_of}
+use Rattle.qc_msg.specs.Vocabulary.{Deed, Entry, WasSentTo, by, deed_at, deeds, mail, marked, posted, step_of}
 use Rattle.qc_msg.proofs.GrownMail.{length-envelopes, mail-append, mail-posted, mail-taken}
 use Rattle.qc_msg.proofs.DeedsGrow.{deeds-append, deeds-other}
 use Rattle.qc_msg.proofs.Growth.{deeds-posted, deeds-taken}
-use Rattle.qc_script.specs.Names.{Runs, phase_of}
+use Rattle.qc_script.specs.Vocabulary.{Runs, phase_of}
 use Rattle.qc_script.specs.Runs.{begins, takes, posts, phase, control}
 use Rattle.qc_script.specs.declared.script.Script.{Script}
 use Rattle.laws_turns.proofs.Arrivals.{what_is_ready_was_sent}
@@ -23,7 +23,7 @@ use Rattle.laws_turns.proofs.Numbered.{IsSilent, control_silent, phase_silent}
 use Rattle.laws_turns.proofs.Places.{length-replicate, length-slice_set, replicate_at, replicate_within}
 use Rattle.laws_turns.proofs.Places.{slice_get-set_other, slice_get-set_same, slice_get-within}
 use Rattle.laws_turns.proofs.Running.{what_is_ready_may_be_taken}
-use Rattle.laws_turns.specs.Names.{ActsIn}
+use Rattle.laws_turns.specs.Vocabulary.{ActsIn}
 use Rattle.laws_turns.proofs.Up.{run_up}
 
 -- a step that is nobody's deed

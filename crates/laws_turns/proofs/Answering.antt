@@ -3,9 +3,9 @@ use Rattle.std.proofs.Common.{◌≡◌, ℕ, ◌+◌, ◌==◌, ◌⊎◌, ◌&
 use Rattle.std.proofs.Common.{[], ◌∷◌, ◌++◌, drop, Option, Some, None, refl, sym, ap, ◌∙◌, subst, eq-eqb}
 use Rattle.std.specs.List.{list_any}
 use Rattle.std.specs.Option.{option_map_or}
-use Rattle.qc_list.specs.Names.{In}
+use Rattle.qc_list.specs.Vocabulary.{In}
 use Rattle.qc_list.proofs.Members.{In-first, In-more, In-passes, In-second, In-unfiltered}
-use Rattle.qc_link.specs.Names.{fate}
+use Rattle.qc_link.specs.Vocabulary.{fate}
 use Rattle.qc_link.specs.declared.rule.Fate.{Fate}
 use Rattle.qc_msg.specs.declared.message.Answer.{Answer}
 use Rattle.qc_msg.specs.declared.message.Envelope.{Envelope}
@@ -14,10 +14,10 @@ use Rattle.qc_msg.specs.declared.message.Message.TheVariants as messages
 use Rattle.qc_msg.specs.declared.step.Control.{Control}
 use Rattle.qc_script.specs.declared.script.PhaseLines.{PhaseLines}
 use Rattle.qc_script.specs.declared.script.Script.{Script}
-use Rattle.qc_script.specs.Names.{Inbox, acting, answers_by, comes, comes_at_once, comes_with, commands_for}
-use Rattle.qc_script.specs.Names.{copies_at_once, count_of, everybody, goes, goes_with, has_request, if_up, is_request}
-use Rattle.qc_script.specs.Names.{is_up, one_more, opened, opened_by, phase_begun, request_answered, request_numbers}
-use Rattle.qc_script.specs.Names.{request_sent, with_copies, with_number, without_request}
+use Rattle.qc_script.specs.Vocabulary.{Inbox, acting, answers_by, comes, comes_at_once, comes_with, commands_for}
+use Rattle.qc_script.specs.Vocabulary.{copies_at_once, count_of, everybody, goes, goes_with, has_request, if_up}
+use Rattle.qc_script.specs.Vocabulary.{is_request, is_up, one_more, opened, opened_by, phase_begun, request_answered}
+use Rattle.qc_script.specs.Vocabulary.{request_numbers, request_sent, with_copies, with_number, without_request}
 use Rattle.qc_script.proofs.AllUp.{is_up-everybody}
 use Rattle.qc_script.proofs.Requests.{added-number, has-numbers, without-numbers}
 use Rattle.laws_turns.proofs.AwaitedCopies.{at_once}

@@ -1,12 +1,12 @@
 -- Every copy in an inbox is a message that was sent, under its number, to the inbox's actor; so what is ready for an
 -- actor was sent to it.
-use Rattle.std.proofs.Common.{◌≡◌, ℕ, ◌+◌, ◌-◌, ◌==◌, ◌&&◌, not, Bool, true, false, cond, if◌then◌else◌, List, ◌∷◌}
+use Rattle.std.proofs.Common.{[], ◌≡◌, ℕ, ◌+◌, ◌-◌, ◌==◌, ◌&&◌, not, Bool, true, false, cond, if◌then◌else◌, List, ◌∷◌}
 use Rattle.std.proofs.Common.{◌++◌, length, Option, Some, None, slice_get, sym, ap, ◌∙◌, subst, arith, append_assoc}
 use Rattle.std.specs.Prelude.{option_to_list, set}
 use Rattle.std.specs.List.{cons_option, fold}
 use Rattle.std.proofs.lemmas.List.{append-nil}
 use Rattle.qc_decl.specs.declared.declaration.Declaration.{Declaration}
-use Rattle.qc_link.specs.Names.{with_cut, without_cut}
+use Rattle.qc_link.specs.Vocabulary.{with_cut, without_cut}
 use Rattle.qc_msg.specs.declared.message.Envelope.{Envelope}
 use Rattle.qc_msg.specs.declared.step.Command.{Command}
 use Rattle.qc_msg.specs.declared.step.Control.{Control}
@@ -15,13 +15,14 @@ use Rattle.qc_msg.specs.declared.step.Input.TheVariants as inputs
 use Rattle.qc_msg.specs.declared.step.Step.{Step}
 use Rattle.qc_msg.specs.declared.step.Step.TheVariants as steps
 use Rattle.qc_msg.specs.declared.turn.Turn.{Turn}
-use Rattle.qc_msg.specs.Names.{Deed, Entry, WasSentTo, envelope_of, mail, marked}
+use Rattle.qc_msg.specs.Vocabulary.{Deed, Entry, WasSentTo, envelope_of, mail, marked}
 use Rattle.qc_script.specs.declared.script.Script.{Script}
 use Rattle.qc_msg.specs.declared.step.Fall.{Fall}
-use Rattle.qc_script.specs.Names.{Inbox, Runs, actor_fell, after_controls, comes, command_called, command_in}
-use Rattle.qc_script.specs.Names.{control_acted, copy_taken, emptied, empty_inbox, fell_by, first_command, first_copy}
-use Rattle.qc_script.specs.Names.{first_lost, inbox, inbox_at, is_by_line, is_up, loss_taken, ready, ready_in}
-use Rattle.qc_script.specs.Names.{reply_told, requests_to, requests_to_others, takes_commands, with_lost, wrote_record}
+use Rattle.qc_script.specs.Vocabulary.{Inbox, Runs, actor_fell, after_controls, comes, command_called, command_in}
+use Rattle.qc_script.specs.Vocabulary.{control_acted, copy_taken, emptied, empty_inbox, fell_by, first_command}
+use Rattle.qc_script.specs.Vocabulary.{first_copy, first_lost, inbox, inbox_at, is_by_line, is_up, loss_taken, ready}
+use Rattle.qc_script.specs.Vocabulary.{ready_in, reply_told, requests_to, requests_to_others, takes_commands, with_lost}
+use Rattle.qc_script.specs.Vocabulary.{wrote_record}
 use Rattle.laws_turns.proofs.Numbered.{AreNumbered, run_numbered}
 use Rattle.laws_turns.proofs.Places.{slice_get-last}
 use Rattle.laws_turns.proofs.ArrivedMail.{AreMail, mail_left, Arrived, arrived_more, arrived_if, arrived_comes}

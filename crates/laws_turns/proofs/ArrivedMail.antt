@@ -1,9 +1,9 @@
 -- Messages to an actor, as they come and go: each copy in its inbox was sent to it, under its number.
-use Rattle.std.proofs.Common.{◌≡◌, ℕ, ◌+◌, ◌-◌, ◌==◌, ◌&&◌, Bool, true, false, if◌then◌else◌, List, ◌∷◌, ◌++◌, Option}
-use Rattle.std.proofs.Common.{Some, None, slice_get, refl, eqb-true}
+use Rattle.std.proofs.Common.{[], ◌≡◌, ℕ, ◌+◌, ◌-◌, ◌==◌, ◌&&◌, Bool, true, false, if◌then◌else◌, List, ◌∷◌, ◌++◌}
+use Rattle.std.proofs.Common.{Option, Some, None, slice_get, refl, eqb-true}
 use Rattle.std.specs.Prelude.{drop}
 use Rattle.std.specs.Option.{option_map_or}
-use Rattle.qc_link.specs.Names.{fate}
+use Rattle.qc_link.specs.Vocabulary.{fate}
 use Rattle.qc_link.specs.declared.rule.Fate.{Fate}
 use Rattle.qc_link.specs.declared.rule.Fate.TheVariants.{Pass, Drop, Twice, Late, Again}
 use Rattle.qc_msg.specs.declared.message.Envelope.{Envelope}
@@ -11,13 +11,13 @@ use Rattle.qc_msg.specs.declared.message.Message.{Message}
 use Rattle.qc_msg.specs.declared.message.Message.TheVariants as messages
 use Rattle.qc_msg.specs.declared.step.Control.{Control}
 use Rattle.qc_msg.specs.declared.step.Input.TheVariants as inputs
-use Rattle.qc_msg.specs.Names.{WasSentTo}
+use Rattle.qc_msg.specs.Vocabulary.{WasSentTo}
 use Rattle.qc_script.specs.declared.script.PhaseLines.{PhaseLines}
 use Rattle.qc_script.specs.declared.script.Script.{Script}
-use Rattle.qc_script.specs.Names.{Inbox, acting, answers_by, comes, comes_at_once, comes_with, commands_for}
-use Rattle.qc_script.specs.Names.{control_acted, copies_at_once, count_of, goes, goes_with, has_request, if_up}
-use Rattle.qc_script.specs.Names.{is_request, is_up, late_copies, one_more, opened, opened_by, phase_begun}
-use Rattle.qc_script.specs.Names.{request_answered, request_sent, with_copies}
+use Rattle.qc_script.specs.Vocabulary.{Inbox, acting, answers_by, comes, comes_at_once, comes_with, commands_for}
+use Rattle.qc_script.specs.Vocabulary.{control_acted, copies_at_once, count_of, goes, goes_with, has_request, if_up}
+use Rattle.qc_script.specs.Vocabulary.{is_request, is_up, late_copies, one_more, opened, opened_by, phase_begun}
+use Rattle.qc_script.specs.Vocabulary.{request_answered, request_sent, with_copies}
 use Rattle.laws_turns.proofs.Places.{slice_get-more}
 
 -- messages that were sent to an actor

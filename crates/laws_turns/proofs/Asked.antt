@@ -10,19 +10,19 @@ use Rattle.std.specs.declared.cmp.Ordering.TheVariants.{Equal, Greater, Less}
 use Rattle.std.proofs.lemmas.Bool.{ltb-false, ltb-true}
 use Rattle.std.proofs.lemmas.Cmp.{nat_cmp_total}
 use Rattle.std.proofs.lemmas.List.{get_or_past}
-use Rattle.qc_list.specs.Names.{Ascends, In, IsBelowAll, by_order, inserted}
+use Rattle.qc_list.specs.Vocabulary.{Ascends, In, IsBelowAll, by_order, inserted}
 use Rattle.qc_list.proofs.Members.{In-first, In-passes}
 use Rattle.qc_list.proofs.Order.{ascends-inserted}
 use Rattle.qc_decl.specs.declared.declaration.Declaration.{Declaration}
-use Rattle.qc_decl.specs.Names.{IsAccepted, IsGood, append_need_of, first_site, plan_in, read_need_of}
+use Rattle.qc_decl.specs.Vocabulary.{IsAccepted, IsGood, append_need_of, first_site, plan_in, read_need_of}
 use Rattle.qc_plan.specs.declared.plan.Plan.{Plan}
-use Rattle.qc_plan.specs.Names.{RoundState, cyclic, start, weighing, weight_at}
-use Rattle.qc_msg.specs.Names.{with_site}
+use Rattle.qc_plan.specs.Vocabulary.{RoundState, cyclic, start, weighing, weight_at}
+use Rattle.qc_msg.specs.Vocabulary.{with_site}
 use Rattle.qc_front.specs.declared.doing.Doing.{Doing}
 use Rattle.qc_front.specs.declared.doing.Doing.TheVariants.{Idle, Reading, Appending}
 use Rattle.qc_front.specs.declared.transaction.Transaction.{Transaction}
-use Rattle.qc_front.specs.Names.{BegunHolds, IsRound, sites_of, weights_of}
-use Rattle.laws_turns.specs.Names.{AreSites}
+use Rattle.qc_front.specs.Vocabulary.{BegunHolds, IsRound, sites_of, weights_of}
+use Rattle.laws_turns.specs.Vocabulary.{AreSites}
 
 -- members of lists
 

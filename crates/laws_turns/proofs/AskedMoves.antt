@@ -1,13 +1,13 @@
 -- What a front end's move asks and sends: so its turns are short.
-use Rattle.std.proofs.Common.{◌≡◌, ℕ, ◌<◌, ◌≤◌, ◌⊎◌, inl, inr, nat_le, Bool, true, false, cond, length, Option, Some}
-use Rattle.std.proofs.Common.{None, option_map, refl, ap, subst, arith}
+use Rattle.std.proofs.Common.{[], ◌≡◌, ℕ, ◌<◌, ◌≤◌, ◌⊎◌, inl, inr, nat_le, Bool, true, false, cond, length, Option}
+use Rattle.std.proofs.Common.{Some, None, option_map, refl, ap, subst, arith}
 use Rattle.std.specs.Prelude.{slice_get}
 use Rattle.std.proofs.lemmas.List.{length-map}
-use Rattle.qc_list.specs.Names.{In}
+use Rattle.qc_list.specs.Vocabulary.{In}
 use Rattle.qc_list.proofs.Members.{every-In, every-from_In}
 use Rattle.qc_decl.specs.declared.declaration.Declaration.{Declaration}
-use Rattle.qc_decl.specs.Names.{IsAccepted, most_transaction_operations, read_need_of}
-use Rattle.qc_plan.specs.Names.{note, verdict}
+use Rattle.qc_decl.specs.Vocabulary.{IsAccepted, most_transaction_operations, read_need_of}
+use Rattle.qc_plan.specs.Vocabulary.{note, verdict}
 use Rattle.qc_msg.specs.declared.begun.Begun.{Begun}
 use Rattle.qc_msg.specs.declared.message.Answer.{Answer}
 use Rattle.qc_msg.specs.declared.message.Answer.TheVariants as answers
@@ -19,20 +19,20 @@ use Rattle.qc_msg.specs.declared.reply.AbortCause.TheVariants as causes
 use Rattle.qc_msg.specs.declared.step.Command.{Command}
 use Rattle.qc_msg.specs.declared.step.Command.TheVariants as commands
 use Rattle.qc_msg.specs.declared.turn.Turn.{Turn}
-use Rattle.qc_msg.specs.Names.{quiet, site_called, telling, without_call}
+use Rattle.qc_msg.specs.Vocabulary.{quiet, site_called, telling, without_call}
 use Rattle.qc_view.specs.declared.view.View.{View}
-use Rattle.qc_view.specs.Names.{with_log}
+use Rattle.qc_view.specs.Vocabulary.{with_log}
 use Rattle.qc_front.specs.declared.doing.Doing.{Doing}
 use Rattle.qc_front.specs.declared.doing.Doing.TheVariants.{Idle, Reading, Appending}
 use Rattle.qc_front.specs.declared.front.Front.{Front}
 use Rattle.qc_front.specs.declared.transaction.Transaction.{Transaction}
-use Rattle.qc_front.specs.Names.{AsksFew, FrontFits, FrontHolds, FrontMove, aborts, appended_with, appending_takes}
-use Rattle.qc_front.specs.Names.{begins, called, commits, fresh, gives_up, learns, lived, moved, next_tx, performs}
-use Rattle.qc_front.specs.Names.{read_with, reading_takes, reads, round_for, standing_of, takes, takes_in}
+use Rattle.qc_front.specs.Vocabulary.{AsksFew, FrontFits, FrontHolds, FrontMove, aborts, appended_with, appending_takes}
+use Rattle.qc_front.specs.Vocabulary.{begins, called, commits, fresh, gives_up, learns, lived, moved, next_tx, performs}
+use Rattle.qc_front.specs.Vocabulary.{read_with, reading_takes, reads, round_for, standing_of, takes, takes_in}
 use Rattle.qc_front.proofs.Fitting.{fits}
 use Rattle.qc_front.proofs.CommandsKeep.{called_holds, view_keeps}
 use Rattle.qc_front.proofs.Keeping.{appended_is, takes_holds}
-use Rattle.laws_turns.specs.Names.{AreSites, AskedSites}
+use Rattle.laws_turns.specs.Vocabulary.{AreSites, AskedSites}
 use Rattle.laws_turns.proofs.Asked.{InRound, doing_below, few_sites}
 use Rattle.laws_turns.proofs.AskedSites.{Grows, count_in, AsksOn, same_asked, asked_by, still_grows, append_by-asks}
 use Rattle.laws_turns.proofs.AskedSites.{read_by-asks}

@@ -1,30 +1,30 @@
 -- What a front end's move asks: those asked before, and those of its round.
-use Rattle.std.proofs.Common.{◌≡◌, ℕ, ◌+◌, ◌≤◌, ◌⊎◌, inl, inr, Bool, true, false, cond, List, ◌∷◌, ◌++◌, map, filter}
-use Rattle.std.proofs.Common.{fold, length, Option, Some, None, option_map, refl, sym, ap, ◌∙◌, subst, arith}
+use Rattle.std.proofs.Common.{[], ◌≡◌, ℕ, ◌+◌, ◌≤◌, ◌⊎◌, inl, inr, Bool, true, false, cond, List, ◌∷◌, ◌++◌, map}
+use Rattle.std.proofs.Common.{filter, fold, length, Option, Some, None, option_map, refl, sym, ap, ◌∙◌, subst, arith}
 use Rattle.std.proofs.Common.{length-append}
 use Rattle.std.specs.Prelude.{is_none, slice_get}
 use Rattle.std.specs.Ordering.{nat_cmp}
 use Rattle.std.proofs.lemmas.List.{length-map}
-use Rattle.qc_list.specs.Names.{Ascends, In}
+use Rattle.qc_list.specs.Vocabulary.{Ascends, In}
 use Rattle.qc_list.proofs.Members.{In-second}
 use Rattle.qc_decl.specs.declared.declaration.Declaration.{Declaration}
-use Rattle.qc_decl.specs.Names.{append_need_of}
+use Rattle.qc_decl.specs.Vocabulary.{append_need_of}
 use Rattle.qc_plan.specs.declared.standing.Asked.{Asked}
 use Rattle.qc_plan.specs.declared.standing.Verdict.{Verdict}
 use Rattle.qc_plan.specs.declared.standing.Verdict.TheVariants as verdicts
-use Rattle.qc_plan.specs.Names.{RoundState, asking_all, verdict, wanted}
+use Rattle.qc_plan.specs.Vocabulary.{RoundState, asking_all, verdict, wanted}
 use Rattle.qc_msg.specs.declared.begun.Begun.{Begun}
 use Rattle.qc_msg.specs.declared.call.Call.{Call}
 use Rattle.qc_msg.specs.declared.message.Want.{Want}
-use Rattle.qc_msg.specs.Names.{with_site}
+use Rattle.qc_msg.specs.Vocabulary.{with_site}
 use Rattle.qc_view.specs.declared.view.View.{View}
-use Rattle.qc_view.specs.Names.{with_own}
+use Rattle.qc_view.specs.Vocabulary.{with_own}
 use Rattle.qc_front.specs.declared.doing.Doing.{Doing}
 use Rattle.qc_front.specs.declared.doing.Doing.TheVariants.{Idle, Reading, Appending}
 use Rattle.qc_front.specs.declared.front.Front.{Front}
 use Rattle.qc_front.specs.declared.transaction.Transaction.{Transaction}
-use Rattle.qc_front.specs.Names.{FrontMove, answer_of, answered, append_by, append_want, awaited, next_own, read_by}
-use Rattle.qc_front.specs.Names.{read_want, request_of, resp_of, round_for, sites_of, with_event}
+use Rattle.qc_front.specs.Vocabulary.{FrontMove, answer_of, answered, append_by, append_want, awaited, next_own}
+use Rattle.qc_front.specs.Vocabulary.{read_by, read_want, request_of, resp_of, round_for, sites_of, with_event}
 use Rattle.qc_front.proofs.Awaited.{asking_awaits}
 use Rattle.qc_front.proofs.CommandsKeep.{view_keeps}
 use Rattle.laws_turns.proofs.Asked.{InRound, in_joined, joined-ascends}

@@ -1,9 +1,9 @@
 -- A request that is awaited stays so as messages come and go.
-use Rattle.std.proofs.Common.{◌≡◌, ℕ, ◌+◌, ◌-◌, ◌==◌, ◌&&◌, nat_lt, not, Bool, true, false, if◌then◌else◌, inl, inr}
+use Rattle.std.proofs.Common.{[], ◌≡◌, ℕ, ◌+◌, ◌-◌, ◌==◌, ◌&&◌, nat_lt, not, Bool, true, false, if◌then◌else◌, inl, inr}
 use Rattle.std.proofs.Common.{List, ◌∷◌, ◌++◌, refl, sym, ap, subst, eqb-true}
-use Rattle.qc_list.specs.Names.{In}
+use Rattle.qc_list.specs.Vocabulary.{In}
 use Rattle.qc_list.proofs.Members.{In-filter, In-first, In-last, In-second}
-use Rattle.qc_link.specs.Names.{fate}
+use Rattle.qc_link.specs.Vocabulary.{fate}
 use Rattle.qc_link.specs.declared.rule.Fate.{Fate}
 use Rattle.qc_link.specs.declared.rule.Fate.TheVariants.{Pass, Drop, Twice, Late, Again}
 use Rattle.qc_msg.specs.declared.message.Answer.{Answer}
@@ -11,13 +11,13 @@ use Rattle.qc_msg.specs.declared.message.Envelope.{Envelope}
 use Rattle.qc_msg.specs.declared.message.Message.{Message}
 use Rattle.qc_msg.specs.declared.message.Message.TheVariants as messages
 use Rattle.qc_script.specs.declared.script.Script.{Script}
-use Rattle.qc_script.specs.Names.{Inbox, SentRequest, answers_by, comes, comes_at_once, comes_with, copies_at_once}
-use Rattle.qc_script.specs.Names.{count_of, everybody, goes, goes_with, has_request, is_request, is_up, one_more}
-use Rattle.qc_script.specs.Names.{request_answered, request_numbers, request_sent, with_copies, with_number}
-use Rattle.qc_script.specs.Names.{without_number, without_request}
+use Rattle.qc_script.specs.Vocabulary.{Inbox, SentRequest, answers_by, comes, comes_at_once, comes_with, copies_at_once}
+use Rattle.qc_script.specs.Vocabulary.{count_of, everybody, goes, goes_with, has_request, is_request, is_up, one_more}
+use Rattle.qc_script.specs.Vocabulary.{request_answered, request_numbers, request_sent, with_copies, with_number}
+use Rattle.qc_script.specs.Vocabulary.{without_number, without_request}
 use Rattle.qc_script.proofs.AllUp.{is_up-everybody}
 use Rattle.qc_script.proofs.Requests.{added-number, without-numbers}
-use Rattle.laws_turns.specs.Names.{HasAnswer, IsAnswerTo, IsAwaited}
+use Rattle.laws_turns.specs.Vocabulary.{HasAnswer, IsAnswerTo, IsAwaited}
 
 -- numbers
 

@@ -1,9 +1,9 @@
 -- A request that is awaited stays so, whatever comes: until its actor takes an answer to it, or that it is lost.
-use Rattle.std.proofs.Common.{◌≡◌, ℕ, ◌+◌, ◌-◌, ◌==◌, Bool, true, false, if◌then◌else◌, inl, inr, List, ◌∷◌, ◌++◌, drop}
-use Rattle.std.proofs.Common.{Option, Some, None, slice_get, refl, sym, subst}
+use Rattle.std.proofs.Common.{[], ◌≡◌, ℕ, ◌+◌, ◌-◌, ◌==◌, Bool, true, false, if◌then◌else◌, inl, inr, List, ◌∷◌, ◌++◌}
+use Rattle.std.proofs.Common.{drop, Option, Some, None, slice_get, refl, sym, subst}
 use Rattle.std.specs.Option.{option_map_or}
-use Rattle.qc_list.specs.Names.{In}
-use Rattle.qc_link.specs.Names.{fate, with_cut, without_cut}
+use Rattle.qc_list.specs.Vocabulary.{In}
+use Rattle.qc_link.specs.Vocabulary.{fate, with_cut, without_cut}
 use Rattle.qc_link.specs.declared.rule.Fate.{Fate}
 use Rattle.qc_msg.specs.declared.message.Envelope.{Envelope}
 use Rattle.qc_msg.specs.declared.step.Control.{Control}
@@ -11,11 +11,11 @@ use Rattle.qc_msg.specs.declared.step.Step.{Step}
 use Rattle.qc_msg.specs.declared.step.Step.TheVariants as steps
 use Rattle.qc_script.specs.declared.script.PhaseLines.{PhaseLines}
 use Rattle.qc_script.specs.declared.script.Script.{Script}
-use Rattle.qc_script.specs.Names.{Inbox, acting, comes, command_called, commands_for, copy_taken, count_of, everybody}
-use Rattle.qc_script.specs.Names.{goes, goes_with, if_up, inbox_at, is_request, is_up, loss_taken, one_more, opened}
-use Rattle.qc_script.specs.Names.{opened_by, phase_begun, reply_told, request_sent}
+use Rattle.qc_script.specs.Vocabulary.{Inbox, acting, comes, command_called, commands_for, copy_taken, count_of}
+use Rattle.qc_script.specs.Vocabulary.{everybody, goes, goes_with, if_up, inbox_at, is_request, is_up, loss_taken}
+use Rattle.qc_script.specs.Vocabulary.{one_more, opened, opened_by, phase_begun, reply_told, request_sent}
 use Rattle.qc_script.proofs.AllUp.{wrote_up}
-use Rattle.laws_turns.specs.Names.{HasAnswer, IsAnswerTo, IsAwaited}
+use Rattle.laws_turns.specs.Vocabulary.{HasAnswer, IsAnswerTo, IsAwaited}
 use Rattle.laws_turns.proofs.AwaitedCopies.{answer_second, awaited_if, awaited_more, awaited_asked, awaited_message}
 
 module _ (script : Script) (a : ℕ) where

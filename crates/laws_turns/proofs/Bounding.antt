@@ -6,7 +6,7 @@ use Rattle.std.proofs.lemmas.List.{append-nil}
 use Rattle.std.proofs.lemmas.List.Sums.{fold-append}
 use Rattle.qc_list.proofs.Members.{every-append, every-at}
 use Rattle.qc_decl.specs.declared.declaration.Declaration.{Declaration}
-use Rattle.qc_decl.specs.Names.{is_client, is_site}
+use Rattle.qc_decl.specs.Vocabulary.{is_client, is_site}
 use Rattle.qc_msg.specs.declared.message.Envelope.{Envelope}
 use Rattle.qc_msg.specs.declared.record.Record.{Record}
 use Rattle.qc_msg.specs.declared.reply.Reply.{Reply}
@@ -15,17 +15,17 @@ use Rattle.qc_msg.specs.declared.step.Input.TheVariants as inputs
 use Rattle.qc_msg.specs.declared.step.Step.{Step}
 use Rattle.qc_msg.specs.declared.turn.Posting.{Posting}
 use Rattle.qc_msg.specs.declared.turn.Turn.{Turn}
-use Rattle.qc_msg.specs.Names.{Deed, Entry, Falls, Rises, Sends, Takes, Tells, WasSentTo, Writes, by, deed_at, deeds}
-use Rattle.qc_msg.specs.Names.{envelopes, mail, marked, posted, quiet, sends_of, step_of, tells_of, turn_deeds}
-use Rattle.qc_msg.specs.Names.{writes_of}
+use Rattle.qc_msg.specs.Vocabulary.{Deed, Entry, Falls, Rises, Sends, Takes, Tells, WasSentTo, Writes, by, deed_at}
+use Rattle.qc_msg.specs.Vocabulary.{deeds, envelopes, mail, marked, posted, quiet, sends_of, step_of, tells_of}
+use Rattle.qc_msg.specs.Vocabulary.{turn_deeds, writes_of}
 use Rattle.qc_msg.proofs.GrownMail.{length-mail, mail-append, mail-posted, mail-taken}
 use Rattle.qc_msg.proofs.DeedsGrow.{deeds-append, deeds-other}
 use Rattle.qc_msg.proofs.Growth.{deeds-posted, deeds-taken}
-use Rattle.qc_client.specs.Names.{ClientMove, client_after, client_does, moved as client_moved, new_client}
-use Rattle.qc_core.specs.Names.{IsLawful}
-use Rattle.qc_site.specs.Names.{SiteMove, moved as site_moved, new_site, site_after, site_does, site_takes}
-use Rattle.laws_turns.specs.Names.{ClientMoveWithin, GivenWithin, IsBounded, MailWithin, MessageWithin, SendsWithin}
-use Rattle.laws_turns.specs.Names.{SiteMoveWithin}
+use Rattle.qc_client.specs.Vocabulary.{ClientMove, client_after, client_does, moved as client_moved, new_client}
+use Rattle.qc_core.specs.Vocabulary.{IsLawful}
+use Rattle.qc_site.specs.Vocabulary.{SiteMove, moved as site_moved, new_site, site_after, site_does, site_takes}
+use Rattle.laws_turns.specs.Vocabulary.{ClientMoveWithin, GivenWithin, IsBounded, MailWithin, MessageWithin}
+use Rattle.laws_turns.specs.Vocabulary.{SendsWithin, SiteMoveWithin}
 use Rattle.laws_turns.proofs.Events.{Events, IsControl, begins, controls, posts, takes}
 use Rattle.laws_turns.proofs.ClientsWithin.{IsPost, all_posts-within, client_move-le, client_takes_within}
 use Rattle.laws_turns.proofs.Greater.{mail_le}

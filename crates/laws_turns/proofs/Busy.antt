@@ -5,19 +5,19 @@ use Rattle.std.proofs.Common.{is_some, slice_get, refl, sym, ap, ◌∙◌, subs
 use Rattle.std.specs.List.{AllByRecursion as Every}
 use Rattle.std.proofs.lemmas.Bool.{le-ltb, leb-true}
 use Rattle.qc_decl.proofs.Clients.{client_past}
-use Rattle.qc_core.specs.Names.{Acts, IsLawful, MayTake, is_running, posts, runs_given, starts, takes}
+use Rattle.qc_core.specs.Vocabulary.{Acts, IsLawful, MayTake, is_running, posts, runs_given, starts, takes}
 use Rattle.qc_decl.specs.declared.declaration.Declaration.{Declaration}
-use Rattle.qc_decl.specs.Names.{actors, is_client, is_site}
+use Rattle.qc_decl.specs.Vocabulary.{actors, is_client, is_site}
 use Rattle.qc_msg.specs.declared.step.Command.{Command}
 use Rattle.qc_msg.specs.declared.step.Command.TheVariants as commands
 use Rattle.qc_msg.specs.declared.step.Input.{Input}
 use Rattle.qc_msg.specs.declared.step.Input.TheVariants as inputs
 use Rattle.qc_msg.specs.declared.turn.Turn.{Turn}
-use Rattle.qc_msg.specs.Names.{Deed, Entry, Takes, deeds, turn_deeds}
-use Rattle.qc_client.specs.Names.{ClientMove, client_after, client_takes}
-use Rattle.qc_script.specs.Names.{Runs}
+use Rattle.qc_msg.specs.Vocabulary.{Deed, Entry, Takes, deeds, turn_deeds}
+use Rattle.qc_client.specs.Vocabulary.{ClientMove, client_after, client_takes}
+use Rattle.qc_script.specs.Vocabulary.{Runs}
 use Rattle.qc_script.specs.declared.script.Script.{Script}
-use Rattle.laws_turns.specs.Names.{ActsIn, AsksDeclared, IsAskable, is_waiting}
+use Rattle.laws_turns.specs.Vocabulary.{ActsIn, AsksDeclared, IsAskable, is_waiting}
 use Rattle.laws_turns.proofs.Acted.{run_acts}
 use Rattle.laws_turns.proofs.SoundClients.{IsAskableDeed, IsAskableGiven, front_part, run_askable}
 use Rattle.laws_turns.proofs.TurnReplies.{after_posted, after_taken, running_more, running_turn}

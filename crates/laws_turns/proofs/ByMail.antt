@@ -1,14 +1,14 @@
 -- In each run messages reach those whom they were sent to, and each actor goes by turns.
 use Rattle.std.proofs.Common.{◌≡◌, ℕ, ◌+◌, ◌<◌, Bool, true, List, [], ◌∷◌, ◌++◌, length, Some, slice_get, refl, subst}
-use Rattle.qc_core.specs.Names.{Acts, AreSteady, IsLawful}
+use Rattle.qc_core.specs.Vocabulary.{Acts, AreSteady, IsLawful}
 use Rattle.qc_core.specs.Acts as acts
 use Rattle.qc_core.proofs.Answers.{answers_taken}
 use Rattle.qc_core.proofs.ByTurns.{by_turns}
 use Rattle.qc_core.proofs.LivesLaws.{act_lives, lawful_still, written}
 use Rattle.qc_core.proofs.Steady.{acts_steady}
 use Rattle.qc_decl.specs.declared.declaration.Declaration.{Declaration}
-use Rattle.qc_decl.specs.Names.{actors, controller, is_site}
-use Rattle.qc_inbox.proofs.Owned.{lost_is_own}
+use Rattle.qc_decl.specs.Vocabulary.{actors, controller, is_site}
+use Rattle.qc_mailbox.proofs.Owned.{lost_is_own}
 use Rattle.qc_msg.specs.declared.step.Input.{Input}
 use Rattle.qc_msg.specs.declared.message.Envelope.{Envelope}
 use Rattle.qc_msg.specs.declared.step.Input.TheVariants as inputs
@@ -18,9 +18,9 @@ use Rattle.qc_msg.specs.declared.step.Control.{Control}
 use Rattle.qc_msg.specs.declared.step.Control.TheVariants as controls
 use Rattle.qc_msg.specs.declared.turn.Appended.{Appended}
 use Rattle.qc_msg.specs.declared.turn.Turn.{Turn}
-use Rattle.qc_msg.specs.Names.{Deed, Entry, Takes, by, deeds, mail, marked, posted, posted_as}
-use Rattle.qc_promise.specs.Names.{AreByTurns, IsMailed}
-use Rattle.qc_script.specs.Names.{Runs, phase_of, ready, step_of_control}
+use Rattle.qc_msg.specs.Vocabulary.{Deed, Entry, Takes, by, deeds, mail, marked, posted, posted_as}
+use Rattle.qc_promise.specs.Vocabulary.{AreByTurns, IsMailed}
+use Rattle.qc_script.specs.Vocabulary.{Runs, phase_of, ready, step_of_control}
 use Rattle.qc_script.specs.Runs.{begins, takes, posts, phase, control}
 use Rattle.qc_script.specs.declared.script.Script.{Script}
 use Rattle.laws_turns.proofs.Acted.{has_entry, run_acts}
@@ -29,7 +29,7 @@ use Rattle.laws_turns.proofs.Commanded.{ready_called, uncommanded}
 use Rattle.laws_turns.proofs.MailedSteps.{Delivered, IsOwnLoss, step_delivered, takes_delivered}
 use Rattle.laws_turns.proofs.Delivered.{posts_delivered}
 use Rattle.laws_turns.proofs.Numbered.{control_silent, mail-silent, numbers_are_places, phase_silent}
-use Rattle.laws_turns.specs.Names.{ActsIn}
+use Rattle.laws_turns.specs.Vocabulary.{ActsIn}
 
 -- what is ready as lost is the actor's own request
 pub ready_lost : (decl : Declaration) (script : Script) (a : ℕ) (h : List Entry) (g : Input)

@@ -1,21 +1,21 @@
 -- In each run with falls messages reach those whom they were sent to, and each actor goes by turns.
 use Rattle.std.proofs.Common.{◌≡◌, ℕ, ◌+◌, ◌<◌, ◌≤◌, Bool, true, List, [], ◌∷◌, ◌++◌, length, Some, None, slice_get}
 use Rattle.std.proofs.Common.{refl, subst, arith}
-use Rattle.qc_core.specs.Names.{IsLawfulWithFalls}
+use Rattle.qc_core.specs.Vocabulary.{IsLawfulWithFalls}
 use Rattle.qc_core.proofs.Answers.{answers_rising, answers_taken}
 use Rattle.qc_core.proofs.OpenedInputs.{Opened, opened}
 use Rattle.qc_core.proofs.ByTurns.{by_turns}
 use Rattle.qc_decl.specs.declared.declaration.Declaration.{Declaration}
-use Rattle.qc_decl.specs.Names.{actors, controller, is_site}
-use Rattle.qc_inbox.specs.Names.{AreNumbered}
-use Rattle.qc_inbox.proofs.FallMail.{ready_sent, run_numbered}
-use Rattle.qc_inbox.proofs.Keeping.{same_mail}
+use Rattle.qc_decl.specs.Vocabulary.{actors, controller, is_site}
+use Rattle.qc_mailbox.specs.Vocabulary.{AreNumbered}
+use Rattle.qc_mailbox.proofs.FallMail.{ready_sent, run_numbered}
+use Rattle.qc_mailbox.proofs.Keeping.{same_mail}
 use Rattle.laws_turns.proofs.ByMail.{ready_lost}
 use Rattle.laws_turns.proofs.Commanded.{ready_called, uncommanded}
 use Rattle.laws_turns.proofs.MailedSteps.{Delivered, step_delivered, takes_delivered}
 use Rattle.laws_turns.proofs.Delivered.{posts_delivered, rises_delivered}
 use Rattle.laws_turns.proofs.Places.{slice_get-within}
-use Rattle.qc_link.specs.Names.{most_actors}
+use Rattle.qc_link.specs.Vocabulary.{most_actors}
 use Rattle.qc_msg.specs.declared.record.Record.{Record}
 use Rattle.qc_msg.specs.declared.step.Control.{Control}
 use Rattle.qc_msg.specs.declared.step.Control.TheVariants as controls
@@ -23,12 +23,12 @@ use Rattle.qc_msg.specs.declared.step.Fall.TheVariants as causes
 use Rattle.qc_msg.specs.declared.step.Step.{Step}
 use Rattle.qc_msg.specs.declared.step.Step.TheVariants as steps
 use Rattle.qc_msg.specs.declared.turn.Turn.{Turn}
-use Rattle.qc_msg.specs.Names.{Deed, Entry, by, deeds, mail, marked, posted_as}
-use Rattle.qc_promise.specs.Names.{AreByTurns, IsMailed}
-use Rattle.qc_script.specs.Names.{RunsWithFalls, begins, control, controller_step, damaged, falls, phase, phase_of}
-use Rattle.qc_script.specs.Names.{posts, rises, takes, unopened}
+use Rattle.qc_msg.specs.Vocabulary.{Deed, Entry, by, deeds, mail, marked, posted_as}
+use Rattle.qc_promise.specs.Vocabulary.{AreByTurns, IsMailed}
+use Rattle.qc_script.specs.Vocabulary.{RunsWithFalls, begins, control, controller_step, damaged, falls, phase, phase_of}
+use Rattle.qc_script.specs.Vocabulary.{posts, rises, takes, unopened}
 use Rattle.qc_script.specs.declared.script.Script.{Script}
-use Rattle.laws_turns.specs.Names.{LivesIn}
+use Rattle.laws_turns.specs.Vocabulary.{LivesIn}
 use Rattle.laws_turns.proofs.Lived.{deeds-rise, run_lives, run_long}
 
 module _ (decl : Declaration) (script : Script) (fits : ℕ → List Record → Type 0)

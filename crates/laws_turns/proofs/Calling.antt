@@ -1,14 +1,14 @@
 -- What an actor called, and then what is left to it, is what the phases so far ask it; no more phases begin than the
 -- script has.
-use Rattle.std.proofs.Common.{◌≡◌, ℕ, zero, suc, ◌+◌, ◌-◌, ◌<◌, ◌≤◌, ◌==◌, ◌&&◌, not, Bool, true, false, cond}
+use Rattle.std.proofs.Common.{[], ◌≡◌, ℕ, zero, suc, ◌+◌, ◌-◌, ◌<◌, ◌≤◌, ◌==◌, ◌&&◌, not, Bool, true, false, cond}
 use Rattle.std.proofs.Common.{if◌then◌else◌, List, ◌∷◌, ◌++◌, drop, take, length, Option, Some, None, slice_get, refl}
 use Rattle.std.proofs.Common.{sym, ap, ◌∙◌, subst, arith, append_assoc, eqb-true}
 use Rattle.std.specs.List.{filter_map}
 use Rattle.std.proofs.lemmas.List.{append-nil}
 use Rattle.std.proofs.lemmas.List.Elements.{filter_map-append}
-use Rattle.qc_core.specs.Names.{IsLawful}
+use Rattle.qc_core.specs.Vocabulary.{IsLawful}
 use Rattle.qc_decl.specs.declared.declaration.Declaration.{Declaration}
-use Rattle.qc_decl.specs.Names.{controller}
+use Rattle.qc_decl.specs.Vocabulary.{controller}
 use Rattle.qc_msg.specs.declared.message.Envelope.{Envelope}
 use Rattle.qc_msg.specs.declared.step.Command.{Command}
 use Rattle.qc_msg.specs.declared.step.Control.{Control}
@@ -17,16 +17,16 @@ use Rattle.qc_msg.specs.declared.step.Input.{Input}
 use Rattle.qc_msg.specs.declared.step.Input.TheVariants as inputs
 use Rattle.qc_msg.specs.declared.step.Step.TheVariants as steps
 use Rattle.qc_msg.specs.declared.turn.Turn.{Turn}
-use Rattle.qc_msg.specs.Names.{Deed, Entry, Takes, by, deeds, mail, marked, posted, step_of, turn_deeds}
+use Rattle.qc_msg.specs.Vocabulary.{Deed, Entry, Takes, by, deeds, mail, marked, posted, step_of, turn_deeds}
 use Rattle.qc_msg.proofs.DeedsGrow.{deeds-other}
 use Rattle.qc_msg.proofs.Growth.{deeds-posted, deeds-taken}
 use Rattle.qc_script.specs.declared.script.PhaseLines.{PhaseLines}
 use Rattle.qc_script.specs.declared.script.Script.{Script}
-use Rattle.qc_script.specs.Names.{Inbox, Runs, after_controls, command_called, command_in, commands_for, copy_taken}
-use Rattle.qc_script.specs.Names.{first_command, first_copy, first_lost, inbox, inbox_at, loss_taken, phase_of, ready}
-use Rattle.qc_script.specs.Names.{ready_in, takes_commands}
+use Rattle.qc_script.specs.Vocabulary.{Inbox, Runs, after_controls, command_called, command_in, commands_for}
+use Rattle.qc_script.specs.Vocabulary.{copy_taken, first_command, first_copy, first_lost, inbox, inbox_at, loss_taken}
+use Rattle.qc_script.specs.Vocabulary.{phase_of, ready, ready_in, takes_commands}
 use Rattle.qc_script.specs.Runs.{begins, takes, posts, phase, control}
-use Rattle.laws_turns.specs.Names.{asked_in_all, asked_until, call_in, calls_of}
+use Rattle.laws_turns.specs.Vocabulary.{asked_in_all, asked_until, call_in, calls_of}
 use Rattle.laws_turns.proofs.Acted.{deeds-silent}
 use Rattle.laws_turns.proofs.Arrivals.{what_is_ready_was_sent}
 use Rattle.laws_turns.proofs.Numbered.{control_silent, phase_silent}

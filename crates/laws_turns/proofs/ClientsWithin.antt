@@ -13,21 +13,21 @@ use Rattle.qc_msg.specs.declared.step.Command.{Command}
 use Rattle.qc_msg.specs.declared.step.Command.TheVariants as commands
 use Rattle.qc_msg.specs.declared.step.Input.{Input}
 use Rattle.qc_msg.specs.declared.step.Input.TheVariants as inputs
-use Rattle.qc_msg.specs.Names.{Deed, Falls, Rises, Sends, Takes, Tells, Writes, quiet}
+use Rattle.qc_msg.specs.Vocabulary.{Deed, Falls, Rises, Sends, Takes, Tells, Writes, quiet}
 use Rattle.qc_commit.specs.declared.desk.Known.{Known}
 use Rattle.qc_commit.specs.declared.desk.Known.TheVariants as knowns
 use Rattle.qc_commit.specs.declared.desk.Voting.{Voting}
 use Rattle.qc_commit.specs.Conduct as desks
-use Rattle.qc_commit.specs.Names.{DeskMove, known}
+use Rattle.qc_commit.specs.Vocabulary.{DeskMove, known}
 use Rattle.qc_front.specs.declared.transaction.Transaction.{Transaction}
 use Rattle.qc_front.specs.Conduct as fronts
-use Rattle.qc_front.specs.Names.{FrontMove, ended}
+use Rattle.qc_front.specs.Vocabulary.{FrontMove, ended}
 use Rattle.qc_client.specs.declared.client.Client.{Client}
-use Rattle.qc_client.specs.Names.{ClientMove, answered, answered_by, by_desk, by_front, called, client_does}
-use Rattle.qc_client.specs.Names.{client_takes, commits, heard, is_begun, moved, outcome_by, outcome_of, requested}
-use Rattle.qc_client.specs.Names.{sent_one}
-use Rattle.laws_turns.specs.Names.{ClientMoveWithin, ClientWithin, DeskWithin, FrontWithin, GivenWithin, MessageWithin}
-use Rattle.laws_turns.specs.Names.{OutcomeWithin}
+use Rattle.qc_client.specs.Vocabulary.{ClientMove, answered, answered_by, by_desk, by_front, called, client_does}
+use Rattle.qc_client.specs.Vocabulary.{client_takes, commits, heard, is_begun, moved, outcome_by, outcome_of, requested}
+use Rattle.qc_client.specs.Vocabulary.{sent_one}
+use Rattle.laws_turns.specs.Vocabulary.{ClientMoveWithin, ClientWithin, DeskWithin, FrontWithin, GivenWithin}
+use Rattle.laws_turns.specs.Vocabulary.{MessageWithin, OutcomeWithin}
 use Rattle.laws_turns.proofs.DesksWithin.{CameWithin, DeskGoes, desk-le, known-within, prepare-within, vote_within}
 use Rattle.laws_turns.proofs.FrontBounds.{front-le}
 use Rattle.laws_turns.proofs.FrontsWithin.{FrontGoes, called-goes, ended_within, takes-goes}

@@ -4,9 +4,9 @@ use Rattle.std.proofs.Common.{◌∷◌, ◌++◌, Option, Some, None, option_to
 use Rattle.std.proofs.Common.{eqb-true}
 use Rattle.std.specs.List.{AllByRecursion as Every}
 use Rattle.std.proofs.lemmas.Bool.{leb-true, ltb-true}
-use Rattle.qc_core.specs.Names.{AreUncommanded, IsUncommanded}
+use Rattle.qc_core.specs.Vocabulary.{AreUncommanded, IsUncommanded}
 use Rattle.qc_decl.specs.declared.declaration.Declaration.{Declaration}
-use Rattle.qc_decl.specs.Names.{administrator, is_client, is_site}
+use Rattle.qc_decl.specs.Vocabulary.{administrator, is_client, is_site}
 use Rattle.qc_list.proofs.Members.{every-append}
 use Rattle.qc_msg.specs.declared.message.Envelope.{Envelope}
 use Rattle.qc_msg.specs.declared.record.Record.{Record}
@@ -21,9 +21,9 @@ use Rattle.qc_msg.specs.declared.turn.Appended.{Appended}
 use Rattle.qc_msg.specs.declared.turn.Appended.TheVariants.{Done, Failed, Stopped}
 use Rattle.qc_msg.specs.declared.turn.Posting.{Posting}
 use Rattle.qc_msg.specs.declared.turn.Turn.{Turn}
-use Rattle.qc_msg.specs.Names.{Entry, by, deed_at, deeds, envelope_of, fell, heard, posted_as, sents, step_of, told}
-use Rattle.qc_msg.specs.Names.{wrote}
-use Rattle.qc_script.specs.Names.{Inbox, inbox, ready_in, takes_commands}
+use Rattle.qc_msg.specs.Vocabulary.{Entry, by, deed_at, deeds, envelope_of, fell, heard, posted_as, sents, step_of}
+use Rattle.qc_msg.specs.Vocabulary.{told, wrote}
+use Rattle.qc_script.specs.Vocabulary.{Inbox, inbox, ready_in, takes_commands}
 use Rattle.qc_script.specs.Ready as ready
 
 -- who calls commands

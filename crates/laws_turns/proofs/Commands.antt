@@ -2,7 +2,7 @@
 use Rattle.std.proofs.Common.{◌≡◌, ℕ, ◌==◌, Bool, true, false, cond, List, [], ◌∷◌, ◌++◌, fold, Option, Some, None}
 use Rattle.std.proofs.Common.{option_to_list, slice_get, refl, sym, ap, ◌∙◌, subst}
 use Rattle.std.proofs.lemmas.List.Sums.{fold-append}
-use Rattle.qc_core.specs.Names.{AreSteady, MayTake, is_running, runs_at}
+use Rattle.qc_core.specs.Vocabulary.{AreSteady, MayTake, is_running, runs_at}
 use Rattle.qc_decl.specs.declared.declaration.Declaration.{Declaration}
 use Rattle.laws_turns.proofs.Running.{busy_step, not_busy}
 use Rattle.qc_msg.specs.declared.message.Envelope.{Envelope}
@@ -10,9 +10,9 @@ use Rattle.qc_msg.specs.declared.step.Input.{Input}
 use Rattle.qc_msg.specs.declared.step.Input.TheVariants as inputs
 use Rattle.qc_msg.specs.declared.step.Step.{Step}
 use Rattle.qc_msg.specs.declared.step.Step.TheVariants as steps
-use Rattle.qc_msg.specs.Names.{Deed, Entry, Falls, Rises, Sends, Takes, Tells, Writes, deed_at, deeds, envelope_of}
-use Rattle.qc_msg.specs.Names.{heard}
-use Rattle.qc_script.specs.Names.{Inbox, empty_inbox, inbox, inbox_at, ready}
+use Rattle.qc_msg.specs.Vocabulary.{Deed, Entry, Falls, Rises, Sends, Takes, Tells, Writes, deed_at, deeds, envelope_of}
+use Rattle.qc_msg.specs.Vocabulary.{heard}
+use Rattle.qc_script.specs.Vocabulary.{Inbox, empty_inbox, inbox, inbox_at, ready}
 use Rattle.qc_script.specs.declared.script.Script.{Script}
 
 abbrev Covers : Bool → Bool → Type 0

@@ -1,14 +1,14 @@
 -- In each run each open request of a client is awaited: it is lost, or unanswered, or a copy of an answer is ready.
-use Rattle.std.proofs.Common.{◌≡◌, ℕ, ◌+◌, ◌-◌, ◌==◌, ◌⊎◌, Bool, true, false, if◌then◌else◌, inl, inr, List, ◌∷◌, ◌++◌}
-use Rattle.std.proofs.Common.{drop, length, Option, Some, None, refl, sym, ap, ◌∙◌, subst, eqb-true, eq-eqb}
+use Rattle.std.proofs.Common.{[], ◌≡◌, ℕ, ◌+◌, ◌-◌, ◌==◌, ◌⊎◌, Bool, true, false, if◌then◌else◌, inl, inr, List, ◌∷◌}
+use Rattle.std.proofs.Common.{◌++◌, drop, length, Option, Some, None, refl, sym, ap, ◌∙◌, subst, eqb-true, eq-eqb}
 use Rattle.std.specs.List.{fold}
 use Rattle.std.proofs.lemmas.List.Sums.{fold-append}
-use Rattle.qc_list.specs.Names.{In}
-use Rattle.qc_core.specs.Names.{IsLawful}
+use Rattle.qc_list.specs.Vocabulary.{In}
+use Rattle.qc_core.specs.Vocabulary.{IsLawful}
 use Rattle.qc_decl.specs.declared.declaration.Declaration.{Declaration}
-use Rattle.qc_decl.specs.Names.{controller}
+use Rattle.qc_decl.specs.Vocabulary.{controller}
 use Rattle.qc_client.specs.declared.client.Client.{Client}
-use Rattle.qc_client.specs.Names.{ClientMove, client_after, client_does, client_takes, moved, new_client, sent_one}
+use Rattle.qc_client.specs.Vocabulary.{ClientMove, client_after, client_does, client_takes, moved, new_client, sent_one}
 use Rattle.qc_msg.specs.declared.call.Call.{Call}
 use Rattle.qc_msg.specs.declared.record.Record.{Record}
 use Rattle.qc_msg.specs.declared.reply.Reply.{Reply}
@@ -20,16 +20,16 @@ use Rattle.qc_msg.specs.declared.step.Step.{Step}
 use Rattle.qc_msg.specs.declared.step.Step.TheVariants as steps
 use Rattle.qc_msg.specs.declared.turn.Posting.{Posting}
 use Rattle.qc_msg.specs.declared.turn.Turn.{Turn}
-use Rattle.qc_msg.specs.Names.{Deed, Entry, Sends, Takes, by, deeds, mail, marked, posted, quiet, sends_of, sents}
-use Rattle.qc_msg.specs.Names.{step_of, tells_of, told, turn_deeds, writes_of, wrote}
+use Rattle.qc_msg.specs.Vocabulary.{Deed, Entry, Sends, Takes, by, deeds, mail, marked, posted, quiet, sends_of, sents}
+use Rattle.qc_msg.specs.Vocabulary.{step_of, tells_of, told, turn_deeds, writes_of, wrote}
 use Rattle.qc_msg.proofs.DeedsGrow.{deeds-other}
 use Rattle.qc_msg.proofs.Growth.{deeds-posted, deeds-taken}
 use Rattle.qc_script.specs.declared.script.Script.{Script}
 use Rattle.qc_script.proofs.AllUp.{Stays, step_up}
-use Rattle.qc_script.specs.Names.{Inbox, Runs, copy_taken, empty_inbox, everybody, inbox, inbox_at, loss_taken}
-use Rattle.qc_script.specs.Names.{phase_of, ready, ready_in, step_of_control}
+use Rattle.qc_script.specs.Vocabulary.{Inbox, Runs, copy_taken, empty_inbox, everybody, inbox, inbox_at, loss_taken}
+use Rattle.qc_script.specs.Vocabulary.{phase_of, ready, ready_in, step_of_control}
 use Rattle.qc_script.specs.Runs.{begins, takes, posts, phase, control}
-use Rattle.laws_turns.specs.Names.{IsAwaited, open_calls}
+use Rattle.laws_turns.specs.Vocabulary.{IsAwaited, open_calls}
 use Rattle.laws_turns.proofs.Acted.{deeds-silent}
 use Rattle.laws_turns.proofs.Arrivals.{what_is_ready_was_sent}
 use Rattle.laws_turns.proofs.Awaiting.{Spares, awaited_got, awaited_lost, awaited_request, awaited_step}

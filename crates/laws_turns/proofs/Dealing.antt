@@ -1,12 +1,12 @@
 -- What a client was told of a transaction is what it keeps of it: how that stays, as it begins, goes on and ends.
-use Rattle.std.proofs.Common.{◌≡◌, ◌<◌, ℕ, ◌+◌, Bool, true, false, cond, ◌⊎◌, inl, inr, List, ◌∷◌, ◌++◌, Option, Some}
-use Rattle.std.proofs.Common.{None, refl, sym, ap, ◌∙◌, subst, arith}
+use Rattle.std.proofs.Common.{[], ◌≡◌, ◌<◌, ℕ, ◌+◌, Bool, true, false, cond, ◌⊎◌, inl, inr, List, ◌∷◌, ◌++◌, Option}
+use Rattle.std.proofs.Common.{Some, None, refl, sym, ap, ◌∙◌, subst, arith}
 use Rattle.std.proofs.lemmas.List.{append-nil}
-use Rattle.qc_list.specs.Names.{In}
+use Rattle.qc_list.specs.Vocabulary.{In}
 use Rattle.qc_list.proofs.Members.{In-first, In-last, In-more, In-second}
 use Rattle.qc_stamp.specs.declared.stamp.Stamp.{Stamp}
 use Rattle.qc_stamp.specs.declared.stamp.TxId.{TxId}
-use Rattle.qc_stamp.specs.Names.{same_tx}
+use Rattle.qc_stamp.specs.Vocabulary.{same_tx}
 use Rattle.qc_stamp.proofs.Orders.{same_tx_is, same_tx_itself}
 use Rattle.qc_entry.specs.declared.line.Op.{Op}
 use Rattle.qc_entry.specs.declared.record.Commit.{Commit}
@@ -15,9 +15,9 @@ use Rattle.qc_msg.specs.declared.reply.Reply.{Reply}
 use Rattle.qc_msg.specs.declared.reply.Reply.TheVariants as replies
 use Rattle.qc_msg.specs.declared.step.Command.{Command}
 use Rattle.qc_msg.specs.declared.step.Command.TheVariants as commands
-use Rattle.qc_front.specs.Names.{op_of}
-use Rattle.laws_turns.specs.Names.{Book}
-use Rattle.qc_promise.specs.Names.{Dealing, dealt, ended, is_begun, operation}
+use Rattle.qc_front.specs.Vocabulary.{op_of}
+use Rattle.laws_turns.specs.Vocabulary.{Book}
+use Rattle.qc_promise.specs.Vocabulary.{Dealing, dealt, ended, is_begun, operation}
 use Rattle.laws_turns.proofs.DealingParts.{tx_at, begun_tx, IsNamed, IsBook, IfOps, IsAbort, HasRecord, IsDealing}
 use Rattle.laws_turns.proofs.DealingParts.{with_begun}
 

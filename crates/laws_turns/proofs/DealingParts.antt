@@ -1,8 +1,8 @@
 -- What a client keeps of its records and of one transaction.
-use Rattle.std.proofs.Common.{◌≡◌, ◌≤◌, ◌<◌, ℕ, zero, suc, get_or, length, inl, inr, List, ◌∷◌, Option, Some, None}
+use Rattle.std.proofs.Common.{[], ◌≡◌, ◌≤◌, ◌<◌, ℕ, zero, suc, get_or, length, inl, inr, List, ◌∷◌, Option, Some, None}
 use Rattle.std.proofs.Common.{option_map, refl, sym, ap, ◌∙◌, subst, arith}
 use Rattle.std.specs.List.{AllPairs}
-use Rattle.qc_list.specs.Names.{In}
+use Rattle.qc_list.specs.Vocabulary.{In}
 use Rattle.qc_stamp.specs.declared.stamp.Stamp.{Stamp}
 use Rattle.qc_stamp.specs.declared.stamp.TxId.{TxId}
 use Rattle.qc_entry.specs.declared.record.Commit.{Commit}
@@ -10,8 +10,8 @@ use Rattle.qc_msg.specs.declared.begun.Begun.{Begun}
 use Rattle.qc_msg.specs.declared.reply.Reply.{Reply}
 use Rattle.qc_msg.specs.declared.reply.Reply.TheVariants as replies
 use Rattle.qc_msg.specs.declared.step.Command.{Command}
-use Rattle.laws_turns.specs.Names.{Book}
-use Rattle.qc_promise.specs.Names.{Dealing}
+use Rattle.laws_turns.specs.Vocabulary.{Book}
+use Rattle.qc_promise.specs.Vocabulary.{Dealing}
 
 -- the name of the next transaction, or of the last one
 abbrev pub tx_at : Book → ℕ → TxId

@@ -1,5 +1,5 @@
 -- A client's inputs, and what it was told of a transaction then.
-use Rattle.std.proofs.Common.{◌≡◌, ℕ, ◌+◌, List, ◌∷◌, ◌++◌, fold, Option, Some, None, refl, sym, subst}
+use Rattle.std.proofs.Common.{[], ◌≡◌, ℕ, ◌+◌, List, ◌∷◌, ◌++◌, fold, Option, Some, None, refl, sym, subst}
 use Rattle.std.specs.List.{AllByRecursion as Every}
 use Rattle.qc_stamp.specs.declared.stamp.TxId.{TxId}
 use Rattle.qc_decl.specs.declared.declaration.Declaration.{Declaration}
@@ -15,17 +15,17 @@ use Rattle.qc_msg.specs.declared.step.Input.{Input}
 use Rattle.qc_msg.specs.declared.step.Input.TheVariants as inputs
 use Rattle.qc_msg.specs.declared.turn.Posting.{Posting}
 use Rattle.qc_msg.specs.declared.turn.Turn.{Turn}
-use Rattle.qc_msg.specs.Names.{Deed, Falls, Rises, Sends, Takes, Tells, Writes, sends_of, tells_of, turn_deeds}
-use Rattle.qc_msg.specs.Names.{writes_of}
+use Rattle.qc_msg.specs.Vocabulary.{Deed, Falls, Rises, Sends, Takes, Tells, Writes, sends_of, tells_of, turn_deeds}
+use Rattle.qc_msg.specs.Vocabulary.{writes_of}
 use Rattle.qc_commit.specs.declared.desk.Voting.{Voting}
 use Rattle.qc_commit.specs.Conduct as desks
 use Rattle.qc_front.specs.declared.doing.Doing.{Doing}
 use Rattle.qc_front.specs.declared.doing.Doing.TheVariants.{Idle, Reading, Appending}
 use Rattle.qc_front.specs.Conduct as fronts
 use Rattle.qc_client.specs.declared.client.Client.{Client}
-use Rattle.qc_client.specs.Names.{ClientMove, IsReady, client_does, client_takes, sent_one}
-use Rattle.laws_turns.specs.Names.{book_of}
-use Rattle.qc_promise.specs.Names.{Dealing, deal, deal_taken, deal_told}
+use Rattle.qc_client.specs.Vocabulary.{ClientMove, IsReady, client_does, client_takes, sent_one}
+use Rattle.laws_turns.specs.Vocabulary.{book_of}
+use Rattle.qc_promise.specs.Vocabulary.{Dealing, deal, deal_taken, deal_told}
 use Rattle.laws_turns.proofs.ClientsWithin.{IsPost}
 use Rattle.laws_turns.proofs.DealingParts.{as_asked}
 use Rattle.laws_turns.proofs.DealtOperations.{AskedFor, told_deal}

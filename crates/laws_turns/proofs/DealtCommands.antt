@@ -1,5 +1,5 @@
 -- A client's commands, and what it was told of a transaction then.
-use Rattle.std.proofs.Common.{◌≡◌, inl, inr, ℕ, ◌+◌, Bool, true, false, cond, List, ◌∷◌, ◌++◌, Option, Some, None}
+use Rattle.std.proofs.Common.{[], ◌≡◌, inl, inr, ℕ, ◌+◌, Bool, true, false, cond, List, ◌∷◌, ◌++◌, Option, Some, None}
 use Rattle.std.proofs.Common.{is_some, option_to_list, refl, sym, ap, ◌∙◌, subst}
 use Rattle.std.proofs.lemmas.List.{append-nil}
 use Rattle.qc_stamp.specs.declared.stamp.TxId.{TxId}
@@ -15,18 +15,18 @@ use Rattle.qc_msg.specs.declared.reply.Reply.TheVariants as replies
 use Rattle.qc_msg.specs.declared.step.Command.{Command}
 use Rattle.qc_msg.specs.declared.step.Command.TheVariants as commands
 use Rattle.qc_msg.specs.declared.turn.Turn.{Turn}
-use Rattle.qc_msg.specs.Names.{commit_of as commit_of_record, quiet}
+use Rattle.qc_msg.specs.Vocabulary.{commit_of as commit_of_record, quiet}
 use Rattle.qc_commit.specs.declared.desk.Voting.{Voting}
 use Rattle.qc_commit.specs.Conduct as desks
-use Rattle.qc_commit.specs.Names.{DeskMove, commit_of}
+use Rattle.qc_commit.specs.Vocabulary.{DeskMove, commit_of}
 use Rattle.qc_front.specs.declared.transaction.Transaction.{Transaction}
 use Rattle.qc_front.specs.Conduct as fronts
-use Rattle.qc_front.specs.Names.{FrontMove, ended as front_ended}
+use Rattle.qc_front.specs.Vocabulary.{FrontMove, ended as front_ended}
 use Rattle.qc_client.specs.declared.client.Client.{Client}
-use Rattle.qc_client.specs.Names.{ClientMove, IsFree, answered, answered_by, by_desk, by_front, called, commits, heard}
-use Rattle.qc_client.specs.Names.{moved}
-use Rattle.laws_turns.specs.Names.{begun_in, book_of, book_with}
-use Rattle.qc_promise.specs.Names.{Dealing, ended}
+use Rattle.qc_client.specs.Vocabulary.{ClientMove, IsFree, answered, answered_by, by_desk, by_front, called, commits}
+use Rattle.qc_client.specs.Vocabulary.{heard, moved}
+use Rattle.laws_turns.specs.Vocabulary.{begun_in, book_of, book_with}
+use Rattle.qc_promise.specs.Vocabulary.{Dealing, ended}
 use Rattle.laws_turns.proofs.BooksKept.{committed_book, free_book, later_book}
 use Rattle.laws_turns.proofs.DealingParts.{IsBook, IsDealing}
 use Rattle.laws_turns.proofs.Dealing.{committed_one, gave_up}

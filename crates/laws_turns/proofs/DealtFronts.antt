@@ -7,20 +7,20 @@ use Rattle.qc_decl.specs.declared.declaration.Declaration.{Declaration}
 use Rattle.qc_msg.specs.declared.begun.Begun.{Begun}
 use Rattle.qc_msg.specs.declared.message.Answer.{Answer}
 use Rattle.qc_msg.specs.declared.message.Answer.TheVariants as answers
-use Rattle.qc_msg.specs.Names.{quiet, site_called, without_call}
-use Rattle.qc_plan.specs.Names.{note, verdict}
+use Rattle.qc_msg.specs.Vocabulary.{quiet, site_called, without_call}
+use Rattle.qc_plan.specs.Vocabulary.{note, verdict}
 use Rattle.qc_view.specs.declared.view.View.{View}
-use Rattle.qc_view.specs.Names.{with_log}
+use Rattle.qc_view.specs.Vocabulary.{with_log}
 use Rattle.qc_front.specs.declared.doing.Doing.{Doing}
 use Rattle.qc_front.specs.declared.doing.Doing.TheVariants.{Idle, Reading, Appending}
 use Rattle.qc_front.specs.declared.front.Front.{Front}
 use Rattle.qc_front.specs.declared.transaction.Transaction.{Transaction}
-use Rattle.qc_front.specs.Names.{appended_with, appending_takes, learns, lived, read_with, reading_takes, standing_of}
-use Rattle.qc_front.specs.Names.{takes, takes_in}
+use Rattle.qc_front.specs.Vocabulary.{appended_with, appending_takes, learns, lived, read_with, reading_takes}
+use Rattle.qc_front.specs.Vocabulary.{standing_of, takes, takes_in}
 use Rattle.qc_front.proofs.CommandsKeep.{view_keeps}
 use Rattle.qc_front.proofs.Keeping.{appended_is}
-use Rattle.laws_turns.specs.Names.{Book, book_with}
-use Rattle.qc_promise.specs.Names.{Dealing}
+use Rattle.laws_turns.specs.Vocabulary.{Book, book_with}
+use Rattle.qc_promise.specs.Vocabulary.{Dealing}
 use Rattle.laws_turns.proofs.DealingParts.{IsBook, IsDealing}
 use Rattle.laws_turns.proofs.DealtOperations.{AskedFor, FrontAfter, IsLike, Stands}
 

@@ -1,5 +1,5 @@
 -- A front end's moves by which a transaction goes on, or an operation is told.
-use Rattle.std.proofs.Common.{◌≡◌, ℕ, nat_le, Bool, true, false, cond, List, ◌∷◌, ◌++◌, length, Option, Some, None}
+use Rattle.std.proofs.Common.{[], ◌≡◌, ℕ, nat_le, Bool, true, false, cond, List, ◌∷◌, ◌++◌, length, Option, Some, None}
 use Rattle.std.proofs.Common.{option_map, refl, sym, ap, ◌∙◌, subst}
 use Rattle.std.specs.Prelude.{slice_get}
 use Rattle.qc_stamp.specs.declared.stamp.Stamp.{Stamp}
@@ -7,7 +7,7 @@ use Rattle.qc_stamp.specs.declared.stamp.TxId.{TxId}
 use Rattle.qc_entry.specs.declared.line.Op.{Op}
 use Rattle.qc_entry.specs.declared.record.Commit.{Commit}
 use Rattle.qc_decl.specs.declared.declaration.Declaration.{Declaration}
-use Rattle.qc_decl.specs.Names.{append_need_of, most_transaction_operations, read_need_of}
+use Rattle.qc_decl.specs.Vocabulary.{append_need_of, most_transaction_operations, read_need_of}
 use Rattle.qc_msg.specs.declared.begun.Begun.{Begun}
 use Rattle.qc_msg.specs.declared.call.Call.{Call}
 use Rattle.qc_msg.specs.declared.reply.Reply.{Reply}
@@ -17,22 +17,22 @@ use Rattle.qc_msg.specs.declared.reply.AbortCause.TheVariants as causes
 use Rattle.qc_msg.specs.declared.step.Command.{Command}
 use Rattle.qc_msg.specs.declared.step.Command.TheVariants as commands
 use Rattle.qc_msg.specs.declared.turn.Turn.{Turn}
-use Rattle.qc_msg.specs.Names.{quiet, telling}
-use Rattle.qc_plan.specs.Names.{RoundState, verdict}
+use Rattle.qc_msg.specs.Vocabulary.{quiet, telling}
+use Rattle.qc_plan.specs.Vocabulary.{RoundState, verdict}
 use Rattle.qc_plan.specs.declared.standing.Verdict.{Verdict}
 use Rattle.qc_plan.specs.declared.standing.Verdict.TheVariants as verdicts
 use Rattle.qc_view.specs.declared.view.View.{View}
-use Rattle.qc_view.specs.Names.{with_own}
+use Rattle.qc_view.specs.Vocabulary.{with_own}
 use Rattle.qc_front.specs.declared.doing.Doing.{Doing}
 use Rattle.qc_front.specs.declared.doing.Doing.TheVariants.{Idle, Reading, Appending}
 use Rattle.qc_front.specs.declared.front.Front.{Front}
 use Rattle.qc_front.specs.declared.transaction.Transaction.{Transaction}
-use Rattle.qc_front.specs.Names.{FrontMove, aborts, answer_of, answered, append_by, begins, called, commits, fresh}
-use Rattle.qc_front.specs.Names.{gives_up, moved, next_own, next_tx, op_of, performs, read_by, reads, resp_of}
-use Rattle.qc_front.specs.Names.{round_for, turned, with_event}
+use Rattle.qc_front.specs.Vocabulary.{FrontMove, aborts, answer_of, answered, append_by, begins, called, commits, fresh}
+use Rattle.qc_front.specs.Vocabulary.{gives_up, moved, next_own, next_tx, op_of, performs, read_by, reads, resp_of}
+use Rattle.qc_front.specs.Vocabulary.{round_for, turned, with_event}
 use Rattle.qc_front.proofs.CommandsKeep.{view_keeps}
-use Rattle.laws_turns.specs.Names.{begun_in, book_with}
-use Rattle.qc_promise.specs.Names.{Dealing, deal_told, dealt, ended}
+use Rattle.laws_turns.specs.Vocabulary.{begun_in, book_with}
+use Rattle.qc_promise.specs.Vocabulary.{Dealing, deal_told, dealt, ended}
 use Rattle.laws_turns.proofs.BooksKept.{began_book, free_book}
 use Rattle.laws_turns.proofs.DealingParts.{IsBook, IsDealing, as_begun, begun_book}
 use Rattle.laws_turns.proofs.Dealing.{began_one, gave_up, told_op}

@@ -2,10 +2,10 @@
 use Rattle.std.proofs.Common.{◌≡◌, ℕ, ◌+◌, ◌-◌, ◌==◌, Bool, true, cond, List, [], ◌∷◌, ◌++◌, Option, Some, None}
 use Rattle.std.proofs.Common.{option_to_list, inl, inr, ◌⊎◌, refl, sym, ap, ◌∙◌, subst, eq-eqb}
 use Rattle.std.specs.List.{cons_option}
-use Rattle.qc_list.specs.Names.{In}
+use Rattle.qc_list.specs.Vocabulary.{In}
 use Rattle.qc_list.proofs.Members.{In-first, In-second, every-In}
 use Rattle.qc_stamp.specs.declared.stamp.TxId.{TxId}
-use Rattle.qc_decl.specs.Names.{IsAccepted, client_actor, is_client}
+use Rattle.qc_decl.specs.Vocabulary.{IsAccepted, client_actor, is_client}
 use Rattle.qc_decl.specs.declared.declaration.Declaration.{Declaration}
 use Rattle.qc_msg.specs.declared.message.Envelope.{Envelope}
 use Rattle.qc_msg.specs.declared.message.Message.{Message}
@@ -14,14 +14,14 @@ use Rattle.qc_msg.specs.declared.message.Outcome.{Outcome}
 use Rattle.qc_msg.specs.declared.message.Outcome.TheVariants as outcomes
 use Rattle.qc_msg.specs.declared.step.Step.{Step}
 use Rattle.qc_msg.specs.declared.step.Step.TheVariants as steps
-use Rattle.qc_msg.specs.Names.{Entry, Sends, deed_at, deeds, envelope_at, envelope_of, mail}
-use Rattle.qc_script.specs.Names.{Runs}
+use Rattle.qc_msg.specs.Vocabulary.{Entry, Sends, deed_at, deeds, envelope_at, envelope_of, mail}
+use Rattle.qc_script.specs.Vocabulary.{Runs}
 use Rattle.qc_script.specs.declared.script.Script.{Script}
-use Rattle.qc_core.specs.Names.{IsLawful}
-use Rattle.laws_turns.specs.Names.{ActsIn, written_in}
+use Rattle.qc_core.specs.Vocabulary.{IsLawful}
+use Rattle.laws_turns.specs.Vocabulary.{ActsIn, written_in}
 use Rattle.laws_turns.proofs.Acted.{run_acts}
-use Rattle.qc_promise.specs.Names.{AreRight, Committed, Dead, DecisionAgrees, Unborn, VerdictAgrees, committed, records}
-use Rattle.qc_promise.specs.Names.{status}
+use Rattle.qc_promise.specs.Vocabulary.{AreRight, Committed, Dead, DecisionAgrees, Unborn, VerdictAgrees, committed}
+use Rattle.qc_promise.specs.Vocabulary.{records, status}
 use Rattle.laws_turns.proofs.DealingParts.{HasRecord}
 use Rattle.laws_turns.proofs.InRuns.{HasPlace, client_low, client_no_site, client_number, run_place}
 use Rattle.laws_turns.proofs.Lasting.{Came, verdict_came}

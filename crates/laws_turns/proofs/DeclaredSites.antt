@@ -4,7 +4,7 @@ use Rattle.std.proofs.Common.{None, sym, subst, arith}
 use Rattle.std.specs.List.{AllByRecursion as Every, filter, range_with_len}
 use Rattle.qc_decl.specs.declared.declaration.Declaration.{Declaration}
 use Rattle.qc_front.proofs.Awaited.{wanted_is}
-use Rattle.qc_plan.specs.Names.{RoundState, asking_all, cyclic, wanted}
+use Rattle.qc_plan.specs.Vocabulary.{RoundState, asking_all, cyclic, wanted}
 
 abbrev pub AreSites : Declaration → List ℕ → Type 0
 AreSites decl sites = Every (λ (s : ℕ). s < decl.sites) sites

@@ -1,11 +1,11 @@
 -- Messages reach those whom they were sent to: what each event of a run adds to that.
-use Rattle.std.proofs.Common.{◌≡◌, ℕ, ◌+◌, ◌==◌, Bool, true, false, cond, List, ◌∷◌, ◌++◌, length, Option, Some, None}
-use Rattle.std.proofs.Common.{option_to_list, slice_get, refl, sym, ap, ◌∙◌, subst, append_assoc, eqb-true}
+use Rattle.std.proofs.Common.{[], ◌≡◌, ℕ, ◌+◌, ◌==◌, Bool, true, false, cond, List, ◌∷◌, ◌++◌, length, Option, Some}
+use Rattle.std.proofs.Common.{None, option_to_list, slice_get, refl, sym, ap, ◌∙◌, subst, append_assoc, eqb-true}
 use Rattle.std.specs.List.{AllByRecursion as Every}
 use Rattle.std.proofs.lemmas.List.{append-nil}
 use Rattle.qc_core.proofs.Written.{IsAnswerTo, IsAnsweredTo, NoAnswer}
 use Rattle.qc_decl.specs.declared.declaration.Declaration.{Declaration}
-use Rattle.qc_inbox.specs.Names.{AreNumbered}
+use Rattle.qc_mailbox.specs.Vocabulary.{AreNumbered}
 use Rattle.qc_list.proofs.Members.{every-append, every-weaker}
 use Rattle.qc_msg.specs.declared.message.Envelope.{Envelope}
 use Rattle.qc_msg.specs.declared.record.Record.{Record}
@@ -15,10 +15,11 @@ use Rattle.qc_msg.specs.declared.step.Step.{Step}
 use Rattle.qc_msg.specs.declared.step.Step.TheVariants as steps
 use Rattle.qc_msg.specs.declared.turn.Posting.{Posting}
 use Rattle.qc_msg.specs.declared.turn.Turn.{Turn}
-use Rattle.qc_msg.specs.Names.{Answered, Deed, Entry, Falls, Rises, Sends, Takes, Tells, WasSentTo, Writes, answer_in}
-use Rattle.qc_msg.specs.Names.{by, deed_at, deeds, envelope_of, heard, heard_in, mail, marked, posted_as, sends_as}
+use Rattle.qc_msg.specs.Vocabulary.{Answered, Deed, Entry, Falls, Rises, Sends, Takes, Tells, WasSentTo, Writes}
+use Rattle.qc_msg.specs.Vocabulary.{answer_in, by, deed_at, deeds, envelope_of, heard, heard_in, mail, marked}
+use Rattle.qc_msg.specs.Vocabulary.{posted_as, sends_as}
 use Rattle.qc_msg.proofs.GrownMail.{mail-append}
-use Rattle.qc_promise.specs.Names.{IsAnswerOf, IsMailStep, IsMailed, IsReceived, IsRequestOf, IsRequestTo}
+use Rattle.qc_promise.specs.Vocabulary.{IsAnswerOf, IsMailStep, IsMailed, IsReceived, IsRequestOf, IsRequestTo}
 use Rattle.laws_turns.proofs.Places.{slice_get-more}
 use Rattle.laws_turns.proofs.MailedSteps.{Delivered, mail_cons, step_delivered, AreAnswersAt, post_delivered}
 

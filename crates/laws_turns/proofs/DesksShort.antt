@@ -2,7 +2,7 @@
 use Rattle.std.proofs.Common.{◌≡◌, ℕ, ◌≤◌, ◌==◌, Bool, true, false, cond, List, [], length, map, Option, Some, None}
 use Rattle.std.proofs.Common.{arith}
 use Rattle.std.proofs.lemmas.List.{length-map}
-use Rattle.qc_decl.specs.Names.{IsAccepted}
+use Rattle.qc_decl.specs.Vocabulary.{IsAccepted}
 use Rattle.qc_decl.specs.declared.declaration.Declaration.{Declaration}
 use Rattle.qc_msg.specs.declared.begun.Begun.{Begun}
 use Rattle.qc_msg.specs.declared.call.Call.{Call}
@@ -11,15 +11,15 @@ use Rattle.qc_msg.specs.declared.message.Message.TheVariants as messages
 use Rattle.qc_msg.specs.declared.message.Outcome.{Outcome}
 use Rattle.qc_msg.specs.declared.message.Outcome.TheVariants.{Aborted, Committed}
 use Rattle.qc_msg.specs.declared.reply.AbortCause.{AbortCause}
-use Rattle.qc_msg.specs.Names.{decisions, quiet, sending, site_called, without_call}
+use Rattle.qc_msg.specs.Vocabulary.{decisions, quiet, sending, site_called, without_call}
 use Rattle.qc_commit.specs.declared.ballot.Ballot.{Ballot}
 use Rattle.qc_commit.specs.declared.desk.Desk.{Desk}
 use Rattle.qc_commit.specs.declared.desk.Voting.{Voting}
-use Rattle.qc_commit.specs.Names.{AsksFew, DeskMove, Prepares, are_cast, blank, cast, counted_out, counts, decides}
-use Rattle.qc_commit.specs.Names.{first_against, learns, moved, next_stamp, participants, passed, prepare, prepares}
-use Rattle.qc_commit.specs.Names.{vote, vote_of, votes_at, votes_in}
+use Rattle.qc_commit.specs.Vocabulary.{AsksFew, DeskMove, Prepares, are_cast, blank, cast, counted_out, counts, decides}
+use Rattle.qc_commit.specs.Vocabulary.{first_against, learns, moved, next_stamp, participants, passed, prepare}
+use Rattle.qc_commit.specs.Vocabulary.{prepares, vote, vote_of, votes_at, votes_in}
 use Rattle.qc_commit.proofs.Aside.{few-after}
-use Rattle.laws_turns.specs.Names.{AreSites, VotedSites}
+use Rattle.laws_turns.specs.Vocabulary.{AreSites, VotedSites}
 use Rattle.laws_turns.proofs.Asked.{few_sites}
 
 pub record IsDeskShort (decl : Declaration) (m : DeskMove) : Type 0 where

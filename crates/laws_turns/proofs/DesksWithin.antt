@@ -5,7 +5,7 @@ use Rattle.std.specs.List.{AllByRecursion as Every}
 use Rattle.qc_list.proofs.Members.{every-append, every-weaker}
 use Rattle.qc_stamp.specs.declared.stamp.Stamp.{Stamp}
 use Rattle.qc_stamp.specs.declared.stamp.TxId.{TxId}
-use Rattle.qc_stamp.specs.Names.{same_tx}
+use Rattle.qc_stamp.specs.Vocabulary.{same_tx}
 use Rattle.qc_entry.specs.declared.record.Commit.{Commit}
 use Rattle.qc_decl.specs.declared.declaration.Declaration.{Declaration}
 use Rattle.qc_msg.specs.declared.begun.Begun.{Begun}
@@ -16,17 +16,17 @@ use Rattle.qc_msg.specs.declared.message.Message.TheVariants as messages
 use Rattle.qc_msg.specs.declared.message.Outcome.{Outcome}
 use Rattle.qc_msg.specs.declared.message.Outcome.TheVariants.{Aborted, Committed}
 use Rattle.qc_msg.specs.declared.reply.AbortCause.{AbortCause}
-use Rattle.qc_msg.specs.Names.{quiet, sending, site_called, without_call}
+use Rattle.qc_msg.specs.Vocabulary.{quiet, sending, site_called, without_call}
 use Rattle.qc_commit.specs.declared.ballot.Ballot.{Ballot}
 use Rattle.qc_commit.specs.declared.desk.Desk.{Desk}
 use Rattle.qc_commit.specs.declared.desk.Known.{Known}
 use Rattle.qc_commit.specs.declared.desk.Known.TheVariants as knowns
 use Rattle.qc_commit.specs.declared.desk.Voting.{Voting}
-use Rattle.qc_commit.specs.Names.{DeskMove, are_cast, blank, cast, commit_of, counted_out, counts, decides}
-use Rattle.qc_commit.specs.Names.{first_against, known_by, learns, moved, next_stamp, participants, passed, prepare}
-use Rattle.qc_commit.specs.Names.{prepares, promised, record_of, vote, vote_of, votes_at, votes_in}
+use Rattle.qc_commit.specs.Vocabulary.{DeskMove, are_cast, blank, cast, commit_of, counted_out, counts, decides}
+use Rattle.qc_commit.specs.Vocabulary.{first_against, known_by, learns, moved, next_stamp, participants, passed}
+use Rattle.qc_commit.specs.Vocabulary.{prepare, prepares, promised, record_of, vote, vote_of, votes_at, votes_in}
 use Rattle.qc_commit.proofs.Learned.{learned-clock, learned-commits}
-use Rattle.laws_turns.specs.Names.{AnswerWithin, DeskWithin, OutcomeWithin, SendsWithin}
+use Rattle.laws_turns.specs.Vocabulary.{AnswerWithin, DeskWithin, OutcomeWithin, SendsWithin}
 
 pub desk-le : (low high : ℕ) (desk : Desk) → low ≤ high → DeskWithin low desk → DeskWithin high desk
 desk-le low high desk le w = record {

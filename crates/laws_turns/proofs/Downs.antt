@@ -3,15 +3,15 @@ use Rattle.std.proofs.Common.{◌≡◌, ℕ, not, Bool, true, false, cond, List
 use Rattle.std.proofs.Common.{subst}
 use Rattle.qc_core.specs.declared.actor.Actor.{Actor}
 use Rattle.qc_core.specs.declared.actor.Actor.TheVariants.{Down}
-use Rattle.qc_core.specs.Names.{ActorMove, IsLawfulWithFalls, actor_after, actor_does, actor_rises, actor_sends}
-use Rattle.qc_core.specs.Names.{actor_takes, is_up, moved, up_at, with_record}
-use Rattle.qc_decl.specs.Names.{is_administrator, is_client, is_site}
+use Rattle.qc_core.specs.Vocabulary.{ActorMove, IsLawfulWithFalls, actor_after, actor_does, actor_rises, actor_sends}
+use Rattle.qc_core.specs.Vocabulary.{actor_takes, is_up, moved, up_at, with_record}
+use Rattle.qc_decl.specs.Vocabulary.{is_administrator, is_client, is_site}
 use Rattle.qc_decl.specs.declared.declaration.Declaration.{Declaration}
-use Rattle.qc_inbox.specs.Names.{TellsWhereDown, down_at, is_down}
+use Rattle.qc_mailbox.specs.Vocabulary.{TellsWhereDown, down_at, is_down}
 use Rattle.qc_msg.specs.declared.step.Input.{Input}
 use Rattle.qc_msg.specs.declared.step.Input.TheVariants as inputs
 use Rattle.qc_msg.specs.declared.turn.Turn.{Turn}
-use Rattle.qc_msg.specs.Names.{Deed, Falls, Rises, Sends, Takes, Tells, Writes, quiet}
+use Rattle.qc_msg.specs.Vocabulary.{Deed, Falls, Rises, Sends, Takes, Tells, Writes, quiet}
 
 -- an actor is up by its deeds where it isn't down by them
 

@@ -4,24 +4,24 @@ use Rattle.std.proofs.Common.{[], ◌∷◌, Option, None, refl, sym, ap, ◌∙
 use Rattle.std.specs.Prelude.{replicate}
 use Rattle.std.proofs.lemmas.Bool.{ltb-true}
 use Rattle.qc_decl.proofs.Clients.{client_within}
-use Rattle.qc_list.specs.Names.{In}
-use Rattle.qc_client.specs.Names.{client_after}
+use Rattle.qc_list.specs.Vocabulary.{In}
+use Rattle.qc_client.specs.Vocabulary.{client_after}
 use Rattle.qc_decl.specs.declared.declaration.Declaration.{Declaration}
-use Rattle.qc_decl.specs.Names.{IsAccepted, actors, is_client}
+use Rattle.qc_decl.specs.Vocabulary.{IsAccepted, actors, is_client}
 use Rattle.qc_msg.specs.declared.call.Call.{Call}
 use Rattle.qc_msg.specs.declared.message.Envelope.{Envelope}
 use Rattle.qc_msg.specs.declared.step.Control.{Control}
 use Rattle.qc_msg.specs.declared.step.Input.{Input}
-use Rattle.qc_msg.specs.Names.{Entry, deeds}
+use Rattle.qc_msg.specs.Vocabulary.{Entry, deeds}
 use Rattle.qc_script.specs.declared.script.Script.{Script}
-use Rattle.qc_script.specs.Names.{after_controls, command_in, controls_left, first_copy, first_lost, inbox}
+use Rattle.qc_script.specs.Vocabulary.{after_controls, command_in, controls_left, first_copy, first_lost, inbox}
 use Rattle.qc_script.proofs.InboxesSend.{InCommon}
 use Rattle.qc_script.proofs.Inboxes.{inboxes_have_in_common}
-use Rattle.laws_turns.specs.Names.{AsksDeclared, IsAtReceiver, IsAwaited, IsClosed, IsQuiet, IsTaken, open_calls}
+use Rattle.laws_turns.specs.Vocabulary.{AsksDeclared, IsAtReceiver, IsAwaited, IsClosed, IsQuiet, IsTaken, open_calls}
 use Rattle.laws_turns.proofs.Covered.{open_requests_awaited}
 use Rattle.laws_turns.proofs.Places.{replicate_at}
 use Rattle.laws_turns.proofs.Reached.{receiver_is_site, unanswered_at_site}
-use Rattle.qc_link.specs.Names.{most_actors}
+use Rattle.qc_link.specs.Vocabulary.{most_actors}
 
 no_copies : (es : List Envelope) (other : Option Input) → first_copy es other ≡ None → es ≡ []
 no_copies [] other is = refl

@@ -1,9 +1,9 @@
 -- A history event by event, as every run is: an actor takes what was sent to it, an actor posts the turn that its last
 -- input calls for, or the controller acts.
 use Rattle.std.specs.Prelude.{◌≡◌, ℕ, List, [], ◌∷◌, ◌++◌, None, length}
-use Rattle.qc_core.specs.Names.{IsLawful}
+use Rattle.qc_core.specs.Vocabulary.{IsLawful}
 use Rattle.qc_decl.specs.declared.declaration.Declaration.{Declaration}
-use Rattle.qc_msg.specs.Names.{Entry, WasSentTo, by, deed_at, deeds, envelope_at, mail, marked, posted, step_of}
+use Rattle.qc_msg.specs.Vocabulary.{Entry, WasSentTo, by, deed_at, deeds, envelope_at, mail, marked, posted, step_of}
 use Rattle.qc_msg.specs.declared.message.Envelope.{Envelope}
 use Rattle.qc_msg.specs.declared.step.Input.{Input}
 use Rattle.qc_msg.specs.declared.step.Step.{Step}

@@ -4,11 +4,11 @@ use Rattle.std.proofs.Common.{◌∙◌}
 use Rattle.std.specs.Prelude.{fold, option_to_list}
 use Rattle.std.specs.List.{filter_map}
 use Rattle.std.proofs.lemmas.List.Sums.{fold-append}
-use Rattle.qc_core.specs.Names.{AreSteady, is_running, runs_at}
+use Rattle.qc_core.specs.Vocabulary.{AreSteady, is_running, runs_at}
 use Rattle.qc_msg.specs.declared.step.Command.{Command}
 use Rattle.qc_msg.specs.declared.step.Input.TheVariants as inputs
-use Rattle.qc_msg.specs.Names.{Deed, Falls, Rises, Sends, Takes, Tells, Writes}
-use Rattle.laws_turns.specs.Names.{AreAnswered, AreInOrder, call_in, exchanges, exchanges_from}
+use Rattle.qc_msg.specs.Vocabulary.{Deed, Falls, Rises, Sends, Takes, Tells, Writes}
+use Rattle.laws_turns.specs.Vocabulary.{AreAnswered, AreInOrder, call_in, exchanges, exchanges_from}
 
 one_more : (before : List Deed) (d : Deed) (running : Bool) → is_running before ≡ running
     → is_running (before ++ d ∷ []) ≡ runs_at running d

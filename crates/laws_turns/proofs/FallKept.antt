@@ -6,12 +6,12 @@ use Rattle.std.specs.List.{AllByRecursion as Every}
 use Rattle.std.proofs.lemmas.Bool.{ltb-true}
 use Rattle.qc_decl.proofs.Clients.{client_within}
 use Rattle.qc_list.proofs.Members.{every-append, every-weaker}
-use Rattle.qc_core.specs.Names.{AreGivenBack, IsLawfulWithFalls, Lives, journal_after, journal_at}
+use Rattle.qc_core.specs.Vocabulary.{AreGivenBack, IsLawfulWithFalls, Lives, journal_after, journal_at}
 use Rattle.qc_core.proofs.KeptBack.{back_first, back_second, kept_given_back}
 use Rattle.qc_core.specs.Lives as lives
 use Rattle.qc_decl.specs.declared.declaration.Declaration.{Declaration}
-use Rattle.qc_decl.specs.Names.{actors}
-use Rattle.qc_link.specs.Names.{most_actors}
+use Rattle.qc_decl.specs.Vocabulary.{actors}
+use Rattle.qc_link.specs.Vocabulary.{most_actors}
 use Rattle.qc_msg.specs.declared.record.Record.{Record}
 use Rattle.qc_msg.specs.declared.record.Record.TheVariants as records
 use Rattle.qc_msg.specs.declared.reply.Reply.{Reply}
@@ -20,14 +20,14 @@ use Rattle.qc_msg.specs.declared.turn.Appended.{Appended}
 use Rattle.qc_msg.specs.declared.turn.Appended.TheVariants.{Done, Failed, Stopped}
 use Rattle.qc_msg.specs.declared.turn.Posting.{Posting}
 use Rattle.qc_msg.specs.declared.turn.Turn.{Turn}
-use Rattle.qc_msg.specs.Names.{Deed, Entry, Falls, Rises, Sends, Takes, Tells, Writes, deeds, deeds_as, sends_of}
-use Rattle.qc_msg.specs.Names.{tells_of, writes_of}
-use Rattle.qc_promise.specs.Names.{IsGivenBack, Journal, Kept, no_journal, pending_with}
-use Rattle.qc_script.specs.Names.{RunsWithFalls}
+use Rattle.qc_msg.specs.Vocabulary.{Deed, Entry, Falls, Rises, Sends, Takes, Tells, Writes, deeds, deeds_as, sends_of}
+use Rattle.qc_msg.specs.Vocabulary.{tells_of, writes_of}
+use Rattle.qc_promise.specs.Vocabulary.{IsGivenBack, Journal, Kept, no_journal, pending_with}
+use Rattle.qc_script.specs.Vocabulary.{RunsWithFalls}
 use Rattle.qc_script.specs.declared.script.Script.{Script}
 use Rattle.laws_turns.proofs.StampsOwn.{IsOwnWrite}
 use Rattle.laws_turns.proofs.Places.{slice_get-within}
-use Rattle.laws_turns.specs.Names.{GivesOwn, IsOwnRecord, LivesIn, RiseWithOwn}
+use Rattle.laws_turns.specs.Vocabulary.{GivesOwn, IsOwnRecord, LivesIn, RiseWithOwn}
 use Rattle.laws_turns.proofs.FallStamps.{lawful_writes}
 use Rattle.laws_turns.proofs.Lived.{run_lives, run_long}
 

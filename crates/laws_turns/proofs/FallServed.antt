@@ -5,16 +5,16 @@ use Rattle.std.proofs.Common.{Option, Some, None, slice_get, refl, sym, ap, â—Œâ
 use Rattle.std.specs.List.{AllByRecursion as Every}
 use Rattle.std.proofs.lemmas.Bool.{lt-ltb}
 use Rattle.qc_core.specs.declared.actor.Actor.TheVariants.{Site}
-use Rattle.qc_core.specs.Names.{AreUncommanded, IsInput, IsLawfulWithFalls, IsShown, IsSiteDeed, IsSiteInput, IsStamped}
-use Rattle.qc_core.specs.Names.{IsUncommanded, Lives, Serves, actor_after, is_up, with_record}
+use Rattle.qc_core.specs.Vocabulary.{AreUncommanded, IsInput, IsLawfulWithFalls, IsShown, IsSiteDeed, IsSiteInput}
+use Rattle.qc_core.specs.Vocabulary.{IsStamped, IsUncommanded, Lives, Serves, actor_after, is_up, with_record}
 use Rattle.qc_core.specs.Lives as lives
 use Rattle.qc_core.proofs.OpenedInputs.{Opened, opened}
 use Rattle.qc_core.proofs.SiteLaws.{are_due, shows}
 use Rattle.qc_core.proofs.SiteLives.{serves_as_lives}
 use Rattle.qc_core.proofs.Written.{after_written}
 use Rattle.qc_decl.specs.declared.declaration.Declaration.{Declaration}
-use Rattle.qc_decl.specs.Names.{actors, controller, is_administrator, is_client, is_site}
-use Rattle.qc_link.specs.Names.{most_actors}
+use Rattle.qc_decl.specs.Vocabulary.{actors, controller, is_administrator, is_client, is_site}
+use Rattle.qc_link.specs.Vocabulary.{most_actors}
 use Rattle.qc_msg.specs.declared.message.Envelope.{Envelope}
 use Rattle.qc_msg.specs.declared.record.Record.{Record}
 use Rattle.qc_msg.specs.declared.reply.Reply.{Reply}
@@ -24,15 +24,15 @@ use Rattle.qc_msg.specs.declared.step.Input.TheVariants as given
 use Rattle.qc_msg.specs.declared.step.Step.TheVariants as steps
 use Rattle.qc_msg.specs.declared.turn.Posting.{Posting}
 use Rattle.qc_msg.specs.declared.turn.Turn.{Turn}
-use Rattle.qc_msg.specs.Names.{Deed, Entry, Falls, MayEnd, Rises, Sends, Takes, Tells, Writes, by, deeds, deeds_as}
-use Rattle.qc_msg.specs.Names.{envelopes, mail, marked, posted_as, sends_as, sends_of, step_of, tells_of, turn_deeds}
-use Rattle.qc_msg.specs.Names.{writes_of}
+use Rattle.qc_msg.specs.Vocabulary.{Deed, Entry, Falls, MayEnd, Rises, Sends, Takes, Tells, Writes, by, deeds, deeds_as}
+use Rattle.qc_msg.specs.Vocabulary.{envelopes, mail, marked, posted_as, sends_as, sends_of, step_of, tells_of}
+use Rattle.qc_msg.specs.Vocabulary.{turn_deeds, writes_of}
 use Rattle.qc_msg.proofs.GrownMail.{mail-append, mail-taken}
 use Rattle.qc_msg.proofs.DeedsGrow.{deeds-append}
 use Rattle.qc_msg.proofs.Growth.{mail-posted_as}
-use Rattle.qc_promise.specs.Names.{AreDue}
-use Rattle.qc_script.specs.Names.{RunsWithFalls, begins, control, damaged, falls, phase, phase_of, posts, rises, takes}
-use Rattle.qc_script.specs.Names.{unopened}
+use Rattle.qc_promise.specs.Vocabulary.{AreDue}
+use Rattle.qc_script.specs.Vocabulary.{RunsWithFalls, begins, control, damaged, falls, phase, phase_of, posts, rises}
+use Rattle.qc_script.specs.Vocabulary.{takes, unopened}
 use Rattle.qc_script.specs.declared.script.Script.{Script}
 use Rattle.laws_turns.proofs.Commanded.{uncommanded}
 use Rattle.laws_turns.proofs.Mailed.{AreInputs, IsMailStamped, both_all, deeds_inputs}
@@ -40,8 +40,8 @@ use Rattle.laws_turns.proofs.Numbered.{mail-silent, phase_silent}
 use Rattle.laws_turns.proofs.StampsOwn.{AreStamped}
 use Rattle.laws_turns.proofs.Places.{slice_get-within}
 use Rattle.laws_turns.proofs.Served.{due_cut, first_part}
-use Rattle.qc_inbox.proofs.Keeping.{same_mail}
-use Rattle.laws_turns.specs.Names.{GivesOwn, LivesIn, RiseWithOwn}
+use Rattle.qc_mailbox.proofs.Keeping.{same_mail}
+use Rattle.laws_turns.specs.Vocabulary.{GivesOwn, LivesIn, RiseWithOwn}
 use Rattle.laws_turns.proofs.ByMailWithFalls.{run_delivered}
 use Rattle.laws_turns.proofs.FallStamps.{lawful_stamped}
 use Rattle.laws_turns.proofs.Lived.{line_silent, run_lives, run_long}

@@ -6,19 +6,19 @@ use Rattle.std.specs.List.{AllByRecursion as Every}
 use Rattle.qc_list.proofs.Members.{every-append, every-filter}
 use Rattle.qc_core.specs.declared.actor.Actor.{Actor}
 use Rattle.qc_core.specs.declared.actor.Actor.TheVariants as actor
-use Rattle.qc_core.specs.Names.{ActorMove, IsLawfulWithFalls, IsStamped, actor_after, actor_does, actor_rises}
-use Rattle.qc_core.specs.Names.{actor_sends, actor_takes, by_admin, by_client, by_site, down_takes, moved, new_actor}
-use Rattle.qc_core.specs.Names.{with_record}
+use Rattle.qc_core.specs.Vocabulary.{ActorMove, IsLawfulWithFalls, IsStamped, actor_after, actor_does, actor_rises}
+use Rattle.qc_core.specs.Vocabulary.{actor_sends, actor_takes, by_admin, by_client, by_site, down_takes, moved}
+use Rattle.qc_core.specs.Vocabulary.{new_actor, with_record}
 use Rattle.qc_core.proofs.AdminTurns.{IsAdminTurn, IsDecision, IsOfAdmin, IsSentByAdmin, WritesDecision}
 use Rattle.qc_core.proofs.AdminWrites.{admin_written}
 use Rattle.qc_core.proofs.Written.{client_written}
-use Rattle.qc_epoch.specs.Names.{new_admin}
+use Rattle.qc_epoch.specs.Vocabulary.{new_admin}
 use Rattle.laws_turns.proofs.Downs.{due}
-use Rattle.qc_recover.specs.Names.{admin_rises, client_of, client_rises, inquiry, kept_by as site_kept, most_inquiries}
-use Rattle.qc_recover.specs.Names.{site_rises}
+use Rattle.qc_recover.specs.Vocabulary.{admin_rises, client_of, client_rises, inquiry, kept_by as site_kept}
+use Rattle.qc_recover.specs.Vocabulary.{most_inquiries, site_rises}
 use Rattle.qc_decl.specs.declared.declaration.Declaration.{Declaration}
-use Rattle.qc_decl.specs.Names.{is_client, is_site}
-use Rattle.qc_client.specs.Names.{new_client}
+use Rattle.qc_decl.specs.Vocabulary.{is_client, is_site}
+use Rattle.qc_client.specs.Vocabulary.{new_client}
 use Rattle.qc_stamp.specs.declared.stamp.TxId.{TxId}
 use Rattle.qc_msg.specs.declared.message.Message.{Message}
 use Rattle.qc_msg.specs.declared.message.Message.TheVariants as messages
@@ -30,14 +30,14 @@ use Rattle.qc_msg.specs.declared.turn.Appended.{Appended}
 use Rattle.qc_msg.specs.declared.turn.Appended.TheVariants.{Done, Failed, Stopped}
 use Rattle.qc_msg.specs.declared.turn.Posting.{Posting}
 use Rattle.qc_msg.specs.declared.turn.Turn.{Turn}
-use Rattle.qc_msg.specs.Names.{Deed, Falls, Rises, Sends, Takes, Tells, Writes, quiet, sends_as}
+use Rattle.qc_msg.specs.Vocabulary.{Deed, Falls, Rises, Sends, Takes, Tells, Writes, quiet, sends_as}
 use Rattle.qc_recover.specs.Clients.{Kept, keeps, nothing_kept}
-use Rattle.qc_site.specs.Names.{in_order, new_site}
+use Rattle.qc_site.specs.Vocabulary.{in_order, new_site}
 use Rattle.qc_entry.specs.declared.record.Prepared.{Prepared}
 use Rattle.laws_turns.proofs.StampsOwn.{AreStamped, IsOwnCommit, IsOwnWrite, Own, OwnMove, unwritten}
 use Rattle.laws_turns.proofs.OwnStamps.{sent_own, takes_own}
 use Rattle.laws_turns.proofs.Stamped.{IsAnswering, takes_answer}
-use Rattle.laws_turns.specs.Names.{GivesOwn, IsOwnRecord}
+use Rattle.laws_turns.specs.Vocabulary.{GivesOwn, IsOwnRecord}
 
 -- what a client is by its records
 

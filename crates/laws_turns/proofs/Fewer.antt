@@ -1,10 +1,10 @@
 -- The open requests of a client after an input are ones that were open before, but not the one that the input answers.
 use Rattle.std.proofs.Common.{◌≡◌, ℕ, ◌==◌, ◌⊎◌, Bool, true, if◌then◌else◌, inl, inr, List, [], ◌∷◌, ◌++◌, length}
 use Rattle.std.proofs.Common.{Option, Some, None, is_some, refl, sym, ap, ◌∙◌, subst}
-use Rattle.qc_list.specs.Names.{In}
+use Rattle.qc_list.specs.Vocabulary.{In}
 use Rattle.qc_list.proofs.Members.{In-more}
 use Rattle.qc_decl.specs.declared.declaration.Declaration.{Declaration}
-use Rattle.qc_plan.specs.Names.{verdict}
+use Rattle.qc_plan.specs.Vocabulary.{verdict}
 use Rattle.qc_msg.specs.declared.begun.Begun.{Begun}
 use Rattle.qc_msg.specs.declared.call.Call.{Call}
 use Rattle.qc_msg.specs.declared.message.Answer.{Answer}
@@ -17,21 +17,21 @@ use Rattle.qc_msg.specs.declared.step.Command.{Command}
 use Rattle.qc_msg.specs.declared.step.Command.TheVariants as commands
 use Rattle.qc_msg.specs.declared.step.Input.{Input}
 use Rattle.qc_msg.specs.declared.step.Input.TheVariants as inputs
-use Rattle.qc_msg.specs.Names.{site_called, without_call}
+use Rattle.qc_msg.specs.Vocabulary.{site_called, without_call}
 use Rattle.qc_commit.specs.declared.desk.Desk.{Desk}
 use Rattle.qc_commit.specs.declared.desk.Voting.{Voting}
 use Rattle.qc_commit.specs.Conduct as desks
-use Rattle.qc_commit.specs.Names.{DeskMove, are_cast, cast, first_against, participants, vote_of}
+use Rattle.qc_commit.specs.Vocabulary.{DeskMove, are_cast, cast, first_against, participants, vote_of}
 use Rattle.qc_front.specs.declared.doing.Doing.{Doing}
 use Rattle.qc_front.specs.declared.doing.Doing.TheVariants.{Idle, Reading, Appending}
 use Rattle.qc_front.specs.declared.transaction.Transaction.{Transaction}
 use Rattle.qc_front.specs.Conduct as fronts
-use Rattle.qc_front.specs.Names.{calls_in, ended}
+use Rattle.qc_front.specs.Vocabulary.{calls_in, ended}
 use Rattle.qc_client.specs.declared.client.Client.{Client}
-use Rattle.qc_client.specs.Names.{ClientMove, answered, answered_by, by_desk, by_front, called, client_takes, commits}
-use Rattle.qc_client.specs.Names.{heard, requested, sent_one}
-use Rattle.qc_script.specs.Names.{is_request}
-use Rattle.laws_turns.specs.Names.{IsAnswerTo, calls_by, open_calls}
+use Rattle.qc_client.specs.Vocabulary.{ClientMove, answered, answered_by, by_desk, by_front, called, client_takes}
+use Rattle.qc_client.specs.Vocabulary.{commits, heard, requested, sent_one}
+use Rattle.qc_script.specs.Vocabulary.{is_request}
+use Rattle.laws_turns.specs.Vocabulary.{IsAnswerTo, calls_by, open_calls}
 use Rattle.laws_turns.proofs.FrontAsks.{Asks, IsBound, front_called, if_two}
 use Rattle.laws_turns.proofs.RequestsGone.{Leaves, Takes, front_takes, leaves_none, of_rest, unasked}
 

@@ -1,9 +1,9 @@
 -- An actor that never fell is in its first life: all that it did is of it.
 use Rattle.std.proofs.Common.{◌≡◌, List, [], ◌∷◌, refl}
-use Rattle.qc_msg.specs.Names.{Deed, Falls, Rises, Sends, Takes, Tells, Writes}
-use Rattle.qc_promise.specs.Names.{lifetime}
+use Rattle.qc_msg.specs.Vocabulary.{Deed, Falls, Rises, Sends, Takes, Tells, Writes}
+use Rattle.qc_promise.specs.Vocabulary.{lifetime}
 use Rattle.qc_promise.proofs.Lifetimes.{AreNoRises, first_life}
-use Rattle.qc_core.specs.Names.{AreSteady}
+use Rattle.qc_core.specs.Vocabulary.{AreSteady}
 
 up_rises : (ds : List Deed) → AreSteady ds → AreNoRises ds
 up_rises [] up = tt

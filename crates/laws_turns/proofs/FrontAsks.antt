@@ -1,10 +1,10 @@
 -- The open requests of a front end after a command, or after a round that goes on, were open before it.
 use Rattle.std.proofs.Common.{◌≡◌, ℕ, nat_le, Bool, true, false, if◌then◌else◌, List, [], length, Option, Some, None}
 use Rattle.std.proofs.Common.{refl, sym, subst}
-use Rattle.qc_list.specs.Names.{In}
+use Rattle.qc_list.specs.Vocabulary.{In}
 use Rattle.qc_decl.specs.declared.declaration.Declaration.{Declaration}
-use Rattle.qc_decl.specs.Names.{append_need_of, most_transaction_operations, read_need_of}
-use Rattle.qc_plan.specs.Names.{RoundState, verdict}
+use Rattle.qc_decl.specs.Vocabulary.{append_need_of, most_transaction_operations, read_need_of}
+use Rattle.qc_plan.specs.Vocabulary.{RoundState, verdict}
 use Rattle.qc_plan.specs.declared.standing.Verdict.{Verdict}
 use Rattle.qc_plan.specs.declared.standing.Verdict.TheVariants as verdicts
 use Rattle.qc_msg.specs.declared.call.Call.{Call}
@@ -13,12 +13,12 @@ use Rattle.qc_msg.specs.declared.reply.Reply.TheVariants as replies
 use Rattle.qc_msg.specs.declared.reply.AbortCause.TheVariants as causes
 use Rattle.qc_msg.specs.declared.step.Command.{Command}
 use Rattle.qc_msg.specs.declared.step.Command.TheVariants as commands
-use Rattle.qc_msg.specs.Names.{quiet, telling}
+use Rattle.qc_msg.specs.Vocabulary.{quiet, telling}
 use Rattle.qc_front.specs.declared.doing.Doing.TheVariants.{Idle}
 use Rattle.qc_front.specs.declared.front.Front.{Front}
 use Rattle.qc_front.specs.declared.transaction.Transaction.{Transaction}
-use Rattle.qc_front.specs.Names.{FrontMove, aborts, answer_of, answered as front_answered, append_by, begins, calls_in}
-use Rattle.qc_front.specs.Names.{gives_up, moved as front_moved, performs, read_by, reads, round_for}
+use Rattle.qc_front.specs.Vocabulary.{FrontMove, aborts, answer_of, answered as front_answered, append_by, begins}
+use Rattle.qc_front.specs.Vocabulary.{calls_in, gives_up, moved as front_moved, performs, read_by, reads, round_for}
 use Rattle.qc_front.specs.Conduct as fronts
 
 pub if_two : {A : Type 0} (P : A → Type 0) (t : Bool) (x y : A) → P x → P y → P (if t then x else y)

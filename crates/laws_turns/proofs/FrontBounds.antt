@@ -1,5 +1,5 @@
 -- What a front end becomes stays within a bound that what it takes keeps to.
-use Rattle.std.proofs.Common.{◌≡◌, ℕ, zero, suc, ◌+◌, ◌≤◌, max, Bool, true, false, cond, nat_le, List, ◌∷◌, ◌++◌}
+use Rattle.std.proofs.Common.{[], ◌≡◌, ℕ, zero, suc, ◌+◌, ◌≤◌, max, Bool, true, false, cond, nat_le, List, ◌∷◌, ◌++◌}
 use Rattle.std.proofs.Common.{length, replicate, Option, Some, None, option_map, refl, arith}
 use Rattle.std.specs.Prelude.{slice_get, slice_set}
 use Rattle.std.specs.List.{AllByRecursion as Every}
@@ -7,26 +7,27 @@ use Rattle.qc_list.proofs.Members.{every-at, every-weaker}
 use Rattle.qc_entry.specs.declared.line.Line.{Line}
 use Rattle.qc_entry.proofs.Union.{every-union}
 use Rattle.qc_decl.specs.declared.declaration.Declaration.{Declaration}
-use Rattle.qc_decl.specs.Names.{append_need_of, most_transaction_operations, read_need_of}
+use Rattle.qc_decl.specs.Vocabulary.{append_need_of, most_transaction_operations, read_need_of}
 use Rattle.qc_msg.specs.declared.call.Call.{Call}
 use Rattle.qc_msg.specs.declared.message.Answer.{Answer}
 use Rattle.qc_msg.specs.declared.message.Answer.TheVariants as answers
 use Rattle.qc_msg.specs.declared.reply.Reply.TheVariants as replies
 use Rattle.qc_msg.specs.declared.reply.AbortCause.TheVariants as causes
-use Rattle.qc_msg.specs.Names.{quiet, site_called, telling, without_call}
-use Rattle.qc_plan.specs.Names.{RoundState, note, verdict}
+use Rattle.qc_msg.specs.Vocabulary.{quiet, site_called, telling, without_call}
+use Rattle.qc_plan.specs.Vocabulary.{RoundState, note, verdict}
 use Rattle.qc_plan.specs.declared.standing.Verdict.{Verdict}
 use Rattle.qc_plan.specs.declared.standing.Verdict.TheVariants as verdicts
 use Rattle.qc_view.specs.declared.view.View.{View}
-use Rattle.qc_view.specs.Names.{empty_view, with_log, with_own}
+use Rattle.qc_view.specs.Vocabulary.{empty_view, with_log, with_own}
 use Rattle.qc_front.specs.declared.doing.Doing.{Doing}
 use Rattle.qc_front.specs.declared.doing.Doing.TheVariants.{Idle, Reading, Appending}
 use Rattle.qc_front.specs.declared.front.Front.{Front}
 use Rattle.qc_front.specs.declared.transaction.Transaction.{Transaction}
-use Rattle.qc_front.specs.Names.{aborts, answer_of, answered, append_by, appended_with, appending_takes, commits}
-use Rattle.qc_front.specs.Names.{gives_up, learns, lived, moved, next_own, performs, read_by, read_with, reading_takes}
-use Rattle.qc_front.specs.Names.{reads, resp_of, round_for, standing_of, takes_in, with_event, with_view}
-use Rattle.laws_turns.specs.Names.{FrontWithin, LinesWithin, TransactionWithin, ViewsWithin}
+use Rattle.qc_front.specs.Vocabulary.{aborts, answer_of, answered, append_by, appended_with, appending_takes, commits}
+use Rattle.qc_front.specs.Vocabulary.{gives_up, learns, lived, moved, next_own, performs, read_by, read_with}
+use Rattle.qc_front.specs.Vocabulary.{reading_takes, reads, resp_of, round_for, standing_of, takes_in, with_event}
+use Rattle.qc_front.specs.Vocabulary.{with_view}
+use Rattle.laws_turns.specs.Vocabulary.{FrontWithin, LinesWithin, TransactionWithin, ViewsWithin}
 use Rattle.laws_turns.proofs.DesksWithin.{CameWithin}
 use Rattle.laws_turns.proofs.Greater.{lines-le}
 

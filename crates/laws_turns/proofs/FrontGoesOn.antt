@@ -1,11 +1,11 @@
 -- A front end's move by which a transaction goes on under its name.
-use Rattle.std.proofs.Common.{◌≡◌, ℕ, ◌+◌, ◌⊎◌, inl, List, ◌∷◌, ◌++◌, map, Option, Some, None, option_map, refl, sym}
-use Rattle.std.proofs.Common.{ap, ◌∙◌}
+use Rattle.std.proofs.Common.{[], ◌≡◌, ℕ, ◌+◌, ◌⊎◌, inl, List, ◌∷◌, ◌++◌, map, Option, Some, None, option_map, refl}
+use Rattle.std.proofs.Common.{sym, ap, ◌∙◌}
 use Rattle.std.specs.Prelude.{slice_get}
 use Rattle.std.specs.List.{AllByRecursion as Every}
 use Rattle.qc_stamp.specs.declared.stamp.TxId.{TxId}
 use Rattle.qc_decl.specs.declared.declaration.Declaration.{Declaration}
-use Rattle.qc_decl.specs.Names.{append_need_of}
+use Rattle.qc_decl.specs.Vocabulary.{append_need_of}
 use Rattle.qc_msg.specs.declared.begun.Begun.{Begun}
 use Rattle.qc_msg.specs.declared.call.Call.{Call}
 use Rattle.qc_msg.specs.declared.message.Answer.{Answer}
@@ -18,21 +18,21 @@ use Rattle.qc_msg.specs.declared.reply.Reply.{Reply}
 use Rattle.qc_msg.specs.declared.reply.Reply.TheVariants as replies
 use Rattle.qc_msg.specs.declared.turn.Posting.{Posting}
 use Rattle.qc_msg.specs.declared.turn.Turn.{Turn}
-use Rattle.qc_msg.specs.Names.{decisions, sending, telling}
-use Rattle.qc_plan.specs.Names.{RoundState, asking_all, verdict, wanted}
+use Rattle.qc_msg.specs.Vocabulary.{decisions, sending, telling}
+use Rattle.qc_plan.specs.Vocabulary.{RoundState, asking_all, verdict, wanted}
 use Rattle.qc_plan.specs.declared.standing.Verdict.{Verdict}
 use Rattle.qc_plan.specs.declared.standing.Verdict.TheVariants as verdicts
 use Rattle.qc_view.specs.declared.view.View.{View}
-use Rattle.qc_view.specs.Names.{with_own}
+use Rattle.qc_view.specs.Vocabulary.{with_own}
 use Rattle.qc_front.specs.declared.doing.Doing.{Doing}
 use Rattle.qc_front.specs.declared.doing.Doing.TheVariants.{Idle, Reading, Appending}
 use Rattle.qc_front.specs.declared.front.Front.{Front}
 use Rattle.qc_front.specs.declared.transaction.Transaction.{Transaction}
-use Rattle.qc_front.specs.Names.{FrontMove, aborts, answer_of, answered, append_by, append_want, doomed, moved}
-use Rattle.qc_front.specs.Names.{next_own, next_tx, op_of, read_by, read_want, request_of, resp_of, round_for, turned}
-use Rattle.qc_front.specs.Names.{with_asked, with_event, with_op}
+use Rattle.qc_front.specs.Vocabulary.{FrontMove, aborts, answer_of, answered, append_by, append_want, doomed, moved}
+use Rattle.qc_front.specs.Vocabulary.{next_own, next_tx, op_of, read_by, read_want, request_of, resp_of, round_for}
+use Rattle.qc_front.specs.Vocabulary.{turned, with_asked, with_event, with_op}
 use Rattle.qc_front.proofs.CommandsKeep.{view_keeps}
-use Rattle.laws_turns.specs.Names.{begun_in}
+use Rattle.laws_turns.specs.Vocabulary.{begun_in}
 use Rattle.laws_turns.proofs.DealingParts.{IsAbort, begun_tx}
 
 -- a reply that neither begins nor ends a transaction, where this one is begun

@@ -1,11 +1,11 @@
 -- What a front end's move does with its transaction: that goes on under its name, one begins, or it is given up.
-use Rattle.std.proofs.Common.{◌≡◌, ℕ, nat_le, Bool, true, false, cond, inl, inr, List, length, Option, Some, None}
+use Rattle.std.proofs.Common.{[], ◌≡◌, ℕ, nat_le, Bool, true, false, cond, inl, inr, List, length, Option, Some, None}
 use Rattle.std.proofs.Common.{option_map, refl, sym, ap, ◌∙◌, subst}
 use Rattle.std.specs.Prelude.{slice_get}
 use Rattle.std.specs.List.{AllByRecursion as Every}
 use Rattle.qc_stamp.specs.declared.stamp.TxId.{TxId}
 use Rattle.qc_decl.specs.declared.declaration.Declaration.{Declaration}
-use Rattle.qc_decl.specs.Names.{most_transaction_operations, read_need_of}
+use Rattle.qc_decl.specs.Vocabulary.{most_transaction_operations, read_need_of}
 use Rattle.qc_msg.specs.declared.begun.Begun.{Begun}
 use Rattle.qc_msg.specs.declared.message.Answer.{Answer}
 use Rattle.qc_msg.specs.declared.message.Answer.TheVariants as answers
@@ -17,20 +17,20 @@ use Rattle.qc_msg.specs.declared.step.Command.{Command}
 use Rattle.qc_msg.specs.declared.step.Command.TheVariants as commands
 use Rattle.qc_msg.specs.declared.turn.Posting.{Posting}
 use Rattle.qc_msg.specs.declared.turn.Turn.{Turn}
-use Rattle.qc_msg.specs.Names.{quiet, site_called, telling, without_call}
-use Rattle.qc_plan.specs.Names.{note, verdict}
+use Rattle.qc_msg.specs.Vocabulary.{quiet, site_called, telling, without_call}
+use Rattle.qc_plan.specs.Vocabulary.{note, verdict}
 use Rattle.qc_view.specs.declared.view.View.{View}
-use Rattle.qc_view.specs.Names.{with_log}
+use Rattle.qc_view.specs.Vocabulary.{with_log}
 use Rattle.qc_front.specs.declared.doing.Doing.{Doing}
 use Rattle.qc_front.specs.declared.doing.Doing.TheVariants.{Idle, Reading, Appending}
 use Rattle.qc_front.specs.declared.front.Front.{Front}
 use Rattle.qc_front.specs.declared.transaction.Transaction.{Transaction}
-use Rattle.qc_front.specs.Names.{aborts, appended_with, appending_takes, begins, called, commits, doomed, gives_up}
-use Rattle.qc_front.specs.Names.{learns, lived, moved, performs, read_with, reading_takes, reads, round_for}
-use Rattle.qc_front.specs.Names.{standing_of, takes, takes_in}
+use Rattle.qc_front.specs.Vocabulary.{aborts, appended_with, appending_takes, begins, called, commits, doomed, gives_up}
+use Rattle.qc_front.specs.Vocabulary.{learns, lived, moved, performs, read_with, reading_takes, reads, round_for}
+use Rattle.qc_front.specs.Vocabulary.{standing_of, takes, takes_in}
 use Rattle.qc_front.proofs.CommandsKeep.{view_keeps}
 use Rattle.qc_front.proofs.Keeping.{appended_is}
-use Rattle.laws_turns.specs.Names.{begun_in}
+use Rattle.laws_turns.specs.Vocabulary.{begun_in}
 use Rattle.laws_turns.proofs.DealingParts.{IsAbort, begun_tx}
 use Rattle.laws_turns.proofs.FrontGoesOn.{ToldNeutral, IsRequestFor, name_in, HasSameCounts, FrontKind, append_by-kind}
 use Rattle.laws_turns.proofs.FrontGoesOn.{read_by-kind}

@@ -1,5 +1,5 @@
 -- What a front end becomes and sends stays within a bound that what it takes keeps to, and one more where it begins.
-use Rattle.std.proofs.Common.{◌≡◌, ℕ, ◌+◌, ◌≤◌, length, Option, Some, None, refl, sym, subst, arith}
+use Rattle.std.proofs.Common.{[], ◌≡◌, ℕ, ◌+◌, ◌≤◌, length, Option, Some, None, refl, sym, subst, arith}
 use Rattle.std.specs.Prelude.{slice_get}
 use Rattle.std.specs.Option.{option_map_or}
 use Rattle.qc_list.proofs.Members.{every-from_In}
@@ -11,16 +11,16 @@ use Rattle.qc_msg.specs.declared.message.Want.{Want}
 use Rattle.qc_msg.specs.declared.step.Command.{Command}
 use Rattle.qc_msg.specs.declared.step.Command.TheVariants as commands
 use Rattle.qc_msg.specs.declared.turn.Posting.{Posting}
-use Rattle.qc_plan.specs.Names.{verdict}
+use Rattle.qc_plan.specs.Vocabulary.{verdict}
 use Rattle.qc_view.specs.declared.view.View.{View}
 use Rattle.qc_front.specs.declared.doing.Doing.{Doing}
 use Rattle.qc_front.specs.declared.doing.Doing.TheVariants.{Idle, Reading, Appending}
 use Rattle.qc_front.specs.declared.front.Front.{Front}
 use Rattle.qc_front.specs.declared.transaction.Transaction.{Transaction}
-use Rattle.qc_front.specs.Names.{AreSent, FrontMove, IsFor, IsSent, begins, called, ended, takes, view_log}
+use Rattle.qc_front.specs.Vocabulary.{AreSent, FrontMove, IsFor, IsSent, begins, called, ended, takes, view_log}
 use Rattle.qc_front.proofs.Sending.{called_sent, takes_sent}
-use Rattle.laws_turns.specs.Names.{FrontWithin, LinesWithin, MessageWithin, OutcomeWithin, SendsWithin}
-use Rattle.laws_turns.specs.Names.{TransactionWithin, ViewsWithin, WantWithin}
+use Rattle.laws_turns.specs.Vocabulary.{FrontWithin, LinesWithin, MessageWithin, OutcomeWithin, SendsWithin}
+use Rattle.laws_turns.specs.Vocabulary.{TransactionWithin, ViewsWithin, WantWithin}
 use Rattle.laws_turns.proofs.DesksWithin.{CameWithin}
 use Rattle.laws_turns.proofs.FrontBounds.{front-le, no_lines, old-within, granted-clock, takes_in-within}
 

@@ -13,8 +13,8 @@ use Rattle.qc_msg.specs.declared.message.Outcome.TheVariants.{Aborted, Active, C
 use Rattle.qc_msg.specs.declared.message.Want.{Want}
 use Rattle.qc_msg.specs.declared.message.Want.TheVariants.{Append, Prepare, Read}
 use Rattle.qc_msg.specs.declared.turn.Posting.{Posting}
-use Rattle.laws_turns.specs.Names.{AnswerWithin, LinesWithin, MailWithin, MessageWithin, OutcomeWithin, PromisesWithin}
-use Rattle.laws_turns.specs.Names.{SendsWithin, WantWithin}
+use Rattle.laws_turns.specs.Vocabulary.{AnswerWithin, LinesWithin, MailWithin, MessageWithin, OutcomeWithin}
+use Rattle.laws_turns.specs.Vocabulary.{PromisesWithin, SendsWithin, WantWithin}
 
 module _ (low high : ℕ) (le : low ≤ high) where
   pub lines-le : (lines : List Line) → LinesWithin low lines → LinesWithin high lines

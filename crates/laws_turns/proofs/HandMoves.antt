@@ -9,12 +9,12 @@ use Rattle.qc_msg.specs.declared.begun.Begun.{Begun}
 use Rattle.qc_msg.specs.declared.message.Answer.{Answer}
 use Rattle.qc_msg.specs.declared.reply.AbortCause.{AbortCause}
 use Rattle.qc_msg.specs.declared.turn.Posting.{Posting}
-use Rattle.qc_msg.specs.Names.{quiet, sending, site_called, without_call}
+use Rattle.qc_msg.specs.Vocabulary.{quiet, sending, site_called, without_call}
 use Rattle.qc_commit.specs.declared.desk.Desk.{Desk}
 use Rattle.qc_commit.specs.declared.desk.Voting.{Voting}
 use Rattle.qc_commit.specs.Conduct as desks
-use Rattle.qc_commit.specs.Names.{DeskMove, abort_turn, are_cast, blank, cast, commit_of, commit_turn, first_against}
-use Rattle.qc_commit.specs.Names.{moved as desk_moved, participants, prepares, vote_of}
+use Rattle.qc_commit.specs.Vocabulary.{DeskMove, abort_turn, are_cast, blank, cast, commit_of, commit_turn}
+use Rattle.qc_commit.specs.Vocabulary.{first_against, moved as desk_moved, participants, prepares, vote_of}
 use Rattle.qc_commit.proofs.Learned.{learned-above, learned-client, learned-commits}
 use Rattle.laws_turns.proofs.FrontGoesOn.{IsRequestFor}
 

@@ -5,18 +5,18 @@ use Rattle.std.proofs.Common.{slice_get, refl, sym, subst}
 use Rattle.std.specs.List.{AllByRecursion as Every}
 use Rattle.std.proofs.lemmas.Bool.{ltb-false, ltb-true}
 use Rattle.qc_core.proofs.ByNumber.{past_no_client, past_no_site}
-use Rattle.qc_core.specs.Names.{Acts, IsLawful}
+use Rattle.qc_core.specs.Vocabulary.{Acts, IsLawful}
 use Rattle.qc_core.specs.Acts as acts
-use Rattle.qc_client.specs.Names.{client_after}
-use Rattle.qc_decl.specs.Names.{actors, administrator, is_client, is_site}
+use Rattle.qc_client.specs.Vocabulary.{client_after}
+use Rattle.qc_decl.specs.Vocabulary.{actors, administrator, is_client, is_site}
 use Rattle.qc_decl.specs.declared.declaration.Declaration.{Declaration}
 use Rattle.qc_list.proofs.Members.{every-append}
 use Rattle.qc_msg.specs.declared.turn.Turn.{Turn}
-use Rattle.qc_msg.specs.Names.{Deed, Entry, Falls, Rises, Sends, Takes, Tells, Writes, deeds}
-use Rattle.qc_script.specs.Names.{Runs}
+use Rattle.qc_msg.specs.Vocabulary.{Deed, Entry, Falls, Rises, Sends, Takes, Tells, Writes, deeds}
+use Rattle.qc_script.specs.Vocabulary.{Runs}
 use Rattle.qc_script.specs.declared.script.Script.{Script}
-use Rattle.qc_site.specs.Names.{site_after}
-use Rattle.laws_turns.specs.Names.{ActsIn}
+use Rattle.qc_site.specs.Vocabulary.{site_after}
+use Rattle.laws_turns.specs.Vocabulary.{ActsIn}
 use Rattle.laws_turns.proofs.Acted.{has_entry, others_do_nothing, run_acts}
 
 abbrev pub IsInput : Deed → Type 0

@@ -5,7 +5,7 @@ use Rattle.std.proofs.Common.{eqb-true}
 use Rattle.std.specs.Prelude.{replicate, slice_set}
 use Rattle.std.proofs.lemmas.Bool.{leb-true, ltb-true}
 use Rattle.std.proofs.lemmas.List.Sums.{fold-append}
-use Rattle.qc_decl.specs.Names.{IsAccepted, actors, controller, is_client, is_site}
+use Rattle.qc_decl.specs.Vocabulary.{IsAccepted, actors, controller, is_client, is_site}
 pub use Rattle.qc_decl.proofs.Clients.{client_no_site, client_within as client_low}
 use Rattle.qc_decl.proofs.Clients.{client_past}
 use Rattle.qc_decl.specs.declared.declaration.Declaration.{Declaration}
@@ -15,22 +15,22 @@ use Rattle.qc_msg.specs.declared.step.Input.{Input}
 use Rattle.qc_msg.specs.declared.step.Input.TheVariants as inputs
 use Rattle.qc_msg.specs.declared.step.Step.{Step}
 use Rattle.qc_msg.specs.declared.turn.Turn.{Turn}
-use Rattle.qc_msg.specs.Names.{Deed, Entry, Takes, deeds, quiet, turn_deeds}
-use Rattle.qc_script.specs.Names.{Runs, phase_of}
+use Rattle.qc_msg.specs.Vocabulary.{Deed, Entry, Takes, deeds, quiet, turn_deeds}
+use Rattle.qc_script.specs.Vocabulary.{Runs, phase_of}
 use Rattle.qc_script.specs.Runs as runs
 use Rattle.qc_script.specs.declared.script.Script.{Script}
 use Rattle.qc_client.specs.declared.client.Client.{Client}
-use Rattle.qc_client.specs.Names.{ClientMove, IsReady, client_after, client_does, client_takes, moved, new_client}
-use Rattle.qc_core.specs.Names.{Acts, IsLawful, MayTake, is_running}
+use Rattle.qc_client.specs.Vocabulary.{ClientMove, IsReady, client_after, client_does, client_takes, moved, new_client}
+use Rattle.qc_core.specs.Vocabulary.{Acts, IsLawful, MayTake, is_running}
 use Rattle.qc_core.specs.Acts as acts
 use Rattle.qc_core.proofs.ActorSent.{known}
 use Rattle.qc_core.proofs.ClientStands.{Stands}
-use Rattle.laws_turns.specs.Names.{ActsIn, written_in}
+use Rattle.laws_turns.specs.Vocabulary.{ActsIn, written_in}
 use Rattle.laws_turns.proofs.Acted.{run_acts}
 use Rattle.laws_turns.proofs.Arrivals.{what_is_ready_was_sent}
 use Rattle.laws_turns.proofs.Numbered.{IsSilent, control_silent, phase_silent}
 use Rattle.laws_turns.proofs.Places.{slice_get-set_other, slice_get-set_same}
-use Rattle.qc_promise.specs.Names.{Dealing, deal, deal_taken, dealing_in, no_dealing}
+use Rattle.qc_promise.specs.Vocabulary.{Dealing, deal, deal_taken, dealing_in, no_dealing}
 use Rattle.laws_turns.proofs.Events.{Events, IsControl}
 use Rattle.laws_turns.proofs.Events as events
 use Rattle.laws_turns.proofs.Bounding.{lawful_turn, turn-posts}

@@ -1,10 +1,10 @@
 -- In each run of an accepted declaration whose script names declared objects, an unanswered request is at its site: a
 -- copy of it is ready there, or it is the site's open input.
-use Rattle.std.proofs.Common.{◌≡◌, ℕ, ◌+◌, ◌==◌, Bool, true, false, if◌then◌else◌, List, ◌∷◌, ◌++◌, Option, Some, None}
-use Rattle.std.proofs.Common.{refl, subst, eq-eqb}
+use Rattle.std.proofs.Common.{[], ◌≡◌, ℕ, ◌+◌, ◌==◌, Bool, true, false, if◌then◌else◌, List, ◌∷◌, ◌++◌, Option, Some}
+use Rattle.std.proofs.Common.{None, refl, subst, eq-eqb}
 use Rattle.std.specs.List.{fold}
 use Rattle.std.proofs.lemmas.List.Sums.{fold-append}
-use Rattle.qc_list.specs.Names.{In}
+use Rattle.qc_list.specs.Vocabulary.{In}
 use Rattle.qc_msg.specs.declared.message.Answer.{Answer}
 use Rattle.qc_msg.specs.declared.message.Message.TheVariants as messages
 use Rattle.qc_msg.specs.declared.record.Record.{Record}
@@ -12,9 +12,9 @@ use Rattle.qc_msg.specs.declared.reply.Reply.{Reply}
 use Rattle.qc_msg.specs.declared.step.Step.TheVariants as steps
 use Rattle.qc_msg.specs.declared.turn.Posting.{Posting}
 use Rattle.qc_msg.specs.declared.turn.Turn.{Turn}
-use Rattle.qc_msg.specs.Names.{Entry, by, posted, sents, told, wrote}
+use Rattle.qc_msg.specs.Vocabulary.{Entry, by, posted, sents, told, wrote}
 use Rattle.qc_script.specs.declared.script.Script.{Script}
-use Rattle.qc_script.specs.Names.{Inbox, empty_inbox, everybody, inbox, inbox_at, reply_told, request_numbers}
+use Rattle.qc_script.specs.Vocabulary.{Inbox, empty_inbox, everybody, inbox, inbox_at, reply_told, request_numbers}
 use Rattle.qc_script.proofs.AllUp.{wrote_up}
 use Rattle.laws_turns.proofs.Answering.{answer_ends, others_fewer}
 

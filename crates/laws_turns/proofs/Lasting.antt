@@ -1,9 +1,9 @@
 -- What a status, once reached, stays; and what was sent and written shows of it.
 use Rattle.std.proofs.Common.{◌≡◌, ◌≢◌, ℕ, ◌⊎◌, inl, inr, Bool, true, false, cond, List, [], ◌∷◌, fold, refl, sym, ap}
 use Rattle.std.proofs.Common.{◌∙◌, subst}
-use Rattle.qc_list.specs.Names.{In}
+use Rattle.qc_list.specs.Vocabulary.{In}
 use Rattle.qc_stamp.specs.declared.stamp.TxId.{TxId}
-use Rattle.qc_stamp.specs.Names.{same_tx}
+use Rattle.qc_stamp.specs.Vocabulary.{same_tx}
 use Rattle.qc_stamp.proofs.Orders.{same_tx_itself}
 use Rattle.qc_msg.specs.declared.message.Message.{Message}
 use Rattle.qc_msg.specs.declared.message.Message.TheVariants as messages
@@ -14,9 +14,10 @@ use Rattle.qc_msg.specs.declared.record.Record.{Record}
 use Rattle.qc_msg.specs.declared.record.Record.TheVariants as records
 use Rattle.qc_msg.specs.declared.reply.Reply.{Reply}
 use Rattle.qc_msg.specs.declared.reply.Reply.TheVariants as replies
-use Rattle.qc_msg.specs.Names.{Deed, Falls, Rises, Sends, Takes, Tells, Writes}
-use Rattle.qc_promise.specs.Names.{AreRightFrom, AreRightKept, Begun, Committed, Dead, IsRight, IsRightKept}
-use Rattle.qc_promise.specs.Names.{IsRightVerdict, Status, Unborn, given_up, status_at, status_risen, status_written}
+use Rattle.qc_msg.specs.Vocabulary.{Deed, Falls, Rises, Sends, Takes, Tells, Writes}
+use Rattle.qc_promise.specs.Vocabulary.{AreRightFrom, AreRightKept, Begun, Committed, Dead, IsRight, IsRightKept}
+use Rattle.qc_promise.specs.Vocabulary.{IsRightVerdict, Status, Unborn, given_up, status_at, status_risen}
+use Rattle.qc_promise.specs.Vocabulary.{status_written}
 
 -- a transaction that was begun is never unborn again
 

@@ -3,17 +3,17 @@ use Rattle.std.proofs.Common.{◌≡◌, ℕ, zero, suc, ◌+◌, ◌<◌, ◌�
 use Rattle.std.proofs.Common.{length, Some, None, slice_get, refl, sym, ap, ◌∙◌, subst, arith, eqb-true, length-append}
 use Rattle.std.proofs.Common.{append_assoc, zero-le}
 use Rattle.std.proofs.lemmas.List.{append-nil}
-use Rattle.qc_core.specs.Names.{IsLawfulWithFalls, Lives, MayReach, is_up}
+use Rattle.qc_core.specs.Vocabulary.{IsLawfulWithFalls, Lives, MayReach, is_up}
 use Rattle.qc_core.specs.Lives as lives
 use Rattle.qc_decl.specs.declared.declaration.Declaration.{Declaration}
-use Rattle.qc_decl.specs.Names.{actors, controller}
-use Rattle.qc_inbox.specs.Names.{IsCommand, is_down}
-use Rattle.qc_inbox.proofs.FallLaws.{crashes_up, down_commanded, lines_close, restarts_down, up_by_deeds}
-use Rattle.qc_inbox.proofs.FallMail.{ready_sent}
+use Rattle.qc_decl.specs.Vocabulary.{actors, controller}
+use Rattle.qc_mailbox.specs.Vocabulary.{IsCommand, is_down}
+use Rattle.qc_mailbox.proofs.FallLaws.{crashes_up, down_commanded, lines_close, restarts_down, up_by_deeds}
+use Rattle.qc_mailbox.proofs.FallMail.{ready_sent}
 use Rattle.laws_turns.proofs.Acted.{deeds-silent, open_elsewhere, open_here}
 use Rattle.laws_turns.proofs.Numbered.{IsSilent, phase_silent}
 use Rattle.laws_turns.proofs.Places.{length-replicate, length-slice_set, replicate_at}
-use Rattle.qc_link.specs.Names.{most_actors}
+use Rattle.qc_link.specs.Vocabulary.{most_actors}
 use Rattle.qc_msg.specs.declared.record.Record.{Record}
 use Rattle.qc_msg.specs.declared.step.Control.{Control}
 use Rattle.qc_msg.specs.declared.step.Control.TheVariants as controls
@@ -24,16 +24,16 @@ use Rattle.qc_msg.specs.declared.step.Input.TheVariants as inputs
 use Rattle.qc_msg.specs.declared.step.Step.{Step}
 use Rattle.qc_msg.specs.declared.step.Step.TheVariants as steps
 use Rattle.qc_msg.specs.declared.turn.Turn.{Turn}
-use Rattle.qc_msg.specs.Names.{Deed, Entry, Falls, Rises, WasSentTo, by, deeds, deeds_as, fell, mail, marked, posted_as}
-use Rattle.qc_msg.specs.Names.{sends_as, step_of}
+use Rattle.qc_msg.specs.Vocabulary.{Deed, Entry, Falls, Rises, WasSentTo, by, deeds, deeds_as, fell, mail, marked}
+use Rattle.qc_msg.specs.Vocabulary.{posted_as, sends_as, step_of}
 use Rattle.qc_msg.proofs.GrownMail.{length-envelopes, mail-append, mail-taken}
 use Rattle.qc_msg.proofs.DeedsGrow.{deeds-append, deeds-fell, deeds-other, deeds-rose}
 use Rattle.qc_msg.proofs.Growth.{deeds-posted_as, deeds-taken, mail-posted_as}
-use Rattle.qc_script.specs.Names.{RunsWithFalls, begins, control, controller_step, controls_left, damaged, falls, inbox}
-use Rattle.qc_script.specs.Names.{phase, phase_of, posts, ready, rises, takes, unopened}
+use Rattle.qc_script.specs.Vocabulary.{RunsWithFalls, begins, control, controller_step, controls_left, damaged, falls}
+use Rattle.qc_script.specs.Vocabulary.{inbox, phase, phase_of, posts, ready, rises, takes, unopened}
 use Rattle.qc_script.specs.Inbox as boxes
 use Rattle.qc_script.specs.declared.script.Script.{Script}
-use Rattle.laws_turns.specs.Names.{LivesIn}
+use Rattle.laws_turns.specs.Vocabulary.{LivesIn}
 use Rattle.laws_turns.proofs.Commands.{may_take}
 use Rattle.laws_turns.proofs.Downs.{tells, up_is}
 

@@ -1,11 +1,11 @@
 -- Each event adds to what was sent: each answer among messages goes to who asked for it, from who was asked.
-use Rattle.std.proofs.Common.{◌≡◌, ℕ, zero, suc, ◌+◌, true, List, ◌∷◌, ◌++◌, length, Option, Some, None, inl, inr}
+use Rattle.std.proofs.Common.{[], ◌≡◌, ℕ, zero, suc, ◌+◌, true, List, ◌∷◌, ◌++◌, length, Option, Some, None, inl, inr}
 use Rattle.std.proofs.Common.{option_to_list, slice_get, refl, sym, ap, ◌∙◌, subst, arith, append_assoc, length-append}
 use Rattle.std.specs.List.{AllByRecursion as Every, cons_option}
 use Rattle.std.proofs.lemmas.List.{append-nil}
 use Rattle.qc_decl.specs.declared.declaration.Declaration.{Declaration}
-use Rattle.qc_inbox.specs.Names.{AreNumbered, IsOwnRequest}
-use Rattle.qc_list.specs.Names.{In}
+use Rattle.qc_mailbox.specs.Vocabulary.{AreNumbered, IsOwnRequest}
+use Rattle.qc_list.specs.Vocabulary.{In}
 use Rattle.qc_list.proofs.Members.{every-append, every-at, every-weaker}
 use Rattle.qc_msg.specs.declared.message.Envelope.{Envelope}
 use Rattle.qc_msg.specs.declared.message.Message.{Message}
@@ -19,12 +19,13 @@ use Rattle.qc_msg.specs.declared.turn.Appended.{Appended}
 use Rattle.qc_msg.specs.declared.turn.Appended.TheVariants.{Done, Failed, Stopped}
 use Rattle.qc_msg.specs.declared.turn.Posting.{Posting}
 use Rattle.qc_msg.specs.declared.turn.Turn.{Turn}
-use Rattle.qc_msg.specs.Names.{Answered, Entry, WasSentTo, answer_in, by, envelope_of, envelopes, fell, mail, marked}
-use Rattle.qc_msg.specs.Names.{posted_as, sends_as, sents, step_of, told, wrote}
+use Rattle.qc_msg.specs.Vocabulary.{Answered, Entry, WasSentTo, answer_in, by, envelope_of, envelopes, fell, mail}
+use Rattle.qc_msg.specs.Vocabulary.{marked, posted_as, sends_as, sents, step_of, told, wrote}
 use Rattle.qc_msg.proofs.GrownMail.{mail-append, mail-taken}
 use Rattle.qc_msg.proofs.Growth.{mail-posted_as}
-use Rattle.qc_promise.specs.Names.{IsAnswerOf, IsMailStep, IsMailed, IsReceived, IsRequestOf, IsRequestTo, asks_answer}
-use Rattle.qc_script.specs.Names.{is_request}
+use Rattle.qc_promise.specs.Vocabulary.{IsAnswerOf, IsMailStep, IsMailed, IsReceived, IsRequestOf, IsRequestTo}
+use Rattle.qc_promise.specs.Vocabulary.{asks_answer}
+use Rattle.qc_script.specs.Vocabulary.{is_request}
 use Rattle.laws_turns.proofs.Commanded.{CallsAt, IsCalled, IsOwnCall, input_called, post_called}
 use Rattle.laws_turns.proofs.Places.{slice_get-more}
 

@@ -7,7 +7,7 @@ use Rattle.std.proofs.lemmas.List.Sums.{fold-append}
 use Rattle.qc_list.proofs.Members.{every-append, every-at, every-weaker}
 use Rattle.qc_stamp.specs.declared.stamp.TxId.{TxId}
 use Rattle.qc_stamp.proofs.Orders.{same_tx_is}
-use Rattle.qc_decl.specs.Names.{client_actor, is_client, is_site}
+use Rattle.qc_decl.specs.Vocabulary.{client_actor, is_client, is_site}
 use Rattle.qc_decl.specs.declared.declaration.Declaration.{Declaration}
 use Rattle.qc_entry.specs.declared.record.Prepared.{Prepared}
 use Rattle.qc_lock.specs.declared.held.Held.{Held}
@@ -19,13 +19,13 @@ use Rattle.qc_msg.specs.declared.step.Input.TheVariants as inputs
 use Rattle.qc_msg.specs.declared.step.Step.{Step}
 use Rattle.qc_msg.specs.declared.turn.Posting.{Posting}
 use Rattle.qc_msg.specs.declared.turn.Turn.{Turn}
-use Rattle.qc_msg.specs.Names.{Deed, Entry, Takes, WasSentTo, by, deeds, envelopes, mail, marked, posted, quiet}
-use Rattle.qc_msg.specs.Names.{step_of, turn_deeds}
+use Rattle.qc_msg.specs.Vocabulary.{Deed, Entry, Takes, WasSentTo, by, deeds, envelopes, mail, marked, posted, quiet}
+use Rattle.qc_msg.specs.Vocabulary.{step_of, turn_deeds}
 use Rattle.qc_msg.proofs.GrownMail.{mail-append, mail-posted, mail-taken}
 use Rattle.qc_msg.proofs.DeedsGrow.{deeds-append, deeds-other}
 use Rattle.qc_msg.proofs.Growth.{deeds-posted, deeds-taken}
-use Rattle.qc_site.specs.Names.{SiteMove, moved as site_moved, new_site, site_after, site_does, site_takes}
-use Rattle.qc_promise.specs.Names.{Status, Unborn, status, status_at}
+use Rattle.qc_site.specs.Vocabulary.{SiteMove, moved as site_moved, new_site, site_after, site_does, site_takes}
+use Rattle.qc_promise.specs.Vocabulary.{Status, Unborn, status, status_at}
 use Rattle.laws_turns.proofs.Bounding.{control-deeds, control-mail, site_posts, turn-posts}
 use Rattle.laws_turns.proofs.Events.{IsControl}
 use Rattle.laws_turns.proofs.Lasting.{born_on}

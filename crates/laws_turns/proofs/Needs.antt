@@ -1,25 +1,25 @@
 -- What the calls of a client ask of clocks and counts, from the bounds of a history.
 use Rattle.std.proofs.Common.{◌≡◌, ℕ, ◌+◌, ◌-◌, ◌^◌, ◌<◌, ◌≤◌, Bool, true, false, List, [], length, Some, slice_get}
 use Rattle.std.proofs.Common.{arith}
-use Rattle.qc_list.specs.Names.{In}
+use Rattle.qc_list.specs.Vocabulary.{In}
 use Rattle.qc_list.proofs.Members.{every-In}
-use Rattle.qc_decl.specs.Names.{IsAccepted, is_client, most_steps}
+use Rattle.qc_decl.specs.Vocabulary.{IsAccepted, is_client, most_steps}
 use Rattle.qc_decl.specs.declared.declaration.Declaration.{Declaration}
-use Rattle.qc_client.specs.Names.{ClientFits, client_after, promise_in}
+use Rattle.qc_client.specs.Vocabulary.{ClientFits, client_after, promise_in}
 use Rattle.qc_msg.specs.declared.message.Envelope.{Envelope}
 use Rattle.qc_msg.specs.declared.message.Message.{Message}
 use Rattle.qc_msg.specs.declared.message.Message.TheVariants as messages
 use Rattle.qc_msg.specs.declared.turn.Turn.{Turn}
-use Rattle.qc_msg.specs.Names.{Deed, Entry, deeds, mail}
+use Rattle.qc_msg.specs.Vocabulary.{Deed, Entry, deeds, mail}
 use Rattle.qc_msg.proofs.GrownMail.{length-mail}
 use Rattle.qc_front.proofs.Fitting.{fits}
-use Rattle.qc_script.specs.Names.{Runs}
+use Rattle.qc_script.specs.Vocabulary.{Runs}
 use Rattle.qc_script.specs.declared.script.Script.{Script}
-use Rattle.qc_site.specs.Names.{site_after}
-use Rattle.qc_core.specs.Names.{Acts, IsLawful, is_running}
+use Rattle.qc_site.specs.Vocabulary.{site_after}
+use Rattle.qc_core.specs.Vocabulary.{Acts, IsLawful, is_running}
 use Rattle.qc_core.proofs.ActorSent.{known}
 use Rattle.qc_core.proofs.ClientStands.{Stands}
-use Rattle.laws_turns.specs.Names.{ActsIn, ClockBounds, IsBounded, MessageWithin}
+use Rattle.laws_turns.specs.Vocabulary.{ActsIn, ClockBounds, IsBounded, MessageWithin}
 use Rattle.laws_turns.proofs.Acted.{run_acts}
 use Rattle.laws_turns.proofs.Events.{Events}
 use Rattle.laws_turns.proofs.Bounding.{all_bounded, lawful_turn}

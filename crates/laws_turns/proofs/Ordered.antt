@@ -3,13 +3,13 @@
 use Rattle.std.proofs.Common.{◌≡◌, ℕ, ◌+◌, nat_lt, Bool, true, false, List, [], length, Some, slice_get, refl, sym}
 use Rattle.std.proofs.Common.{subst}
 use Rattle.std.proofs.lemmas.Bool.{ltb-false, ltb-true}
-use Rattle.qc_core.specs.Names.{IsLawful, is_running}
+use Rattle.qc_core.specs.Vocabulary.{IsLawful, is_running}
 use Rattle.qc_decl.specs.declared.declaration.Declaration.{Declaration}
-use Rattle.qc_decl.specs.Names.{actors}
-use Rattle.qc_msg.specs.Names.{Deed, Entry, deeds}
-use Rattle.qc_script.specs.Names.{Runs}
+use Rattle.qc_decl.specs.Vocabulary.{actors}
+use Rattle.qc_msg.specs.Vocabulary.{Deed, Entry, deeds}
+use Rattle.qc_script.specs.Vocabulary.{Runs}
 use Rattle.qc_script.specs.declared.script.Script.{Script}
-use Rattle.laws_turns.specs.Names.{ActsIn, AreInOrder, calls_of, replies_of}
+use Rattle.laws_turns.specs.Vocabulary.{ActsIn, AreInOrder, calls_of, replies_of}
 use Rattle.laws_turns.proofs.Acted.{has_entry, others_do_nothing, run_acts}
 use Rattle.laws_turns.proofs.Replying.{acts_ordered, all_counted, open_commands}
 use Rattle.laws_turns.proofs.Up.{run_up}

@@ -3,12 +3,12 @@ use Rattle.std.proofs.Common.{◌≡◌, ℕ, ◌<◌, ◌≤◌, ◌==◌, ◌+
 use Rattle.std.proofs.Common.{◌∷◌, ◌++◌, length, Some, None, slice_get, refl, sym, subst, arith, eqb-true, ltb-true}
 use Rattle.std.specs.List.{AllByRecursion as Every}
 use Rattle.std.proofs.lemmas.Bool.{and_parts}
-use Rattle.qc_core.specs.Names.{IsLawfulWithFalls, actor_after, with_record}
-use Rattle.qc_decl.specs.Names.{actors, administrator, controller, is_administrator, is_client, is_site}
+use Rattle.qc_core.specs.Vocabulary.{IsLawfulWithFalls, actor_after, with_record}
+use Rattle.qc_decl.specs.Vocabulary.{actors, administrator, controller, is_administrator, is_client, is_site}
 use Rattle.qc_decl.specs.declared.declaration.Declaration.{Declaration}
 use Rattle.laws_turns.proofs.Acted.{deeds-silent}
 use Rattle.laws_turns.proofs.Numbered.{phase_silent}
-use Rattle.qc_link.specs.Names.{most_actors}
+use Rattle.qc_link.specs.Vocabulary.{most_actors}
 use Rattle.qc_list.proofs.Members.{every-append}
 use Rattle.qc_msg.specs.declared.record.Record.{Record}
 use Rattle.qc_msg.specs.declared.step.Fall.{Fall}
@@ -16,12 +16,12 @@ use Rattle.qc_msg.specs.declared.step.Fall.TheVariants as causes
 use Rattle.qc_msg.specs.declared.step.Step.{Step}
 use Rattle.qc_msg.specs.declared.step.Step.TheVariants as steps
 use Rattle.qc_msg.specs.declared.turn.Turn.{Turn}
-use Rattle.qc_msg.specs.Names.{Deed, Entry, Falls, by, deeds, mail, marked, posted_as, step_of}
+use Rattle.qc_msg.specs.Vocabulary.{Deed, Entry, Falls, by, deeds, mail, marked, posted_as, step_of}
 use Rattle.qc_msg.proofs.DeedsGrow.{deeds-other}
-use Rattle.qc_script.specs.Names.{RunsWithFalls, begins, control, damaged, falls, phase, phase_of, posts, rises, takes}
-use Rattle.qc_script.specs.Names.{unopened}
+use Rattle.qc_script.specs.Vocabulary.{RunsWithFalls, begins, control, damaged, falls, phase, phase_of, posts, rises}
+use Rattle.qc_script.specs.Vocabulary.{takes, unopened}
 use Rattle.qc_script.specs.declared.script.Script.{Script}
-use Rattle.laws_turns.specs.Names.{IsFall}
+use Rattle.laws_turns.specs.Vocabulary.{IsFall}
 use Rattle.laws_turns.proofs.Lived.{damage_silent, deeds-fall, line_silent, place_within, run_long}
 
 abbrev OnlyFalls : ℕ → List Entry → Type 0

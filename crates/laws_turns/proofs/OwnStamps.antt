@@ -1,5 +1,5 @@
 -- A client's Decisions Committed name stamps of its own: it tells of its own transactions alone, by its own records.
-use Rattle.std.proofs.Common.{◌≡◌, ℕ, List, ◌∷◌, Option, Some, None, refl, ap, ◌∙◌, subst}
+use Rattle.std.proofs.Common.{[], ◌≡◌, ℕ, List, ◌∷◌, Option, Some, None, refl, ap, ◌∙◌, subst}
 use Rattle.std.specs.List.{fold}
 use Rattle.qc_decl.specs.declared.declaration.Declaration.{Declaration}
 use Rattle.qc_stamp.specs.declared.stamp.TxId.{TxId}
@@ -14,15 +14,16 @@ use Rattle.qc_msg.specs.declared.step.Command.{Command}
 use Rattle.qc_msg.specs.declared.step.Command.TheVariants as commands
 use Rattle.qc_msg.specs.declared.step.Input.{Input}
 use Rattle.qc_msg.specs.declared.step.Input.TheVariants as inputs
-use Rattle.qc_msg.specs.Names.{Deed, Falls, Rises, Sends, Takes, Tells, Writes, quiet}
+use Rattle.qc_msg.specs.Vocabulary.{Deed, Falls, Rises, Sends, Takes, Tells, Writes, quiet}
 use Rattle.qc_commit.specs.declared.desk.Voting.{Voting}
 use Rattle.qc_commit.specs.Conduct as desks
 use Rattle.qc_commit.proofs.Moves.{prepare-moves, tx_of, vote-moves}
 use Rattle.qc_front.specs.declared.transaction.Transaction.{Transaction}
 use Rattle.qc_front.specs.Conduct as fronts
 use Rattle.qc_client.specs.declared.client.Client.{Client}
-use Rattle.qc_client.specs.Names.{ClientMove, answered, answered_by, by_desk, by_front, called, client_after}
-use Rattle.qc_client.specs.Names.{client_does, client_takes, commits, heard, moved, new_client, requested, sent_one}
+use Rattle.qc_client.specs.Vocabulary.{ClientMove, answered, answered_by, by_desk, by_front, called, client_after}
+use Rattle.qc_client.specs.Vocabulary.{client_does, client_takes, commits, heard, moved, new_client, requested}
+use Rattle.qc_client.specs.Vocabulary.{sent_one}
 use Rattle.laws_turns.proofs.OwnFronts.{IsOwnTransaction}
 use Rattle.laws_turns.proofs.StampsOwn.{AreStamped, unwritten, Own, OwnMove, by_two, front_called, front_takes}
 use Rattle.laws_turns.proofs.StampsOwn.{desk_own, outcome_own}

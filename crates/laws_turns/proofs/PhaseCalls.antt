@@ -1,11 +1,11 @@
 -- What a phase asks of an actor, and what is left of it, step by step.
-use Rattle.std.proofs.Common.{◌≡◌, ℕ, ◌+◌, ◌-◌, ◌==◌, ◌&&◌, Bool, true, false, if◌then◌else◌, List, ◌∷◌, ◌++◌, drop}
+use Rattle.std.proofs.Common.{[], ◌≡◌, ℕ, ◌+◌, ◌-◌, ◌==◌, ◌&&◌, Bool, true, false, if◌then◌else◌, List, ◌∷◌, ◌++◌, drop}
 use Rattle.std.proofs.Common.{Option, Some, None, refl, sym, ap, ◌∙◌, subst}
 use Rattle.std.specs.List.{filter_map, fold}
 use Rattle.std.specs.Option.{option_map_or}
 use Rattle.std.proofs.lemmas.List.{append-nil}
 use Rattle.std.proofs.lemmas.List.Sums.{fold-append}
-use Rattle.qc_link.specs.Names.{fate, with_cut, without_cut}
+use Rattle.qc_link.specs.Vocabulary.{fate, with_cut, without_cut}
 use Rattle.qc_link.specs.declared.rule.Fate.{Fate}
 use Rattle.qc_msg.specs.declared.message.Envelope.{Envelope}
 use Rattle.qc_msg.specs.declared.message.Message.{Message}
@@ -21,16 +21,16 @@ use Rattle.qc_msg.specs.declared.step.Step.{Step}
 use Rattle.qc_msg.specs.declared.step.Step.TheVariants as steps
 use Rattle.qc_msg.specs.declared.turn.Posting.{Posting}
 use Rattle.qc_msg.specs.declared.turn.Turn.{Turn}
-use Rattle.qc_msg.specs.Names.{Entry, by, marked, posted, sends_of, sents, step_of, tells_of, told, turn_deeds}
-use Rattle.qc_msg.specs.Names.{writes_of, wrote}
+use Rattle.qc_msg.specs.Vocabulary.{Entry, by, marked, posted, sends_of, sents, step_of, tells_of, told, turn_deeds}
+use Rattle.qc_msg.specs.Vocabulary.{writes_of, wrote}
 use Rattle.qc_script.specs.declared.script.PhaseLines.{PhaseLines}
 use Rattle.qc_script.specs.declared.script.Script.{Script}
 use Rattle.std.specs.Prelude.{set}
-use Rattle.qc_script.specs.Names.{Inbox, acting, answers_by, comes, comes_at_once, commands_for, count_of, empty_inbox}
-use Rattle.qc_script.specs.Names.{goes, goes_with, has_request, inbox, inbox_at, is_request, is_up, opened, opened_by}
-use Rattle.qc_script.specs.Names.{phase_at, phase_begun, phase_of, reply_told, step_of_control, with_copies}
-use Rattle.qc_script.specs.Names.{wrote_record}
-use Rattle.laws_turns.specs.Names.{call_in}
+use Rattle.qc_script.specs.Vocabulary.{Inbox, acting, answers_by, comes, comes_at_once, commands_for, count_of}
+use Rattle.qc_script.specs.Vocabulary.{empty_inbox, goes, goes_with, has_request, inbox, inbox_at, is_request, is_up}
+use Rattle.qc_script.specs.Vocabulary.{opened, opened_by, phase_at, phase_begun, phase_of, reply_told, step_of_control}
+use Rattle.qc_script.specs.Vocabulary.{with_copies, wrote_record}
+use Rattle.laws_turns.specs.Vocabulary.{call_in}
 
 -- the commands that are left, step by step
 

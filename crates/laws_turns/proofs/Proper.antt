@@ -1,11 +1,11 @@
 -- In each run of an accepted declaration whose script names declared objects, each request goes from a client to a site,
 -- and names what is declared.
-use Rattle.std.proofs.Common.{◌≡◌, ℕ, ◌+◌, ◌-◌, ◌<◌, ◌≤◌, Bool, true, false, if◌then◌else◌, List, ◌∷◌, ◌++◌, length}
+use Rattle.std.proofs.Common.{[], ◌≡◌, ℕ, ◌+◌, ◌-◌, ◌<◌, ◌≤◌, Bool, true, false, if◌then◌else◌, List, ◌∷◌, ◌++◌, length}
 use Rattle.std.proofs.Common.{Some, None, refl, sym, ap, ◌∙◌, subst, arith}
 use Rattle.std.specs.List.{AllByRecursion as Every}
-use Rattle.qc_core.specs.Names.{IsLawful}
+use Rattle.qc_core.specs.Vocabulary.{IsLawful}
 use Rattle.qc_decl.specs.declared.declaration.Declaration.{Declaration}
-use Rattle.qc_decl.specs.Names.{IsAccepted, administrator, controller, is_client, is_site}
+use Rattle.qc_decl.specs.Vocabulary.{IsAccepted, administrator, controller, is_client, is_site}
 use Rattle.qc_decl.proofs.Clients.{client_below, client_past}
 use Rattle.qc_msg.specs.declared.message.Answer.{Answer}
 use Rattle.qc_msg.specs.declared.message.Envelope.{Envelope}
@@ -14,14 +14,14 @@ use Rattle.qc_msg.specs.declared.message.Message.TheVariants as messages
 use Rattle.qc_msg.specs.declared.step.Step.TheVariants as steps
 use Rattle.qc_msg.specs.declared.turn.Posting.{Posting}
 use Rattle.qc_msg.specs.declared.turn.Turn.{Turn}
-use Rattle.qc_msg.specs.Names.{Deed, Entry, by, deeds, envelopes, mail, posted}
+use Rattle.qc_msg.specs.Vocabulary.{Deed, Entry, by, deeds, envelopes, mail, posted}
 use Rattle.qc_msg.proofs.GrownMail.{mail-append, mail-posted, mail-taken}
-use Rattle.qc_client.specs.Names.{client_after}
-use Rattle.qc_script.specs.Names.{Runs, phase_of}
+use Rattle.qc_client.specs.Vocabulary.{client_after}
+use Rattle.qc_script.specs.Vocabulary.{Runs, phase_of}
 use Rattle.qc_script.specs.Runs.{begins, takes, posts, phase, control}
 use Rattle.qc_script.specs.declared.script.Script.{Script}
-use Rattle.qc_site.specs.Names.{site_after}
-use Rattle.laws_turns.specs.Names.{AsksDeclared}
+use Rattle.qc_site.specs.Vocabulary.{site_after}
+use Rattle.laws_turns.specs.Vocabulary.{AsksDeclared}
 use Rattle.laws_turns.proofs.Mailed.{both_all}
 use Rattle.laws_turns.proofs.Numbered.{control_silent, mail-silent, phase_silent}
 use Rattle.laws_turns.proofs.Rounds.{AreProper, IsProper}

@@ -6,12 +6,12 @@ use Rattle.std.specs.Prelude.{slice_set}
 use Rattle.std.specs.List.{AllByRecursion as Every}
 use Rattle.std.proofs.lemmas.Bool.{lt-ltb}
 use Rattle.std.proofs.lemmas.List.Sums.{fold-append}
-use Rattle.qc_list.specs.Names.{In}
+use Rattle.qc_list.specs.Vocabulary.{In}
 use Rattle.qc_list.proofs.Members.{every-In}
-use Rattle.qc_core.specs.Names.{IsLawful}
+use Rattle.qc_core.specs.Vocabulary.{IsLawful}
 use Rattle.qc_decl.specs.declared.declaration.Declaration.{Declaration}
-use Rattle.qc_decl.specs.Names.{IsAccepted, controller}
-use Rattle.qc_link.specs.Names.{most_actors, with_cut, without_cut}
+use Rattle.qc_decl.specs.Vocabulary.{IsAccepted, controller}
+use Rattle.qc_link.specs.Vocabulary.{most_actors, with_cut, without_cut}
 use Rattle.qc_msg.specs.declared.message.Envelope.{Envelope}
 use Rattle.qc_msg.specs.declared.message.Message.{Message}
 use Rattle.qc_msg.specs.declared.message.Message.TheVariants as messages
@@ -22,17 +22,18 @@ use Rattle.qc_msg.specs.declared.step.Input.TheVariants as inputs
 use Rattle.qc_msg.specs.declared.step.Step.{Step}
 use Rattle.qc_msg.specs.declared.step.Step.TheVariants as steps
 use Rattle.qc_msg.specs.declared.turn.Turn.{Turn}
-use Rattle.qc_msg.specs.Names.{Deed, Entry, Takes, by, deeds, envelopes, mail, marked, posted, quiet, step_of}
+use Rattle.qc_msg.specs.Vocabulary.{Deed, Entry, Takes, by, deeds, envelopes, mail, marked, posted, quiet, step_of}
 use Rattle.qc_msg.proofs.GrownMail.{mail-append, mail-posted, mail-taken}
 use Rattle.qc_msg.proofs.DeedsGrow.{deeds-other}
 use Rattle.qc_msg.proofs.Growth.{deeds-taken}
 use Rattle.qc_script.specs.declared.script.Script.{Script}
-use Rattle.qc_script.specs.Names.{Inbox, Runs, SentRequest, command_called, copy_taken, empty_inbox, everybody, inbox}
-use Rattle.qc_script.specs.Names.{inbox_at, is_request, loss_taken, phase_of, request_numbers, step_of_control}
+use Rattle.qc_script.specs.Vocabulary.{Inbox, Runs, SentRequest, command_called, copy_taken, empty_inbox, everybody}
+use Rattle.qc_script.specs.Vocabulary.{inbox, inbox_at, is_request, loss_taken, phase_of, request_numbers}
+use Rattle.qc_script.specs.Vocabulary.{step_of_control}
 use Rattle.qc_script.proofs.AllUp.{run_up}
 use Rattle.qc_script.specs.Runs.{begins, takes, posts, phase, control}
-use Rattle.qc_site.specs.Names.{SiteMove, SiteState, moved, new_site, passed, site_after, site_at, site_does}
-use Rattle.laws_turns.specs.Names.{AsksDeclared, IsAtReceiver, IsTaken}
+use Rattle.qc_site.specs.Vocabulary.{SiteMove, SiteState, moved, new_site, passed, site_after, site_at, site_does}
+use Rattle.laws_turns.specs.Vocabulary.{AsksDeclared, IsAtReceiver, IsTaken}
 use Rattle.laws_turns.proofs.Acted.{deeds-silent}
 use Rattle.laws_turns.proofs.Answering.{cuts_copies, cuts_unanswered, phase_copies, phase_unanswered}
 use Rattle.laws_turns.proofs.Arrivals.{what_is_ready_was_sent}
@@ -67,8 +68,7 @@ declared_request decl e (messages.Ask tx) is request p = absurd p
 declared_request decl e (messages.Close epoch) is request p = absurd p
 declared_request decl e (messages.Install epoch clock log) is request p = absurd p
 
-site_turn : (decl : Declaration) (b : ℕ) (before : List Deed) (e : Envelope)
-    → site_after decl b (before ++ Takes (inputs.Got e) ∷ [])
+site_turn : (decl : Declaration) (b : ℕ) (before : List Deed) (e : Envelope) → site_after decl b (before ++ Takes (inputs.Got e) ∷ [])
     ≡ site_at decl (passed (site_after decl b before).site e.message) e.from e.number e.message
 site_turn decl b before e = fold-append (site_does decl) (moved (new_site b) quiet) before (Takes (inputs.Got e) ∷ [])
 

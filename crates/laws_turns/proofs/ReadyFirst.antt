@@ -1,5 +1,5 @@
 -- What is ready is the first of its kind.
-use Rattle.std.proofs.Common.{◌≡◌, ℕ, ◌&&◌, not, Bool, true, false, cond, List, ◌∷◌, drop, Option, Some, None, ap}
+use Rattle.std.proofs.Common.{[], ◌≡◌, ℕ, ◌&&◌, not, Bool, true, false, cond, List, ◌∷◌, drop, Option, Some, None, ap}
 use Rattle.qc_decl.specs.declared.declaration.Declaration.{Declaration}
 use Rattle.qc_msg.specs.declared.message.Envelope.{Envelope}
 use Rattle.qc_msg.specs.declared.step.Command.{Command}
@@ -7,8 +7,8 @@ use Rattle.qc_msg.specs.declared.step.Control.{Control}
 use Rattle.qc_msg.specs.declared.step.Control.TheVariants as controls
 use Rattle.qc_msg.specs.declared.step.Input.{Input}
 use Rattle.qc_msg.specs.declared.step.Input.TheVariants as inputs
-use Rattle.qc_script.specs.Names.{Inbox, after_controls, command_in, first_command, first_copy, first_lost, ready_in}
-use Rattle.qc_script.specs.Names.{takes_commands}
+use Rattle.qc_script.specs.Vocabulary.{Inbox, after_controls, command_in, first_command, first_copy, first_lost}
+use Rattle.qc_script.specs.Vocabulary.{ready_in, takes_commands}
 
 -- what is ready is the first of its kind
 

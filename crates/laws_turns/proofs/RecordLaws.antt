@@ -3,22 +3,22 @@ use Rattle.std.proofs.Common.{◌≡◌, ◌≢◌, ℕ, ◌+◌, ◌-◌, ◌<�
 use Rattle.std.proofs.Common.{◌∙◌, subst, arith}
 use Rattle.std.specs.List.{AllPairs}
 use Rattle.std.proofs.lemmas.Bool.{le-leb, lt-ltb}
-use Rattle.qc_list.specs.Names.{In}
-use Rattle.qc_decl.specs.Names.{IsAccepted, client_actor, is_client}
+use Rattle.qc_list.specs.Vocabulary.{In}
+use Rattle.qc_decl.specs.Vocabulary.{IsAccepted, client_actor, is_client}
 use Rattle.qc_decl.specs.declared.declaration.Declaration.{Declaration}
 use Rattle.qc_stamp.specs.declared.stamp.Stamp.{Stamp}
 use Rattle.qc_stamp.specs.declared.stamp.TxId.{TxId}
 use Rattle.qc_entry.specs.declared.record.Commit.{Commit}
 use Rattle.qc_msg.specs.declared.reply.Reply.{Reply}
 use Rattle.qc_msg.specs.declared.reply.Reply.TheVariants as replies
-use Rattle.qc_msg.specs.Names.{Entry, deeds}
-use Rattle.theory_onecopy.specs.Names.{AreApart, IsOrdered, IsStampedBefore}
+use Rattle.qc_msg.specs.Vocabulary.{Entry, deeds}
+use Rattle.theory_onecopy.specs.Vocabulary.{AreApart, IsOrdered, IsStampedBefore}
 use Rattle.theory_onecopy.proofs.Committed.{records_are_sorted}
-use Rattle.qc_script.specs.Names.{Runs}
+use Rattle.qc_script.specs.Vocabulary.{Runs}
 use Rattle.qc_script.specs.declared.script.Script.{Script}
-use Rattle.qc_core.specs.Names.{IsLawful}
-use Rattle.qc_promise.specs.Names.{AreDealt, AreTold, HasCommit, committed, endings, records}
-use Rattle.laws_turns.specs.Names.{written_in}
+use Rattle.qc_core.specs.Vocabulary.{IsLawful}
+use Rattle.qc_promise.specs.Vocabulary.{AreDealt, AreTold, HasCommit, committed, endings, records}
+use Rattle.laws_turns.specs.Vocabulary.{written_in}
 use Rattle.laws_turns.proofs.DealingParts.{HasRecord, IsAbort}
 use Rattle.laws_turns.proofs.InRuns.{IsKept, client_number, run_kept}
 use Rattle.laws_turns.proofs.Up.{run_up}

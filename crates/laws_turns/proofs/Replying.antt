@@ -1,25 +1,26 @@
 -- Each actor calls a command only where none runs, and tells a reply only where one does; so it told one to each command
 -- that it called, but for the one that runs.
-use Rattle.std.proofs.Common.{◌≡◌, ℕ, ◌+◌, ◌-◌, ◌&&◌, not, Bool, true, false, cond, if◌then◌else◌, List, ◌∷◌, ◌++◌}
+use Rattle.std.proofs.Common.{[], ◌≡◌, ℕ, ◌+◌, ◌-◌, ◌&&◌, not, Bool, true, false, cond, if◌then◌else◌, List, ◌∷◌, ◌++◌}
 use Rattle.std.proofs.Common.{length, Option, Some, None, is_some, refl, sym, ap, ◌∙◌, subst, arith, append_assoc}
 use Rattle.std.proofs.Common.{length-append}
 use Rattle.std.specs.List.{filter_map}
 use Rattle.std.proofs.lemmas.List.{append-nil}
 use Rattle.std.proofs.lemmas.List.Elements.{filter_map-append}
-use Rattle.qc_core.specs.Names.{Acts, AreSteady, IsLawful, IsSteady, MayTake, is_running, posts, runs_at, starts, takes}
+use Rattle.qc_core.specs.Vocabulary.{Acts, AreSteady, IsLawful, IsSteady, MayTake, is_running, posts, runs_at, starts}
+use Rattle.qc_core.specs.Vocabulary.{takes}
 use Rattle.qc_decl.specs.declared.declaration.Declaration.{Declaration}
-use Rattle.qc_decl.specs.Names.{is_client, is_site}
+use Rattle.qc_decl.specs.Vocabulary.{is_client, is_site}
 use Rattle.qc_msg.specs.declared.record.Record.{Record}
 use Rattle.qc_msg.specs.declared.reply.Reply.{Reply}
 use Rattle.qc_msg.specs.declared.step.Input.{Input}
 use Rattle.qc_msg.specs.declared.step.Input.TheVariants as inputs
 use Rattle.qc_msg.specs.declared.turn.Posting.{Posting}
 use Rattle.qc_msg.specs.declared.turn.Turn.{Turn}
-use Rattle.qc_msg.specs.Names.{Deed, Falls, Rises, Sends, Takes, Tells, Writes, sends_of, tells_of, turn_deeds}
-use Rattle.qc_msg.specs.Names.{writes_of}
-use Rattle.qc_client.specs.Names.{ClientMove, client_after, client_takes}
-use Rattle.qc_site.specs.Names.{site_after}
-use Rattle.laws_turns.specs.Names.{AreInOrder, IsInOrder, call_in, is_waiting, reply_in}
+use Rattle.qc_msg.specs.Vocabulary.{Deed, Falls, Rises, Sends, Takes, Tells, Writes, sends_of, tells_of, turn_deeds}
+use Rattle.qc_msg.specs.Vocabulary.{writes_of}
+use Rattle.qc_client.specs.Vocabulary.{ClientMove, client_after, client_takes}
+use Rattle.qc_site.specs.Vocabulary.{site_after}
+use Rattle.laws_turns.specs.Vocabulary.{AreInOrder, IsInOrder, call_in, is_waiting, reply_in}
 use Rattle.laws_turns.proofs.Stamped.{site_answering}
 use Rattle.laws_turns.proofs.TurnReplies.{running_more, running_turn, after_taken, after_posted, Replies, given_replies}
 

@@ -2,20 +2,20 @@
 use Rattle.std.proofs.Common.{◌≡◌, ℕ, ◌==◌, not, Bool, true, false, if◌then◌else◌, inl, inr, List, [], ◌∷◌, Option}
 use Rattle.std.proofs.Common.{Some, None, option_map, refl, sym, ap, ◌∙◌, subst, eq-eqb}
 use Rattle.std.specs.List.{find}
-use Rattle.qc_list.specs.Names.{In}
+use Rattle.qc_list.specs.Vocabulary.{In}
 use Rattle.qc_list.proofs.Members.{In-passes, In-unfiltered}
 use Rattle.qc_decl.specs.declared.declaration.Declaration.{Declaration}
-use Rattle.qc_plan.specs.Names.{RoundState, note, verdict}
+use Rattle.qc_plan.specs.Vocabulary.{RoundState, note, verdict}
 use Rattle.qc_msg.specs.declared.call.Call.{Call}
 use Rattle.qc_msg.specs.declared.message.Answer.{Answer}
-use Rattle.qc_msg.specs.Names.{quiet, site_called, without_call}
+use Rattle.qc_msg.specs.Vocabulary.{quiet, site_called, without_call}
 use Rattle.qc_front.specs.declared.doing.Doing.{Doing}
 use Rattle.qc_front.specs.declared.doing.Doing.TheVariants.{Idle, Reading, Appending}
 use Rattle.qc_front.specs.declared.front.Front.{Front}
 use Rattle.qc_front.specs.declared.transaction.Transaction.{Transaction}
 use Rattle.qc_front.specs.Conduct as fronts
-use Rattle.qc_front.specs.Names.{FrontMove, appended_with, calls_in, learns, moved as front_moved, read_with}
-use Rattle.qc_front.specs.Names.{standing_of}
+use Rattle.qc_front.specs.Vocabulary.{FrontMove, appended_with, calls_in, learns, moved as front_moved, read_with}
+use Rattle.qc_front.specs.Vocabulary.{standing_of}
 use Rattle.laws_turns.proofs.FrontAsks.{Asks, IsBound, append_asks, read_asks}
 
 -- an answer, or that a request is lost: the request isn't open any more

@@ -1,9 +1,9 @@
 -- A client's turn: its deeds are right for each transaction, and leave its status so.
-use Rattle.std.proofs.Common.{◌≡◌, ℕ, ◌+◌, ◌⊎◌, inl, inr, Bool, true, false, cond, List, ◌∷◌, ◌++◌, fold, map, Some}
+use Rattle.std.proofs.Common.{[], ◌≡◌, ℕ, ◌+◌, ◌⊎◌, inl, inr, Bool, true, false, cond, List, ◌∷◌, ◌++◌, fold, map, Some}
 use Rattle.std.proofs.Common.{None, refl, sym, ap, ◌∙◌, subst, arith}
 use Rattle.qc_stamp.specs.declared.stamp.Stamp.{Stamp}
 use Rattle.qc_stamp.specs.declared.stamp.TxId.{TxId}
-use Rattle.qc_stamp.specs.Names.{same_tx}
+use Rattle.qc_stamp.specs.Vocabulary.{same_tx}
 use Rattle.qc_stamp.proofs.Orders.{same_tx_is}
 use Rattle.qc_entry.specs.declared.record.Commit.{Commit}
 use Rattle.qc_msg.specs.declared.begun.Begun.{Begun as BegunTransaction}
@@ -15,9 +15,9 @@ use Rattle.qc_msg.specs.declared.reply.Reply.{Reply}
 use Rattle.qc_msg.specs.declared.reply.Reply.TheVariants as replies
 use Rattle.qc_msg.specs.declared.turn.Posting.{Posting}
 use Rattle.qc_msg.specs.declared.turn.Turn.{Turn}
-use Rattle.qc_msg.specs.Names.{Deed, Sends, Tells, sends_of}
-use Rattle.qc_promise.specs.Names.{AreRightFrom, Begun, Committed, Dead, IsRightVerdict, Status, Unborn, given_up}
-use Rattle.qc_promise.specs.Names.{status_at, status_told}
+use Rattle.qc_msg.specs.Vocabulary.{Deed, Sends, Tells, sends_of}
+use Rattle.qc_promise.specs.Vocabulary.{AreRightFrom, Begun, Committed, Dead, IsRightVerdict, Status, Unborn, given_up}
+use Rattle.qc_promise.specs.Vocabulary.{status_at, status_told}
 use Rattle.laws_turns.proofs.DealingParts.{IsAbort}
 use Rattle.laws_turns.proofs.Statuses.{IsStatus, Page, began, commits_one, gave_up}
 use Rattle.laws_turns.proofs.TurnsGoOn.{verdicts_ask, NoInquiries, TurnRight, turn_is}

@@ -6,10 +6,10 @@ use Rattle.std.specs.List.{AllByRecursion as Every}
 use Rattle.std.specs.Option.{option_map_or}
 use Rattle.std.proofs.lemmas.Bool.{lt-ltb}
 use Rattle.qc_decl.specs.declared.declaration.Declaration.{Declaration}
-use Rattle.qc_decl.specs.Names.{IsAccepted, append_need_of, first_site, kind_at, most_transaction_operations, plan_in}
-use Rattle.qc_decl.specs.Names.{read_need_of}
+use Rattle.qc_decl.specs.Vocabulary.{IsAccepted, append_need_of, first_site, kind_at, most_transaction_operations}
+use Rattle.qc_decl.specs.Vocabulary.{plan_in, read_need_of}
 use Rattle.qc_plan.specs.declared.plan.Plan.{Plan}
-use Rattle.qc_plan.specs.Names.{RoundState, cyclic, note, verdict, wanted}
+use Rattle.qc_plan.specs.Vocabulary.{RoundState, cyclic, note, verdict, wanted}
 use Rattle.qc_plan.specs.declared.standing.Verdict.{Verdict}
 use Rattle.qc_plan.specs.declared.standing.Verdict.TheVariants as verdicts
 use Rattle.qc_stamp.specs.declared.stamp.TxId.{TxId}
@@ -27,19 +27,19 @@ use Rattle.qc_msg.specs.declared.reply.AbortCause.TheVariants as causes
 use Rattle.qc_msg.specs.declared.step.Command.{Command}
 use Rattle.qc_msg.specs.declared.step.Command.TheVariants as commands
 use Rattle.qc_msg.specs.declared.turn.Posting.{Posting}
-use Rattle.qc_msg.specs.Names.{decisions, quiet, site_called, telling, without_call}
+use Rattle.qc_msg.specs.Vocabulary.{decisions, quiet, site_called, telling, without_call}
 use Rattle.qc_front.specs.declared.doing.Doing.{Doing}
 use Rattle.qc_front.specs.declared.doing.Doing.TheVariants.{Idle, Reading, Appending}
 use Rattle.qc_front.specs.declared.front.Front.{Front}
 use Rattle.qc_front.specs.declared.transaction.Transaction.{Transaction}
-use Rattle.qc_front.specs.Names.{FrontMove, aborts, answer_of, answered, append_by, append_want, appended_with, begins}
-use Rattle.qc_front.specs.Names.{gives_up, learns, moved as front_moved, performs, read_by, read_want, read_with, reads}
-use Rattle.qc_front.specs.Names.{request_of, round_for, standing_of, weights_of}
+use Rattle.qc_front.specs.Vocabulary.{FrontMove, aborts, answer_of, answered, append_by, append_want, appended_with}
+use Rattle.qc_front.specs.Vocabulary.{begins, gives_up, learns, moved as front_moved, performs, read_by, read_want}
+use Rattle.qc_front.specs.Vocabulary.{read_with, reads, request_of, round_for, standing_of, weights_of}
 use Rattle.qc_front.specs.Conduct as fronts
-use Rattle.qc_site.specs.Names.{names_declared}
+use Rattle.qc_site.specs.Vocabulary.{names_declared}
 use Rattle.laws_turns.proofs.DeclaredSites.{AreSites, asking_rest, sites_cyclic, sites_filter, wanted_sites}
 use Rattle.laws_turns.proofs.OwnFronts.{IsOwnTransaction, OwnFront, appended_name, read_name}
-use Rattle.laws_turns.specs.Names.{IsAskable}
+use Rattle.laws_turns.specs.Vocabulary.{IsAskable}
 
 pub of_either : {A : Type 0} (P : A → Type 0) (t : Bool) (x y : A) → P x → P y → P (if t then x else y)
 of_either P true x y here there = here

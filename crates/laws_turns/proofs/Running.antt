@@ -5,9 +5,9 @@ use Rattle.std.specs.Prelude.{drop, option_to_list, set}
 use Rattle.std.specs.List.{fold}
 use Rattle.std.specs.Option.{option_map_or}
 use Rattle.std.proofs.lemmas.List.Sums.{fold-append}
-use Rattle.qc_core.specs.Names.{AreSteady, IsSteady, MayTake, is_running, runs_at}
+use Rattle.qc_core.specs.Vocabulary.{AreSteady, IsSteady, MayTake, is_running, runs_at}
 use Rattle.qc_decl.specs.declared.declaration.Declaration.{Declaration}
-use Rattle.qc_link.specs.Names.{fate, with_cut, without_cut}
+use Rattle.qc_link.specs.Vocabulary.{fate, with_cut, without_cut}
 use Rattle.qc_link.specs.declared.rule.Fate.{Fate}
 use Rattle.qc_msg.specs.declared.message.Envelope.{Envelope}
 use Rattle.qc_msg.specs.declared.message.Message.{Message}
@@ -18,16 +18,17 @@ use Rattle.qc_msg.specs.declared.step.Input.{Input}
 use Rattle.qc_msg.specs.declared.step.Input.TheVariants as inputs
 use Rattle.qc_msg.specs.declared.step.Step.{Step}
 use Rattle.qc_msg.specs.declared.step.Step.TheVariants as steps
-use Rattle.qc_msg.specs.Names.{Deed, Entry, deed_at, deeds, envelope_of, heard}
+use Rattle.qc_msg.specs.Vocabulary.{Deed, Entry, deed_at, deeds, envelope_of, heard}
 use Rattle.qc_script.specs.declared.script.PhaseLines.{PhaseLines}
 use Rattle.qc_script.specs.declared.script.Script.{Script}
 use Rattle.qc_msg.specs.declared.step.Fall.{Fall}
-use Rattle.qc_script.specs.Names.{Inbox, acting, actor_fell, after_controls, answers_by, comes, comes_at_once}
-use Rattle.qc_script.specs.Names.{command_called, command_in, commands_for, control_acted, copy_taken, count_of}
-use Rattle.qc_script.specs.Names.{emptied, empty_inbox, fell_by, first_command, first_copy, first_lost, goes, goes_with}
-use Rattle.qc_script.specs.Names.{has_request, inbox, inbox_at, is_by_line, is_request, is_up, loss_taken, opened}
-use Rattle.qc_script.specs.Names.{opened_by, phase_begun, ready, ready_in, reply_told, requests_to, requests_to_others}
-use Rattle.qc_script.specs.Names.{takes_commands, with_copies, with_lost, wrote_record}
+use Rattle.qc_script.specs.Vocabulary.{Inbox, acting, actor_fell, after_controls, answers_by, comes, comes_at_once}
+use Rattle.qc_script.specs.Vocabulary.{command_called, command_in, commands_for, control_acted, copy_taken, count_of}
+use Rattle.qc_script.specs.Vocabulary.{emptied, empty_inbox, fell_by, first_command, first_copy, first_lost, goes}
+use Rattle.qc_script.specs.Vocabulary.{goes_with, has_request, inbox, inbox_at, is_by_line, is_request, is_up}
+use Rattle.qc_script.specs.Vocabulary.{loss_taken, opened, opened_by, phase_begun, ready, ready_in, reply_told}
+use Rattle.qc_script.specs.Vocabulary.{requests_to, requests_to_others, takes_commands, with_copies, with_lost}
+use Rattle.qc_script.specs.Vocabulary.{wrote_record}
 use Rattle.laws_turns.proofs.Up.{first_up, rest_up}
 
 busy_if : (t : Bool) (i j : Inbox) (b : Bool) → i.busy ≡ b → j.busy ≡ b → (if t then i else j).busy ≡ b

@@ -3,28 +3,29 @@ use Rattle.std.proofs.Common.{◌≡◌, ◌≢◌, ℕ, ◌+◌, ◌-◌, Bool,
 use Rattle.std.proofs.Common.{inl, inr, refl, sym, ap, ◌∙◌, subst}
 use Rattle.std.specs.List.{AllByRecursion as Every}
 use Rattle.std.specs.Prelude.{slice_set}
-use Rattle.qc_list.specs.Names.{In}
+use Rattle.qc_list.specs.Vocabulary.{In}
 use Rattle.qc_list.proofs.Members.{In-first, In-second, every-In, every-from_In, every-weaker}
 use Rattle.qc_stamp.specs.declared.stamp.TxId.{TxId}
-use Rattle.qc_decl.specs.Names.{IsAccepted, client_actor, controller, is_client, is_site}
+use Rattle.qc_decl.specs.Vocabulary.{IsAccepted, client_actor, controller, is_client, is_site}
 use Rattle.qc_decl.specs.declared.declaration.Declaration.{Declaration}
 use Rattle.qc_msg.specs.declared.message.Message.{Message}
 use Rattle.qc_msg.specs.declared.message.Message.TheVariants as messages
 use Rattle.qc_msg.specs.declared.turn.Posting.{Posting}
 use Rattle.qc_msg.specs.declared.turn.Turn.{Turn}
-use Rattle.qc_msg.specs.Names.{Deed, Entry, Sends, by, deeds, mail, posted, sends_of, tells_of, turn_deeds, writes_of}
+use Rattle.qc_msg.specs.Vocabulary.{Deed, Entry, Sends, by, deeds, mail, posted, sends_of, tells_of, turn_deeds}
+use Rattle.qc_msg.specs.Vocabulary.{writes_of}
 use Rattle.qc_msg.proofs.Growth.{deeds-posted}
-use Rattle.qc_script.specs.Names.{Runs, phase_of}
+use Rattle.qc_script.specs.Vocabulary.{Runs, phase_of}
 use Rattle.qc_script.specs.Runs as runs
 use Rattle.qc_script.specs.declared.script.Script.{Script}
-use Rattle.qc_core.specs.Names.{IsLawful}
-use Rattle.qc_site.specs.Names.{site_after}
-use Rattle.laws_turns.specs.Names.{ActsIn}
+use Rattle.qc_core.specs.Vocabulary.{IsLawful}
+use Rattle.qc_site.specs.Vocabulary.{site_after}
+use Rattle.laws_turns.specs.Vocabulary.{ActsIn}
 use Rattle.laws_turns.proofs.Acted.{run_acts}
 use Rattle.laws_turns.proofs.Arrivals.{what_is_ready_was_sent}
 use Rattle.laws_turns.proofs.Numbered.{control_silent, phase_silent}
 use Rattle.laws_turns.proofs.Places.{slice_get-set_same}
-use Rattle.qc_promise.specs.Names.{Unborn, status}
+use Rattle.qc_promise.specs.Vocabulary.{Unborn, status}
 use Rattle.laws_turns.proofs.Bounding.{lawful_turn}
 use Rattle.laws_turns.proofs.InRuns.{IsResting, client_no_site, client_number, deals_acts, silent_is}
 use Rattle.laws_turns.proofs.Lasting.{request_born}

@@ -4,28 +4,28 @@ use Rattle.std.proofs.Common.{slice_get, refl, sym, ap, ◌∙◌, subst, arith,
 use Rattle.std.specs.List.{AllByRecursion as Every}
 use Rattle.std.proofs.lemmas.Bool.{lt-ltb, ltb-true}
 use Rattle.qc_core.proofs.SiteLaws.{are_due, shows}
-use Rattle.qc_core.specs.Names.{ActorMove, Acts, AreSteady, IsInput, IsLawful, IsLawfulWithFalls, IsShown, Serves}
-use Rattle.qc_core.specs.Names.{actor_after, posts, starts, stays_up, takes}
+use Rattle.qc_core.specs.Vocabulary.{ActorMove, Acts, AreSteady, IsInput, IsLawful, IsLawfulWithFalls, IsShown, Serves}
+use Rattle.qc_core.specs.Vocabulary.{actor_after, posts, starts, stays_up, takes}
 use Rattle.qc_core.proofs.ActorLaws.{at_site}
 use Rattle.qc_core.proofs.LivesLaws.{lawful_still, written}
 use Rattle.qc_core.proofs.Steady.{acts_steady}
 use Rattle.qc_core.specs.declared.actor.Actor.TheVariants.{Site}
 use Rattle.qc_msg.specs.declared.turn.Appended.{Appended}
 use Rattle.qc_msg.specs.declared.turn.Appended.TheVariants.{Done}
-use Rattle.qc_site.specs.Names.{SiteState, site_after}
+use Rattle.qc_site.specs.Vocabulary.{SiteState, site_after}
 use Rattle.qc_core.specs.Sites as serving
 use Rattle.qc_decl.specs.declared.declaration.Declaration.{Declaration}
-use Rattle.qc_decl.specs.Names.{actors, is_client, is_site}
-use Rattle.qc_client.specs.Names.{client_after}
+use Rattle.qc_decl.specs.Vocabulary.{actors, is_client, is_site}
+use Rattle.qc_client.specs.Vocabulary.{client_after}
 use Rattle.qc_msg.specs.declared.step.Input.{Input}
 use Rattle.qc_msg.specs.declared.turn.Turn.{Turn}
-use Rattle.qc_msg.specs.Names.{Deed, Entry, Falls, Rises, Sends, Takes, Tells, Writes, deeds, deeds_as, turn_deeds}
-use Rattle.qc_promise.specs.Names.{AreDue, IsDueAt, IsDueOrOpen, IsPostOf, TurnDue, turn_due}
+use Rattle.qc_msg.specs.Vocabulary.{Deed, Entry, Falls, Rises, Sends, Takes, Tells, Writes, deeds, deeds_as, turn_deeds}
+use Rattle.qc_promise.specs.Vocabulary.{AreDue, IsDueAt, IsDueOrOpen, IsPostOf, TurnDue, turn_due}
 use Rattle.qc_promise.specs.SiteDue.{rising_turn}
 use Rattle.qc_promise.proofs.Posts.{post_less, post_more}
-use Rattle.qc_script.specs.Names.{Runs}
+use Rattle.qc_script.specs.Vocabulary.{Runs}
 use Rattle.qc_script.specs.declared.script.Script.{Script}
-use Rattle.laws_turns.specs.Names.{ActsIn}
+use Rattle.laws_turns.specs.Vocabulary.{ActsIn}
 use Rattle.laws_turns.proofs.Acted.{has_entry, run_acts}
 use Rattle.laws_turns.proofs.Mailed.{AreInputs, IsInputDeed, deeds_inputs, run_stamped}
 

@@ -3,7 +3,7 @@ use Rattle.std.proofs.Common.{ℕ, ◌-◌, ◌≤◌, Bool, true, false, cond, 
 use Rattle.std.proofs.Common.{is_some, sym, subst, arith}
 use Rattle.std.specs.List.{AllByRecursion as Every}
 use Rattle.std.proofs.lemmas.List.Sums.{fold-append}
-use Rattle.qc_decl.specs.Names.{IsAccepted}
+use Rattle.qc_decl.specs.Vocabulary.{IsAccepted}
 use Rattle.qc_decl.specs.declared.declaration.Declaration.{Declaration}
 use Rattle.qc_msg.specs.declared.message.Answer.{Answer}
 use Rattle.qc_msg.specs.declared.message.Message.{Message}
@@ -14,22 +14,22 @@ use Rattle.qc_msg.specs.declared.step.Command.{Command}
 use Rattle.qc_msg.specs.declared.step.Command.TheVariants as commands
 use Rattle.qc_msg.specs.declared.step.Input.{Input}
 use Rattle.qc_msg.specs.declared.step.Input.TheVariants as inputs
-use Rattle.qc_msg.specs.Names.{Deed, Falls, Rises, Sends, Takes, Tells, Writes, quiet, turn_deeds}
+use Rattle.qc_msg.specs.Vocabulary.{Deed, Falls, Rises, Sends, Takes, Tells, Writes, quiet, turn_deeds}
 use Rattle.qc_commit.specs.declared.desk.Voting.{Voting}
 use Rattle.qc_commit.specs.Conduct as desks
-use Rattle.qc_commit.specs.Names.{AsksFew, DeskMove}
+use Rattle.qc_commit.specs.Vocabulary.{AsksFew, DeskMove}
 use Rattle.qc_front.specs.declared.transaction.Transaction.{Transaction}
 use Rattle.qc_front.specs.Conduct as fronts
-use Rattle.qc_front.specs.Names.{FrontHolds, FrontMove, ended}
+use Rattle.qc_front.specs.Vocabulary.{FrontHolds, FrontMove, ended}
 use Rattle.qc_client.specs.declared.client.Client.{Client}
-use Rattle.qc_client.specs.Names.{ClientMove, answered, answered_by, by_desk, by_front, called, client_after}
-use Rattle.qc_client.specs.Names.{client_does, client_takes, commits, heard, moved, new_client, sent_one}
-use Rattle.qc_core.specs.Names.{Acts, posts, starts, takes}
-use Rattle.qc_site.specs.Names.{SiteMove, SiteState, moved as site_moved, new_site, passed, site_after, site_at}
-use Rattle.qc_site.specs.Names.{site_does, site_takes}
+use Rattle.qc_client.specs.Vocabulary.{ClientMove, answered, answered_by, by_desk, by_front, called, client_after}
+use Rattle.qc_client.specs.Vocabulary.{client_does, client_takes, commits, heard, moved, new_client, sent_one}
+use Rattle.qc_core.specs.Vocabulary.{Acts, posts, starts, takes}
+use Rattle.qc_site.specs.Vocabulary.{SiteMove, SiteState, moved as site_moved, new_site, passed, site_after, site_at}
+use Rattle.qc_site.specs.Vocabulary.{site_does, site_takes}
 use Rattle.qc_site.proofs.RequestCases.{append_cases, close_cases, join_cases, prepare_cases, read_cases, request_cases}
 use Rattle.qc_site.proofs.Cases.{install_cases}
-use Rattle.laws_turns.specs.Names.{AskedSites, AsksSites, VotedSites}
+use Rattle.laws_turns.specs.Vocabulary.{AskedSites, AsksSites, VotedSites}
 use Rattle.laws_turns.proofs.AskedMoves.{IsShort, called-short, takes_short}
 use Rattle.laws_turns.proofs.Bounding.{turn-posts}
 use Rattle.laws_turns.proofs.ClientsWithin.{IsPost}

@@ -3,12 +3,12 @@ use Rattle.std.proofs.Common.{◌≡◌, ℕ, ◌+◌, ◌≤◌, nat_le, not, B
 use Rattle.std.proofs.Common.{Some, None, refl, sym, subst}
 use Rattle.std.specs.List.{AllByRecursion as Every, fold}
 use Rattle.qc_decl.specs.declared.declaration.Declaration.{Declaration}
-use Rattle.qc_decl.specs.Names.{most_record_bytes}
+use Rattle.qc_decl.specs.Vocabulary.{most_record_bytes}
 use Rattle.qc_entry.specs.declared.line.Line.{Line}
 use Rattle.qc_entry.specs.declared.line.OwnLine.{OwnLine}
 use Rattle.qc_entry.specs.declared.record.Prepared.{Prepared}
 use Rattle.qc_lock.specs.declared.clash.Clash.{Clash as Conflict}
-use Rattle.qc_lock.specs.Names.{append_clash, is_held, read_clash}
+use Rattle.qc_lock.specs.Vocabulary.{append_clash, is_held, read_clash}
 use Rattle.qc_msg.specs.declared.message.Answer.{Answer}
 use Rattle.qc_msg.specs.declared.message.Answer.TheVariants as answers
 use Rattle.qc_msg.specs.declared.message.Envelope.{Envelope}
@@ -21,13 +21,13 @@ use Rattle.qc_msg.specs.declared.message.Want.TheVariants.{Read, Append, Prepare
 use Rattle.qc_msg.specs.declared.step.Input.{Input}
 use Rattle.qc_msg.specs.declared.step.Input.TheVariants as inputs
 use Rattle.qc_msg.specs.declared.turn.Posting.{Posting}
-use Rattle.qc_msg.specs.Names.{Deed, Falls, Rises, Sends, Takes, Tells, Writes, envelopes, quiet}
+use Rattle.qc_msg.specs.Vocabulary.{Deed, Falls, Rises, Sends, Takes, Tells, Writes, envelopes, quiet}
 use Rattle.qc_stamp.specs.declared.stamp.Stamp.{Stamp}
 use Rattle.qc_stamp.specs.declared.stamp.TxId.{TxId}
-use Rattle.qc_site.specs.Names.{SiteMove, SiteState, answering, appends_by, fault_of, finishes, grants, is_prepared}
-use Rattle.qc_site.specs.Names.{joins, moved, names_declared, new_site, passed, prepare_length, prepared_of, prepares}
-use Rattle.qc_site.specs.Names.{promise_of, promises, reads_by, relation_at, requested, site_after, site_at, site_does}
-use Rattle.qc_site.specs.Names.{site_takes}
+use Rattle.qc_site.specs.Vocabulary.{SiteMove, SiteState, answering, appends_by, fault_of, finishes, grants}
+use Rattle.qc_site.specs.Vocabulary.{is_prepared, joins, moved, names_declared, new_site, passed, prepare_length}
+use Rattle.qc_site.specs.Vocabulary.{prepared_of, prepares, promise_of, promises, reads_by, relation_at, requested}
+use Rattle.qc_site.specs.Vocabulary.{site_after, site_at, site_does, site_takes}
 use Rattle.qc_site.proofs.RequestCases.{close_cases}
 use Rattle.qc_site.proofs.Cases.{install_cases}
 use Rattle.laws_turns.proofs.Rounds.{IsProper}

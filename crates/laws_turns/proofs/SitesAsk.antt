@@ -4,16 +4,16 @@ use Rattle.std.proofs.Common.{refl, sym, subst}
 use Rattle.std.specs.List.{AllByRecursion as Every}
 use Rattle.qc_list.proofs.Members.{every-In, every-filter}
 use Rattle.qc_stamp.specs.declared.stamp.TxId.{TxId}
-use Rattle.qc_stamp.specs.Names.{same_tx}
+use Rattle.qc_stamp.specs.Vocabulary.{same_tx}
 use Rattle.qc_entry.specs.declared.line.OwnLine.{OwnLine}
 use Rattle.qc_entry.specs.declared.line.ReadLock.{ReadLock}
 use Rattle.qc_entry.specs.declared.record.Prepared.{Prepared}
-use Rattle.qc_decl.specs.Names.{client_actor}
+use Rattle.qc_decl.specs.Vocabulary.{client_actor}
 use Rattle.qc_decl.specs.declared.declaration.Declaration.{Declaration}
 use Rattle.qc_lock.specs.declared.clash.Clash.{Clash}
 use Rattle.qc_lock.specs.declared.held.Held.{Held}
-use Rattle.qc_lock.specs.Names.{IsAppendConflict, IsReadConflict, IsSmallest, append_clash, held_of, read_clash}
-use Rattle.qc_lock.specs.Names.{with_entry, with_held, with_locks, with_owns, without_held}
+use Rattle.qc_lock.specs.Vocabulary.{IsAppendConflict, IsReadConflict, IsSmallest, append_clash, held_of, read_clash}
+use Rattle.qc_lock.specs.Vocabulary.{with_entry, with_held, with_locks, with_owns, without_held}
 use Rattle.qc_lock.proofs.Conflicts.{append_smallest, read_smallest}
 use Rattle.qc_msg.specs.declared.message.Answer.{Answer}
 use Rattle.qc_msg.specs.declared.message.Answer.TheVariants as says
@@ -25,9 +25,9 @@ use Rattle.qc_msg.specs.declared.message.Want.TheVariants.{Append, Prepare, Read
 use Rattle.qc_msg.specs.declared.step.Input.{Input}
 use Rattle.qc_msg.specs.declared.step.Input.TheVariants as inputs
 use Rattle.qc_msg.specs.declared.turn.Posting.{Posting}
-use Rattle.qc_msg.specs.Names.{quiet}
-use Rattle.qc_site.specs.Names.{SiteMove, SiteState, answers, clashing, grants, holds, moved, passed, promise_of}
-use Rattle.qc_site.specs.Names.{relation_at, site_at, site_takes, without_prepared}
+use Rattle.qc_msg.specs.Vocabulary.{quiet}
+use Rattle.qc_site.specs.Vocabulary.{SiteMove, SiteState, answers, clashing, grants, holds, moved, passed, promise_of}
+use Rattle.qc_site.specs.Vocabulary.{relation_at, site_at, site_takes, without_prepared}
 use Rattle.qc_site.proofs.RequestCases.{append_cases, close_cases, join_cases, prepare_cases, read_cases, request_cases}
 use Rattle.qc_site.proofs.Cases.{install_cases}
 

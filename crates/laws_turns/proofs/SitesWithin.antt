@@ -2,15 +2,15 @@
 use Rattle.std.proofs.Common.{ℕ, ◌≤◌, ◌==◌, max, not, List, [], ◌∷◌, ◌++◌, fold, arith}
 use Rattle.std.specs.declared.cmp.Ordering.{Ordering}
 use Rattle.std.specs.declared.cmp.Ordering.TheVariants.{Less, Equal, Greater}
-use Rattle.qc_list.specs.Names.{by_order, inserted}
+use Rattle.qc_list.specs.Vocabulary.{by_order, inserted}
 use Rattle.qc_list.proofs.Members.{every-filter}
 use Rattle.qc_stamp.specs.declared.stamp.Stamp.{Stamp}
 use Rattle.qc_stamp.specs.declared.stamp.TxId.{TxId}
-use Rattle.qc_stamp.specs.Names.{same_tx}
+use Rattle.qc_stamp.specs.Vocabulary.{same_tx}
 use Rattle.qc_entry.specs.declared.line.Line.{Line}
 use Rattle.qc_entry.specs.declared.line.OwnLine.{OwnLine}
 use Rattle.qc_entry.specs.declared.record.Prepared.{Prepared}
-use Rattle.qc_entry.specs.Names.{has_line, without}
+use Rattle.qc_entry.specs.Vocabulary.{has_line, without}
 use Rattle.qc_entry.proofs.Union.{every-union}
 use Rattle.qc_decl.specs.declared.declaration.Declaration.{Declaration}
 use Rattle.qc_lock.specs.declared.clash.Clash.{Clash as Conflict}
@@ -24,15 +24,15 @@ use Rattle.qc_msg.specs.declared.message.Want.{Want}
 use Rattle.qc_msg.specs.declared.message.Want.TheVariants.{Read, Append, Prepare}
 use Rattle.qc_msg.specs.declared.step.Input.{Input}
 use Rattle.qc_msg.specs.declared.step.Input.TheVariants as inputs
-use Rattle.qc_msg.specs.Names.{quiet}
-use Rattle.qc_site.specs.Names.{SiteMove, SiteState, answers, clashing, closes, finishes, grants, installs, known}
-use Rattle.qc_site.specs.Names.{latest, learned, lines_of, moved, passed, promise_cmp, promise_of, shut_answer, site_at}
-use Rattle.qc_site.specs.Names.{site_takes, stamped, with_stamped, without_prepared}
+use Rattle.qc_msg.specs.Vocabulary.{quiet}
+use Rattle.qc_site.specs.Vocabulary.{SiteMove, SiteState, answers, clashing, closes, finishes, grants, installs, known}
+use Rattle.qc_site.specs.Vocabulary.{latest, learned, lines_of, moved, passed, promise_cmp, promise_of, shut_answer}
+use Rattle.qc_site.specs.Vocabulary.{site_at, site_takes, stamped, with_stamped, without_prepared}
 use Rattle.qc_site.proofs.RequestCases.{append_cases, close_rows, fault_is, install_rows, join_cases, prepare_cases}
 use Rattle.qc_site.proofs.RequestCases.{read_cases, request_cases}
 use Rattle.laws_turns.proofs.Greater.{lines-le, promises-le, sends-le}
-use Rattle.laws_turns.specs.Names.{AnswerWithin, GivenWithin, LinesWithin, MessageWithin, OutcomeWithin, PromisesWithin}
-use Rattle.laws_turns.specs.Names.{SiteMoveWithin, SiteWithin, WantWithin}
+use Rattle.laws_turns.specs.Vocabulary.{AnswerWithin, GivenWithin, LinesWithin, MessageWithin, OutcomeWithin}
+use Rattle.laws_turns.specs.Vocabulary.{PromisesWithin, SiteMoveWithin, SiteWithin, WantWithin}
 
 -- a greater bound
 

@@ -1,12 +1,12 @@
 -- A client that is asked what the script asks has a sound front end and desk.
-use Rattle.std.proofs.Common.{◌≡◌, ℕ, zero, suc, ◌+◌, ◌-◌, ◌%◌, ◌<◌, ◌==◌, ◌&&◌, Bool, true, false, cond, if◌then◌else◌}
-use Rattle.std.proofs.Common.{List, ◌∷◌, ◌++◌, map, length, take, Option, Some, None, is_some, refl, sym, subst, arith}
-use Rattle.std.proofs.Common.{eqb-true}
+use Rattle.std.proofs.Common.{[], ◌≡◌, ℕ, zero, suc, ◌+◌, ◌-◌, ◌%◌, ◌<◌, ◌==◌, ◌&&◌, Bool, true, false, cond}
+use Rattle.std.proofs.Common.{if◌then◌else◌, List, ◌∷◌, ◌++◌, map, length, take, Option, Some, None, is_some, refl, sym}
+use Rattle.std.proofs.Common.{subst, arith, eqb-true}
 use Rattle.std.specs.List.{AllByRecursion as Every, filter, filter_map, fold}
 use Rattle.std.proofs.lemmas.Bool.{lt-ltb}
-use Rattle.qc_core.specs.Names.{IsLawful}
+use Rattle.qc_core.specs.Vocabulary.{IsLawful}
 use Rattle.qc_decl.specs.declared.declaration.Declaration.{Declaration}
-use Rattle.qc_decl.specs.Names.{IsAccepted, first_site}
+use Rattle.qc_decl.specs.Vocabulary.{IsAccepted, first_site}
 use Rattle.qc_msg.specs.declared.begun.Begun.{Begun}
 use Rattle.qc_msg.specs.declared.message.Answer.{Answer}
 use Rattle.qc_msg.specs.declared.message.Message.{Message}
@@ -19,27 +19,28 @@ use Rattle.qc_msg.specs.declared.step.Command.{Command}
 use Rattle.qc_msg.specs.declared.step.Command.TheVariants as commands
 use Rattle.qc_msg.specs.declared.step.Input.{Input}
 use Rattle.qc_msg.specs.declared.step.Input.TheVariants as inputs
-use Rattle.qc_msg.specs.Names.{Deed, Entry, Falls, Rises, Sends, Takes, Tells, Writes, deeds, has_granted, quiet}
-use Rattle.qc_msg.specs.Names.{site_called}
-use Rattle.qc_plan.specs.Names.{cyclic}
+use Rattle.qc_msg.specs.Vocabulary.{Deed, Entry, Falls, Rises, Sends, Takes, Tells, Writes, deeds, has_granted, quiet}
+use Rattle.qc_msg.specs.Vocabulary.{site_called}
+use Rattle.qc_plan.specs.Vocabulary.{cyclic}
 use Rattle.qc_commit.specs.declared.desk.Desk.{Desk}
 use Rattle.qc_commit.specs.declared.desk.Voting.{Voting}
 use Rattle.qc_commit.specs.Conduct as desks
-use Rattle.qc_commit.specs.Names.{DeskMove, are_cast, cast, first_against, participants, prepares, vote_of}
+use Rattle.qc_commit.specs.Vocabulary.{DeskMove, are_cast, cast, first_against, participants, prepares, vote_of}
 use Rattle.qc_front.specs.declared.transaction.Transaction.{Transaction}
 use Rattle.qc_front.specs.Conduct as fronts
-use Rattle.qc_front.specs.Names.{FrontMove, ended}
+use Rattle.qc_front.specs.Vocabulary.{FrontMove, ended}
 use Rattle.qc_client.specs.declared.client.Client.{Client}
-use Rattle.qc_client.specs.Names.{ClientMove, answered, answered_by, by_desk, by_front, called, client_after}
-use Rattle.qc_client.specs.Names.{client_does, client_takes, commits, heard, moved, new_client, requested, sent_one}
+use Rattle.qc_client.specs.Vocabulary.{ClientMove, answered, answered_by, by_desk, by_front, called, client_after}
+use Rattle.qc_client.specs.Vocabulary.{client_does, client_takes, commits, heard, moved, new_client, requested}
+use Rattle.qc_client.specs.Vocabulary.{sent_one}
 use Rattle.qc_front.specs.declared.doing.Doing.{Doing}
 use Rattle.qc_front.specs.declared.doing.Doing.TheVariants.{Idle, Reading, Appending}
-use Rattle.qc_script.specs.Names.{Runs, commands_for, inbox, phase_of}
+use Rattle.qc_script.specs.Vocabulary.{Runs, commands_for, inbox, phase_of}
 use Rattle.qc_script.specs.Runs.{takes}
 use Rattle.qc_script.specs.declared.script.CommandLine.{CommandLine}
 use Rattle.qc_script.specs.declared.script.PhaseLines.{PhaseLines}
 use Rattle.qc_script.specs.declared.script.Script.{Script}
-use Rattle.laws_turns.specs.Names.{AreAskable, AsksDeclared, IsAskable, asked_in_all, call_in, calls_of}
+use Rattle.laws_turns.specs.Vocabulary.{AreAskable, AsksDeclared, IsAskable, asked_in_all, call_in, calls_of}
 use Rattle.laws_turns.proofs.Calling.{run_asked}
 use Rattle.laws_turns.proofs.DeclaredSites.{AreSites, sites_cyclic, sites_filter}
 use Rattle.laws_turns.proofs.Mailed.{both_all}

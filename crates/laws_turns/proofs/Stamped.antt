@@ -3,16 +3,16 @@
 use Rattle.std.proofs.Common.{◌≡◌, ℕ, ◌-◌, nat_le, not, Bool, true, false, if◌then◌else◌, List, [], ◌∷◌, Option, Some}
 use Rattle.std.proofs.Common.{None, refl, subst}
 use Rattle.std.specs.List.{fold}
-use Rattle.qc_core.specs.Names.{IsLawful}
+use Rattle.qc_core.specs.Vocabulary.{IsLawful}
 use Rattle.qc_decl.specs.declared.declaration.Declaration.{Declaration}
-use Rattle.qc_decl.specs.Names.{is_client, is_site, most_record_bytes}
+use Rattle.qc_decl.specs.Vocabulary.{is_client, is_site, most_record_bytes}
 use Rattle.qc_stamp.specs.declared.stamp.Stamp.{Stamp}
 use Rattle.qc_stamp.specs.declared.stamp.TxId.{TxId}
 use Rattle.qc_entry.specs.declared.line.Line.{Line}
 use Rattle.qc_entry.specs.declared.line.OwnLine.{OwnLine}
 use Rattle.qc_entry.specs.declared.record.Prepared.{Prepared}
 use Rattle.qc_lock.specs.declared.clash.Clash.{Clash as Conflict}
-use Rattle.qc_lock.specs.Names.{append_clash, is_held, read_clash}
+use Rattle.qc_lock.specs.Vocabulary.{append_clash, is_held, read_clash}
 use Rattle.qc_msg.specs.declared.message.Answer.{Answer}
 use Rattle.qc_msg.specs.declared.message.Message.{Message}
 use Rattle.qc_msg.specs.declared.message.Message.TheVariants as messages
@@ -23,12 +23,12 @@ use Rattle.qc_msg.specs.declared.message.Want.TheVariants.{Read, Append, Prepare
 use Rattle.qc_msg.specs.declared.step.Input.{Input}
 use Rattle.qc_msg.specs.declared.step.Input.TheVariants as inputs
 use Rattle.qc_msg.specs.declared.turn.Turn.{Turn}
-use Rattle.qc_msg.specs.Names.{Deed, Falls, Rises, Sends, Takes, Tells, Writes, quiet}
-use Rattle.qc_client.specs.Names.{client_after}
-use Rattle.qc_site.specs.Names.{SiteMove, SiteState, appends_by, fault_of, finishes, grants, is_prepared, joins}
-use Rattle.qc_site.specs.Names.{names_declared, new_site, passed, prepare_length, prepared_of, prepares, promise_of}
-use Rattle.qc_site.specs.Names.{promises, reads_by, relation_at, requested as site_requested, site_after, site_at}
-use Rattle.qc_site.specs.Names.{site_does, site_takes}
+use Rattle.qc_msg.specs.Vocabulary.{Deed, Falls, Rises, Sends, Takes, Tells, Writes, quiet}
+use Rattle.qc_client.specs.Vocabulary.{client_after}
+use Rattle.qc_site.specs.Vocabulary.{SiteMove, SiteState, appends_by, fault_of, finishes, grants, is_prepared, joins}
+use Rattle.qc_site.specs.Vocabulary.{names_declared, new_site, passed, prepare_length, prepared_of, prepares}
+use Rattle.qc_site.specs.Vocabulary.{promise_of, promises, reads_by, relation_at, requested as site_requested}
+use Rattle.qc_site.specs.Vocabulary.{site_after, site_at, site_does, site_takes}
 use Rattle.qc_site.specs.Site as sites
 use Rattle.qc_site.proofs.RequestCases.{close_cases}
 use Rattle.qc_site.proofs.Cases.{install_cases}

@@ -1,13 +1,13 @@
 -- A client's records name stamps of their transactions' own clients; so does what a front end and a desk do.
-use Rattle.std.proofs.Common.{◌≡◌, ℕ, ◌==◌, ◌&&◌, Bool, true, false, if◌then◌else◌, List, ◌∷◌, map, Option, Some, None}
-use Rattle.std.proofs.Common.{is_some, inl, inr, refl, sym, ap, ◌∙◌, subst, eqb-true}
+use Rattle.std.proofs.Common.{[], ◌≡◌, ℕ, ◌==◌, ◌&&◌, Bool, true, false, if◌then◌else◌, List, ◌∷◌, map, Option, Some}
+use Rattle.std.proofs.Common.{None, is_some, inl, inr, refl, sym, ap, ◌∙◌, subst, eqb-true}
 use Rattle.std.specs.List.{AllByRecursion as Every}
 use Rattle.qc_list.proofs.Members.{every-append, every-weaker}
-use Rattle.qc_core.specs.Names.{IsOwnStamp, IsStamped}
+use Rattle.qc_core.specs.Vocabulary.{IsOwnStamp, IsStamped}
 use Rattle.qc_decl.specs.declared.declaration.Declaration.{Declaration}
 use Rattle.qc_stamp.specs.declared.stamp.Stamp.{Stamp}
 use Rattle.qc_stamp.specs.declared.stamp.TxId.{TxId}
-use Rattle.qc_stamp.specs.Names.{same_tx}
+use Rattle.qc_stamp.specs.Vocabulary.{same_tx}
 use Rattle.qc_entry.specs.declared.record.Commit.{Commit}
 use Rattle.qc_msg.specs.declared.begun.Begun.{Begun}
 use Rattle.qc_msg.specs.declared.message.Answer.{Answer}
@@ -20,17 +20,17 @@ use Rattle.qc_msg.specs.declared.record.Record.TheVariants as records
 use Rattle.qc_msg.specs.declared.step.Command.{Command}
 use Rattle.qc_msg.specs.declared.turn.Posting.{Posting}
 use Rattle.qc_msg.specs.declared.turn.Turn.{Turn}
-use Rattle.qc_msg.specs.Names.{decisions}
+use Rattle.qc_msg.specs.Vocabulary.{decisions}
 use Rattle.qc_commit.specs.declared.desk.Desk.{Desk}
 use Rattle.qc_commit.specs.declared.desk.Known.{Known}
 use Rattle.qc_commit.specs.declared.desk.Known.TheVariants as knowns
-use Rattle.qc_commit.specs.Names.{DeskMove, commit_of, known, known_by, record_of}
+use Rattle.qc_commit.specs.Vocabulary.{DeskMove, commit_of, known, known_by, record_of}
 use Rattle.qc_commit.proofs.Moves.{IsMove, IsPrepare, tx_of}
 use Rattle.qc_front.specs.Conduct as fronts
 use Rattle.qc_front.proofs.Unwritten as calm
-use Rattle.qc_front.specs.Names.{FrontMove, ended}
+use Rattle.qc_front.specs.Vocabulary.{FrontMove, ended}
 use Rattle.qc_client.specs.declared.client.Client.{Client}
-use Rattle.qc_client.specs.Names.{ClientMove, by_desk, by_front, called, commits, is_begun, outcome_by, outcome_of}
+use Rattle.qc_client.specs.Vocabulary.{ClientMove, by_desk, by_front, called, commits, is_begun, outcome_by, outcome_of}
 use Rattle.laws_turns.proofs.OwnFronts.{OwnFront}
 use Rattle.laws_turns.proofs.OwnFronts as own_fronts
 

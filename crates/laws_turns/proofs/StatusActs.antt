@@ -1,25 +1,25 @@
 -- Over all that a client does by turns, each deed is right for each transaction.
-use Rattle.std.proofs.Common.{◌≡◌, ℕ, ◌+◌, ◌-◌, Bool, true, false, List, ◌∷◌, ◌++◌, fold, Option, Some, None, refl, sym}
-use Rattle.std.proofs.Common.{ap, ◌∙◌, subst}
+use Rattle.std.proofs.Common.{[], ◌≡◌, ℕ, ◌+◌, ◌-◌, Bool, true, false, List, ◌∷◌, ◌++◌, fold, Option, Some, None, refl}
+use Rattle.std.proofs.Common.{sym, ap, ◌∙◌, subst}
 use Rattle.std.specs.List.{AllByRecursion as Every}
 use Rattle.std.proofs.lemmas.List.Sums.{fold-append}
 use Rattle.qc_stamp.specs.declared.stamp.TxId.{TxId}
-use Rattle.qc_decl.specs.Names.{IsAccepted, is_client, is_site}
+use Rattle.qc_decl.specs.Vocabulary.{IsAccepted, is_client, is_site}
 use Rattle.qc_decl.specs.declared.declaration.Declaration.{Declaration}
 use Rattle.qc_msg.specs.declared.message.Answer.{Answer}
 use Rattle.qc_msg.specs.declared.message.Message.{Message}
 use Rattle.qc_msg.specs.declared.message.Message.TheVariants as messages
 use Rattle.qc_msg.specs.declared.message.Want.TheVariants.{Append, Prepare, Read}
 use Rattle.qc_msg.specs.declared.turn.Turn.{Turn}
-use Rattle.qc_msg.specs.Names.{Deed, Falls, Rises, Sends, Takes, Tells, Writes, quiet, turn_deeds}
+use Rattle.qc_msg.specs.Vocabulary.{Deed, Falls, Rises, Sends, Takes, Tells, Writes, quiet, turn_deeds}
 use Rattle.qc_commit.specs.declared.desk.Voting.{Voting}
 use Rattle.qc_commit.specs.Conduct as desks
 use Rattle.qc_client.specs.declared.client.Client.{Client}
-use Rattle.qc_client.specs.Names.{ClientMove, client_after, client_does, client_takes, commits, moved, new_client}
-use Rattle.qc_client.specs.Names.{sent_one}
-use Rattle.qc_core.specs.Names.{Acts, posts, starts, takes}
-use Rattle.laws_turns.specs.Names.{written_in}
-use Rattle.qc_promise.specs.Names.{AreRight, AreRightFrom, Status, Unborn, status, status_at}
+use Rattle.qc_client.specs.Vocabulary.{ClientMove, client_after, client_does, client_takes, commits, moved, new_client}
+use Rattle.qc_client.specs.Vocabulary.{sent_one}
+use Rattle.qc_core.specs.Vocabulary.{Acts, posts, starts, takes}
+use Rattle.laws_turns.specs.Vocabulary.{written_in}
+use Rattle.qc_promise.specs.Vocabulary.{AreRight, AreRightFrom, Status, Unborn, status, status_at}
 use Rattle.laws_turns.proofs.Bounding.{lawful_turn, turn-posts}
 use Rattle.laws_turns.proofs.ClientsWithin.{IsPost}
 use Rattle.laws_turns.proofs.InRuns.{IsResting, KeptBy, deals_acts}

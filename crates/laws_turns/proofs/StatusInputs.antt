@@ -1,10 +1,10 @@
 -- What an input of a client does to the status of its transaction: each deed is right.
-use Rattle.std.proofs.Common.{◌≡◌, ◌≢◌, ℕ, ◌+◌, ◌-◌, inl, inr, Bool, true, false, cond, List, ◌∷◌, Option, Some, None}
-use Rattle.std.proofs.Common.{is_some, refl, sym, ap, subst}
+use Rattle.std.proofs.Common.{[], ◌≡◌, ◌≢◌, ℕ, ◌+◌, ◌-◌, inl, inr, Bool, true, false, cond, List, ◌∷◌, Option, Some}
+use Rattle.std.proofs.Common.{None, is_some, refl, sym, ap, subst}
 use Rattle.std.specs.List.{AllByRecursion as Every}
-use Rattle.qc_list.specs.Names.{In}
+use Rattle.qc_list.specs.Vocabulary.{In}
 use Rattle.qc_stamp.specs.declared.stamp.TxId.{TxId}
-use Rattle.qc_stamp.specs.Names.{same_tx}
+use Rattle.qc_stamp.specs.Vocabulary.{same_tx}
 use Rattle.qc_stamp.proofs.Orders.{same_tx_is, same_tx_itself}
 use Rattle.qc_decl.specs.declared.declaration.Declaration.{Declaration}
 use Rattle.qc_entry.specs.declared.record.Commit.{Commit}
@@ -20,19 +20,19 @@ use Rattle.qc_msg.specs.declared.step.Input.{Input}
 use Rattle.qc_msg.specs.declared.step.Input.TheVariants as inputs
 use Rattle.qc_msg.specs.declared.turn.Posting.{Posting}
 use Rattle.qc_msg.specs.declared.turn.Turn.{Turn}
-use Rattle.qc_msg.specs.Names.{quiet}
+use Rattle.qc_msg.specs.Vocabulary.{quiet}
 use Rattle.qc_commit.specs.declared.desk.Voting.{Voting}
 use Rattle.qc_commit.specs.Conduct as desks
-use Rattle.qc_commit.specs.Names.{DeskMove, commit_of, known_by, record_of}
+use Rattle.qc_commit.specs.Vocabulary.{DeskMove, commit_of, known_by, record_of}
 use Rattle.qc_front.specs.declared.transaction.Transaction.{Transaction}
 use Rattle.qc_front.specs.Conduct as fronts
-use Rattle.qc_front.specs.Names.{FrontMove, ended, next_tx}
+use Rattle.qc_front.specs.Vocabulary.{FrontMove, ended, next_tx}
 use Rattle.qc_client.specs.declared.client.Client.{Client}
-use Rattle.qc_client.specs.Names.{ClientMove, answered, answered_by, by_desk, by_front, called, client_takes, commits}
-use Rattle.qc_client.specs.Names.{heard, is_begun, moved, outcome_by, outcome_of}
-use Rattle.qc_core.specs.Names.{takes}
-use Rattle.laws_turns.specs.Names.{begun_in}
-use Rattle.qc_promise.specs.Names.{Begun, Committed, Dead, Status, Unborn, status}
+use Rattle.qc_client.specs.Vocabulary.{ClientMove, answered, answered_by, by_desk, by_front, called, client_takes}
+use Rattle.qc_client.specs.Vocabulary.{commits, heard, is_begun, moved, outcome_by, outcome_of}
+use Rattle.qc_core.specs.Vocabulary.{takes}
+use Rattle.laws_turns.specs.Vocabulary.{begun_in}
+use Rattle.qc_promise.specs.Vocabulary.{Begun, Committed, Dead, Status, Unborn, status}
 use Rattle.laws_turns.proofs.DealingParts.{HasRecord, begun_tx}
 use Rattle.laws_turns.proofs.DealtCommands.{IsInHand}
 use Rattle.laws_turns.proofs.HandMoves.{IsHandMove, prepare-it, vote-it}

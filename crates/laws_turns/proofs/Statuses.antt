@@ -1,14 +1,14 @@
 -- How a transaction's status goes on over a client's turns, and that each of their deeds is right for it.
 use Rattle.std.proofs.Common.{◌≡◌, ◌≢◌, ℕ, ◌+◌, ◌<◌, ◌⊎◌, inl, inr, Bool, true, false, cond, List, [], ◌∷◌, ◌++◌}
 use Rattle.std.proofs.Common.{Option, Some, None, refl, sym, ap, ◌∙◌, subst, arith}
-use Rattle.qc_list.specs.Names.{In}
+use Rattle.qc_list.specs.Vocabulary.{In}
 use Rattle.qc_list.proofs.Members.{In-first, In-last, In-more}
 use Rattle.qc_stamp.specs.declared.stamp.Stamp.{Stamp}
 use Rattle.qc_stamp.specs.declared.stamp.TxId.{TxId}
-use Rattle.qc_stamp.specs.Names.{same_tx}
+use Rattle.qc_stamp.specs.Vocabulary.{same_tx}
 use Rattle.qc_stamp.proofs.Orders.{same_tx_is, same_tx_itself}
 use Rattle.qc_entry.specs.declared.record.Commit.{Commit}
-use Rattle.qc_promise.specs.Names.{Begun, Committed, Dead, Status, Unborn, given_up}
+use Rattle.qc_promise.specs.Vocabulary.{Begun, Committed, Dead, Status, Unborn, given_up}
 use Rattle.laws_turns.proofs.DealingParts.{HasRecord}
 
 -- what a client keeps of its transactions, as far as their statuses go

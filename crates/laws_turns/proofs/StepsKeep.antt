@@ -1,10 +1,10 @@
 -- Each step of a turn leaves the unanswered requests somewhere, and adds some.
-use Rattle.std.proofs.Common.{◌≡◌, ℕ, ◌+◌, ◌<◌, ◌≤◌, ◌==◌, ◌⊎◌, Bool, true, false, if◌then◌else◌, inl, inr, List, ◌∷◌}
-use Rattle.std.proofs.Common.{◌++◌, Option, Some, None, refl, sym, ap, ◌∙◌, subst, arith, eqb-true, eq-eqb}
+use Rattle.std.proofs.Common.{[], ◌≡◌, ℕ, ◌+◌, ◌<◌, ◌≤◌, ◌==◌, ◌⊎◌, Bool, true, false, if◌then◌else◌, inl, inr, List}
+use Rattle.std.proofs.Common.{◌∷◌, ◌++◌, Option, Some, None, refl, sym, ap, ◌∙◌, subst, arith, eqb-true, eq-eqb}
 use Rattle.std.proofs.Common.{append_assoc}
 use Rattle.std.proofs.lemmas.List.Sums.{fold-append}
 use Rattle.std.proofs.lemmas.List.{append-nil}
-use Rattle.qc_list.specs.Names.{In}
+use Rattle.qc_list.specs.Vocabulary.{In}
 use Rattle.qc_list.proofs.Members.{In-first, In-second}
 use Rattle.qc_decl.specs.declared.declaration.Declaration.{Declaration}
 use Rattle.qc_msg.specs.declared.message.Answer.{Answer}
@@ -17,16 +17,16 @@ use Rattle.qc_msg.specs.declared.step.Step.{Step}
 use Rattle.qc_msg.specs.declared.step.Step.TheVariants as steps
 use Rattle.qc_msg.specs.declared.turn.Posting.{Posting}
 use Rattle.qc_msg.specs.declared.turn.Turn.{Turn}
-use Rattle.qc_msg.specs.Names.{Entry, by, envelopes, mail, marked, posted, sents, told, wrote}
+use Rattle.qc_msg.specs.Vocabulary.{Entry, by, envelopes, mail, marked, posted, sents, told, wrote}
 use Rattle.qc_msg.proofs.GrownMail.{mail-append}
 use Rattle.qc_script.specs.declared.script.Script.{Script}
-use Rattle.qc_script.specs.Names.{Inbox, SentRequest, comes_at_once, empty_inbox, everybody, inbox, inbox_at}
-use Rattle.qc_script.specs.Names.{is_request, reply_told, request_numbers}
+use Rattle.qc_script.specs.Vocabulary.{Inbox, SentRequest, comes_at_once, empty_inbox, everybody, inbox, inbox_at}
+use Rattle.qc_script.specs.Vocabulary.{is_request, reply_told, request_numbers}
 use Rattle.qc_script.proofs.AllUp.{Stays, step_up, wrote_up}
 use Rattle.qc_script.proofs.Inboxes.{one_fate}
 use Rattle.laws_turns.proofs.Answering.{copies_stay, copy_made, others_fewer, own_fate, own_new, silent_fewer}
 use Rattle.laws_turns.proofs.SiteReplies.{IsMailProper, IsProperFrom}
-use Rattle.qc_link.specs.Names.{most_actors}
+use Rattle.qc_link.specs.Vocabulary.{most_actors}
 
 -- The steps of a turn, one by one: the requests that are unanswered before it stay somewhere, and those that it adds are
 -- ready at their sites. Here for any predicate of where else a request may be, which no step of the turn touches.

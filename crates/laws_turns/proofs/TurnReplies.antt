@@ -1,9 +1,9 @@
 -- A client waits only where a command runs, and tells a reply only there.
-use Rattle.std.proofs.Common.{◌≡◌, ℕ, ◌+◌, ◌-◌, ◌&&◌, not, Bool, true, false, List, ◌∷◌, ◌++◌, Option, Some, None}
+use Rattle.std.proofs.Common.{[], ◌≡◌, ℕ, ◌+◌, ◌-◌, ◌&&◌, not, Bool, true, false, List, ◌∷◌, ◌++◌, Option, Some, None}
 use Rattle.std.proofs.Common.{is_some, refl, sym, ap, ◌∙◌}
 use Rattle.std.specs.List.{fold}
 use Rattle.std.proofs.lemmas.List.Sums.{fold-append}
-use Rattle.qc_core.specs.Names.{MayTake, is_running, runs_at, runs_given}
+use Rattle.qc_core.specs.Vocabulary.{MayTake, is_running, runs_at, runs_given}
 use Rattle.qc_decl.specs.declared.declaration.Declaration.{Declaration}
 use Rattle.qc_msg.specs.declared.record.Record.{Record}
 use Rattle.qc_msg.specs.declared.reply.Reply.{Reply}
@@ -13,9 +13,9 @@ use Rattle.qc_msg.specs.declared.step.Input.{Input}
 use Rattle.qc_msg.specs.declared.step.Input.TheVariants as inputs
 use Rattle.qc_msg.specs.declared.turn.Posting.{Posting}
 use Rattle.qc_msg.specs.declared.turn.Turn.{Turn}
-use Rattle.qc_msg.specs.Names.{Deed, Sends, Takes, quiet, sends_of, tells_of, turn_deeds, writes_of}
-use Rattle.qc_client.specs.Names.{ClientMove, client_after, client_does, client_takes, moved, new_client}
-use Rattle.laws_turns.specs.Names.{is_waiting}
+use Rattle.qc_msg.specs.Vocabulary.{Deed, Sends, Takes, quiet, sends_of, tells_of, turn_deeds, writes_of}
+use Rattle.qc_client.specs.Vocabulary.{ClientMove, client_after, client_does, client_takes, moved, new_client}
+use Rattle.laws_turns.specs.Vocabulary.{is_waiting}
 use Rattle.laws_turns.proofs.Waiting.{Ends, IsNoCall, Rests, called_ends, epoch_rests, sent_waits, takes_ends}
 use Rattle.laws_turns.proofs.Waiting.{takes_rests}
 

@@ -1,5 +1,6 @@
 -- A turn by which a transaction goes on: its deeds are right, and leave its status.
-use Rattle.std.proofs.Common.{◌≡◌, ℕ, ◌+◌, List, ◌∷◌, ◌++◌, fold, map, Option, Some, None, refl, sym, ap, ◌∙◌, subst}
+use Rattle.std.proofs.Common.{[], ◌≡◌, ℕ, ◌+◌, List, ◌∷◌, ◌++◌, fold, map, Option, Some, None, refl, sym, ap, ◌∙◌}
+use Rattle.std.proofs.Common.{subst}
 use Rattle.std.specs.List.{AllByRecursion as Every}
 use Rattle.qc_list.proofs.Members.{every-weaker}
 use Rattle.qc_stamp.specs.declared.stamp.TxId.{TxId}
@@ -12,8 +13,8 @@ use Rattle.qc_msg.specs.declared.reply.Reply.{Reply}
 use Rattle.qc_msg.specs.declared.reply.Reply.TheVariants as replies
 use Rattle.qc_msg.specs.declared.turn.Posting.{Posting}
 use Rattle.qc_msg.specs.declared.turn.Turn.{Turn}
-use Rattle.qc_msg.specs.Names.{Deed, Sends, Tells, sends_of, tells_of, turn_deeds, writes_of}
-use Rattle.qc_promise.specs.Names.{AreRightFrom, Begun, Committed, Status, status_at, status_told}
+use Rattle.qc_msg.specs.Vocabulary.{Deed, Sends, Tells, sends_of, tells_of, turn_deeds, writes_of}
+use Rattle.qc_promise.specs.Vocabulary.{AreRightFrom, Begun, Committed, Status, status_at, status_told}
 use Rattle.laws_turns.proofs.FrontGoesOn.{IsRequestFor, ToldNeutral}
 use Rattle.laws_turns.proofs.Statuses.{IsStatus, Page}
 

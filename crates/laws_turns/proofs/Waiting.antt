@@ -16,23 +16,23 @@ use Rattle.qc_msg.specs.declared.step.Command.TheVariants as commands
 use Rattle.qc_msg.specs.declared.step.Input.{Input}
 use Rattle.qc_msg.specs.declared.step.Input.TheVariants as inputs
 use Rattle.qc_msg.specs.declared.turn.Turn.{Turn}
-use Rattle.qc_msg.specs.Names.{quiet, telling}
+use Rattle.qc_msg.specs.Vocabulary.{quiet, telling}
 use Rattle.qc_commit.specs.declared.desk.Desk.{Desk}
 use Rattle.qc_commit.specs.declared.desk.Voting.{Voting}
 use Rattle.qc_commit.specs.Conduct as desks
-use Rattle.qc_commit.specs.Names.{DeskMove}
+use Rattle.qc_commit.specs.Vocabulary.{DeskMove}
 use Rattle.qc_commit.proofs.Moves.{IsMove, prepare-moves, tx_of, vote-moves}
 use Rattle.qc_front.specs.declared.doing.Doing.{Doing}
 use Rattle.qc_front.specs.declared.doing.Doing.TheVariants.{Idle, Reading, Appending}
 use Rattle.qc_front.specs.declared.front.Front.{Front}
 use Rattle.qc_front.specs.declared.transaction.Transaction.{Transaction}
 use Rattle.qc_front.specs.Conduct as fronts
-use Rattle.qc_front.specs.Names.{FrontMove, GoesOn, aborts, begins, ended, gives_up, is_idle, moved as front_moved}
+use Rattle.qc_front.specs.Vocabulary.{FrontMove, GoesOn, aborts, begins, ended, gives_up, is_idle, moved as front_moved}
 use Rattle.qc_front.proofs.Goes.{do_goes, takes_goes}
 use Rattle.qc_client.specs.declared.client.Client.{Client}
-use Rattle.laws_turns.specs.Names.{is_waiting, waits}
-use Rattle.qc_client.specs.Names.{ClientMove, answered, answered_by, by_desk, by_front, called, client_takes, commits}
-use Rattle.qc_client.specs.Names.{heard, requested, sent_one}
+use Rattle.laws_turns.specs.Vocabulary.{is_waiting, waits}
+use Rattle.qc_client.specs.Vocabulary.{ClientMove, answered, answered_by, by_desk, by_front, called, client_takes}
+use Rattle.qc_client.specs.Vocabulary.{commits, heard, requested, sent_one}
 
 -- it tells a reply just where it doesn't wait any more
 abbrev pub Ends : ClientMove → Type 0

@@ -5,18 +5,18 @@ use Rattle.std.specs.Prelude.{replicate}
 use Rattle.std.proofs.lemmas.Bool.{ltb-true}
 use Rattle.std.proofs.lemmas.List.{append-nil, take_all}
 use Rattle.qc_decl.proofs.Clients.{client_within}
-use Rattle.qc_core.specs.Names.{IsLawful, is_running}
+use Rattle.qc_core.specs.Vocabulary.{IsLawful, is_running}
 use Rattle.qc_decl.specs.declared.declaration.Declaration.{Declaration}
-use Rattle.qc_decl.specs.Names.{IsAccepted, actors, administrator, is_client}
+use Rattle.qc_decl.specs.Vocabulary.{IsAccepted, actors, administrator, is_client}
 use Rattle.qc_msg.specs.declared.message.Envelope.{Envelope}
 use Rattle.qc_msg.specs.declared.step.Command.{Command}
-use Rattle.qc_msg.specs.Names.{Entry, deeds}
+use Rattle.qc_msg.specs.Vocabulary.{Entry, deeds}
 use Rattle.qc_script.specs.declared.script.PhaseLines.{PhaseLines}
 use Rattle.qc_script.specs.declared.script.Script.{Script}
-use Rattle.qc_script.specs.Names.{command_in, controls_left, first_command, first_copy, first_lost, inbox, phase_of}
-use Rattle.qc_script.specs.Names.{takes_commands}
-use Rattle.laws_turns.specs.Names.{AreAnswered, AsksDeclared, IsClosed, IsQuiet, IsWhole, asked_by, asked_in_all}
-use Rattle.laws_turns.specs.Names.{calls_of, exchanges}
+use Rattle.qc_script.specs.Vocabulary.{command_in, controls_left, first_command, first_copy, first_lost, inbox}
+use Rattle.qc_script.specs.Vocabulary.{phase_of, takes_commands}
+use Rattle.laws_turns.specs.Vocabulary.{AreAnswered, AsksDeclared, IsClosed, IsQuiet, IsWhole, asked_by, asked_in_all}
+use Rattle.laws_turns.specs.Vocabulary.{calls_of, exchanges}
 use Rattle.laws_turns.proofs.Calling.{run_asked, run_phases}
 use Rattle.laws_turns.proofs.Ends.{copies_none, losts_none, nothing_ready}
 use Rattle.laws_turns.proofs.Exchanging.{answered}

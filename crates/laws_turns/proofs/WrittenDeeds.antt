@@ -5,9 +5,9 @@ use Rattle.std.proofs.Common.{eq-eqb}
 use Rattle.std.specs.List.{AllByRecursion as Every, cons_option}
 use Rattle.std.proofs.lemmas.List.{append-nil}
 use Rattle.std.proofs.lemmas.List.Elements.{filter_map-append}
-use Rattle.qc_list.specs.Names.{In}
+use Rattle.qc_list.specs.Vocabulary.{In}
 use Rattle.qc_list.proofs.Members.{In-first, In-second}
-use Rattle.qc_decl.specs.Names.{is_client}
+use Rattle.qc_decl.specs.Vocabulary.{is_client}
 use Rattle.qc_decl.specs.declared.declaration.Declaration.{Declaration}
 use Rattle.qc_entry.specs.declared.record.Commit.{Commit}
 use Rattle.qc_msg.specs.declared.message.Envelope.{Envelope}
@@ -21,16 +21,16 @@ use Rattle.qc_msg.specs.declared.step.Step.{Step}
 use Rattle.qc_msg.specs.declared.step.Step.TheVariants as steps
 use Rattle.qc_msg.specs.declared.turn.Posting.{Posting}
 use Rattle.qc_msg.specs.declared.turn.Turn.{Turn}
-use Rattle.qc_msg.specs.Names.{Deed, Entry, Falls, Rises, Sends, Takes, Tells, Writes, commit_in, commit_of, deed_at}
-use Rattle.qc_msg.specs.Names.{deeds, envelope_of, heard, sends_of, tells_of, turn_deeds, writes_of}
+use Rattle.qc_msg.specs.Vocabulary.{Deed, Entry, Falls, Rises, Sends, Takes, Tells, Writes, commit_in, commit_of}
+use Rattle.qc_msg.specs.Vocabulary.{deed_at, deeds, envelope_of, heard, sends_of, tells_of, turn_deeds, writes_of}
 use Rattle.qc_commit.specs.declared.desk.Voting.{Voting}
 use Rattle.qc_commit.specs.Conduct as desks
 use Rattle.qc_client.specs.declared.client.Client.{Client}
-use Rattle.qc_client.specs.Names.{ClientMove, client_does, sent_one}
-use Rattle.qc_promise.specs.Names.{commits_by, commits_in, records}
+use Rattle.qc_client.specs.Vocabulary.{ClientMove, client_does, sent_one}
+use Rattle.qc_promise.specs.Vocabulary.{commits_by, commits_in, records}
 use Rattle.laws_turns.proofs.Up.{first_up, rest_up}
-use Rattle.qc_core.specs.Names.{AreSteady}
-use Rattle.laws_turns.specs.Names.{written_by, written_in}
+use Rattle.qc_core.specs.Vocabulary.{AreSteady}
+use Rattle.laws_turns.specs.Vocabulary.{written_by, written_in}
 use Rattle.laws_turns.proofs.ClientsWithin.{IsPost}
 use Rattle.laws_turns.proofs.DealtCommands.{commits_of}
 

@@ -1,13 +1,14 @@
 -- Each wrong course, verdict and record is refused.
 use Rattle.std.proofs.Common.{◌≡◌, ◌⊎◌, inl, inr, ℕ, List, [], ◌∷◌, ◌++◌, Option, Some, None, refl, ap, arith}
 use Rattle.qc_stamp.specs.declared.stamp.Stamp.{Stamp}
-use Rattle.qc_list.specs.Names.{In}
+use Rattle.qc_list.specs.Vocabulary.{In}
 use Rattle.qc_entry.specs.declared.line.Op.{Op}
-use Rattle.qc_msg.specs.Names.{Tells}
+use Rattle.qc_msg.specs.Vocabulary.{Tells}
 use Rattle.qc_msg.specs.declared.message.Outcome.TheVariants as outcomes
 use Rattle.qc_msg.specs.declared.reply.Reply.TheVariants as replies
-use Rattle.qc_promise.specs.Names.{AreRight, Begun, Committed, Dead, Status, Unborn, VerdictAgrees, dealing_in}
-use Rattle.laws_turns.specs.Names.{asks, begun, commit, committed, first, none_read, read_it, reading, says, second, tx}
+use Rattle.qc_promise.specs.Vocabulary.{AreRight, Begun, Committed, Dead, Status, Unborn, VerdictAgrees, dealing_in}
+use Rattle.laws_turns.specs.Vocabulary.{asks, begun, commit, committed, first, none_read, read_it, reading, says}
+use Rattle.laws_turns.specs.Vocabulary.{second, tx}
 
 -- courses
 

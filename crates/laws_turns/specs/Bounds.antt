@@ -1,11 +1,11 @@
 -- Every clock and count in a history is at most its number of steps.
 use Rattle.std.specs.Prelude.{ℕ, ◌≤◌, ◌-◌, [], List, length}
-use Rattle.qc_client.specs.Names.{client_after}
+use Rattle.qc_client.specs.Vocabulary.{client_after}
 use Rattle.qc_client.specs.declared.client.Client.{Client}
 use Rattle.qc_decl.specs.declared.declaration.Declaration.{Declaration}
-use Rattle.qc_msg.specs.Names.{Entry, deeds, mail}
+use Rattle.qc_msg.specs.Vocabulary.{Entry, deeds, mail}
 use Rattle.laws_turns.specs.Within.{ClientMoveWithin, MailWithin, SiteMoveWithin}
-use Rattle.qc_site.specs.Names.{site_after}
+use Rattle.qc_site.specs.Vocabulary.{site_after}
 
 -- of every actor: what it is as a site, and what it is as a client, after what it did
 pub record IsBounded (decl : Declaration) (bound : ℕ) (h : List Entry) : Type 0 where

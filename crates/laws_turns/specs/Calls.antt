@@ -1,15 +1,15 @@
 -- The open requests of a client, and what becomes of each.
 use Rattle.std.specs.Prelude.{◌≡◌, ℕ, ◌⊎◌, ◌||◌, not, Bool, List, Option, Some, None, is_some}
-use Rattle.qc_list.specs.Names.{In}
+use Rattle.qc_list.specs.Vocabulary.{In}
 use Rattle.qc_client.specs.declared.client.Client.{Client}
 use Rattle.qc_commit.specs.declared.desk.Voting.{Voting}
 use Rattle.qc_front.specs.declared.doing.Doing.{Doing}
-use Rattle.qc_front.specs.Names.{calls_in, is_idle}
+use Rattle.qc_front.specs.Vocabulary.{calls_in, is_idle}
 use Rattle.qc_msg.specs.declared.call.Call.{Call}
 use Rattle.qc_msg.specs.declared.message.Envelope.{Envelope}
 use Rattle.qc_msg.specs.declared.message.Message.{Message}
 use Rattle.qc_msg.specs.declared.message.Message.TheVariants as messages
-use Rattle.qc_script.specs.Names.{Inbox, request_numbers}
+use Rattle.qc_script.specs.Vocabulary.{Inbox, request_numbers}
 
 -- the requests that a client waits for: its Prepares while it commits, else those of its running `do`
 

@@ -16,4 +16,4 @@ pub mod Books
 pub mod Written
 pub mod Wrong
 pub mod EachRun
-pub mod Names
+pub mod Vocabulary

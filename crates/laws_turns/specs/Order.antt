@@ -1,8 +1,8 @@
 -- Commands and replies of one actor, in their order: a command is called only where none runs, and a reply is told only
 -- where one does, whose reply it is.
 use Rattle.std.specs.Prelude.{◌≡◌, true, List, [], ◌∷◌, ◌++◌}
-use Rattle.qc_core.specs.Names.{MayTake, is_running}
-use Rattle.qc_msg.specs.Names.{Deed, Falls, Rises, Sends, Takes, Tells, Writes}
+use Rattle.qc_core.specs.Vocabulary.{MayTake, is_running}
+use Rattle.qc_msg.specs.Vocabulary.{Deed, Falls, Rises, Sends, Takes, Tells, Writes}
 
 abbrev pub IsInOrder : List Deed → Deed → Type 0
 IsInOrder before (Takes given) = MayTake before given

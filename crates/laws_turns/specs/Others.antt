@@ -1,7 +1,7 @@
 -- What happens to whom nobody asks anything.
 use Rattle.std.specs.Prelude.{Option, Some, None}
 use Rattle.qc_msg.specs.declared.record.Record.{Record}
-use Rattle.qc_msg.specs.Names.{Deed, Falls, Rises, Sends, Takes, Tells, Writes}
+use Rattle.qc_msg.specs.Vocabulary.{Deed, Falls, Rises, Sends, Takes, Tells, Writes}
 
 -- nothing was being written
 abbrev pub IsIdle : Option Record → Type 0

@@ -6,7 +6,7 @@ use Rattle.qc_client.specs.declared.client.Client.{Client}
 use Rattle.qc_commit.specs.declared.desk.Voting.{Voting}
 use Rattle.qc_decl.specs.declared.declaration.Declaration.{Declaration}
 use Rattle.qc_front.specs.declared.transaction.Transaction.{Transaction}
-use Rattle.qc_list.specs.Names.{Ascends}
+use Rattle.qc_list.specs.Vocabulary.{Ascends}
 
 pub record AreSites (decl : Declaration) (sites : List ℕ) : Type 0 where
   pub ascending : Ascends nat_cmp sites

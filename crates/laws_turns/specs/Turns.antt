@@ -1,8 +1,8 @@
 -- What an actor has done in a history, by turns: it takes an input, then it posts a turn.
 use Rattle.std.specs.Prelude.{ℕ, ◌≤◌, Bool, List, [], length}
-use Rattle.qc_core.specs.Names.{Acts}
+use Rattle.qc_core.specs.Vocabulary.{Acts}
 use Rattle.qc_decl.specs.declared.declaration.Declaration.{Declaration}
-use Rattle.qc_msg.specs.Names.{Entry, deeds, mail}
+use Rattle.qc_msg.specs.Vocabulary.{Entry, deeds, mail}
 
 -- the actor's deeds are turns, with an open input after them or none; the numbers of its messages are below one that is
 -- at most the number of all messages

@@ -1,10 +1,10 @@
 -- Where an unanswered request is.
 use Rattle.std.specs.Prelude.{◌≡◌, ℕ, ◌⊎◌, Bool, true, List, [], ◌∷◌, ◌++◌, Some, slice_get}
-use Rattle.qc_list.specs.Names.{In}
+use Rattle.qc_list.specs.Vocabulary.{In}
 use Rattle.qc_msg.specs.declared.message.Envelope.{Envelope}
 use Rattle.qc_msg.specs.declared.step.Input.TheVariants as inputs
-use Rattle.qc_msg.specs.Names.{Deed, Entry, Takes, deeds, mail}
-use Rattle.qc_script.specs.Names.{inbox, is_request}
+use Rattle.qc_msg.specs.Vocabulary.{Deed, Entry, Takes, deeds, mail}
+use Rattle.qc_script.specs.Vocabulary.{inbox, is_request}
 use Rattle.qc_script.specs.declared.script.Script.{Script}
 
 -- the message is the open input of its receiver

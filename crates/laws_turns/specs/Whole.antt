@@ -1,15 +1,15 @@
 -- A whole run: all that the script asks was done, and nothing is left to do.
 use Rattle.std.specs.Prelude.{◌≡◌, ℕ, ◌<◌, true, false, List, Option, Some, None, flat_map, filter_map, length, []}
 use Rattle.std.specs.Prelude.{replicate, take}
-use Rattle.qc_core.specs.Names.{IsLawful}
+use Rattle.qc_core.specs.Vocabulary.{IsLawful}
 use Rattle.qc_decl.specs.declared.declaration.Declaration.{Declaration}
-use Rattle.qc_decl.specs.Names.{actors, is_client}
+use Rattle.qc_decl.specs.Vocabulary.{actors, is_client}
 use Rattle.qc_msg.specs.declared.reply.Reply.{Reply}
 use Rattle.qc_msg.specs.declared.step.Command.{Command}
 use Rattle.qc_msg.specs.declared.step.Input.{Input}
 use Rattle.qc_msg.specs.declared.step.Input.TheVariants as inputs
-use Rattle.qc_msg.specs.Names.{Deed, Entry, Falls, Rises, Sends, Takes, Tells, Writes, deeds}
-use Rattle.qc_script.specs.Names.{Runs, commands_for, controls_left, phase_of, ready}
+use Rattle.qc_msg.specs.Vocabulary.{Deed, Entry, Falls, Rises, Sends, Takes, Tells, Writes, deeds}
+use Rattle.qc_script.specs.Vocabulary.{Runs, commands_for, controls_left, phase_of, ready}
 use Rattle.qc_script.specs.declared.script.PhaseLines.{PhaseLines}
 use Rattle.qc_script.specs.declared.script.Script.{Script}
 use Rattle.laws_turns.specs.Exchanges.{AreAnswered, exchanges}

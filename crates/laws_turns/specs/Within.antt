@@ -4,7 +4,7 @@ use Rattle.std.specs.List.{AllByRecursion as Every}
 use Rattle.qc_entry.specs.declared.line.Line.{Line}
 use Rattle.qc_entry.specs.declared.record.Commit.{Commit}
 use Rattle.qc_entry.specs.declared.record.Prepared.{Prepared}
-use Rattle.qc_client.specs.Names.{ClientMove}
+use Rattle.qc_client.specs.Vocabulary.{ClientMove}
 use Rattle.qc_client.specs.declared.client.Client.{Client}
 use Rattle.qc_commit.specs.declared.desk.Desk.{Desk}
 use Rattle.qc_front.specs.declared.front.Front.{Front}
@@ -21,7 +21,7 @@ use Rattle.qc_msg.specs.declared.message.Want.TheVariants.{Append, Prepare, Read
 use Rattle.qc_msg.specs.declared.step.Input.{Input}
 use Rattle.qc_msg.specs.declared.step.Input.TheVariants as inputs
 use Rattle.qc_msg.specs.declared.turn.Posting.{Posting}
-use Rattle.qc_site.specs.Names.{SiteMove, SiteState}
+use Rattle.qc_site.specs.Vocabulary.{SiteMove, SiteState}
 use Rattle.qc_view.specs.declared.view.View.{View}
 
 -- each line's stamp has at most this clock

@@ -2,7 +2,7 @@
 use Rattle.std.specs.Prelude.{List, Option, None}
 use Rattle.std.specs.List.{filter_map}
 use Rattle.qc_entry.specs.declared.record.Commit.{Commit}
-use Rattle.qc_msg.specs.Names.{Deed, Falls, Rises, Sends, Takes, Tells, Writes, commit_of}
+use Rattle.qc_msg.specs.Vocabulary.{Deed, Falls, Rises, Sends, Takes, Tells, Writes, commit_of}
 
 abbrev pub written_by : Deed → Option Commit
 written_by (Takes given) = None

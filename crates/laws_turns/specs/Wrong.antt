@@ -2,7 +2,7 @@
 use Rattle.std.specs.Prelude.{List, [], ◌∷◌, Some, None}
 use Rattle.qc_entry.specs.declared.line.Op.{Op}
 use Rattle.qc_entry.specs.declared.record.Commit.{Commit}
-use Rattle.qc_msg.specs.Names.{Deed, Sends, Takes, Tells, Writes}
+use Rattle.qc_msg.specs.Vocabulary.{Deed, Sends, Takes, Tells, Writes}
 use Rattle.qc_msg.specs.declared.message.Message.TheVariants.{Decision, Request}
 use Rattle.qc_msg.specs.declared.message.Outcome.{Outcome}
 use Rattle.qc_msg.specs.declared.message.Want.TheVariants.{Prepare}

@@ -5,7 +5,7 @@ ghost use Rattle.std.specs.List.{AllByRecursion as Every};
 ghost use Rattle.qc_core.specs.Conduct.{IsLawfulWithFalls};
 ghost use Rattle.qc_decl.specs.Actors.{actors, is_site};
 ghost use Rattle.qc_decl.specs.declared.declaration.Declaration.{Declaration};
-ghost use Rattle.qc_inbox.specs.Downs.{TellsWhereDown};
+ghost use Rattle.qc_mailbox.specs.Downs.{TellsWhereDown};
 ghost use Rattle.laws_turns.specs.LivesIn.{LivesIn};
 ghost use Rattle.laws_turns.specs.Others.{IsFall};
 ghost use Rattle.qc_msg.specs.declared.message.Envelope.{Envelope};
@@ -46,7 +46,7 @@ pub fn actors_go_by_turns_with_falls<C: ConductWithFalls>()
 
 /// Messages of a run with falls are numbered from 0 in the order in which they were
 /// sent: a message's number is its place.
-#[tactic(auto, using(qc_inbox::proofs::FallMail::run_numbered))]
+#[tactic(auto, using(qc_mailbox::proofs::FallMail::run_numbered))]
 pub fn messages_are_numbered_in_order_with_falls<C: ConductWithFalls>()
     ensures { (decl : Declaration) (script : Script) (h : List Entry) (open_inputs : List Bool)
         → RunsWithFalls (IsLawfulWithFalls decl) C.fits decl script h open_inputs

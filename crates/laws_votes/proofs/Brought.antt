@@ -10,23 +10,23 @@ use Rattle.std.proofs.lemmas.List.Elements.{filter-append}
 use Rattle.std.proofs.lemmas.List.Sums.{fold-append, sum_by-append, sum_by-cons}
 use Rattle.laws_votes.proofs.Distinct.{answers_of}
 use Rattle.laws_bounds.proofs.Names.{RecordNamed}
-use Rattle.laws_bounds.specs.Names.{AllPut, records_at}
-use Rattle.qc_decl.specs.Names.{client_actor}
+use Rattle.laws_bounds.specs.Vocabulary.{AllPut, records_at}
+use Rattle.qc_decl.specs.Vocabulary.{client_actor}
 use Rattle.qc_decl.specs.declared.declaration.Declaration.{Declaration}
 use Rattle.qc_entry.specs.declared.record.Commit.{Commit as CommitRecord}
 use Rattle.qc_list.proofs.Members.{In-second, every-In}
-use Rattle.qc_list.specs.Names.{In}
+use Rattle.qc_list.specs.Vocabulary.{In}
 use Rattle.qc_msg.proofs.DeedsGrow.{own-append}
 use Rattle.qc_msg.proofs.Growth.{tally-more}
-use Rattle.qc_msg.specs.Names.{Entry, Tally, answered_at, answered_in, answered_in_all, commit_of, no_tally}
-use Rattle.qc_msg.specs.Names.{operations_of, own, standing_after, tally_of, tally_with}
+use Rattle.qc_msg.specs.Vocabulary.{Entry, Tally, answered_at, answered_in, answered_in_all, commit_of, no_tally}
+use Rattle.qc_msg.specs.Vocabulary.{operations_of, own, standing_after, tally_of, tally_with}
 use Rattle.qc_msg.specs.declared.record.Record.{Record}
 use Rattle.qc_msg.specs.declared.record.Record.TheVariants.{Commit}
 use Rattle.qc_msg.specs.declared.step.Step.{Step}
 use Rattle.qc_msg.specs.declared.step.Step.TheVariants as steps
-use Rattle.qc_promise.specs.Names.{IsGivenBack, IsKeptAt, Journal, Kept, journal_of, journal_with, no_journal}
+use Rattle.qc_promise.specs.Vocabulary.{IsGivenBack, IsKeptAt, Journal, Kept, journal_of, journal_with, no_journal}
 use Rattle.laws_reach.proofs.Written.{is_among}
-use Rattle.laws_reach.specs.Names.{records_of}
+use Rattle.laws_reach.specs.Vocabulary.{records_of}
 use Rattle.laws_reach.proofs.RisingStamps.{commits_more, commits_of}
 
 -- the commit records that a step brings to stand, where so many records stood before it

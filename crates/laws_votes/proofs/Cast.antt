@@ -3,20 +3,20 @@
 use Rattle.std.proofs.Common.{◌≡◌, ◌≤◌, ◌⊎◌, ◌+◌, ℕ, Bool, true, List, [], ◌∷◌, ◌++◌, inl, inr, length, Some, slice_get}
 use Rattle.std.proofs.Common.{refl, sym, ap, ◌∙◌, subst, arith}
 use Rattle.std.proofs.lemmas.List.{append-nil}
-use Rattle.qc_core.specs.Names.{IsLawfulWithFalls}
-use Rattle.qc_decl.specs.Names.{IsAccepted, controller, is_site}
+use Rattle.qc_core.specs.Vocabulary.{IsLawfulWithFalls}
+use Rattle.qc_decl.specs.Vocabulary.{IsAccepted, controller, is_site}
 use Rattle.qc_decl.specs.declared.declaration.Declaration.{Declaration}
-use Rattle.laws_votes.specs.Names.{IsCastSince, life_at}
+use Rattle.laws_votes.specs.Vocabulary.{IsCastSince, life_at}
 use Rattle.laws_votes.proofs.SiteLives.{life_grows}
 use Rattle.laws_votes.proofs.VoteInputs.{IsCast}
 use Rattle.laws_votes.proofs.Voting.{post_casts, rise_casts}
 use Rattle.laws_turns.proofs.Numbered.{mail-silent, phase_silent}
-use Rattle.qc_list.specs.Names.{In}
+use Rattle.qc_list.specs.Vocabulary.{In}
 use Rattle.qc_list.proofs.Members.{In-first}
 use Rattle.laws_turns.proofs.Lived.{line_silent}
 use Rattle.qc_msg.proofs.GrownMail.{mail-append, mail-taken}
 use Rattle.qc_msg.proofs.Growth.{mail-posted_as}
-use Rattle.qc_msg.specs.Names.{Entry, by, deeds, envelopes, mail, marked, posted_as, sends_as, step_of}
+use Rattle.qc_msg.specs.Vocabulary.{Entry, by, deeds, envelopes, mail, marked, posted_as, sends_as, step_of}
 use Rattle.qc_msg.specs.declared.message.Answer.TheVariants as answers
 use Rattle.qc_msg.specs.declared.message.Envelope.{Envelope}
 use Rattle.qc_msg.specs.declared.message.Message.TheVariants as messages
@@ -25,11 +25,11 @@ use Rattle.qc_msg.specs.declared.step.Step.TheVariants as steps
 use Rattle.qc_msg.specs.declared.turn.Turn.{Turn}
 use Rattle.laws_refinement.proofs.Posts.{Place, placed}
 use Rattle.theory_onecopy.proofs.Lists.{in_split}
-use Rattle.qc_promise.specs.Names.{Kept}
+use Rattle.qc_promise.specs.Vocabulary.{Kept}
 use Rattle.laws_reach.proofs.RunsStand.{kept_of_first, runs_stand}
 use Rattle.laws_reach.proofs.Stood.{Stood}
-use Rattle.qc_script.specs.Names.{IsScriptFor, RunsWithFalls, begins, control, damaged, falls, phase, phase_of, posts}
-use Rattle.qc_script.specs.Names.{rises, takes, unopened}
+use Rattle.qc_script.specs.Vocabulary.{IsScriptFor, RunsWithFalls, begins, control, damaged, falls, phase, phase_of}
+use Rattle.qc_script.specs.Vocabulary.{posts, rises, takes, unopened}
 use Rattle.qc_script.specs.declared.script.Script.{Script}
 
 -- of two beginnings of one list, one is a beginning of the other

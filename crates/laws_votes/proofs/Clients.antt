@@ -9,27 +9,27 @@ use Rattle.laws_due.proofs.Lifelong.{client_lives}
 use Rattle.laws_due.proofs.Standing.{IsAt, IsAtInput, IsTied, Stands, account_is, account_more, actor_more, turn_is}
 use Rattle.laws_due.proofs.Step.{inputs_are_answered_as_is_due}
 use Rattle.laws_due.proofs.Writing.{IsClientTurn, takes_turn}
-use Rattle.laws_due.specs.Names.{Declares, Goes}
+use Rattle.laws_due.specs.Vocabulary.{Declares, Goes}
 use Rattle.laws_due.specs.ByRows as rows
-use Rattle.qc_client.specs.Names.{client_takes}
-use Rattle.qc_core.specs.Names.{ActorMove, IsLawfulWithFalls, actor_after, actor_takes, down_takes, with_record}
-use Rattle.qc_decl.specs.Names.{IsAccepted, actors, administrator, client_actor, is_client}
+use Rattle.qc_client.specs.Vocabulary.{client_takes}
+use Rattle.qc_core.specs.Vocabulary.{ActorMove, IsLawfulWithFalls, actor_after, actor_takes, down_takes, with_record}
+use Rattle.qc_decl.specs.Vocabulary.{IsAccepted, actors, administrator, client_actor, is_client}
 use Rattle.qc_decl.specs.declared.declaration.Declaration.{Declaration}
 use Rattle.laws_due.proofs.Declared.{run_declares}
 use Rattle.laws_due.proofs.KeptPlanned.{kept_planned}
 use Rattle.qc_entry.specs.declared.record.Commit.{Commit as CommitRecord}
 use Rattle.laws_turns.proofs.Places.{slice_get-within}
-use Rattle.qc_link.specs.Names.{most_actors}
-use Rattle.laws_turns.specs.Names.{LivesIn}
+use Rattle.qc_link.specs.Vocabulary.{most_actors}
+use Rattle.laws_turns.specs.Vocabulary.{LivesIn}
 use Rattle.laws_turns.proofs.Lived.{run_lives, run_long}
-use Rattle.qc_msg.specs.Names.{Deed, Entry, Takes, deeds, sends_of, tells_of, writes_of}
+use Rattle.qc_msg.specs.Vocabulary.{Deed, Entry, Takes, deeds, sends_of, tells_of, writes_of}
 use Rattle.qc_msg.specs.declared.record.Record.{Record}
 use Rattle.qc_msg.specs.declared.record.Record.TheVariants.{Commit}
 use Rattle.qc_msg.specs.declared.step.Input.{Input}
 use Rattle.qc_msg.specs.declared.step.Input.TheVariants as inputs
 use Rattle.qc_msg.specs.declared.turn.Turn.{Turn}
-use Rattle.qc_promise.specs.Names.{Account, IsRecordDue, Kept, account_taken, running_row}
-use Rattle.qc_script.specs.Names.{IsScriptFor, RunsWithFalls}
+use Rattle.qc_promise.specs.Vocabulary.{Account, IsRecordDue, Kept, account_taken, running_row}
+use Rattle.qc_script.specs.Vocabulary.{IsScriptFor, RunsWithFalls}
 use Rattle.qc_script.specs.declared.script.Script.{Script}
 
 pub within : (decl : Declaration) (a : ℕ) → is_client decl a ≡ true → a < actors decl

@@ -1,22 +1,22 @@
 -- The log that a Read is granted is closed, through falls.
 use Rattle.std.proofs.Common.{◌≡◌, ℕ, Bool, List, Some, slice_get, refl, ◌∙◌, subst}
-use Rattle.qc_core.specs.Names.{IsLawfulWithFalls}
-use Rattle.qc_decl.specs.Names.{IsAccepted}
+use Rattle.qc_core.specs.Vocabulary.{IsLawfulWithFalls}
+use Rattle.qc_decl.specs.Vocabulary.{IsAccepted}
 use Rattle.qc_decl.specs.declared.declaration.Declaration.{Declaration}
 use Rattle.qc_entry.specs.declared.line.Line.{Line}
-use Rattle.qc_list.specs.Names.{In}
+use Rattle.qc_list.specs.Vocabulary.{In}
 use Rattle.qc_msg.specs.declared.message.Answer.TheVariants.{Granted}
 use Rattle.qc_msg.specs.declared.message.Envelope.{Envelope}
 use Rattle.qc_msg.specs.declared.message.Message.TheVariants as messages
 use Rattle.qc_msg.specs.declared.message.Want.TheVariants.{Read}
 use Rattle.qc_msg.specs.declared.record.Record.{Record}
-use Rattle.qc_msg.specs.Names.{Entry, mail}
-use Rattle.laws_refinement.specs.Names.{IsGrantTo, IsRequest}
-use Rattle.theory_onecopy.specs.Names.{IsClosedLog, IsLogged}
-use Rattle.qc_promise.specs.Names.{Kept, committed}
-use Rattle.theory_machine.specs.Names.{OfGrant, site_after}
+use Rattle.qc_msg.specs.Vocabulary.{Entry, mail}
+use Rattle.laws_refinement.specs.Vocabulary.{IsGrantTo, IsRequest}
+use Rattle.theory_onecopy.specs.Vocabulary.{IsClosedLog, IsLogged}
+use Rattle.qc_promise.specs.Vocabulary.{Kept, committed}
+use Rattle.theory_machine.specs.Vocabulary.{OfGrant, site_after}
 use Rattle.theory_machine.proofs.ClaimLaws as claims
-use Rattle.qc_script.specs.Names.{IsScriptFor, RunsWithFalls}
+use Rattle.qc_script.specs.Vocabulary.{IsScriptFor, RunsWithFalls}
 use Rattle.qc_script.specs.declared.script.Script.{Script}
 use Rattle.qc_stamp.specs.declared.stamp.TxId.{TxId}
 use Rattle.laws_votes.proofs.Nets.{backed, net, now, of_machine, one_request, reached, refined}

@@ -1,14 +1,14 @@
 -- A commit record is due where each participant of the begun transaction was asked for its promise, in the life of its
 -- first grant that counted, and has voted for it.
-use Rattle.std.proofs.Common.{◌≡◌, ◌≢◌, ◌<◌, ◌≤◌, ◌+◌, zero, suc, ◌-◌, ℕ, nat_lt, Bool, true, false, cond, List, ◌∷◌}
-use Rattle.std.proofs.Common.{inl, inr, length, filter, Option, Some, None, refl, sym, ap, ◌∙◌, subst, arith, ltb-true}
-use Rattle.std.proofs.Common.{ltb-false}
+use Rattle.std.proofs.Common.{[], ◌≡◌, ◌≢◌, ◌<◌, ◌≤◌, ◌+◌, zero, suc, ◌-◌, ℕ, nat_lt, Bool, true, false, cond, List}
+use Rattle.std.proofs.Common.{◌∷◌, inl, inr, length, filter, Option, Some, None, refl, sym, ap, ◌∙◌, subst, arith}
+use Rattle.std.proofs.Common.{ltb-true, ltb-false}
 use Rattle.std.specs.List.{find, range_with_len}
-use Rattle.qc_decl.specs.Names.{first_site}
+use Rattle.qc_decl.specs.Vocabulary.{first_site}
 use Rattle.qc_decl.specs.declared.declaration.Declaration.{Declaration}
-use Rattle.qc_list.specs.Names.{In}
+use Rattle.qc_list.specs.Vocabulary.{In}
 use Rattle.qc_list.proofs.Members.{In-filter, In-first, In-second, every-In}
-use Rattle.qc_msg.specs.Names.{has_granted, life_of}
+use Rattle.qc_msg.specs.Vocabulary.{has_granted, life_of}
 use Rattle.qc_msg.specs.declared.message.Answer.{Answer}
 use Rattle.qc_msg.specs.declared.message.Answer.TheVariants as answers
 use Rattle.qc_msg.specs.declared.message.Message.{Message}
@@ -19,14 +19,15 @@ use Rattle.qc_msg.specs.declared.step.Command.{Command}
 use Rattle.qc_msg.specs.declared.step.Command.TheVariants as commands
 use Rattle.qc_msg.specs.declared.step.Input.{Input}
 use Rattle.qc_msg.specs.declared.step.Input.TheVariants as inputs
-use Rattle.laws_due.specs.Names.{IsPrepare, NoneRuns, Ties, appends, reads, rests, votes}
+use Rattle.laws_due.specs.Vocabulary.{IsPrepare, NoneRuns, Ties, appends, reads, rests, votes}
 use Rattle.qc_client.specs.declared.client.Client.{Client}
 use Rattle.laws_refinement.proofs.SiteNets.{place}
 use Rattle.laws_guarantees.proofs.Accounts.{told_requests}
 use Rattle.theory_onecopy.proofs.Lists.{Mapped, map_in}
-use Rattle.qc_plan.specs.Names.{cyclic}
-use Rattle.qc_promise.specs.Names.{Account, ClientRequest, Current, account_heard, account_taken, counted, counted_for}
-use Rattle.qc_promise.specs.Names.{granted, is_open, is_prepare, participants, promised, taken_for, told_by}
+use Rattle.qc_plan.specs.Vocabulary.{cyclic}
+use Rattle.qc_promise.specs.Vocabulary.{Account, ClientRequest, Current, account_heard, account_taken, counted}
+use Rattle.qc_promise.specs.Vocabulary.{counted_for, granted, is_open, is_prepare, participants, promised, taken_for}
+use Rattle.qc_promise.specs.Vocabulary.{told_by}
 use Rattle.laws_votes.proofs.VotesFor.{IsVotedFor, in_taken, KeepsVotes, same_votes}
 
 told_votes : (d : Account) (q : ClientRequest) (answer : Option Answer) → q.want ≡ Prepare

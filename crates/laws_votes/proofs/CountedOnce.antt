@@ -6,32 +6,32 @@ use Rattle.std.proofs.lemmas.Cmp.{tied_itself}
 use Rattle.std.specs.declared.cmp.Ordering.TheVariants.{Equal}
 use Rattle.laws_votes.proofs.Brought.{brought, counted_brought, home, in_journal}
 use Rattle.laws_votes.proofs.Distinct.{Differ, answers_of, distinct_by, ordered_within, rising_distinct}
-use Rattle.laws_votes.specs.Names.{committed_operations}
+use Rattle.laws_votes.specs.Vocabulary.{committed_operations}
 use Rattle.laws_bounds.proofs.HistoriesNamed.{run_named}
 use Rattle.laws_bounds.proofs.Names.{RecordNamed}
 use Rattle.laws_bounds.proofs.Putting.{own_journal_has}
-use Rattle.laws_bounds.specs.Names.{AllPut}
+use Rattle.laws_bounds.specs.Vocabulary.{AllPut}
 use Rattle.qc_core.proofs.LivesLaws.{journal}
-use Rattle.qc_core.specs.Names.{IsLawfulWithFalls}
-use Rattle.qc_decl.specs.Names.{IsAccepted, administrator, is_client}
+use Rattle.qc_core.specs.Vocabulary.{IsLawfulWithFalls}
+use Rattle.qc_decl.specs.Vocabulary.{IsAccepted, administrator, is_client}
 use Rattle.qc_decl.specs.declared.declaration.Declaration.{Declaration}
 use Rattle.qc_entry.specs.declared.record.Commit.{Commit as CommitRecord}
 use Rattle.qc_list.proofs.Members.{In-filter, In-unfiltered, every-In}
-use Rattle.qc_list.specs.Names.{In}
-use Rattle.qc_msg.specs.Names.{Entry, no_tally, operations_of}
+use Rattle.qc_list.specs.Vocabulary.{In}
+use Rattle.qc_msg.specs.Vocabulary.{Entry, no_tally, operations_of}
 use Rattle.qc_msg.specs.declared.record.Record.{Record}
 use Rattle.qc_msg.specs.declared.record.Record.TheVariants.{Commit}
 use Rattle.theory_onecopy.proofs.Committed.{records_are_sorted}
-use Rattle.theory_onecopy.specs.Names.{AreApart, IsOrdered, IsStampedBefore}
-use Rattle.qc_promise.specs.Names.{Journal, Kept, committed, records}
+use Rattle.theory_onecopy.specs.Vocabulary.{AreApart, IsOrdered, IsStampedBefore}
+use Rattle.qc_promise.specs.Vocabulary.{Journal, Kept, committed, records}
 use Rattle.laws_reach.proofs.Committing.{committed_records_stand}
 use Rattle.laws_reach.proofs.RunLaws.{apart}
 use Rattle.laws_reach.proofs.Written.{among_is, is_among}
-use Rattle.laws_reach.specs.Names.{IsOfClient, records_of}
-use Rattle.qc_script.specs.Names.{IsScriptFor, RunsWithFalls}
+use Rattle.laws_reach.specs.Vocabulary.{IsOfClient, records_of}
+use Rattle.qc_script.specs.Vocabulary.{IsScriptFor, RunsWithFalls}
 use Rattle.qc_script.specs.declared.script.Script.{Script}
 use Rattle.qc_stamp.proofs.Orders.{stamp_order}
-use Rattle.qc_stamp.specs.Names.{stamp_cmp}
+use Rattle.qc_stamp.specs.Vocabulary.{stamp_cmp}
 use Rattle.laws_reach.proofs.RisingStamps.{commits_of}
 use Rattle.laws_reach.proofs.VerdictLaw.{records_rise}
 use Rattle.std.specs.List.{AllPairs}

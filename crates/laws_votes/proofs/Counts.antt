@@ -3,10 +3,10 @@ use Rattle.std.proofs.Common.{◌≡◌, ◌+◌, ℕ, Bool, true, false, cond, 
 use Rattle.std.proofs.Common.{is_some, refl, sym, ap, ◌∙◌, subst}
 use Rattle.std.specs.Prelude.{option_and_then}
 use Rattle.laws_due.proofs.StaysUp.{stays_up}
-use Rattle.qc_core.specs.Names.{AreSteady}
+use Rattle.qc_core.specs.Vocabulary.{AreSteady}
 use Rattle.laws_reach.proofs.CarriedRecords.{said}
 use Rattle.qc_decl.specs.declared.declaration.Declaration.{Declaration}
-use Rattle.qc_msg.specs.Names.{Deed, Falls, Rises, Sends, Takes, Tells, Writes}
+use Rattle.qc_msg.specs.Vocabulary.{Deed, Falls, Rises, Sends, Takes, Tells, Writes}
 use Rattle.qc_msg.specs.declared.message.Message.{Message}
 use Rattle.qc_msg.specs.declared.message.Message.TheVariants as messages
 use Rattle.qc_msg.specs.declared.record.Record.{Record}
@@ -18,9 +18,9 @@ use Rattle.qc_msg.specs.declared.step.Input.{Input}
 use Rattle.laws_guarantees.proofs.Begun.{taken_kept}
 use Rattle.laws_guarantees.proofs.Moving.{Step, steady_step}
 use Rattle.laws_guarantees.proofs.Persists.{AreMoves, IsNumbered, numbered_step}
-use Rattle.qc_promise.specs.Names.{Account, AreDeedsDue, Current, IsDeedDue, account_at, account_sent, account_taken}
-use Rattle.qc_promise.specs.Names.{account_told, account_written, due, is_asked_for, is_declared_for, new_account}
-use Rattle.qc_promise.specs.Names.{pending_next, reply_to, row_of}
+use Rattle.qc_promise.specs.Vocabulary.{Account, AreDeedsDue, Current, IsDeedDue, account_at, account_sent}
+use Rattle.qc_promise.specs.Vocabulary.{account_taken, account_told, account_written, due, is_asked_for}
+use Rattle.qc_promise.specs.Vocabulary.{is_declared_for, new_account, pending_next, reply_to, row_of}
 use Rattle.qc_stamp.specs.declared.stamp.TxId.{TxId}
 
 true_false : (b : Bool) → b ≡ true → b ≡ false → ⊥

@@ -5,17 +5,17 @@ use Rattle.std.proofs.Common.{ap, ◌∙◌, subst, arith}
 use Rattle.std.specs.Prelude.{sum_by}
 use Rattle.std.proofs.lemmas.Bool.{le-leb}
 use Rattle.laws_atomic.proofs.Stood.{may_come}
-use Rattle.qc_core.specs.Names.{IsLawfulWithFalls, actor_after, actor_takes, is_up}
+use Rattle.qc_core.specs.Vocabulary.{IsLawfulWithFalls, actor_after, actor_takes, is_up}
 use Rattle.qc_core.specs.declared.actor.Actor.{Actor}
 use Rattle.qc_core.specs.declared.actor.Actor.TheVariants.{Admin}
-use Rattle.qc_decl.specs.Names.{IsAccepted, administrator, most_committed_operations, most_record_bytes}
+use Rattle.qc_decl.specs.Vocabulary.{IsAccepted, administrator, most_committed_operations, most_record_bytes}
 use Rattle.qc_decl.specs.declared.declaration.Declaration.{Declaration}
-use Rattle.qc_entry.specs.Names.{IsAscending}
+use Rattle.qc_entry.specs.Vocabulary.{IsAscending}
 use Rattle.qc_entry.specs.declared.line.Line.{Line}
 use Rattle.qc_entry.specs.declared.record.Commit.{Commit as CommitRecord}
 use Rattle.laws_guarantees.proofs.Lengths.{log_count}
-use Rattle.qc_list.specs.Names.{In}
-use Rattle.qc_msg.specs.Names.{Entry, WasSentTo, answered, deeds, epoch_length, mail, operations_of}
+use Rattle.qc_list.specs.Vocabulary.{In}
+use Rattle.qc_msg.specs.Vocabulary.{Entry, WasSentTo, answered, deeds, epoch_length, mail, operations_of}
 use Rattle.qc_msg.specs.declared.message.Envelope.{Envelope}
 use Rattle.qc_msg.specs.declared.message.Message.{Message}
 use Rattle.qc_msg.specs.declared.message.Message.TheVariants.{Install}
@@ -23,12 +23,12 @@ use Rattle.qc_msg.specs.declared.record.Record.{Record}
 use Rattle.qc_msg.specs.declared.reply.Reply.TheVariants.{Fault}
 use Rattle.laws_refinement.proofs.AdminCases.{admin_case}
 use Rattle.laws_refinement.proofs.NetLaws.{deciding_lines, message_lines}
-use Rattle.laws_refinement.specs.Names.{IsDecided, IsTooLong, lines_in}
-use Rattle.theory_onecopy.specs.Names.{IsLogged}
-use Rattle.qc_promise.specs.Names.{Kept, committed}
+use Rattle.laws_refinement.specs.Vocabulary.{IsDecided, IsTooLong, lines_in}
+use Rattle.theory_onecopy.specs.Vocabulary.{IsLogged}
+use Rattle.qc_promise.specs.Vocabulary.{Kept, committed}
 use Rattle.laws_reach.proofs.Stood.{in_admin}
-use Rattle.laws_reach.specs.Names.{HasTaken}
-use Rattle.qc_script.specs.Names.{IsScriptFor, RunsWithFalls}
+use Rattle.laws_reach.specs.Vocabulary.{HasTaken}
+use Rattle.qc_script.specs.Vocabulary.{IsScriptFor, RunsWithFalls}
 use Rattle.qc_script.specs.declared.script.Script.{Script}
 use Rattle.laws_votes.proofs.Laws.{few}
 use Rattle.laws_votes.proofs.Nets.{backed, listed, logged_by, net, now, reached, refined}

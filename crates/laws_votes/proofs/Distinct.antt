@@ -6,10 +6,10 @@ use Rattle.std.specs.Prelude.{sum_by}
 use Rattle.std.specs.List.{AllPairs}
 use Rattle.std.proofs.lemmas.List.Sums.{sum_by-cons}
 use Rattle.qc_entry.specs.declared.record.Commit.{Commit as CommitRecord}
-use Rattle.qc_list.specs.Names.{In}
+use Rattle.qc_list.specs.Vocabulary.{In}
 use Rattle.qc_list.proofs.Members.{In-filter}
-use Rattle.qc_msg.specs.Names.{answered}
-use Rattle.theory_onecopy.specs.Names.{IsBeforeAll, IsOrdered}
+use Rattle.qc_msg.specs.Vocabulary.{answered}
+use Rattle.theory_onecopy.specs.Vocabulary.{IsBeforeAll, IsOrdered}
 
 abbrev pub answers_of : CommitRecord → ℕ
 answers_of c = answered c.ops

@@ -2,33 +2,33 @@
 -- dependent operations. The administrator decides epochs one after another.
 use Rattle.std.proofs.Common.{◌≡◌, ℕ, ◌<◌, Bool, true, IsTrue, List, Some, inl, inr, sym, ap, ◌∙◌, subst, arith}
 use Rattle.theory_bases.proofs.EpochOrder.{later_readers, later_writers}
-use Rattle.qc_core.specs.Names.{IsLawfulWithFalls}
-use Rattle.qc_decl.specs.Names.{IsAccepted, administrator, is_client}
+use Rattle.qc_core.specs.Vocabulary.{IsLawfulWithFalls}
+use Rattle.qc_decl.specs.Vocabulary.{IsAccepted, administrator, is_client}
 use Rattle.qc_decl.specs.declared.declaration.Declaration.{Declaration}
 use Rattle.qc_entry.specs.declared.line.Line.{Line}
 use Rattle.qc_entry.specs.declared.line.Op.{Op}
 use Rattle.qc_entry.specs.declared.record.Commit.{Commit as CommitRecord}
 use Rattle.laws_guarantees.proofs.Committed.{IsOperationOf, committed_ops, operation_of}
-use Rattle.laws_guarantees.specs.Names.{IsSeenBefore}
-use Rattle.qc_list.specs.Names.{In}
-use Rattle.qc_msg.specs.Names.{Entry, first_epoch}
+use Rattle.laws_guarantees.specs.Vocabulary.{IsSeenBefore}
+use Rattle.qc_list.specs.Vocabulary.{In}
+use Rattle.qc_msg.specs.Vocabulary.{Entry, first_epoch}
 use Rattle.qc_msg.specs.declared.message.Message.TheVariants.{Request}
 use Rattle.qc_msg.specs.declared.record.Record.{Record}
 use Rattle.laws_refinement.proofs.RulesInTurn.{epochs_are_decided_in_turn}
-use Rattle.laws_refinement.specs.Names.{AreInTurn}
+use Rattle.laws_refinement.specs.Vocabulary.{AreInTurn}
 use Rattle.theory_onecopy.proofs.Lists.{Mapped, map_in}
-use Rattle.theory_onecopy.specs.Names.{IsOperation, depends_at}
-use Rattle.qc_promise.specs.Names.{Current, Kept, account, view_of}
-use Rattle.theory_machine.specs.Names.{Act, IsRun, State, op_of, state}
-use Rattle.laws_reach.specs.Names.{records_of}
-use Rattle.qc_script.specs.Names.{IsScriptFor, RunsWithFalls}
+use Rattle.theory_onecopy.specs.Vocabulary.{IsOperation, depends_at}
+use Rattle.qc_promise.specs.Vocabulary.{Current, Kept, account, view_of}
+use Rattle.theory_machine.specs.Vocabulary.{Act, IsRun, State, op_of, state}
+use Rattle.laws_reach.specs.Vocabulary.{records_of}
+use Rattle.qc_script.specs.Vocabulary.{IsScriptFor, RunsWithFalls}
 use Rattle.qc_script.specs.declared.script.Script.{Script}
 use Rattle.qc_stamp.specs.declared.stamp.Stamp.{Stamp}
 use Rattle.qc_stamp.specs.declared.stamp.TxId.{TxId}
 use Rattle.laws_votes.proofs.Law.{dependent_operations_are_ordered_through_falls}
 use Rattle.laws_votes.proofs.Live.{epoch_named}
 use Rattle.laws_votes.proofs.Nets.{backed, net, now, of_machine, reached, refined}
-use Rattle.laws_votes.specs.Names.{AsksIn, DependsOn, IsToldBy}
+use Rattle.laws_votes.specs.Vocabulary.{AsksIn, DependsOn, IsToldBy}
 
 -- two records of the machine, of which an operation of the one depends on the event of an operation of the other
 

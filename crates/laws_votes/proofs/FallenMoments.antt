@@ -5,15 +5,15 @@ use Rattle.std.proofs.Common.{refl, sym, ap, ◌∙◌, subst, append_assoc, sli
 use Rattle.std.proofs.lemmas.List.{append-nil}
 use Rattle.laws_due.proofs.Standing.{actor_more, turn_is}
 use Rattle.laws_due.proofs.Writing.{IsCommitTurn}
-use Rattle.qc_client.specs.Names.{client_takes}
-use Rattle.qc_core.specs.Names.{ActorMove, IsLawfulWithFalls, actor_after, actor_takes, with_record}
-use Rattle.qc_decl.specs.Names.{IsAccepted}
+use Rattle.qc_client.specs.Vocabulary.{client_takes}
+use Rattle.qc_core.specs.Vocabulary.{ActorMove, IsLawfulWithFalls, actor_after, actor_takes, with_record}
+use Rattle.qc_decl.specs.Vocabulary.{IsAccepted}
 use Rattle.qc_decl.specs.declared.declaration.Declaration.{Declaration}
 use Rattle.qc_entry.specs.declared.record.Commit.{Commit as CommitRecord}
-use Rattle.qc_list.specs.Names.{In}
+use Rattle.qc_list.specs.Vocabulary.{In}
 use Rattle.qc_list.proofs.Members.{In-second}
 use Rattle.qc_msg.proofs.GrownMail.{by-append}
-use Rattle.qc_msg.specs.Names.{Entry, Takes, by, deeds, mail, marked, posted_as, sents, step_of, told}
+use Rattle.qc_msg.specs.Vocabulary.{Entry, Takes, by, deeds, mail, marked, posted_as, sents, step_of, told}
 use Rattle.qc_msg.specs.Steps as post
 use Rattle.qc_msg.specs.declared.record.Record.{Record}
 use Rattle.qc_msg.specs.declared.record.Record.TheVariants as records
@@ -33,10 +33,10 @@ use Rattle.qc_msg.specs.declared.turn.Posting.{Posting}
 use Rattle.qc_msg.specs.declared.turn.Turn.{Turn}
 use Rattle.laws_guarantees.proofs.Moments.{First, Second, split}
 use Rattle.laws_votes.proofs.Moments.{WroteAt, posted, risen}
-use Rattle.qc_promise.specs.Names.{Kept}
+use Rattle.qc_promise.specs.Vocabulary.{Kept}
 use Rattle.laws_reach.proofs.RunsStand.{kept_of_first}
-use Rattle.qc_script.specs.Names.{IsScriptFor, RunsWithFalls, begins, control, controller_step, damaged, falls, phase}
-use Rattle.qc_script.specs.Names.{phase_of, posts, rises, takes, unopened}
+use Rattle.qc_script.specs.Vocabulary.{IsScriptFor, RunsWithFalls, begins, control, controller_step, damaged, falls}
+use Rattle.qc_script.specs.Vocabulary.{phase, phase_of, posts, rises, takes, unopened}
 use Rattle.qc_script.specs.declared.script.Script.{Script}
 
 -- the actor falls as it writes the commit record

@@ -2,29 +2,29 @@
 use Rattle.std.proofs.Common.{◌≡◌, ◌⊎◌, ◌≤◌, ◌<◌, ◌+◌, ◌-◌, ℕ, Bool, true, false, List, inl, inr, length, map, Option}
 use Rattle.std.proofs.Common.{Some, None, refl, sym, ap, ◌∙◌, subst, arith}
 use Rattle.std.proofs.lemmas.List.{length-map}
-use Rattle.qc_client.specs.Names.{is_begun}
+use Rattle.qc_client.specs.Vocabulary.{is_begun}
 use Rattle.qc_client.specs.declared.client.Client.{Client}
-use Rattle.qc_commit.specs.Names.{record_of}
-use Rattle.qc_core.specs.Names.{IsLawfulWithFalls}
-use Rattle.qc_decl.specs.Names.{IsAccepted, is_client}
+use Rattle.qc_commit.specs.Vocabulary.{record_of}
+use Rattle.qc_core.specs.Vocabulary.{IsLawfulWithFalls}
+use Rattle.qc_decl.specs.Vocabulary.{IsAccepted, is_client}
 use Rattle.qc_decl.specs.declared.declaration.Declaration.{Declaration}
 use Rattle.qc_entry.specs.declared.record.Commit.{Commit as CommitRecord}
 use Rattle.qc_entry.specs.declared.line.Op.{Op}
-use Rattle.qc_front.specs.Names.{BegunHolds, DoingHolds}
+use Rattle.qc_front.specs.Vocabulary.{BegunHolds, DoingHolds}
 use Rattle.qc_front.specs.declared.doing.Doing.{Doing}
 use Rattle.qc_front.specs.declared.doing.Doing.TheVariants.{Idle, Reading, Appending}
 use Rattle.qc_front.specs.declared.transaction.Transaction.{Transaction}
 use Rattle.laws_votes.proofs.Nets.{net, now, reached, refined}
-use Rattle.qc_msg.specs.Names.{Entry}
+use Rattle.qc_msg.specs.Vocabulary.{Entry}
 use Rattle.qc_msg.specs.declared.record.Record.{Record}
 use Rattle.laws_refinement.proofs.ClientRecords.{find_some}
 use Rattle.laws_refinement.proofs.Standing.{front_ends_stand}
-use Rattle.laws_refinement.specs.Names.{BegunMirrors, ClientMirrors, FrontStands}
+use Rattle.laws_refinement.specs.Vocabulary.{BegunMirrors, ClientMirrors, FrontStands}
 use Rattle.laws_guarantees.proofs.Live.{not_aborted}
 use Rattle.laws_votes.proofs.Live.{client_named, is_up_now, live}
-use Rattle.qc_promise.specs.Names.{Current, Kept, account}
-use Rattle.theory_machine.specs.Names.{Active, Committed, NotBegun, State, Status, Voting, op_of}
-use Rattle.qc_script.specs.Names.{IsScriptFor, RunsWithFalls}
+use Rattle.qc_promise.specs.Vocabulary.{Current, Kept, account}
+use Rattle.theory_machine.specs.Vocabulary.{Active, Committed, NotBegun, State, Status, Voting, op_of}
+use Rattle.qc_script.specs.Vocabulary.{IsScriptFor, RunsWithFalls}
 use Rattle.qc_script.specs.declared.script.Script.{Script}
 use Rattle.qc_stamp.proofs.Orders.{same_tx_is}
 use Rattle.qc_stamp.specs.declared.stamp.TxId.{TxId}

@@ -12,46 +12,47 @@ use Rattle.laws_bounds.proofs.ActorsNamed.{MoveNamed, StateNamed}
 use Rattle.laws_bounds.proofs.HeldNamed.{has_named}
 use Rattle.laws_bounds.proofs.HistoriesNamed.{run_named}
 use Rattle.laws_bounds.proofs.SitesNamed.{SiteNamed}
-use Rattle.qc_core.specs.Names.{IsLawfulWithFalls, IsShown, actor_after, is_up, up_at}
+use Rattle.qc_core.specs.Vocabulary.{IsLawfulWithFalls, IsShown, actor_after, is_up, up_at}
 use Rattle.qc_core.specs.declared.actor.Actor.TheVariants as actor
 use Rattle.qc_entry.proofs.Union.{in_second}
-use Rattle.qc_decl.specs.Names.{IsAccepted, actors, is_client, is_site, most_committed_operations, most_record_bytes}
+use Rattle.qc_decl.specs.Vocabulary.{IsAccepted, actors, is_client, is_site, most_committed_operations}
+use Rattle.qc_decl.specs.Vocabulary.{most_record_bytes}
 use Rattle.qc_decl.specs.declared.declaration.Declaration.{Declaration}
-use Rattle.qc_entry.specs.Names.{has_line, without}
+use Rattle.qc_entry.specs.Vocabulary.{has_line, without}
 use Rattle.qc_entry.specs.declared.line.Line.{Line}
 use Rattle.qc_entry.specs.declared.line.OwnLine.{OwnLine}
 use Rattle.qc_entry.specs.declared.line.ReadLock.{ReadLock}
 use Rattle.qc_entry.specs.declared.record.Commit.{Commit as CommitRecord}
 use Rattle.qc_entry.specs.declared.record.Prepared.{Prepared}
-use Rattle.qc_fit.specs.Names.{HasInvocation}
+use Rattle.qc_fit.specs.Vocabulary.{HasInvocation}
 use Rattle.laws_guarantees.proofs.Lengths.{key, lock_count, log_count, own_count}
 use Rattle.laws_guarantees.proofs.Room.{numbered_within}
 use Rattle.laws_guarantees.proofs.Stale.{below_length}
 use Rattle.laws_votes.proofs.Nets.{logged_by, net, now, reached, refined}
 use Rattle.laws_votes.proofs.SiteClocks.{same_site}
-use Rattle.qc_link.specs.Names.{most_actors}
-use Rattle.qc_list.specs.Names.{In}
+use Rattle.qc_link.specs.Vocabulary.{most_actors}
+use Rattle.qc_list.specs.Vocabulary.{In}
 use Rattle.qc_list.proofs.Members.{every-In}
 use Rattle.laws_turns.proofs.FallKept.{kept_rises}
 use Rattle.laws_turns.proofs.FallServed.{run_shown}
 use Rattle.qc_lock.proofs.Order.{sorted-find}
-use Rattle.qc_lock.specs.Names.{IsSound, held_of}
-use Rattle.qc_msg.specs.Names.{Deed, Entry, Takes, answered, deeds, prepare_length}
+use Rattle.qc_lock.specs.Vocabulary.{IsSound, held_of}
+use Rattle.qc_msg.specs.Vocabulary.{Deed, Entry, Takes, answered, deeds, prepare_length}
 use Rattle.qc_msg.specs.declared.record.Record.{Record}
 use Rattle.laws_refinement.proofs.NetLaws.{site_lines}
-use Rattle.laws_refinement.specs.Names.{SiteMirrors}
-use Rattle.theory_onecopy.specs.Names.{Executed, IsLogged, own_line}
-use Rattle.qc_promise.specs.Names.{Current, Kept, account, fits_record, promise_due, records}
+use Rattle.laws_refinement.specs.Vocabulary.{SiteMirrors}
+use Rattle.theory_onecopy.specs.Vocabulary.{Executed, IsLogged, own_line}
+use Rattle.qc_promise.specs.Vocabulary.{Current, Kept, account, fits_record, promise_due, records}
 use Rattle.theory_machine.proofs.LogKeeps.{log_laws}
-use Rattle.theory_machine.specs.Names.{IsExecutedOrChosen, IsOwnClosedAt, LogLaws, State, items_of, site_after}
+use Rattle.theory_machine.specs.Vocabulary.{IsExecutedOrChosen, IsOwnClosedAt, LogLaws, State, items_of, site_after}
 use Rattle.laws_reach.proofs.RunsStand.{kept_of_first}
 use Rattle.laws_reach.proofs.Stood.{in_site}
-use Rattle.laws_reach.specs.Names.{HasTaken}
-use Rattle.qc_script.specs.Names.{IsScriptFor, RunsWithFalls}
+use Rattle.laws_reach.specs.Vocabulary.{HasTaken}
+use Rattle.qc_script.specs.Vocabulary.{IsScriptFor, RunsWithFalls}
 use Rattle.qc_script.specs.declared.script.Script.{Script}
-use Rattle.qc_site.specs.Names.{SiteState, promise_of}
+use Rattle.qc_site.specs.Vocabulary.{SiteState, promise_of}
 use Rattle.qc_stamp.specs.declared.stamp.TxId.{TxId}
-use Rattle.qc_table.specs.Names.{Rules}
+use Rattle.qc_table.specs.Vocabulary.{Rules}
 use Rattle.qc_table.specs.declared.kind.Kind.{Kind}
 
 -- a declared object, and an invocation of its type

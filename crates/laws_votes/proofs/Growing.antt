@@ -4,15 +4,15 @@ use Rattle.std.proofs.Common.{length, length-append, Option, refl, sym, ap, â—Œâ
 use Rattle.std.specs.Prelude.{fold}
 use Rattle.std.proofs.lemmas.List.{append-nil}
 use Rattle.std.proofs.lemmas.List.Sums.{fold-append}
-use Rattle.qc_decl.specs.Names.{is_client}
+use Rattle.qc_decl.specs.Vocabulary.{is_client}
 use Rattle.qc_decl.specs.declared.declaration.Declaration.{Declaration}
 use Rattle.laws_guarantees.proofs.Grounds.{open_before, turn_old}
 use Rattle.laws_guarantees.proofs.ForgettingAnswers.{Forgets}
 use Rattle.laws_guarantees.proofs.AccountsStay.{IsAnswered, account_other}
-use Rattle.laws_guarantees.specs.Names.{IsOpenVote}
-use Rattle.qc_list.specs.Names.{In}
-use Rattle.qc_msg.specs.Names.{Deed, Entry, Falls, Rises, Takes, by, deeds, deeds_as, envelopes, mail, sends_of}
-use Rattle.qc_msg.specs.Names.{tells_of}
+use Rattle.laws_guarantees.specs.Vocabulary.{IsOpenVote}
+use Rattle.qc_list.specs.Vocabulary.{In}
+use Rattle.qc_msg.specs.Vocabulary.{Deed, Entry, Falls, Rises, Takes, by, deeds, deeds_as, envelopes, mail, sends_of}
+use Rattle.qc_msg.specs.Vocabulary.{tells_of}
 use Rattle.qc_msg.specs.declared.message.Answer.{Answer}
 use Rattle.qc_msg.specs.declared.message.Envelope.{Envelope}
 use Rattle.qc_msg.specs.declared.message.Message.TheVariants as messages
@@ -27,7 +27,7 @@ use Rattle.qc_msg.specs.declared.turn.Posting.{Posting}
 use Rattle.qc_msg.specs.declared.turn.Turn.{Turn}
 use Rattle.laws_refinement.proofs.Posts.{Place, placed}
 use Rattle.theory_onecopy.proofs.Lists.{in_split}
-use Rattle.qc_promise.specs.Names.{Account, ClientRequest, account, account_at, new_account}
+use Rattle.qc_promise.specs.Vocabulary.{Account, ClientRequest, account, account_at, new_account}
 
 module _ (decl : Declaration) where
   pub record Unforgotten (h : List Entry) : Type 0 where

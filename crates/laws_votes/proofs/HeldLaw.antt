@@ -2,23 +2,23 @@
 use Rattle.std.proofs.Common.{◌≡◌, ◌≤◌, ◌&&◌, not, ℕ, suc, ◌+◌, Bool, true, false, cond, List, [], ◌∷◌, inl, inr}
 use Rattle.std.proofs.Common.{length, Some, refl, sym, ap, ◌∙◌, subst, arith}
 use Rattle.std.specs.Option.{option_map_or}
-use Rattle.qc_core.specs.Names.{IsLawfulWithFalls}
+use Rattle.qc_core.specs.Vocabulary.{IsLawfulWithFalls}
 use Rattle.qc_core.proofs.SiteHolds.{whole}
-use Rattle.qc_decl.specs.Names.{IsAccepted}
+use Rattle.qc_decl.specs.Vocabulary.{IsAccepted}
 use Rattle.qc_decl.specs.declared.declaration.Declaration.{Declaration}
 use Rattle.qc_entry.specs.declared.line.Line.{Line}
 use Rattle.qc_entry.specs.declared.line.OwnLine.{OwnLine}
 use Rattle.qc_entry.specs.declared.record.Commit.{Commit as CommitRecord}
-use Rattle.laws_guarantees.specs.Names.{HasWanted, IsGrantedSince}
+use Rattle.laws_guarantees.specs.Vocabulary.{HasWanted, IsGrantedSince}
 use Rattle.laws_guarantees.proofs.Standing.{Agrees, IsWanted, WasTakenFor, not_ended, own_wanted, standing_held}
 use Rattle.laws_guarantees.proofs.Standing.{standing_more, was_taken}
 use Rattle.laws_guarantees.proofs.Mailed.{taken_mail}
 use Rattle.laws_guarantees.proofs.Room.{numbered_within}
 use Rattle.laws_votes.proofs.Nets.{backed, listed, now, refined}
-use Rattle.qc_list.specs.Names.{In}
+use Rattle.qc_list.specs.Vocabulary.{In}
 use Rattle.qc_list.proofs.Members.{In-first, In-second}
-use Rattle.qc_lock.specs.Names.{held_of}
-use Rattle.qc_msg.specs.Names.{Deed, Entry, Takes, deeds, mail, request_in}
+use Rattle.qc_lock.specs.Vocabulary.{held_of}
+use Rattle.qc_msg.specs.Vocabulary.{Deed, Entry, Takes, deeds, mail, request_in}
 use Rattle.qc_msg.specs.declared.message.Envelope.{Envelope}
 use Rattle.qc_msg.specs.declared.message.Message.{Message}
 use Rattle.qc_msg.specs.declared.message.Message.TheVariants as messages
@@ -28,17 +28,18 @@ use Rattle.qc_msg.specs.declared.message.Want.{Want}
 use Rattle.qc_msg.specs.declared.message.Want.TheVariants.{Append, Prepare, Read}
 use Rattle.qc_msg.specs.declared.record.Record.{Record}
 use Rattle.qc_msg.specs.declared.step.Input.TheVariants as inputs
-use Rattle.laws_refinement.specs.Names.{IsHeld, own_item, own_items}
+use Rattle.laws_refinement.specs.Vocabulary.{IsHeld, own_item, own_items}
 use Rattle.theory_onecopy.proofs.Lists.{in_map}
-use Rattle.theory_onecopy.specs.Names.{Executed, own_line}
-use Rattle.qc_promise.specs.Names.{Grant, Kept, committed, held_of_promises, held_shown, is_ended, is_final, is_granted}
-use Rattle.qc_promise.specs.Names.{last_cut, prepared_shown, records, standing, standing_as, standing_by}
+use Rattle.theory_onecopy.specs.Vocabulary.{Executed, own_line}
+use Rattle.qc_promise.specs.Vocabulary.{Grant, Kept, committed, held_of_promises, held_shown, is_ended, is_final}
+use Rattle.qc_promise.specs.Vocabulary.{is_granted, last_cut, prepared_shown, records, standing, standing_as}
+use Rattle.qc_promise.specs.Vocabulary.{standing_by}
 use Rattle.theory_machine.proofs.LogKeeps.{log_laws}
 use Rattle.theory_machine.proofs.Places.{at}
-use Rattle.theory_machine.specs.Names.{IsExecutedOrChosen, IsOwnClosedAt, Item, Lock, LogLaws, Own, State}
+use Rattle.theory_machine.specs.Vocabulary.{IsExecutedOrChosen, IsOwnClosedAt, Item, Lock, LogLaws, Own, State}
 use Rattle.laws_reach.proofs.RunLaws.{decisions_tell_records_that_stand}
 use Rattle.laws_reach.proofs.Committing as commits
-use Rattle.qc_script.specs.Names.{IsScriptFor, RunsWithFalls}
+use Rattle.qc_script.specs.Vocabulary.{IsScriptFor, RunsWithFalls}
 use Rattle.qc_script.specs.declared.script.Script.{Script}
 use Rattle.qc_stamp.specs.declared.stamp.TxId.{TxId}
 

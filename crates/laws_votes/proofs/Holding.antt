@@ -2,45 +2,45 @@
 -- through falls.
 use Rattle.std.proofs.Common.{◌≡◌, ◌⊎◌, ◌<◌, ◌≤◌, ◌-◌, ℕ, Bool, true, false, List, [], ◌∷◌, ◌++◌, inl, inr, Option}
 use Rattle.std.proofs.Common.{Some, None, is_some, unwrap_or, slice_get, refl, sym, ap, ◌∙◌, subst, arith}
-use Rattle.qc_core.specs.Names.{IsLawfulWithFalls, IsShown, is_up}
-use Rattle.qc_decl.specs.Names.{IsAccepted, is_client, is_site}
+use Rattle.qc_core.specs.Vocabulary.{IsLawfulWithFalls, IsShown, is_up}
+use Rattle.qc_decl.specs.Vocabulary.{IsAccepted, is_client, is_site}
 use Rattle.qc_decl.specs.declared.declaration.Declaration.{Declaration}
 use Rattle.laws_guarantees.proofs.Mailed.{sent_as, sent_mail, taken_mail}
 use Rattle.laws_guarantees.proofs.SiteMoves.{IsFull}
 use Rattle.laws_votes.proofs.Nets.{at_number, backed, net, now, one_request, reached, refined}
 use Rattle.laws_votes.proofs.SiteClocks.{mirrors, shown}
-use Rattle.qc_list.specs.Names.{In}
+use Rattle.qc_list.specs.Vocabulary.{In}
 use Rattle.qc_list.proofs.Members.{In-first, In-second}
-use Rattle.qc_lock.specs.Names.{entry_of, held_of, is_held}
+use Rattle.qc_lock.specs.Vocabulary.{entry_of, held_of, is_held}
 use Rattle.qc_lock.specs.declared.held.Held.{Held}
-use Rattle.qc_msg.specs.Names.{Entry, deeds, has_granted, life_of, mail}
+use Rattle.qc_msg.specs.Vocabulary.{Entry, deeds, has_granted, life_of, mail}
 use Rattle.qc_msg.specs.declared.message.Answer.TheVariants as answers
 use Rattle.qc_msg.specs.declared.message.Envelope.{Envelope}
 use Rattle.qc_msg.specs.declared.message.Message.TheVariants as messages
 use Rattle.qc_msg.specs.declared.message.Want.{Want}
 use Rattle.qc_msg.specs.declared.message.Want.TheVariants.{Append, Prepare, Read}
 use Rattle.qc_msg.specs.declared.record.Record.{Record}
-use Rattle.laws_refinement.specs.Names.{IsGrantTo, IsGrantable, IsHeld, IsRequest, SiteMirrors, items_wanted}
+use Rattle.laws_refinement.specs.Vocabulary.{IsGrantTo, IsGrantable, IsHeld, IsRequest, SiteMirrors, items_wanted}
 use Rattle.laws_guarantees.proofs.Live.{no_outcome}
 use Rattle.laws_votes.proofs.Live.{epoch_named, live}
-use Rattle.qc_promise.specs.Names.{ClientRequest, Current, Kept, account, epoch_shown, held_shown, life_shown}
+use Rattle.qc_promise.specs.Vocabulary.{ClientRequest, Current, Kept, account, epoch_shown, held_shown, life_shown}
 use Rattle.theory_machine.proofs.Epochs.{epoch-append, rising-right, upward}
 use Rattle.theory_machine.proofs.Keeps.{laws}
 use Rattle.theory_machine.proofs.Grants.{between}
 use Rattle.theory_machine.proofs.SiteLists.{items_of-append, items_of-each_held, items_of-kept}
 use Rattle.theory_machine.proofs.SiteOrder.{after_append}
-use Rattle.theory_machine.specs.Names.{Active, Closes, Deed, Granted, GrantedLaw, Grants, HasRisingEpochs}
-use Rattle.theory_machine.specs.Names.{HaveNoInstall, Installs, Item, KeepsLife, LearnsAbort, LearnsCommit, Lock, Own}
-use Rattle.theory_machine.specs.Names.{Prepares, Promise, Rises, Site, State, StateLaws, Voting, after_commit}
-use Rattle.theory_machine.specs.Names.{after_deed, after_prepare, each_held, empty_site, epoch_from, items_of}
-use Rattle.theory_machine.specs.Names.{promise_of, site_after, site_from}
-use Rattle.qc_script.specs.Names.{IsScriptFor, RunsWithFalls}
+use Rattle.theory_machine.specs.Vocabulary.{Active, Closes, Deed, Granted, GrantedLaw, Grants, HasRisingEpochs}
+use Rattle.theory_machine.specs.Vocabulary.{HaveNoInstall, Installs, Item, KeepsLife, LearnsAbort, LearnsCommit, Lock}
+use Rattle.theory_machine.specs.Vocabulary.{Own, Prepares, Promise, Rises, Site, State, StateLaws, Voting, after_commit}
+use Rattle.theory_machine.specs.Vocabulary.{after_deed, after_prepare, each_held, empty_site, epoch_from, items_of}
+use Rattle.theory_machine.specs.Vocabulary.{promise_of, site_after, site_from}
+use Rattle.qc_script.specs.Vocabulary.{IsScriptFor, RunsWithFalls}
 use Rattle.qc_script.specs.declared.script.Script.{Script}
 use Rattle.qc_stamp.proofs.Orders.{same_tx_is}
-use Rattle.qc_stamp.specs.Names.{same_tx}
+use Rattle.qc_stamp.specs.Vocabulary.{same_tx}
 use Rattle.qc_stamp.specs.declared.stamp.Stamp.{Stamp}
 use Rattle.qc_stamp.specs.declared.stamp.TxId.{TxId}
-use Rattle.laws_guarantees.specs.Names.{IsOpenVote}
+use Rattle.laws_guarantees.specs.Vocabulary.{IsOpenVote}
 use Rattle.laws_votes.proofs.LifeGrounds.{has_life_grounds}
 use Rattle.laws_votes.proofs.LivesAdded.{HasParticipant, IsToldLife}
 

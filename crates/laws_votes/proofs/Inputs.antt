@@ -5,19 +5,19 @@ use Rattle.std.proofs.Common.{slice_get, refl, sym, ap, ◌∙◌, subst, append
 use Rattle.std.specs.List.{AllByRecursion as Every}
 use Rattle.std.proofs.lemmas.List.{append-nil}
 use Rattle.laws_bounds.proofs.ActorsWithin.{IsOfPost, deeds_post}
-use Rattle.qc_core.specs.Names.{IsLawfulWithFalls}
-use Rattle.qc_decl.specs.Names.{controller}
+use Rattle.qc_core.specs.Vocabulary.{IsLawfulWithFalls}
+use Rattle.qc_decl.specs.Vocabulary.{controller}
 use Rattle.qc_decl.specs.declared.declaration.Declaration.{Declaration}
-use Rattle.qc_inbox.proofs.FallMail.{ready_sent}
+use Rattle.qc_mailbox.proofs.FallMail.{ready_sent}
 use Rattle.laws_turns.proofs.Acted.{deeds-silent}
 use Rattle.laws_turns.proofs.Numbered.{IsSilent, phase_silent}
-use Rattle.qc_list.specs.Names.{In}
+use Rattle.qc_list.specs.Vocabulary.{In}
 use Rattle.qc_list.proofs.Members.{In-second, every-In}
 use Rattle.laws_turns.proofs.Lived.{deeds-fall, deeds-rise, line_silent}
 use Rattle.qc_msg.proofs.DeedsGrow.{deeds-other}
 use Rattle.qc_msg.proofs.Growth.{deeds-posted_as, deeds-taken}
-use Rattle.qc_msg.specs.Names.{Deed, Entry, Falls, Rises, Takes, WasSentTo, by, deeds, deeds_as, mail, marked}
-use Rattle.qc_msg.specs.Names.{posted_as, step_of}
+use Rattle.qc_msg.specs.Vocabulary.{Deed, Entry, Falls, Rises, Takes, WasSentTo, by, deeds, deeds_as, mail, marked}
+use Rattle.qc_msg.specs.Vocabulary.{posted_as, step_of}
 use Rattle.qc_msg.specs.declared.record.Record.{Record}
 use Rattle.qc_msg.specs.declared.step.Fall.{Fall}
 use Rattle.qc_msg.specs.declared.step.Fall.TheVariants as causes
@@ -27,8 +27,8 @@ use Rattle.qc_msg.specs.declared.step.Step.TheVariants as steps
 use Rattle.qc_msg.specs.declared.turn.Appended.{Appended}
 use Rattle.qc_msg.specs.declared.turn.Turn.{Turn}
 use Rattle.laws_guarantees.proofs.Moments.{First, Second, split}
-use Rattle.qc_script.specs.Names.{RunsWithFalls, begins, control, damaged, falls, phase, phase_of, posts, ready, rises}
-use Rattle.qc_script.specs.Names.{takes, unopened}
+use Rattle.qc_script.specs.Vocabulary.{RunsWithFalls, begins, control, damaged, falls, phase, phase_of, posts, ready}
+use Rattle.qc_script.specs.Vocabulary.{rises, takes, unopened}
 use Rattle.qc_script.specs.declared.script.Script.{Script}
 
 -- deeds among which nothing is taken

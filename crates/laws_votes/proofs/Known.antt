@@ -6,15 +6,15 @@ use Rattle.std.proofs.lemmas.List.{append-nil}
 use Rattle.qc_entry.specs.declared.record.Commit.{Commit as CommitRecord}
 use Rattle.laws_votes.proofs.Recorded.{IsKnown}
 use Rattle.laws_votes.proofs.SiteLives.{journal_next}
-use Rattle.qc_list.specs.Names.{In}
+use Rattle.qc_list.specs.Vocabulary.{In}
 use Rattle.qc_list.proofs.Members.{In-more}
-use Rattle.qc_msg.specs.Names.{Entry, marked, own}
+use Rattle.qc_msg.specs.Vocabulary.{Entry, marked, own}
 use Rattle.qc_msg.specs.declared.record.Record.{Record}
 use Rattle.qc_msg.specs.declared.record.Record.TheVariants.{Commit}
 use Rattle.qc_msg.specs.declared.step.Fall.{Fall}
 use Rattle.qc_msg.specs.declared.step.Step.{Step}
 use Rattle.qc_msg.specs.declared.step.Step.TheVariants as steps
-use Rattle.qc_promise.specs.Names.{IsGivenBack, IsKeptAt, Journal, Kept, journal_of, journal_with, pending_with}
+use Rattle.qc_promise.specs.Vocabulary.{IsGivenBack, IsKeptAt, Journal, Kept, journal_of, journal_with, pending_with}
 
 -- the step writes the record, or its actor falls as it writes it
 abbrev pub IsWriting : CommitRecord → Step → Type 0

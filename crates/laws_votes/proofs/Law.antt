@@ -5,8 +5,8 @@
 use Rattle.std.proofs.Common.{◌≡◌, ◌≢◌, ◌⊎◌, ◌≤◌, ◌+◌, ◌==◌, ℕ, Bool, true, false, List, [], ◌∷◌, ◌++◌, inl, inr, fold}
 use Rattle.std.proofs.Common.{refl, sym, ap, ◌∙◌, subst, arith, append_assoc}
 use Rattle.std.proofs.lemmas.List.{append-nil}
-use Rattle.qc_core.specs.Names.{AreSteady, IsLawfulWithFalls}
-use Rattle.qc_decl.specs.Names.{IsAccepted}
+use Rattle.qc_core.specs.Vocabulary.{AreSteady, IsLawfulWithFalls}
+use Rattle.qc_decl.specs.Vocabulary.{IsAccepted}
 use Rattle.qc_decl.specs.declared.declaration.Declaration.{Declaration}
 use Rattle.qc_entry.specs.declared.line.Line.{Line}
 use Rattle.qc_entry.specs.declared.line.Op.{Op}
@@ -16,16 +16,16 @@ use Rattle.laws_votes.proofs.Promising.{IsRecording, its_client, its_moment, now
 use Rattle.laws_votes.proofs.Recorded.{IsKnown}
 use Rattle.laws_votes.proofs.Recording.{Moment}
 use Rattle.laws_votes.proofs.Stamps.{steady_clocks}
-use Rattle.qc_list.specs.Names.{In}
-use Rattle.qc_msg.specs.Names.{Deed, Entry, by, deeds, mail, marked, own}
+use Rattle.qc_list.specs.Vocabulary.{In}
+use Rattle.qc_msg.specs.Vocabulary.{Deed, Entry, by, deeds, mail, marked, own}
 use Rattle.qc_msg.specs.declared.record.Record.{Record}
 use Rattle.qc_msg.specs.declared.step.Step.{Step}
-use Rattle.theory_onecopy.specs.Names.{IsOperation}
+use Rattle.theory_onecopy.specs.Vocabulary.{IsOperation}
 use Rattle.laws_guarantees.proofs.Committed.{both_live}
 use Rattle.laws_guarantees.proofs.FirstGrants.{same_lives}
 use Rattle.laws_guarantees.proofs.Settled.{IsSafe}
 use Rattle.laws_guarantees.proofs.Moments.{First, Second, split}
-use Rattle.laws_guarantees.specs.Names.{IsOrdered}
+use Rattle.laws_guarantees.specs.Vocabulary.{IsOrdered}
 use Rattle.laws_votes.proofs.Known.{IsWriting, known_since}
 use Rattle.laws_votes.proofs.Live.{live}
 use Rattle.laws_votes.proofs.Moments.{WroteAt}
@@ -35,10 +35,10 @@ use Rattle.laws_votes.proofs.Reader.{IsFalling, IsPosted, IsReading, account_the
 use Rattle.laws_votes.proofs.Reader.{m as writes_then, mid_due, posted_at, r as due_then, reads_before, reads_between}
 use Rattle.laws_votes.proofs.Reader.{safe_early, says, steady}
 use Rattle.laws_votes.proofs.Safe.{safe}
-use Rattle.laws_votes.specs.Names.{DependsOn, IsToldBy}
-use Rattle.qc_promise.specs.Names.{Account, Current, Kept, account, account_at, committed, journal_of, view_of}
-use Rattle.laws_reach.specs.Names.{IsOfClient, records_of}
-use Rattle.qc_script.specs.Names.{IsScriptFor, RunsWithFalls}
+use Rattle.laws_votes.specs.Vocabulary.{DependsOn, IsToldBy}
+use Rattle.qc_promise.specs.Vocabulary.{Account, Current, Kept, account, account_at, committed, journal_of, view_of}
+use Rattle.laws_reach.specs.Vocabulary.{IsOfClient, records_of}
+use Rattle.qc_script.specs.Vocabulary.{IsScriptFor, RunsWithFalls}
 use Rattle.qc_script.specs.declared.script.Script.{Script}
 use Rattle.qc_stamp.specs.declared.stamp.Stamp.{Stamp}
 

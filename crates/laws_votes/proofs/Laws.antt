@@ -8,15 +8,15 @@ use Rattle.laws_votes.proofs.Fitting.{promise_fits, seen_before, seen_free, take
 use Rattle.laws_votes.proofs.Told.{never_told}
 use Rattle.laws_votes.proofs.Unforgotten.{AreAll, post_remembers}
 use Rattle.laws_votes.proofs.Counted.{votes_remember}
-use Rattle.laws_votes.specs.Names.{committed_operations}
-use Rattle.qc_core.specs.Names.{IsLawfulWithFalls, is_up}
-use Rattle.qc_decl.specs.Names.{IsAccepted, is_client, is_site, most_committed_operations}
+use Rattle.laws_votes.specs.Vocabulary.{committed_operations}
+use Rattle.qc_core.specs.Vocabulary.{IsLawfulWithFalls, is_up}
+use Rattle.qc_decl.specs.Vocabulary.{IsAccepted, is_client, is_site, most_committed_operations}
 use Rattle.qc_decl.specs.declared.declaration.Declaration.{Declaration}
 use Rattle.laws_guarantees.proofs.ForgettingAnswers.{Forgets}
-use Rattle.laws_guarantees.specs.Names.{IsOpenVote, IsRemembered}
+use Rattle.laws_guarantees.specs.Vocabulary.{IsOpenVote, IsRemembered}
 use Rattle.laws_votes.proofs.Nets.{listed, net}
-use Rattle.qc_list.specs.Names.{In}
-use Rattle.qc_msg.specs.Names.{Deed, Entry, Takes, Tells, deeds, operations_of, sends_as}
+use Rattle.qc_list.specs.Vocabulary.{In}
+use Rattle.qc_msg.specs.Vocabulary.{Deed, Entry, Takes, Tells, deeds, operations_of, sends_as}
 use Rattle.qc_msg.specs.declared.message.Answer.{Answer}
 use Rattle.qc_msg.specs.declared.message.Message.TheVariants as messages
 use Rattle.qc_msg.specs.declared.message.Want.TheVariants.{Prepare}
@@ -27,10 +27,10 @@ use Rattle.qc_msg.specs.declared.step.Input.{Input}
 use Rattle.qc_msg.specs.declared.turn.Posting.{Posting}
 use Rattle.qc_msg.specs.declared.turn.Turn.{Turn}
 use Rattle.laws_votes.proofs.Splits.{snoc_same}
-use Rattle.qc_promise.specs.Names.{ClientRequest, Current, Kept, account, committed, epoch_shown, fits_record}
-use Rattle.qc_promise.specs.Names.{life_shown, promise_due}
-use Rattle.laws_reach.specs.Names.{HasTaken}
-use Rattle.qc_script.specs.Names.{IsScriptFor, RunsWithFalls}
+use Rattle.qc_promise.specs.Vocabulary.{ClientRequest, Current, Kept, account, committed, epoch_shown, fits_record}
+use Rattle.qc_promise.specs.Vocabulary.{life_shown, promise_due}
+use Rattle.laws_reach.specs.Vocabulary.{HasTaken}
+use Rattle.qc_script.specs.Vocabulary.{IsScriptFor, RunsWithFalls}
 use Rattle.qc_script.specs.declared.script.Script.{Script}
 use Rattle.laws_votes.proofs.Holding.{asked_sites_hold_through_falls, granted}
 use Rattle.laws_votes.proofs.LifeGrounds.{has_life_grounds}

@@ -1,14 +1,14 @@
 -- What stands behind the lives of a begun transaction, through falls: the life of each site that granted it something
 -- was told by a grant, which its client took for a request that it had sent.
-use Rattle.std.proofs.Common.{◌≡◌, ◌+◌, ℕ, ◌==◌, ◌&&◌, Bool, true, false, cond, List, ◌∷◌, ◌++◌, inl, inr, Option, Some}
-use Rattle.std.proofs.Common.{None, refl, sym, ap, ◌∙◌, subst, arith, append_assoc, ◌<◌, eqb-true, filter, length}
+use Rattle.std.proofs.Common.{[], ◌≡◌, ◌+◌, ℕ, ◌==◌, ◌&&◌, Bool, true, false, cond, List, ◌∷◌, ◌++◌, inl, inr, Option}
+use Rattle.std.proofs.Common.{Some, None, refl, sym, ap, ◌∙◌, subst, arith, append_assoc, ◌<◌, eqb-true, filter, length}
 use Rattle.std.proofs.Common.{slice_get}
 use Rattle.std.specs.Prelude.{fold}
 use Rattle.std.specs.Option.{option_map_or}
 use Rattle.std.proofs.lemmas.List.{append-nil}
-use Rattle.qc_stamp.specs.Names.{same_tx}
+use Rattle.qc_stamp.specs.Vocabulary.{same_tx}
 use Rattle.qc_stamp.specs.declared.stamp.TxId.{TxId}
-use Rattle.qc_list.specs.Names.{In}
+use Rattle.qc_list.specs.Vocabulary.{In}
 use Rattle.qc_list.proofs.Members.{In-more, In-passes, every-at, every-from_In}
 use Rattle.qc_decl.specs.declared.declaration.Declaration.{Declaration}
 use Rattle.qc_msg.specs.declared.message.Answer.{Answer}
@@ -19,13 +19,13 @@ use Rattle.qc_msg.specs.declared.record.Record.{Record}
 use Rattle.qc_msg.specs.declared.record.Record.TheVariants as records
 use Rattle.qc_msg.specs.declared.step.Command.{Command}
 use Rattle.qc_msg.specs.declared.step.Command.TheVariants as commands
-use Rattle.qc_msg.specs.Names.{Deed, Falls, Rises, Sends, Takes, Tells, Writes, has_granted, life_of}
-use Rattle.qc_promise.specs.Names.{Account, ClientRequest, Current, account_at, account_sent, account_written}
-use Rattle.qc_promise.specs.Names.{answer_of, carries, command_asks, is_asked_for, is_of, is_prepare, is_this}
-use Rattle.qc_promise.specs.Names.{new_account, next_own, own_appended, participants, requests_for, same_line, same_own}
-use Rattle.qc_promise.specs.Names.{weighs}
-use Rattle.qc_decl.specs.Names.{first_site}
-use Rattle.qc_plan.specs.Names.{cyclic}
+use Rattle.qc_msg.specs.Vocabulary.{Deed, Falls, Rises, Sends, Takes, Tells, Writes, has_granted, life_of}
+use Rattle.qc_promise.specs.Vocabulary.{Account, ClientRequest, Current, account_at, account_sent, account_written}
+use Rattle.qc_promise.specs.Vocabulary.{answer_of, carries, command_asks, is_asked_for, is_of, is_prepare, is_this}
+use Rattle.qc_promise.specs.Vocabulary.{new_account, next_own, own_appended, participants, requests_for, same_line}
+use Rattle.qc_promise.specs.Vocabulary.{same_own, weighs}
+use Rattle.qc_decl.specs.Vocabulary.{first_site}
+use Rattle.qc_plan.specs.Vocabulary.{cyclic}
 use Rattle.qc_entry.specs.declared.line.OwnLine.{OwnLine}
 use Rattle.std.proofs.lemmas.List.Sums.{fold-append}
 use Rattle.qc_entry.specs.declared.line.Line.{Line}

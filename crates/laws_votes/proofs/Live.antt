@@ -4,36 +4,36 @@ use Rattle.std.proofs.Common.{◌≡◌, ◌⊎◌, ◌<◌, ◌≤◌, ◌+◌,
 use Rattle.std.proofs.Common.{Option, Some, None, slice_get, refl, sym, ap, ◌∙◌, subst, arith}
 use Rattle.std.proofs.lemmas.List.Sums.{fold-append}
 use Rattle.laws_due.proofs.Standing.{IsAtInput, IsAtRest, Stands, account_is, account_more}
-use Rattle.laws_due.specs.Names.{Ties}
+use Rattle.laws_due.specs.Vocabulary.{Ties}
 use Rattle.qc_client.specs.declared.client.Client.{Client}
 use Rattle.qc_commit.specs.declared.desk.Voting.{Voting}
-use Rattle.qc_core.specs.Names.{IsLawfulWithFalls, actor_after, is_up, up_at}
+use Rattle.qc_core.specs.Vocabulary.{IsLawfulWithFalls, actor_after, is_up, up_at}
 use Rattle.qc_core.specs.declared.actor.Actor.TheVariants as actor
-use Rattle.qc_decl.specs.Names.{IsAccepted, is_client}
+use Rattle.qc_decl.specs.Vocabulary.{IsAccepted, is_client}
 use Rattle.qc_decl.specs.declared.declaration.Declaration.{Declaration}
 use Rattle.qc_front.specs.declared.transaction.Transaction.{Transaction}
 use Rattle.laws_guarantees.proofs.ClockLaw.{take_clock}
 use Rattle.laws_votes.proofs.Clients.{client_at, slot_of}
 use Rattle.laws_votes.proofs.Nets.{net, now, reached, refined}
 use Rattle.laws_votes.proofs.Stamps.{client_due}
-use Rattle.qc_list.specs.Names.{In}
-use Rattle.qc_msg.specs.Names.{Deed, Entry, Takes, deeds, has_granted, life_of}
+use Rattle.qc_list.specs.Vocabulary.{In}
+use Rattle.qc_msg.specs.Vocabulary.{Deed, Entry, Takes, deeds, has_granted, life_of}
 use Rattle.qc_msg.specs.declared.begun.LifeAt.{LifeAt}
 use Rattle.qc_msg.specs.declared.record.Record.{Record}
-use Rattle.laws_refinement.specs.Names.{BegunMirrors, ClientMirrors, RunningMirrors, TransactionMirrors, status_by}
+use Rattle.laws_refinement.specs.Vocabulary.{BegunMirrors, ClientMirrors, RunningMirrors, TransactionMirrors, status_by}
 use Rattle.laws_guarantees.proofs.Begun.{IsKept, WasBegun, logged, taken_kept, tied_kept}
 use Rattle.laws_guarantees.proofs.FirstGrants.{same_lives}
 use Rattle.laws_guarantees.proofs.Live.{Live}
 use Rattle.laws_guarantees.proofs.Persists.{IsNumbered}
 use Rattle.laws_refinement.proofs.ClientKeeps.{clients_kept}
-use Rattle.laws_reach.specs.Names.{HasTaken, records_of}
+use Rattle.laws_reach.specs.Vocabulary.{HasTaken, records_of}
 use Rattle.laws_votes.proofs.SameLife.{life_of as life_of_records}
 use Rattle.laws_votes.proofs.Counts.{Counts, counts_all}
-use Rattle.qc_promise.specs.Names.{Account, AreRepliesDue, Current, Kept, account, account_taken}
-use Rattle.theory_machine.specs.Names.{Active, Granted, IsShown, State, Status, op_of}
+use Rattle.qc_promise.specs.Vocabulary.{Account, AreRepliesDue, Current, Kept, account, account_taken}
+use Rattle.theory_machine.specs.Vocabulary.{Active, Granted, IsShown, State, Status, op_of}
 use Rattle.theory_machine.specs.State as machine
 use Rattle.laws_reach.proofs.Stood.{in_client}
-use Rattle.qc_script.specs.Names.{IsScriptFor, RunsWithFalls}
+use Rattle.qc_script.specs.Vocabulary.{IsScriptFor, RunsWithFalls}
 use Rattle.qc_script.specs.declared.script.Script.{Script}
 use Rattle.qc_stamp.specs.declared.stamp.TxId.{TxId}
 use Rattle.std.proofs.lemmas.List.{append-nil}

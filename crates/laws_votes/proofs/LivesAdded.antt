@@ -1,13 +1,13 @@
 -- The life that a grant told, and how lives are added to a begun transaction.
-use Rattle.std.proofs.Common.{◌≡◌, ◌⊎◌, ℕ, ◌==◌, Bool, true, false, cond, List, ◌∷◌, ◌++◌, inl, inr, Option, Some, None}
-use Rattle.std.proofs.Common.{option_map, refl, sym, ap, ◌∙◌, subst, ◌||◌, eqb-true}
+use Rattle.std.proofs.Common.{[], ◌≡◌, ◌⊎◌, ℕ, ◌==◌, Bool, true, false, cond, List, ◌∷◌, ◌++◌, inl, inr, Option, Some}
+use Rattle.std.proofs.Common.{None, option_map, refl, sym, ap, ◌∙◌, subst, ◌||◌, eqb-true}
 use Rattle.std.specs.List.{find}
 use Rattle.std.specs.Option.{option_map_or}
 use Rattle.qc_stamp.specs.declared.stamp.TxId.{TxId}
-use Rattle.qc_list.specs.Names.{In}
+use Rattle.qc_list.specs.Vocabulary.{In}
 use Rattle.qc_msg.specs.declared.begun.LifeAt.{LifeAt}
-use Rattle.qc_msg.specs.Names.{Deed, has_granted, life_of, with_life}
-use Rattle.qc_promise.specs.Names.{Account, ClientRequest, Current}
+use Rattle.qc_msg.specs.Vocabulary.{Deed, has_granted, life_of, with_life}
+use Rattle.qc_promise.specs.Vocabulary.{Account, ClientRequest, Current}
 use Rattle.qc_entry.specs.declared.line.Line.{Line}
 use Rattle.qc_msg.specs.declared.message.Answer.TheVariants as answers
 use Rattle.qc_msg.specs.declared.message.Want.TheVariants.{Prepare}

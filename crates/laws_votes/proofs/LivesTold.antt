@@ -2,10 +2,10 @@
 use Rattle.std.proofs.Common.{◌≡◌, ◌⊎◌, ℕ, List, inl, inr, Option, Some, None, option_map, refl, sym, ap, ◌∙◌, subst}
 use Rattle.qc_msg.specs.declared.message.Answer.{Answer}
 use Rattle.qc_msg.specs.declared.message.Want.{Want}
-use Rattle.qc_msg.specs.Names.{with_life}
-use Rattle.qc_promise.specs.Names.{Account, ClientRequest, Current, account_told_in, answer_of, found_absent, granted}
-use Rattle.qc_promise.specs.Names.{lived, new_current, promised, refused, responded, short_of, told_by, with_read}
-use Rattle.qc_promise.specs.Names.{with_response}
+use Rattle.qc_msg.specs.Vocabulary.{with_life}
+use Rattle.qc_promise.specs.Vocabulary.{Account, ClientRequest, Current, account_told_in, answer_of, found_absent}
+use Rattle.qc_promise.specs.Vocabulary.{granted, lived, new_current, promised, refused, responded, short_of, told_by}
+use Rattle.qc_promise.specs.Vocabulary.{with_read, with_response}
 use Rattle.laws_guarantees.proofs.FirstGrants.{KeepsLives, same_lives, life_added}
 use Rattle.qc_entry.specs.declared.line.Line.{Line}
 use Rattle.qc_msg.specs.declared.message.Answer.TheVariants as answers

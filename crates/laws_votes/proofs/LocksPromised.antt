@@ -1,20 +1,20 @@
 -- Of what a site has promised it holds the locks, as it grants, promises, closes its epoch, and answers.
-use Rattle.std.proofs.Common.{fold, ◌≡◌, not, nat_le, if◌then◌else◌, ℕ, Bool, true, false, cond, List, ◌∷◌, inl, inr}
-use Rattle.std.proofs.Common.{Option, Some, None, refl, sym, ap, ◌∙◌, subst, arith}
-use Rattle.qc_core.specs.Names.{rises}
-use Rattle.qc_decl.specs.Names.{most_record_bytes}
+use Rattle.std.proofs.Common.{[], fold, ◌≡◌, not, nat_le, if◌then◌else◌, ℕ, Bool, true, false, cond, List, ◌∷◌, inl}
+use Rattle.std.proofs.Common.{inr, Option, Some, None, refl, sym, ap, ◌∙◌, subst, arith}
+use Rattle.qc_core.specs.Vocabulary.{rises}
+use Rattle.qc_decl.specs.Vocabulary.{most_record_bytes}
 use Rattle.qc_decl.specs.declared.declaration.Declaration.{Declaration}
 use Rattle.qc_entry.specs.declared.line.Line.{Line}
 use Rattle.qc_entry.specs.declared.line.OwnLine.{OwnLine}
 use Rattle.qc_entry.specs.declared.line.ReadLock.{ReadLock}
 use Rattle.qc_entry.specs.declared.record.Prepared.{Prepared}
-use Rattle.qc_list.specs.Names.{In}
+use Rattle.qc_list.specs.Vocabulary.{In}
 use Rattle.qc_list.proofs.Members.{In-more, In-unfiltered}
 use Rattle.qc_lock.proofs.Entries.{held-without_other, locks_given}
-use Rattle.qc_lock.specs.Names.{append_clash, held_of, is_held, read_clash, with_held, with_lock, with_locks}
+use Rattle.qc_lock.specs.Vocabulary.{append_clash, held_of, is_held, read_clash, with_held, with_lock, with_locks}
 use Rattle.qc_lock.specs.declared.clash.Clash.{Clash as Conflict}
 use Rattle.qc_lock.specs.declared.held.Held.{Held}
-use Rattle.qc_msg.specs.Names.{prepare_length, quiet}
+use Rattle.qc_msg.specs.Vocabulary.{prepare_length, quiet}
 use Rattle.qc_msg.specs.declared.message.Answer.{Answer}
 use Rattle.qc_msg.specs.declared.message.Answer.TheVariants.{Stale, Yes}
 use Rattle.qc_msg.specs.declared.message.Want.{Want}
@@ -22,10 +22,11 @@ use Rattle.qc_msg.specs.declared.message.Want.TheVariants.{Append, Prepare, Read
 use Rattle.qc_msg.specs.declared.record.Record.{Record}
 use Rattle.qc_msg.specs.declared.turn.Turn.{Turn}
 use Rattle.laws_refinement.proofs.Held.{given_case, lock_more, lock_new}
-use Rattle.qc_site.specs.Names.{SiteState, answers, appends_by, dropped, fault_of, grants, holds, is_prepared, moved}
-use Rattle.qc_site.specs.Names.{promise_of, promised, reads_by, relation_at, requested, votes, without_prepared}
+use Rattle.qc_site.specs.Vocabulary.{SiteState, answers, appends_by, dropped, fault_of, grants, holds, is_prepared}
+use Rattle.qc_site.specs.Vocabulary.{moved, promise_of, promised, reads_by, relation_at, requested, votes}
+use Rattle.qc_site.specs.Vocabulary.{without_prepared}
 use Rattle.qc_stamp.proofs.Orders.{other_tx_sym}
-use Rattle.qc_stamp.specs.Names.{same_tx}
+use Rattle.qc_stamp.specs.Vocabulary.{same_tx}
 use Rattle.qc_stamp.specs.declared.stamp.TxId.{TxId}
 use Rattle.laws_votes.proofs.PromisesKept.{HoldsLocks, WritePasses, MoveKeeps}
 

@@ -5,18 +5,19 @@ use Rattle.std.proofs.Common.{None, slice_get, refl, sym, ap, ◌∙◌, subst}
 use Rattle.std.proofs.lemmas.List.{append-nil}
 use Rattle.qc_core.proofs.AdminOver.{WritesAsAdmin, admin_over}
 use Rattle.qc_core.proofs.ByNumber.{rises_by}
-use Rattle.qc_core.specs.Names.{ActorMove, IsLawfulWithFalls, actor_after, actor_takes, is_up, with_record}
+use Rattle.qc_core.specs.Vocabulary.{ActorMove, IsLawfulWithFalls, actor_after, actor_takes, is_up, with_record}
 use Rattle.qc_core.proofs.LivesOfActors as actor_laws
-use Rattle.qc_decl.specs.Names.{IsAccepted, administrator, is_client, is_site}
+use Rattle.qc_decl.specs.Vocabulary.{IsAccepted, administrator, is_client, is_site}
 use Rattle.qc_decl.specs.declared.declaration.Declaration.{Declaration}
 use Rattle.qc_entry.specs.declared.record.Commit.{Commit as CommitRecord}
 use Rattle.laws_votes.proofs.Clients.{IsCommitting, client_at, committing}
 use Rattle.laws_votes.proofs.Nets.{net, reached}
-use Rattle.qc_inbox.specs.Names.{is_down}
-use Rattle.qc_list.specs.Names.{In}
+use Rattle.qc_mailbox.specs.Vocabulary.{is_down}
+use Rattle.qc_list.specs.Vocabulary.{In}
 use Rattle.laws_turns.proofs.Downs.{due, tells, up_is}
 use Rattle.qc_msg.proofs.DeedsGrow.{deeds-append, deeds-rose}
-use Rattle.qc_msg.specs.Names.{Deed, Entry, by, commit_in, deeds, fell, mail, marked, posted_as, sents, step_of, told}
+use Rattle.qc_msg.specs.Vocabulary.{Deed, Entry, by, commit_in, deeds, fell, mail, marked, posted_as, sents, step_of}
+use Rattle.qc_msg.specs.Vocabulary.{told}
 use Rattle.qc_msg.specs.declared.record.Record.{Record}
 use Rattle.qc_msg.specs.declared.record.Record.TheVariants as records
 use Rattle.qc_msg.specs.declared.reply.Reply.{Reply}
@@ -30,19 +31,19 @@ use Rattle.qc_msg.specs.declared.turn.Appended.{Appended}
 use Rattle.qc_msg.specs.declared.turn.Appended.TheVariants as ends
 use Rattle.qc_msg.specs.declared.turn.Posting.{Posting}
 use Rattle.qc_msg.specs.declared.turn.Turn.{Turn}
-use Rattle.laws_refinement.specs.Names.{commits_in}
+use Rattle.laws_refinement.specs.Vocabulary.{commits_in}
 use Rattle.laws_atomic.proofs.Posted.{taken_writes}
 use Rattle.laws_atomic.proofs.Silent.{site_silent}
 use Rattle.laws_guarantees.proofs.Moments.{First, IsFirst, Second, first_posted, none_in, one_in, split, wrote}
-use Rattle.qc_promise.specs.Names.{Kept}
+use Rattle.qc_promise.specs.Vocabulary.{Kept}
 use Rattle.laws_reach.proofs.PostedTurns.{takes_inputs}
 use Rattle.laws_reach.proofs.RunsStand.{kept_of_first}
 use Rattle.laws_reach.proofs.Stood.{in_site}
-use Rattle.laws_reach.specs.Names.{HasTaken, TakesInputs}
-use Rattle.qc_script.specs.Names.{IsScriptFor, RunsWithFalls, begins, control, controller_step, damaged, falls, phase}
-use Rattle.qc_script.specs.Names.{phase_of, posts, rises, takes, unopened}
+use Rattle.laws_reach.specs.Vocabulary.{HasTaken, TakesInputs}
+use Rattle.qc_script.specs.Vocabulary.{IsScriptFor, RunsWithFalls, begins, control, controller_step, damaged, falls}
+use Rattle.qc_script.specs.Vocabulary.{phase, phase_of, posts, rises, takes, unopened}
 use Rattle.qc_script.specs.declared.script.Script.{Script}
-use Rattle.qc_site.specs.Names.{site_takes}
+use Rattle.qc_site.specs.Vocabulary.{site_takes}
 
 -- steps that write no commit record
 

@@ -1,27 +1,27 @@
 -- Of a run with falls whose records are kept: its net, the machine's run that this is, and what stands behind its mail.
 use Rattle.std.proofs.Common.{◌≡◌, ◌↔◌, ℕ, Bool, List, Some, slice_get, sym, ap, ◌∙◌, subst, inl, inr}
-use Rattle.qc_core.specs.Names.{IsLawfulWithFalls}
-use Rattle.qc_decl.specs.Names.{IsAccepted}
+use Rattle.qc_core.specs.Vocabulary.{IsLawfulWithFalls}
+use Rattle.qc_decl.specs.Vocabulary.{IsAccepted}
 use Rattle.qc_decl.specs.declared.declaration.Declaration.{Declaration}
 use Rattle.qc_entry.specs.declared.line.Line.{Line}
 use Rattle.qc_entry.specs.declared.record.Commit.{Commit as CommitRecord}
-use Rattle.qc_list.specs.Names.{In}
+use Rattle.qc_list.specs.Vocabulary.{In}
 use Rattle.qc_msg.specs.declared.message.Envelope.{Envelope}
 use Rattle.qc_msg.specs.declared.message.Message.{Message}
 use Rattle.qc_msg.specs.declared.record.Record.{Record}
-use Rattle.qc_msg.specs.Names.{Entry, mail}
+use Rattle.qc_msg.specs.Vocabulary.{Entry, mail}
 use Rattle.qc_msg.specs.declared.message.Want.{Want}
-use Rattle.laws_refinement.specs.Names.{Backed, IsRequest, Net, Refines}
+use Rattle.laws_refinement.specs.Vocabulary.{Backed, IsRequest, Net, Refines}
 use Rattle.laws_refinement.proofs.Refining.{nets_refine}
 use Rattle.theory_onecopy.proofs.Committed.{records_are_sorted}
-use Rattle.theory_onecopy.specs.Names.{IsLogged}
-use Rattle.qc_promise.specs.Names.{Kept, committed, records}
-use Rattle.theory_machine.specs.Names.{State, state}
-use Rattle.qc_script.specs.Names.{IsScriptFor, RunsWithFalls}
+use Rattle.theory_onecopy.specs.Vocabulary.{IsLogged}
+use Rattle.qc_promise.specs.Vocabulary.{Kept, committed, records}
+use Rattle.theory_machine.specs.Vocabulary.{State, state}
+use Rattle.qc_script.specs.Vocabulary.{IsScriptFor, RunsWithFalls}
 use Rattle.qc_script.specs.declared.script.Script.{Script}
 use Rattle.qc_stamp.specs.declared.stamp.TxId.{TxId}
 use Rattle.laws_guarantees.proofs.NetMessages.{same_request}
-use Rattle.laws_reach.specs.Names.{AreStanding, IsOfClient, IsReachedWithFalls, records_of}
+use Rattle.laws_reach.specs.Vocabulary.{AreStanding, IsOfClient, IsReachedWithFalls, records_of}
 use Rattle.laws_reach.proofs.Committing.{committed_records_stand}
 use Rattle.laws_reach.proofs.Reaching.{net_of}
 use Rattle.laws_reach.proofs.RunLaws.{apart}

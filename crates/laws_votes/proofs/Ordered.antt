@@ -2,22 +2,22 @@
 use Rattle.std.proofs.Common.{◌≡◌, ℕ, Bool, true, false, List, [], ◌∷◌, ◌++◌, fold, subst}
 use Rattle.qc_core.specs.declared.actor.Actor.{Actor}
 use Rattle.qc_core.specs.declared.actor.Actor.TheVariants.{Site, Client, Admin, Down}
-use Rattle.qc_core.specs.Names.{ActorMove, actor_after, actor_does, actor_rises, actor_sends, actor_takes, moved}
+use Rattle.qc_core.specs.Vocabulary.{ActorMove, actor_after, actor_does, actor_rises, actor_sends, actor_takes, moved}
 use Rattle.qc_core.proofs.ByNumber.{new_by, rises_by}
-use Rattle.qc_decl.specs.Names.{is_client, is_site}
+use Rattle.qc_decl.specs.Vocabulary.{is_client, is_site}
 use Rattle.qc_decl.specs.declared.declaration.Declaration.{Declaration}
 use Rattle.qc_entry.specs.declared.record.Prepared.{Prepared}
 use Rattle.qc_lock.proofs.Order.{sound-without}
-use Rattle.qc_lock.specs.Names.{IsSound}
+use Rattle.qc_lock.specs.Vocabulary.{IsSound}
 use Rattle.qc_lock.specs.declared.held.Held.{Held}
-use Rattle.qc_msg.specs.Names.{Deed, Falls, Rises, Sends, Takes, Tells, Writes, quiet}
+use Rattle.qc_msg.specs.Vocabulary.{Deed, Falls, Rises, Sends, Takes, Tells, Writes, quiet}
 use Rattle.qc_msg.specs.declared.message.Message.{Message}
 use Rattle.qc_msg.specs.declared.record.Record.{Record}
 use Rattle.qc_msg.specs.declared.record.Record.TheVariants as records
 use Rattle.qc_msg.specs.declared.step.Input.{Input}
 use Rattle.qc_msg.specs.declared.step.Input.TheVariants as inputs
-use Rattle.qc_recover.specs.Names.{kept_by}
-use Rattle.qc_site.specs.Names.{SiteState, holds, passed, site_at, site_takes}
+use Rattle.qc_recover.specs.Vocabulary.{kept_by}
+use Rattle.qc_site.specs.Vocabulary.{SiteState, holds, passed, site_at, site_takes}
 use Rattle.qc_site.proofs.Cases.{state_cases}
 use Rattle.qc_site.proofs.Sorted.{held-sound, sound-held}
 

@@ -1,8 +1,8 @@
 -- The steps that write a record: no other record is in them, its client knows it from then on, and it is written once.
 use Rattle.std.proofs.Common.{◌≡◌, ◌⊎◌, ◌+◌, ◌-◌, ◌==◌, ℕ, Bool, true, cond, List, [], ◌∷◌, ◌++◌, inl, inr, Some, refl}
 use Rattle.std.proofs.Common.{sym, ap, ◌∙◌, subst, append_assoc, arith, eq-eqb}
-use Rattle.qc_core.specs.Names.{AreSteady, IsLawfulWithFalls}
-use Rattle.qc_decl.specs.Names.{IsAccepted}
+use Rattle.qc_core.specs.Vocabulary.{AreSteady, IsLawfulWithFalls}
+use Rattle.qc_decl.specs.Vocabulary.{IsAccepted}
 use Rattle.qc_decl.specs.declared.declaration.Declaration.{Declaration}
 use Rattle.qc_entry.specs.declared.line.Op.{Op}
 use Rattle.qc_entry.specs.declared.record.Commit.{Commit as CommitRecord}
@@ -11,10 +11,10 @@ use Rattle.laws_votes.proofs.Promising.{IsRecording, its_client, its_moment, now
 use Rattle.laws_votes.proofs.Recorded.{IsKnown}
 use Rattle.laws_votes.proofs.Recording.{Moment}
 use Rattle.laws_votes.proofs.SiteLives.{journal_next, record_stays}
-use Rattle.laws_votes.specs.Names.{AreWriting, IsToldBy}
-use Rattle.qc_list.specs.Names.{In}
+use Rattle.laws_votes.specs.Vocabulary.{AreWriting, IsToldBy}
+use Rattle.qc_list.specs.Vocabulary.{In}
 use Rattle.qc_list.proofs.Members.{In-last}
-use Rattle.qc_msg.specs.Names.{Entry, Falls, Tells, by, deeds, mail, marked, own}
+use Rattle.qc_msg.specs.Vocabulary.{Entry, Falls, Tells, by, deeds, mail, marked, own}
 use Rattle.qc_msg.specs.declared.message.Envelope.{Envelope}
 use Rattle.qc_msg.specs.declared.record.Record.{Record}
 use Rattle.qc_msg.specs.declared.record.Record.TheVariants as records
@@ -29,10 +29,10 @@ use Rattle.laws_votes.proofs.Reader.{IsFalling, IsPosted, behind, due_at, m as w
 use Rattle.laws_votes.proofs.Reader.{says}
 use Rattle.laws_votes.proofs.Since.{stays_steady}
 use Rattle.laws_votes.proofs.Splits.{snoc_same}
-use Rattle.qc_promise.specs.Names.{Current, Journal, Kept, journal_of}
+use Rattle.qc_promise.specs.Vocabulary.{Current, Journal, Kept, journal_of}
 use Rattle.laws_reach.proofs.RunsStand.{kept_of_first}
-use Rattle.laws_reach.specs.Names.{IsOfClient, records_of}
-use Rattle.qc_script.specs.Names.{IsScriptFor, RunsWithFalls}
+use Rattle.laws_reach.specs.Vocabulary.{IsOfClient, records_of}
+use Rattle.qc_script.specs.Vocabulary.{IsScriptFor, RunsWithFalls}
 use Rattle.qc_script.specs.declared.script.Script.{Script}
 use Rattle.qc_stamp.specs.declared.stamp.TxId.{TxId}
 

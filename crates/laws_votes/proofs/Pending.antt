@@ -4,8 +4,8 @@
 use Rattle.std.proofs.Common.{◌≡◌, ◌≢◌, ◌⊎◌, ◌≤◌, ◌+◌, ◌-◌, ℕ, Bool, true, false, IsTrue, List, [], ◌∷◌, inl, inr, Some}
 use Rattle.std.proofs.Common.{None, slice_get, refl, sym, ap, ◌∙◌, subst, arith}
 use Rattle.qc_core.proofs.LivesLaws.{clear, journal}
-use Rattle.qc_core.specs.Names.{IsLawfulWithFalls, is_up, journal_after}
-use Rattle.qc_decl.specs.Names.{IsAccepted, actors, is_client}
+use Rattle.qc_core.specs.Vocabulary.{IsLawfulWithFalls, is_up, journal_after}
+use Rattle.qc_decl.specs.Vocabulary.{IsAccepted, actors, is_client}
 use Rattle.qc_decl.specs.declared.declaration.Declaration.{Declaration}
 use Rattle.qc_entry.specs.declared.line.Line.{Line}
 use Rattle.qc_entry.specs.declared.line.Op.{Op}
@@ -13,24 +13,24 @@ use Rattle.qc_entry.specs.declared.record.Commit.{Commit as CommitRecord}
 use Rattle.laws_votes.proofs.Clients.{IsNumbered, numbered, slot_of}
 use Rattle.laws_votes.proofs.Nets.{net, now, reached, refined}
 use Rattle.laws_votes.proofs.Recorded.{IsKnown}
-use Rattle.qc_link.specs.Names.{most_actors}
-use Rattle.qc_list.specs.Names.{In}
-use Rattle.laws_turns.specs.Names.{LivesIn}
+use Rattle.qc_link.specs.Vocabulary.{most_actors}
+use Rattle.qc_list.specs.Vocabulary.{In}
+use Rattle.laws_turns.specs.Vocabulary.{LivesIn}
 use Rattle.laws_turns.proofs.Lived.{run_lives}
-use Rattle.qc_msg.specs.Names.{Entry, deeds, own}
+use Rattle.qc_msg.specs.Vocabulary.{Entry, deeds, own}
 use Rattle.qc_msg.specs.declared.record.Record.{Record}
 use Rattle.qc_msg.specs.declared.record.Record.TheVariants as records
-use Rattle.laws_refinement.specs.Names.{IsPendingBy}
-use Rattle.theory_onecopy.specs.Names.{IsOperation, depends_at}
+use Rattle.laws_refinement.specs.Vocabulary.{IsPendingBy}
+use Rattle.theory_onecopy.specs.Vocabulary.{IsOperation, depends_at}
 use Rattle.laws_guarantees.proofs.Committed.{reader_sees, writer_passes}
 use Rattle.laws_guarantees.proofs.Live.{Live}
 use Rattle.laws_guarantees.proofs.Settled.{IsSafe}
 use Rattle.laws_votes.proofs.Live.{client_named, is_up_now, live}
-use Rattle.qc_promise.specs.Names.{Current, Journal, Kept, account, journal_of, view_of}
-use Rattle.theory_machine.specs.Names.{Act, Active, Commit, Committed, IsRun, MayCommit, Status, Voting, state}
+use Rattle.qc_promise.specs.Vocabulary.{Current, Journal, Kept, account, journal_of, view_of}
+use Rattle.theory_machine.specs.Vocabulary.{Act, Active, Commit, Committed, IsRun, MayCommit, Status, Voting, state}
 use Rattle.theory_machine.proofs.Names.{put_case, put_tx_case}
 use Rattle.laws_reach.proofs.Written.{Agree, written_are}
-use Rattle.qc_script.specs.Names.{IsScriptFor, RunsWithFalls}
+use Rattle.qc_script.specs.Vocabulary.{IsScriptFor, RunsWithFalls}
 use Rattle.qc_script.specs.declared.script.Script.{Script}
 
 -- a run of the machine in which the transaction is live and safe, and the record stands

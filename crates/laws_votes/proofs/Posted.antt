@@ -7,20 +7,20 @@ use Rattle.laws_votes.proofs.Inputs.{TookAt, taken_at}
 use Rattle.qc_core.proofs.Answers.{answers_rising, answers_taken}
 use Rattle.qc_core.proofs.OpenedInputs.{Opened, opened}
 use Rattle.qc_core.proofs.Written.{IsAnswerTo, IsAnsweredTo, NoAnswer}
-use Rattle.qc_core.specs.Names.{IsLawfulWithFalls, MayReach, is_up, up_at}
-use Rattle.qc_decl.specs.Names.{actors}
+use Rattle.qc_core.specs.Vocabulary.{IsLawfulWithFalls, MayReach, is_up, up_at}
+use Rattle.qc_decl.specs.Vocabulary.{actors}
 use Rattle.qc_decl.specs.declared.declaration.Declaration.{Declaration}
 use Rattle.qc_entry.specs.declared.record.Prepared.{Prepared}
 use Rattle.laws_guarantees.proofs.ForgettingAnswers.{Forgets, same_answer}
 use Rattle.laws_turns.proofs.Places.{slice_get-more}
-use Rattle.qc_link.specs.Names.{most_actors}
-use Rattle.qc_list.specs.Names.{In}
+use Rattle.qc_link.specs.Vocabulary.{most_actors}
+use Rattle.qc_list.specs.Vocabulary.{In}
 use Rattle.qc_list.proofs.Members.{every-In}
 use Rattle.laws_turns.proofs.Lived.{deeds-rise, run_lives}
-use Rattle.laws_turns.specs.Names.{LivesIn}
+use Rattle.laws_turns.specs.Vocabulary.{LivesIn}
 use Rattle.qc_msg.proofs.GrownMail.{mail-append}
-use Rattle.qc_msg.specs.Names.{Answered, Deed, Entry, Takes, WasSentTo, answer_in, deeds, heard_in, mail, marked}
-use Rattle.qc_msg.specs.Names.{sends_as}
+use Rattle.qc_msg.specs.Vocabulary.{Answered, Deed, Entry, Takes, WasSentTo, answer_in, deeds, heard_in, mail, marked}
+use Rattle.qc_msg.specs.Vocabulary.{sends_as}
 use Rattle.qc_msg.specs.declared.message.Answer.{Answer}
 use Rattle.qc_msg.specs.declared.message.Answer.TheVariants as answers
 use Rattle.qc_msg.specs.declared.message.Envelope.{Envelope}
@@ -36,12 +36,12 @@ use Rattle.qc_msg.specs.declared.step.Input.TheVariants as given
 use Rattle.qc_msg.specs.declared.step.Step.TheVariants as steps
 use Rattle.qc_msg.specs.declared.turn.Posting.{Posting}
 use Rattle.qc_msg.specs.declared.turn.Turn.{Turn}
-use Rattle.qc_script.specs.Names.{RunsWithFalls}
+use Rattle.qc_script.specs.Vocabulary.{RunsWithFalls}
 use Rattle.qc_script.specs.declared.script.Script.{Script}
 use Rattle.qc_site.proofs.RequestCases.{append_cases, close_cases, prepare_cases, read_cases, request_cases}
 use Rattle.qc_site.proofs.Cases.{install_cases}
-use Rattle.qc_site.specs.Names.{SiteMove, SiteState, answering, finishes, grants, joins, passed, prepared_of, site_at}
-use Rattle.qc_site.specs.Names.{site_takes}
+use Rattle.qc_site.specs.Vocabulary.{SiteMove, SiteState, answering, finishes, grants, joins, passed, prepared_of}
+use Rattle.qc_site.specs.Vocabulary.{site_at, site_takes}
 use Rattle.qc_stamp.specs.declared.stamp.Stamp.{Stamp}
 use Rattle.qc_stamp.specs.declared.stamp.TxId.{TxId}
 

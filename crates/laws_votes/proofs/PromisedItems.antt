@@ -1,14 +1,14 @@
 -- The machine's site holds all items of the promises by which it is prepared.
 use Rattle.std.proofs.Common.{◌≡◌, false, List, [], ◌∷◌, ◌++◌, inl, inr, Option, Some, None, refl, sym, subst}
-use Rattle.qc_list.specs.Names.{In}
+use Rattle.qc_list.specs.Vocabulary.{In}
 use Rattle.qc_list.proofs.Members.{In-first, In-second}
 use Rattle.theory_machine.proofs.SiteLists.{in_dropped, items_of-append, items_of-each_held, items_of-kept, not_found}
-use Rattle.theory_machine.specs.Names.{Closes, Deed, Grants, Held, Installs, Item, LearnsAbort, LearnsCommit, Prepares}
-use Rattle.theory_machine.specs.Names.{Promise, Rises, Site, after_commit, after_deed, after_prepare, each_held}
-use Rattle.theory_machine.specs.Names.{empty_site, held_by_promises, items_of, promise_of, site_after, site_from}
-use Rattle.theory_machine.specs.Names.{without_promise, without_tx}
+use Rattle.theory_machine.specs.Vocabulary.{Closes, Deed, Grants, Held, Installs, Item, LearnsAbort, LearnsCommit}
+use Rattle.theory_machine.specs.Vocabulary.{Prepares, Promise, Rises, Site, after_commit, after_deed, after_prepare}
+use Rattle.theory_machine.specs.Vocabulary.{each_held, empty_site, held_by_promises, items_of, promise_of, site_after}
+use Rattle.theory_machine.specs.Vocabulary.{site_from, without_promise, without_tx}
 use Rattle.qc_stamp.proofs.Orders.{other_tx_sym}
-use Rattle.qc_stamp.specs.Names.{same_tx}
+use Rattle.qc_stamp.specs.Vocabulary.{same_tx}
 use Rattle.qc_stamp.specs.declared.stamp.Stamp.{Stamp}
 use Rattle.qc_stamp.specs.declared.stamp.TxId.{TxId}
 

@@ -1,22 +1,22 @@
 -- A site by its conduct, through falls and rises: of what it has promised it holds the locks, and its clock has passed
 -- what its records say is done.
-use Rattle.std.proofs.Common.{◌≡◌, ◌≤◌, ℕ, Bool, true, List, ◌∷◌, ◌++◌, inl, inr, Option, Some, None, option_to_list}
-use Rattle.std.proofs.Common.{refl, sym, ap, ◌∙◌, subst, arith, append_assoc}
+use Rattle.std.proofs.Common.{[], ◌≡◌, ◌≤◌, ℕ, Bool, true, List, ◌∷◌, ◌++◌, inl, inr, Option, Some, None}
+use Rattle.std.proofs.Common.{option_to_list, refl, sym, ap, ◌∙◌, subst, arith, append_assoc}
 use Rattle.std.proofs.lemmas.List.Sums.{fold-append}
 use Rattle.laws_due.proofs.Standing.{actor_more}
 use Rattle.qc_core.proofs.ByNumber.{site_new, site_risen}
 use Rattle.qc_core.proofs.LivesOfActors.{rises as actor_rising}
-use Rattle.qc_core.specs.Names.{ActorMove, IsLawfulWithFalls, Serves, actor_after, actor_takes, by_site, crashes}
-use Rattle.qc_core.specs.Names.{journal_after, journal_at, rises, serves, stays_up, unopened}
+use Rattle.qc_core.specs.Vocabulary.{ActorMove, IsLawfulWithFalls, Serves, actor_after, actor_takes, by_site, crashes}
+use Rattle.qc_core.specs.Vocabulary.{journal_after, journal_at, rises, serves, stays_up, unopened}
 use Rattle.qc_core.specs.Sites.{starts}
 use Rattle.qc_core.specs.declared.actor.Actor.{Actor}
 use Rattle.qc_core.specs.declared.actor.Actor.TheVariants.{Site}
-use Rattle.qc_decl.specs.Names.{is_site}
+use Rattle.qc_decl.specs.Vocabulary.{is_site}
 use Rattle.qc_decl.specs.declared.declaration.Declaration.{Declaration}
 use Rattle.qc_entry.specs.declared.record.Prepared.{Prepared}
-use Rattle.qc_list.specs.Names.{In}
+use Rattle.qc_list.specs.Vocabulary.{In}
 use Rattle.laws_turns.proofs.Downs.{due}
-use Rattle.qc_msg.specs.Names.{Deed, Rises, Takes, deeds_as, quiet, turn_deeds}
+use Rattle.qc_msg.specs.Vocabulary.{Deed, Rises, Takes, deeds_as, quiet, turn_deeds}
 use Rattle.qc_msg.specs.declared.message.Answer.{Answer}
 use Rattle.qc_msg.specs.declared.message.Message.{Message}
 use Rattle.qc_msg.specs.declared.message.Message.TheVariants as messages
@@ -31,13 +31,13 @@ use Rattle.qc_msg.specs.declared.turn.Appended.TheVariants as ends
 use Rattle.qc_msg.specs.declared.turn.Turn.{Turn}
 use Rattle.qc_site.proofs.RequestCases.{close_cases}
 use Rattle.qc_site.proofs.Cases.{install_cases}
-use Rattle.qc_site.specs.Names.{SiteMove, SiteState, answers, clock_after, clock_told, finishes, installs, joins}
-use Rattle.qc_site.specs.Names.{names_declared, new_site, passed, prepared_of, site_on, site_takes}
-use Rattle.qc_promise.specs.Names.{Journal, no_journal}
+use Rattle.qc_site.specs.Vocabulary.{SiteMove, SiteState, answers, clock_after, clock_told, finishes, installs, joins}
+use Rattle.qc_site.specs.Vocabulary.{names_declared, new_site, passed, prepared_of, site_on, site_takes}
+use Rattle.qc_promise.specs.Vocabulary.{Journal, no_journal}
 use Rattle.theory_onecopy.proofs.Lists.{in_split}
 use Rattle.laws_reach.proofs.Growing.{actor_posted, all_sent, journal_posted}
 use Rattle.qc_recover.proofs.SiteLaws.{clocks_passed, locks_held}
-use Rattle.qc_recover.specs.Names.{nothing_kept, site_of, site_rises}
+use Rattle.qc_recover.specs.Vocabulary.{nothing_kept, site_of, site_rises}
 use Rattle.qc_stamp.specs.declared.stamp.Stamp.{Stamp}
 use Rattle.qc_stamp.specs.declared.stamp.TxId.{TxId}
 use Rattle.laws_votes.proofs.PromisesKept.{HoldsLocks, PassesDones, Keeps, IsPassed, WritePasses, MoveKeeps, clock_up}

@@ -2,8 +2,8 @@
 use Rattle.std.proofs.Common.{◌≡◌, ◌≤◌, ℕ, Bool, true, false, List, [], inl, Some, slice_get, refl, sym, ap, ◌∙◌, subst}
 use Rattle.std.proofs.Common.{arith, ltb-true}
 use Rattle.qc_core.proofs.LivesLaws.{journal}
-use Rattle.qc_core.specs.Names.{IsLawfulWithFalls, IsShown, Serves, is_up}
-use Rattle.qc_decl.specs.Names.{IsAccepted, actors, is_site}
+use Rattle.qc_core.specs.Vocabulary.{IsLawfulWithFalls, IsShown, Serves, is_up}
+use Rattle.qc_decl.specs.Vocabulary.{IsAccepted, actors, is_site}
 use Rattle.qc_decl.specs.declared.declaration.Declaration.{Declaration}
 use Rattle.qc_entry.specs.declared.line.OwnLine.{OwnLine}
 use Rattle.qc_entry.specs.declared.line.ReadLock.{ReadLock}
@@ -12,24 +12,24 @@ use Rattle.laws_votes.proofs.Nets.{net, now, reached}
 use Rattle.laws_votes.proofs.PromisedItems.{items_held}
 use Rattle.laws_votes.proofs.PromisedLocks.{Stands, stands}
 use Rattle.laws_votes.proofs.SiteClocks.{mirrors, same_site, shown}
-use Rattle.laws_votes.specs.Names.{HasPromisedItems, IsLastPromise, IsPromisedStill}
-use Rattle.qc_link.specs.Names.{most_actors}
-use Rattle.qc_list.specs.Names.{In}
+use Rattle.laws_votes.specs.Vocabulary.{HasPromisedItems, IsLastPromise, IsPromisedStill}
+use Rattle.qc_link.specs.Vocabulary.{most_actors}
+use Rattle.qc_list.specs.Vocabulary.{In}
 use Rattle.laws_turns.proofs.FallKept.{kept_rises}
 use Rattle.laws_turns.proofs.FallServed.{run_serves}
-use Rattle.qc_lock.specs.Names.{held_of}
+use Rattle.qc_lock.specs.Vocabulary.{held_of}
 use Rattle.qc_lock.specs.declared.held.Held.{Held}
-use Rattle.qc_msg.specs.Names.{Deed, Entry, deeds, own}
+use Rattle.qc_msg.specs.Vocabulary.{Deed, Entry, deeds, own}
 use Rattle.qc_msg.specs.declared.record.Record.{Record}
 use Rattle.qc_msg.specs.declared.record.Record.TheVariants.{Done}
 use Rattle.laws_refinement.proofs.BothPromises.{Behind, behind}
-use Rattle.laws_refinement.specs.Names.{SiteMirrors}
-use Rattle.qc_promise.specs.Names.{Journal, Kept, clock_shown, held_shown, journal_of, lifetime, records_in}
-use Rattle.theory_machine.specs.Names.{Own, items_of, site_after}
+use Rattle.laws_refinement.specs.Vocabulary.{SiteMirrors}
+use Rattle.qc_promise.specs.Vocabulary.{Journal, Kept, clock_shown, held_shown, journal_of, lifetime, records_in}
+use Rattle.theory_machine.specs.Vocabulary.{Own, items_of, site_after}
 use Rattle.laws_reach.proofs.Stood.{in_site}
-use Rattle.qc_script.specs.Names.{IsScriptFor, RunsWithFalls}
+use Rattle.qc_script.specs.Vocabulary.{IsScriptFor, RunsWithFalls}
 use Rattle.qc_script.specs.declared.script.Script.{Script}
-use Rattle.qc_site.specs.Names.{SiteState}
+use Rattle.qc_site.specs.Vocabulary.{SiteState}
 use Rattle.qc_stamp.specs.declared.stamp.TxId.{TxId}
 use Rattle.laws_votes.proofs.StandingPromises.{among_promises, records_are}
 

@@ -3,25 +3,25 @@
 use Rattle.std.proofs.Common.{◌≡◌, ◌+◌, ◌-◌, ◌∷◌, ◌++◌, ℕ, Bool, true, List, [], inl, Option, Some, option_map}
 use Rattle.std.proofs.Common.{slice_get, refl, sym, ap, ◌∙◌, subst, ltb-true}
 use Rattle.laws_due.proofs.Standing.{account_is, account_more}
-use Rattle.qc_core.specs.Names.{IsLawfulWithFalls}
-use Rattle.qc_decl.specs.Names.{IsAccepted, is_client, is_site}
+use Rattle.qc_core.specs.Vocabulary.{IsLawfulWithFalls}
+use Rattle.qc_decl.specs.Vocabulary.{IsAccepted, is_client, is_site}
 use Rattle.qc_decl.specs.declared.declaration.Declaration.{Declaration}
 use Rattle.qc_entry.specs.declared.record.Commit.{Commit as CommitRecord}
 use Rattle.laws_guarantees.proofs.Accounts.{HasGrounds, WasGranted, WasSent, WasTaken}
 use Rattle.laws_guarantees.proofs.DueStamps.{due_stamp}
 use Rattle.laws_guarantees.proofs.RequestGrounds.{has_grounds}
 use Rattle.laws_guarantees.proofs.Mailed.{sent_as, sent_mail, taken_mail}
-use Rattle.laws_votes.specs.Names.{HasPromised, HaveAllPromised, IsRecorded}
+use Rattle.laws_votes.specs.Vocabulary.{HasPromised, HaveAllPromised, IsRecorded}
 use Rattle.laws_votes.proofs.VotesFor.{IsVotedFor, due_votes}
 use Rattle.laws_votes.proofs.CommitDue.{IsAskedAndFor, asked_for}
 use Rattle.laws_votes.proofs.Clients.{IsCommitting}
 use Rattle.laws_votes.proofs.Nets.{at_number, backed, listed, net, now, one_request, reached}
 use Rattle.laws_votes.proofs.Recording.{Moment, all_recorded}
 use Rattle.laws_votes.proofs.SiteLives.{record_stays}
-use Rattle.qc_list.specs.Names.{In}
+use Rattle.qc_list.specs.Vocabulary.{In}
 use Rattle.qc_list.proofs.Members.{In-first}
 use Rattle.qc_msg.proofs.GrownMail.{mail-append}
-use Rattle.qc_msg.specs.Names.{Deed, Entry, Sends, Takes, by, deeds, has_granted, mail}
+use Rattle.qc_msg.specs.Vocabulary.{Deed, Entry, Sends, Takes, by, deeds, has_granted, mail}
 use Rattle.qc_msg.specs.declared.message.Answer.TheVariants as answers
 use Rattle.qc_msg.specs.declared.message.Envelope.{Envelope}
 use Rattle.qc_msg.specs.declared.message.Message.TheVariants as messages
@@ -29,12 +29,12 @@ use Rattle.qc_msg.specs.declared.message.Want.{Want}
 use Rattle.qc_msg.specs.declared.message.Want.TheVariants.{Prepare}
 use Rattle.qc_msg.specs.declared.record.Record.{Record}
 use Rattle.qc_msg.specs.declared.record.Record.TheVariants as records
-use Rattle.laws_refinement.specs.Names.{IsGrantTo, IsRequest, IsVoteTo}
-use Rattle.qc_promise.specs.Names.{Account, Current, Kept, account, account_taken, committed}
+use Rattle.laws_refinement.specs.Vocabulary.{IsGrantTo, IsRequest, IsVoteTo}
+use Rattle.qc_promise.specs.Vocabulary.{Account, Current, Kept, account, account_taken, committed}
 use Rattle.laws_reach.proofs.RunLaws.{votes_of_runs_stand_on_records}
 use Rattle.laws_reach.proofs.Committing.{committed_records_stand}
-use Rattle.laws_reach.specs.Names.{IsOfClient, IsPromiseRecorded, records_of}
-use Rattle.qc_script.specs.Names.{IsScriptFor, RunsWithFalls}
+use Rattle.laws_reach.specs.Vocabulary.{IsOfClient, IsPromiseRecorded, records_of}
+use Rattle.qc_script.specs.Vocabulary.{IsScriptFor, RunsWithFalls}
 use Rattle.qc_script.specs.declared.script.Script.{Script}
 use Rattle.qc_stamp.specs.declared.stamp.Stamp.{Stamp}
 use Rattle.qc_stamp.specs.declared.stamp.TxId.{TxId}

@@ -4,17 +4,17 @@ use Rattle.std.proofs.Common.{◌≡◌, ◌⊎◌, ◌-◌, ◌==◌, ℕ, Bool
 use Rattle.std.proofs.Common.{ap, ◌∙◌, subst, append_assoc}
 use Rattle.std.proofs.lemmas.List.{append-nil}
 use Rattle.std.proofs.lemmas.List.Sums.{fold-append}
-use Rattle.qc_core.specs.Names.{AreSteady, IsLawfulWithFalls}
-use Rattle.qc_decl.specs.Names.{IsAccepted}
+use Rattle.qc_core.specs.Vocabulary.{AreSteady, IsLawfulWithFalls}
+use Rattle.qc_decl.specs.Vocabulary.{IsAccepted}
 use Rattle.qc_decl.specs.declared.declaration.Declaration.{Declaration}
 use Rattle.qc_entry.specs.declared.line.Op.{Op}
 use Rattle.qc_entry.specs.declared.record.Commit.{Commit as CommitRecord}
 use Rattle.laws_votes.proofs.Nets.{refined}
 use Rattle.laws_votes.proofs.Promising.{IsRecording, recording}
-use Rattle.laws_votes.specs.Names.{AreWriting, IsToldBy}
-use Rattle.qc_list.specs.Names.{In}
+use Rattle.laws_votes.specs.Vocabulary.{AreWriting, IsToldBy}
+use Rattle.qc_list.specs.Vocabulary.{In}
 use Rattle.qc_msg.proofs.DeedsGrow.{deeds-append, deeds-other}
-use Rattle.qc_msg.specs.Names.{Deed, Entry, by, deeds, mail, marked}
+use Rattle.qc_msg.specs.Vocabulary.{Deed, Entry, by, deeds, mail, marked}
 use Rattle.qc_msg.specs.declared.record.Record.{Record}
 use Rattle.qc_msg.specs.declared.record.Record.TheVariants as records
 use Rattle.qc_msg.specs.declared.reply.Reply.TheVariants.{Unknown}
@@ -32,9 +32,9 @@ use Rattle.laws_votes.proofs.Moments.{WroteAt, moment}
 use Rattle.laws_votes.proofs.Safe as promises
 use Rattle.laws_votes.proofs.Since.{account_since, since_due, stays_steady}
 use Rattle.laws_votes.proofs.Splits.{snoc_same, snoc_split}
-use Rattle.qc_promise.specs.Names.{Account, AreDeedsDue, Current, Kept, account, account_at, new_account}
+use Rattle.qc_promise.specs.Vocabulary.{Account, AreDeedsDue, Current, Kept, account, account_at, new_account}
 use Rattle.laws_reach.proofs.RunsStand.{kept_of_first}
-use Rattle.qc_script.specs.Names.{IsScriptFor, RunsWithFalls}
+use Rattle.qc_script.specs.Vocabulary.{IsScriptFor, RunsWithFalls}
 use Rattle.qc_script.specs.declared.script.Script.{Script}
 
 -- the step falls as it writes the record

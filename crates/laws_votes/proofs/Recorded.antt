@@ -1,14 +1,14 @@
 -- A commit record is in a client's journal or pending: a post makes known what was known, or its turn's record.
-use Rattle.std.proofs.Common.{◌≡◌, ◌⊎◌, ◌+◌, ◌==◌, ℕ, Bool, true, false, List, ◌∷◌, ◌++◌, inl, inr, Option, Some, None}
-use Rattle.std.proofs.Common.{option_to_list, refl, sym, ap, subst}
-use Rattle.qc_core.specs.Names.{IsLawfulWithFalls}
-use Rattle.qc_decl.specs.Names.{IsAccepted}
+use Rattle.std.proofs.Common.{[], ◌≡◌, ◌⊎◌, ◌+◌, ◌==◌, ℕ, Bool, true, false, List, ◌∷◌, ◌++◌, inl, inr, Option, Some}
+use Rattle.std.proofs.Common.{None, option_to_list, refl, sym, ap, subst}
+use Rattle.qc_core.specs.Vocabulary.{IsLawfulWithFalls}
+use Rattle.qc_decl.specs.Vocabulary.{IsAccepted}
 use Rattle.qc_decl.specs.declared.declaration.Declaration.{Declaration}
 use Rattle.qc_entry.specs.declared.record.Commit.{Commit as CommitRecord}
-use Rattle.laws_votes.specs.Names.{AreWriting}
+use Rattle.laws_votes.specs.Vocabulary.{AreWriting}
 use Rattle.laws_votes.proofs.SiteLives.{journal_next}
-use Rattle.qc_list.specs.Names.{In}
-use Rattle.qc_msg.specs.Names.{Entry, by, own, posted_as, sents, step_of, told}
+use Rattle.qc_list.specs.Vocabulary.{In}
+use Rattle.qc_msg.specs.Vocabulary.{Entry, by, own, posted_as, sents, step_of, told}
 use Rattle.qc_msg.specs.Steps as post
 use Rattle.qc_msg.specs.declared.record.Record.{Record}
 use Rattle.qc_msg.specs.declared.record.Record.TheVariants.{Commit}
@@ -24,9 +24,9 @@ use Rattle.qc_msg.specs.declared.turn.Appended.{Appended}
 use Rattle.qc_msg.specs.declared.turn.Appended.TheVariants as ends
 use Rattle.qc_msg.specs.declared.turn.Turn.{Turn}
 use Rattle.theory_onecopy.proofs.Lists.{in_split}
-use Rattle.qc_promise.specs.Names.{IsGivenBack, Journal, journal_of, journal_with}
+use Rattle.qc_promise.specs.Vocabulary.{IsGivenBack, Journal, journal_of, journal_with}
 use Rattle.laws_reach.proofs.Growing.{ended_journal}
-use Rattle.qc_script.specs.Names.{IsScriptFor, RunsWithFalls, controller_step}
+use Rattle.qc_script.specs.Vocabulary.{IsScriptFor, RunsWithFalls, controller_step}
 use Rattle.qc_script.specs.declared.script.Script.{Script}
 
 -- it is in the journal, or pending there

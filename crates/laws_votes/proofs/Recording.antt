@@ -1,23 +1,24 @@
 -- Each commit record in a client's journal, or pending there, was written, or was being written, in a post of that client,
 -- where it was due.
-use Rattle.std.proofs.Common.{◌≡◌, ◌⊎◌, ◌+◌, ◌==◌, ℕ, Bool, true, false, List, ◌∷◌, ◌++◌, inl, inr, length, Some, None}
-use Rattle.std.proofs.Common.{slice_get, refl, sym, ap, ◌∙◌, subst, append_assoc, eqb-true}
+use Rattle.std.proofs.Common.{[], ◌≡◌, ◌⊎◌, ◌+◌, ◌==◌, ℕ, Bool, true, false, List, ◌∷◌, ◌++◌, inl, inr, length, Some}
+use Rattle.std.proofs.Common.{None, slice_get, refl, sym, ap, ◌∙◌, subst, append_assoc, eqb-true}
 use Rattle.laws_due.proofs.Standing.{actor_more, turn_is}
-use Rattle.qc_client.specs.Names.{client_takes}
-use Rattle.qc_core.specs.Names.{ActorMove, IsLawfulWithFalls, actor_after, actor_takes, journal_after, journal_at}
-use Rattle.qc_core.specs.Names.{with_record}
+use Rattle.qc_client.specs.Vocabulary.{client_takes}
+use Rattle.qc_core.specs.Vocabulary.{ActorMove, IsLawfulWithFalls, actor_after, actor_takes, journal_after, journal_at}
+use Rattle.qc_core.specs.Vocabulary.{with_record}
 use Rattle.qc_core.proofs.ByNumber.{client_risen}
 use Rattle.qc_core.proofs.LivesLaws.{journal}
 use Rattle.qc_core.proofs.LivesOfActors as actor_laws
-use Rattle.qc_decl.specs.Names.{IsAccepted, controller, is_client}
+use Rattle.qc_decl.specs.Vocabulary.{IsAccepted, controller, is_client}
 use Rattle.qc_decl.specs.declared.declaration.Declaration.{Declaration}
 use Rattle.qc_entry.specs.declared.record.Commit.{Commit as CommitRecord}
-use Rattle.laws_votes.specs.Names.{AreWriting}
+use Rattle.laws_votes.specs.Vocabulary.{AreWriting}
 use Rattle.laws_votes.proofs.Clients.{IsCommitting, client_at, committing}
-use Rattle.qc_list.specs.Names.{In}
+use Rattle.qc_list.specs.Vocabulary.{In}
 use Rattle.qc_msg.proofs.DeedsGrow.{deeds-append, deeds-other, deeds-rose}
 use Rattle.qc_msg.proofs.Growth.{deeds-posted_as}
-use Rattle.qc_msg.specs.Names.{Deed, Entry, Rises, Takes, by, deeds, deeds_as, mail, marked, own, posted_as, step_of}
+use Rattle.qc_msg.specs.Vocabulary.{Deed, Entry, Rises, Takes, by, deeds, deeds_as, mail, marked, own, posted_as}
+use Rattle.qc_msg.specs.Vocabulary.{step_of}
 use Rattle.qc_msg.specs.declared.record.Record.{Record}
 use Rattle.qc_msg.specs.declared.record.Record.TheVariants.{Commit, Life}
 use Rattle.qc_msg.specs.declared.step.Fall.TheVariants as causes
@@ -25,11 +26,11 @@ use Rattle.qc_msg.specs.declared.step.Input.TheVariants as given
 use Rattle.qc_msg.specs.declared.step.Step.{Step}
 use Rattle.qc_msg.specs.declared.step.Step.TheVariants as steps
 use Rattle.qc_msg.specs.declared.turn.Turn.{Turn}
-use Rattle.qc_promise.specs.Names.{IsGivenBack, Journal, Kept, journal_of, journal_with, no_journal}
+use Rattle.qc_promise.specs.Vocabulary.{IsGivenBack, Journal, Kept, journal_of, journal_with, no_journal}
 use Rattle.laws_reach.proofs.Growing.{ended_journal, journal_posted}
 use Rattle.laws_reach.proofs.RunsStand.{kept_of_first}
-use Rattle.qc_script.specs.Names.{IsScriptFor, RunsWithFalls, begins, control, damaged, falls, phase, phase_of, posts}
-use Rattle.qc_script.specs.Names.{rises, takes, unopened}
+use Rattle.qc_script.specs.Vocabulary.{IsScriptFor, RunsWithFalls, begins, control, damaged, falls, phase, phase_of}
+use Rattle.qc_script.specs.Vocabulary.{posts, rises, takes, unopened}
 use Rattle.qc_script.specs.declared.script.Script.{Script}
 use Rattle.std.proofs.lemmas.List.Sums.{fold-append}
 use Rattle.laws_votes.proofs.Recorded.{IsKnown, posted_known, back_known, given_known, taken_same, controlled_same}

@@ -3,24 +3,25 @@ use Rattle.std.proofs.Common.{◌≡◌, ◌-◌, if◌then◌else◌, ℕ, Bool
 use Rattle.std.proofs.Common.{Some, None, is_some, option_map, option_to_list, refl, sym, ap, ◌∙◌, subst, eq-eqb}
 use Rattle.std.specs.Prelude.{option_and_then}
 use Rattle.std.proofs.lemmas.List.Sums.{fold-append}
-use Rattle.qc_core.specs.Names.{IsLawfulWithFalls}
-use Rattle.qc_decl.specs.Names.{IsAccepted, is_client}
+use Rattle.qc_core.specs.Vocabulary.{IsLawfulWithFalls}
+use Rattle.qc_decl.specs.Vocabulary.{IsAccepted, is_client}
 use Rattle.qc_decl.specs.declared.declaration.Declaration.{Declaration}
 use Rattle.laws_votes.proofs.Stamps.{client_due, due_behind}
 use Rattle.qc_msg.proofs.DeedsGrow.{deeds-append}
-use Rattle.qc_msg.specs.Names.{Deed, Entry, Tells, deeds, envelope_of, mail, marked}
+use Rattle.qc_msg.specs.Vocabulary.{Deed, Entry, Tells, deeds, envelope_of, mail, marked}
 use Rattle.qc_msg.specs.declared.record.Record.{Record}
 use Rattle.qc_msg.specs.declared.reply.Reply.{Reply}
 use Rattle.qc_msg.specs.declared.reply.Reply.TheVariants as replies
 use Rattle.qc_msg.specs.declared.step.Command.{Command}
 use Rattle.qc_msg.specs.declared.step.Step.TheVariants as steps
 use Rattle.laws_guarantees.proofs.DueResponses.{IsAnswered, due_absent, due_response}
-use Rattle.laws_guarantees.specs.Names.{Records}
-use Rattle.qc_promise.specs.Names.{Account, AreDeedsDue, AreRepliesDue, Current, IsReplyDue, Kept, account, account_at}
-use Rattle.qc_promise.specs.Names.{account_told, answer_of, due, found_absent, is_declared_for, new_account}
-use Rattle.qc_promise.specs.Names.{pending_next, reply_to, responded, row_of, running_row, with_absent, with_response}
+use Rattle.laws_guarantees.specs.Vocabulary.{Records}
+use Rattle.qc_promise.specs.Vocabulary.{Account, AreDeedsDue, AreRepliesDue, Current, IsReplyDue, Kept, account}
+use Rattle.qc_promise.specs.Vocabulary.{account_at, account_told, answer_of, due, found_absent, is_declared_for}
+use Rattle.qc_promise.specs.Vocabulary.{new_account, pending_next, reply_to, responded, row_of, running_row}
+use Rattle.qc_promise.specs.Vocabulary.{with_absent, with_response}
 use Rattle.qc_promise.specs.Rows.{pending_with}
-use Rattle.qc_script.specs.Names.{IsScriptFor, RunsWithFalls}
+use Rattle.qc_script.specs.Vocabulary.{IsScriptFor, RunsWithFalls}
 use Rattle.qc_script.specs.declared.script.Script.{Script}
 
 module _ (decl : Declaration) where

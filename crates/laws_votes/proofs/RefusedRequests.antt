@@ -5,17 +5,17 @@ use Rattle.std.proofs.Common.{arith, ltb-true, eqb-true}
 use Rattle.std.specs.List.{AllByRecursion as Every}
 use Rattle.qc_core.proofs.SiteLaws.{shows}
 use Rattle.qc_core.proofs.SiteLives.{serves_as_lives}
-use Rattle.qc_core.specs.Names.{ActorMove, IsLawfulWithFalls, IsShown, IsSiteDeed, Lives, Serves, actor_after}
-use Rattle.qc_core.specs.Names.{actor_takes, is_up, up_at}
+use Rattle.qc_core.specs.Vocabulary.{ActorMove, IsLawfulWithFalls, IsShown, IsSiteDeed, Lives, Serves, actor_after}
+use Rattle.qc_core.specs.Vocabulary.{actor_takes, is_up, up_at}
 use Rattle.std.proofs.lemmas.Bool.{cases_eq, lt-ltb}
 use Rattle.std.proofs.lemmas.List.Sums.{fold-append}
 use Rattle.laws_due.proofs.Standing.{actor_more}
 use Rattle.qc_core.specs.Lives as lives
 use Rattle.qc_core.specs.declared.actor.Actor.{Actor}
-use Rattle.qc_entry.specs.Names.{without}
+use Rattle.qc_entry.specs.Vocabulary.{without}
 use Rattle.qc_entry.specs.declared.record.Prepared.{Prepared}
 use Rattle.qc_core.specs.declared.actor.Actor.TheVariants as actor
-use Rattle.qc_decl.specs.Names.{IsAccepted, actors, is_client, is_site, most_record_bytes}
+use Rattle.qc_decl.specs.Vocabulary.{IsAccepted, actors, is_client, is_site, most_record_bytes}
 use Rattle.qc_decl.specs.declared.declaration.Declaration.{Declaration}
 use Rattle.laws_guarantees.proofs.Accounts.{HasGrounds, WasSent}
 use Rattle.laws_guarantees.proofs.RequestGrounds.{has_grounds}
@@ -23,18 +23,19 @@ use Rattle.laws_guarantees.proofs.Mailed.{sent_as, sent_mail}
 use Rattle.laws_guarantees.proofs.ForgettingAnswers.{Forgets}
 use Rattle.laws_guarantees.proofs.AnswersToInputs.{IsAnswering, IsAnsweringTo, answers_inputs, answers_request}
 use Rattle.laws_guarantees.proofs.SiteMoves.{prepares_remembered}
-use Rattle.laws_guarantees.specs.Names.{IsOpenVote}
+use Rattle.laws_guarantees.specs.Vocabulary.{IsOpenVote}
 use Rattle.laws_votes.proofs.Nets.{at_number, backed, net, now, reached, refined}
 use Rattle.laws_votes.proofs.SiteClocks.{same_site}
-use Rattle.qc_link.specs.Names.{most_actors}
-use Rattle.qc_list.specs.Names.{In}
+use Rattle.qc_link.specs.Vocabulary.{most_actors}
+use Rattle.qc_list.specs.Vocabulary.{In}
 use Rattle.laws_turns.proofs.Downs.{due}
 use Rattle.laws_turns.proofs.FallKept.{kept_rises}
 use Rattle.laws_turns.proofs.FallServed.{run_site_deeds}
 use Rattle.laws_turns.proofs.Lived.{run_lives}
-use Rattle.laws_turns.specs.Names.{LivesIn}
-use Rattle.qc_lock.specs.Names.{held_of, is_held}
-use Rattle.qc_msg.specs.Names.{Deed, Entry, Takes, WasSentTo, deeds, has_granted, life_of, mail, prepare_length, quiet}
+use Rattle.laws_turns.specs.Vocabulary.{LivesIn}
+use Rattle.qc_lock.specs.Vocabulary.{held_of, is_held}
+use Rattle.qc_msg.specs.Vocabulary.{Deed, Entry, Takes, WasSentTo, deeds, has_granted, life_of, mail, prepare_length}
+use Rattle.qc_msg.specs.Vocabulary.{quiet}
 use Rattle.qc_msg.specs.declared.message.Answer.{Answer}
 use Rattle.qc_msg.specs.declared.message.Answer.TheVariants as answers
 use Rattle.qc_msg.specs.declared.message.Envelope.{Envelope}
@@ -46,17 +47,17 @@ use Rattle.qc_msg.specs.declared.record.Record.{Record}
 use Rattle.qc_msg.specs.declared.step.Input.{Input}
 use Rattle.qc_msg.specs.declared.turn.Posting.{Posting}
 use Rattle.qc_msg.specs.declared.turn.Turn.{Turn}
-use Rattle.laws_refinement.specs.Names.{Backed, SiteMirrors}
+use Rattle.laws_refinement.specs.Vocabulary.{Backed, SiteMirrors}
 use Rattle.laws_votes.proofs.Live.{live}
 use Rattle.laws_votes.proofs.Splits.{snoc_same}
-use Rattle.qc_promise.specs.Names.{ClientRequest, Current, Kept, account, fits_record, promise_due}
-use Rattle.theory_machine.specs.Names.{Active, State, Voting, epoch_from, items_of, site_after}
+use Rattle.qc_promise.specs.Vocabulary.{ClientRequest, Current, Kept, account, fits_record, promise_due}
+use Rattle.theory_machine.specs.Vocabulary.{Active, State, Voting, epoch_from, items_of, site_after}
 use Rattle.laws_reach.proofs.Stood.{in_site}
-use Rattle.laws_reach.specs.Names.{HasTaken}
-use Rattle.qc_script.specs.Names.{IsScriptFor, RunsWithFalls}
+use Rattle.laws_reach.specs.Vocabulary.{HasTaken}
+use Rattle.qc_script.specs.Vocabulary.{IsScriptFor, RunsWithFalls}
 use Rattle.qc_script.specs.declared.script.Script.{Script}
-use Rattle.qc_site.specs.Names.{SiteState, closed_fault, fault_of, life_fault, moved, names_declared, passed}
-use Rattle.qc_site.specs.Names.{promise_of, requested, site_at, site_takes}
+use Rattle.qc_site.specs.Vocabulary.{SiteState, closed_fault, fault_of, life_fault, moved, names_declared, passed}
+use Rattle.qc_site.specs.Vocabulary.{promise_of, requested, site_at, site_takes}
 use Rattle.qc_stamp.specs.declared.stamp.TxId.{TxId}
 use Rattle.laws_votes.proofs.Holding.{IsGrantedIn, granted, granted_below, is_held_with, still_held}
 use Rattle.laws_votes.proofs.LifeGrounds.{has_life_grounds}

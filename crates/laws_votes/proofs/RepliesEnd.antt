@@ -1,23 +1,23 @@
 -- A client's reply is the last step of its turn, or Unknown, and the client falls behind it: so the entries up to there
 -- are a run.
-use Rattle.std.proofs.Common.{◌≡◌, ◌+◌, ℕ, Bool, true, false, List, ◌∷◌, ◌++◌, inl, inr, length, Option, Some, None}
+use Rattle.std.proofs.Common.{[], ◌≡◌, ◌+◌, ℕ, Bool, true, false, List, ◌∷◌, ◌++◌, inl, inr, length, Option, Some, None}
 use Rattle.std.proofs.Common.{slice_get, refl, sym, ap, ◌∙◌, subst, append_assoc}
 use Rattle.std.proofs.lemmas.List.{append-nil}
 use Rattle.std.specs.Prelude.{slice_set}
 use Rattle.laws_due.proofs.Standing.{IsAtInput, Stands, actor_more, turn_is}
 use Rattle.laws_due.proofs.Writing.{IsClientTurn, IsCommitTurn, takes_turn}
-use Rattle.qc_client.specs.Names.{client_takes}
+use Rattle.qc_client.specs.Vocabulary.{client_takes}
 use Rattle.qc_core.proofs.LivesOfActors as actor_laws
-use Rattle.qc_core.specs.Names.{ActorMove, IsLawfulWithFalls, actor_after, actor_takes, down_takes, with_record}
+use Rattle.qc_core.specs.Vocabulary.{ActorMove, IsLawfulWithFalls, actor_after, actor_takes, down_takes, with_record}
 use Rattle.qc_core.proofs.ByNumber.{rises_by}
-use Rattle.qc_decl.specs.Names.{IsAccepted, is_client, is_site}
+use Rattle.qc_decl.specs.Vocabulary.{IsAccepted, is_client, is_site}
 use Rattle.qc_decl.specs.declared.declaration.Declaration.{Declaration}
 use Rattle.laws_votes.proofs.Clients.{client_at}
 use Rattle.laws_turns.proofs.Places.{slice_get-set_same}
 use Rattle.laws_turns.proofs.Downs.{due}
 use Rattle.qc_msg.proofs.DeedsGrow.{deeds-append, deeds-rose}
-use Rattle.qc_msg.specs.Names.{Deed, Entry, HasRecord, MayEnd, Takes, by, deeds, mail, marked, posted_as, sents}
-use Rattle.qc_msg.specs.Names.{step_of, told}
+use Rattle.qc_msg.specs.Vocabulary.{Deed, Entry, HasRecord, MayEnd, Takes, by, deeds, mail, marked, posted_as, sents}
+use Rattle.qc_msg.specs.Vocabulary.{step_of, told}
 use Rattle.qc_msg.specs.Steps as post
 use Rattle.qc_msg.specs.declared.record.Record.{Record}
 use Rattle.qc_msg.specs.declared.reply.Reply.{Reply}
@@ -32,11 +32,11 @@ use Rattle.qc_msg.specs.declared.turn.Appended.TheVariants as ends
 use Rattle.qc_msg.specs.declared.turn.Posting.{Posting}
 use Rattle.qc_msg.specs.declared.turn.Turn.{Turn}
 use Rattle.laws_guarantees.proofs.Moments.{First, Second, split}
-use Rattle.laws_votes.specs.Names.{EndsTurn, IsRunWithout, unknown_fall}
-use Rattle.qc_promise.specs.Names.{Kept}
+use Rattle.laws_votes.specs.Vocabulary.{EndsTurn, IsRunWithout, unknown_fall}
+use Rattle.qc_promise.specs.Vocabulary.{Kept}
 use Rattle.laws_reach.proofs.RunsStand.{kept_of_first}
-use Rattle.qc_script.specs.Names.{IsScriptFor, RunsWithFalls, begins, control, damaged, falls, phase, phase_of, posts}
-use Rattle.qc_script.specs.Names.{rises, takes, unopened}
+use Rattle.qc_script.specs.Vocabulary.{IsScriptFor, RunsWithFalls, begins, control, damaged, falls, phase, phase_of}
+use Rattle.qc_script.specs.Vocabulary.{posts, rises, takes, unopened}
 use Rattle.qc_script.specs.declared.script.Script.{Script}
 use Rattle.laws_votes.proofs.Untold.{reply_of, tells, silent_none, silent_one, silent_taken, silent_line}
 use Rattle.laws_votes.proofs.RepliesLast.{IsToldIn, told_in}

@@ -1,8 +1,8 @@
 -- Where a reply stands in a post: nothing comes behind it, or the fall.
-use Rattle.std.proofs.Common.{◌≡◌, ◌+◌, ℕ, List, ◌∷◌, ◌++◌, Option, Some, None, refl, sym, ap, ◌∙◌, append_assoc}
+use Rattle.std.proofs.Common.{[], ◌≡◌, ◌+◌, ℕ, List, ◌∷◌, ◌++◌, Option, Some, None, refl, sym, ap, ◌∙◌, append_assoc}
 use Rattle.std.proofs.lemmas.List.{append-nil}
 use Rattle.qc_msg.proofs.GrownMail.{by-append}
-use Rattle.qc_msg.specs.Names.{Entry, by, marked, posted_as, sents, told}
+use Rattle.qc_msg.specs.Vocabulary.{Entry, by, marked, posted_as, sents, told}
 use Rattle.qc_msg.specs.Steps as post
 use Rattle.qc_msg.specs.declared.reply.Reply.{Reply}
 use Rattle.qc_msg.specs.declared.step.Fall.TheVariants as causes

@@ -2,31 +2,31 @@
 -- site is in the life in which it granted, or has voted.
 use Rattle.std.proofs.Common.{◌≡◌, ◌⊎◌, ◌<◌, ◌≤◌, ℕ, Bool, true, List, ◌++◌, inl, inr, Some, slice_get, refl, sym, ap}
 use Rattle.std.proofs.Common.{◌∙◌, subst, arith}
-use Rattle.qc_core.specs.Names.{IsLawfulWithFalls}
-use Rattle.qc_decl.specs.Names.{IsAccepted, is_client, is_site}
+use Rattle.qc_core.specs.Vocabulary.{IsLawfulWithFalls}
+use Rattle.qc_decl.specs.Vocabulary.{IsAccepted, is_client, is_site}
 use Rattle.qc_decl.specs.declared.declaration.Declaration.{Declaration}
 use Rattle.laws_votes.proofs.Cast.{votes_are_cast_in_the_lives_that_they_name}
 use Rattle.laws_votes.proofs.Nets.{at_number, backed, net, now, one_request, reached, refined}
-use Rattle.laws_votes.specs.Names.{HasPromised, HaveAllPromised, IsCastSince, life_at}
-use Rattle.qc_list.specs.Names.{In}
+use Rattle.laws_votes.specs.Vocabulary.{HasPromised, HaveAllPromised, IsCastSince, life_at}
+use Rattle.qc_list.specs.Vocabulary.{In}
 use Rattle.qc_list.proofs.Members.{In-first}
 use Rattle.qc_msg.proofs.GrownMail.{mail-append}
-use Rattle.qc_msg.specs.Names.{Entry, life_of, mail, own}
+use Rattle.qc_msg.specs.Vocabulary.{Entry, life_of, mail, own}
 use Rattle.qc_msg.specs.declared.message.Answer.TheVariants as answers
 use Rattle.qc_msg.specs.declared.message.Envelope.{Envelope}
 use Rattle.qc_msg.specs.declared.message.Message.TheVariants as messages
 use Rattle.qc_msg.specs.declared.message.Want.TheVariants.{Prepare}
 use Rattle.qc_msg.specs.declared.record.Record.{Record}
-use Rattle.laws_refinement.specs.Names.{IsRequest, IsVoteTo, KeptMirrors}
+use Rattle.laws_refinement.specs.Vocabulary.{IsRequest, IsVoteTo, KeptMirrors}
 use Rattle.laws_refinement.proofs.Machine.{slice_get-append}
 use Rattle.laws_guarantees.proofs.FirstGrants.{KeepsLives}
 use Rattle.laws_guarantees.proofs.Settled.{IsSafe}
 use Rattle.laws_votes.proofs.Live.{IsParticipant, participant}
-use Rattle.qc_promise.specs.Names.{Current, Kept, account, journal_of}
+use Rattle.qc_promise.specs.Vocabulary.{Current, Kept, account, journal_of}
 use Rattle.theory_machine.proofs.Keeps.{laws}
-use Rattle.theory_machine.specs.Names.{Granted, State, StateLaws, YesVote}
-use Rattle.qc_recover.specs.Names.{kept_by}
-use Rattle.qc_script.specs.Names.{IsScriptFor, RunsWithFalls}
+use Rattle.theory_machine.specs.Vocabulary.{Granted, State, StateLaws, YesVote}
+use Rattle.qc_recover.specs.Vocabulary.{kept_by}
+use Rattle.qc_script.specs.Vocabulary.{IsScriptFor, RunsWithFalls}
 use Rattle.qc_script.specs.declared.script.Script.{Script}
 
 module _ (fits : ℕ → List Record → Type 0) (decl : Declaration) (script : Script) (h : List Entry)

@@ -2,15 +2,15 @@
 use Rattle.std.proofs.Common.{◌≡◌, ◌⊎◌, ◌≤◌, ◌+◌, ℕ, true, false, List, [], ◌∷◌, ◌++◌, inl, inr, fold, Option, Some}
 use Rattle.std.proofs.Common.{None, option_to_list, refl, sym, ap, ◌∙◌, subst, arith}
 use Rattle.std.proofs.lemmas.List.Sums.{fold-append}
-use Rattle.qc_core.specs.Names.{AreGivenBack, AreSteady, IsGivenBackAt, journal_at, up_at}
+use Rattle.qc_core.specs.Vocabulary.{AreGivenBack, AreSteady, IsGivenBackAt, journal_at, up_at}
 use Rattle.qc_decl.specs.declared.declaration.Declaration.{Declaration}
-use Rattle.qc_msg.specs.Names.{Deed, Falls, Rises, Sends, Takes, Tells, Writes}
+use Rattle.qc_msg.specs.Vocabulary.{Deed, Falls, Rises, Sends, Takes, Tells, Writes}
 use Rattle.qc_msg.specs.declared.record.Record.{Record}
 use Rattle.qc_msg.specs.declared.record.Record.TheVariants as records
 use Rattle.qc_msg.specs.declared.step.Fall.{Fall}
 use Rattle.qc_msg.specs.declared.step.Fall.TheVariants as causes
-use Rattle.qc_promise.specs.Names.{Account, Act, AreDeedsDue, Fell, IsGivenBack, Journal, Sent, Told, Wrote, account_at}
-use Rattle.qc_promise.specs.Names.{fallen_in, posted_due, posted_next, rising_turn}
+use Rattle.qc_promise.specs.Vocabulary.{Account, Act, AreDeedsDue, Fell, IsGivenBack, Journal, Sent, Told, Wrote}
+use Rattle.qc_promise.specs.Vocabulary.{account_at, fallen_in, posted_due, posted_next, rising_turn}
 use Rattle.qc_recover.specs.Clients.{Kept, keeps, kept_by, nothing_kept}
 
 abbrev pub life_of : List Record → ℕ

@@ -3,18 +3,19 @@
 use Rattle.std.proofs.Common.{◌≡◌, ◌-◌, ℕ, Bool, true, List, [], ◌++◌, fold, Some, sym, ap, ◌∙◌, subst, arith}
 use Rattle.std.proofs.lemmas.List.Sums.{fold-append}
 use Rattle.qc_core.proofs.LivesLaws.{journal}
-use Rattle.qc_core.specs.Names.{AreGivenBack, AreSteady, IsLawfulWithFalls, is_up, journal_after, journal_at, up_at}
-use Rattle.qc_decl.specs.Names.{IsAccepted, is_client}
+use Rattle.qc_core.specs.Vocabulary.{AreGivenBack, AreSteady, IsLawfulWithFalls, is_up, journal_after, journal_at}
+use Rattle.qc_core.specs.Vocabulary.{up_at}
+use Rattle.qc_decl.specs.Vocabulary.{IsAccepted, is_client}
 use Rattle.qc_decl.specs.declared.declaration.Declaration.{Declaration}
 use Rattle.laws_votes.proofs.Stamps.{client_due, due_behind}
 use Rattle.qc_msg.proofs.DeedsGrow.{deeds-append}
-use Rattle.qc_msg.specs.Names.{Deed, Entry, deeds, mail, own}
+use Rattle.qc_msg.specs.Vocabulary.{Deed, Entry, deeds, mail, own}
 use Rattle.qc_msg.specs.declared.record.Record.{Record}
 use Rattle.laws_votes.proofs.Live.{is_up_now, life_named}
 use Rattle.laws_votes.proofs.SameLife.{back_behind, life_of, steady_life}
-use Rattle.qc_promise.specs.Names.{AreDeedsDue, AreRepliesDue, Current, Journal, Kept, account, account_at, journal_of}
-use Rattle.qc_promise.specs.Names.{new_account, no_journal}
-use Rattle.qc_script.specs.Names.{IsScriptFor, RunsWithFalls}
+use Rattle.qc_promise.specs.Vocabulary.{AreDeedsDue, AreRepliesDue, Current, Journal, Kept, account, account_at}
+use Rattle.qc_promise.specs.Vocabulary.{journal_of, new_account, no_journal}
+use Rattle.qc_script.specs.Vocabulary.{IsScriptFor, RunsWithFalls}
 use Rattle.qc_script.specs.declared.script.Script.{Script}
 use Rattle.qc_stamp.specs.declared.stamp.TxId.{TxId}
 use Rattle.qc_core.proofs.KeptBack.{kept_given_back}

@@ -1,26 +1,26 @@
 -- A site's clock has passed the lines that it knows, through falls.
 use Rattle.std.proofs.Common.{◌≡◌, ◌≤◌, ℕ, Bool, true, false, List, [], inl, Some, slice_get, sym, ◌∙◌, subst, arith}
 use Rattle.std.proofs.Common.{ltb-true}
-use Rattle.qc_core.specs.Names.{IsLawfulWithFalls, IsShown, is_up}
+use Rattle.qc_core.specs.Vocabulary.{IsLawfulWithFalls, IsShown, is_up}
 use Rattle.qc_core.proofs.SiteLines.{began_shows}
 use Rattle.qc_core.specs.declared.actor.Actor.TheVariants as actor
-use Rattle.qc_decl.specs.Names.{IsAccepted, actors, is_site}
+use Rattle.qc_decl.specs.Vocabulary.{IsAccepted, actors, is_site}
 use Rattle.qc_decl.specs.declared.declaration.Declaration.{Declaration}
-use Rattle.qc_entry.specs.Names.{union}
+use Rattle.qc_entry.specs.Vocabulary.{union}
 use Rattle.qc_entry.specs.declared.line.Line.{Line}
 use Rattle.laws_votes.proofs.Nets.{net, now, reached, refined}
-use Rattle.qc_link.specs.Names.{most_actors}
-use Rattle.qc_list.specs.Names.{In}
+use Rattle.qc_link.specs.Vocabulary.{most_actors}
+use Rattle.qc_list.specs.Vocabulary.{In}
 use Rattle.laws_turns.proofs.FallKept.{kept_rises}
 use Rattle.laws_turns.proofs.FallServed.{run_shown}
-use Rattle.qc_msg.specs.Names.{Entry, deeds}
+use Rattle.qc_msg.specs.Vocabulary.{Entry, deeds}
 use Rattle.qc_msg.specs.declared.record.Record.{Record}
-use Rattle.laws_refinement.specs.Names.{SiteMirrors}
-use Rattle.qc_promise.specs.Names.{Kept, clock_shown, log_shown}
+use Rattle.laws_refinement.specs.Vocabulary.{SiteMirrors}
+use Rattle.qc_promise.specs.Vocabulary.{Kept, clock_shown, log_shown}
 use Rattle.laws_reach.proofs.Stood.{in_site}
-use Rattle.qc_script.specs.Names.{IsScriptFor, RunsWithFalls}
+use Rattle.qc_script.specs.Vocabulary.{IsScriptFor, RunsWithFalls}
 use Rattle.qc_script.specs.declared.script.Script.{Script}
-use Rattle.qc_site.specs.Names.{SiteState}
+use Rattle.qc_site.specs.Vocabulary.{SiteState}
 
 pub same_site : (s t : SiteState) → actor.Site s ≡ actor.Site t → s ≡ t
 same_site s t is = let same : s ≡ t = cc in same

@@ -3,18 +3,18 @@ use Rattle.std.proofs.Common.{◌≡◌, ◌≤◌, ℕ, ◌==◌, Bool, true, f
 use Rattle.std.proofs.Common.{option_to_list, refl, sym, ap, ◌∙◌, subst, arith, eqb-true, append_assoc}
 use Rattle.std.proofs.lemmas.List.{append-nil}
 use Rattle.std.proofs.lemmas.List.Sums.{fold-append}
-use Rattle.laws_votes.specs.Names.{life_at}
-use Rattle.qc_list.specs.Names.{In}
+use Rattle.laws_votes.specs.Vocabulary.{life_at}
+use Rattle.qc_list.specs.Vocabulary.{In}
 use Rattle.qc_list.proofs.Members.{In-first}
-use Rattle.laws_reach.specs.Names.{records_of}
+use Rattle.laws_reach.specs.Vocabulary.{records_of}
 use Rattle.qc_msg.proofs.DeedsGrow.{own-append}
-use Rattle.qc_msg.specs.Names.{Entry, own}
+use Rattle.qc_msg.specs.Vocabulary.{Entry, own}
 use Rattle.qc_msg.specs.declared.record.Record.{Record}
 use Rattle.qc_msg.specs.declared.record.Record.TheVariants as records
 use Rattle.qc_msg.specs.declared.step.Step.{Step}
 use Rattle.qc_msg.specs.declared.step.Step.TheVariants as steps
-use Rattle.qc_promise.specs.Names.{IsGivenBack, IsKeptAt, Journal, Kept, journal_of, journal_with, no_journal}
-use Rattle.qc_recover.specs.Names.{Kept as SiteKept, keeps, kept_by, nothing_kept}
+use Rattle.qc_promise.specs.Vocabulary.{IsGivenBack, IsKeptAt, Journal, Kept, journal_of, journal_with, no_journal}
+use Rattle.qc_recover.specs.Vocabulary.{Kept as SiteKept, keeps, kept_by, nothing_kept}
 
 abbrev pub life_of : List Record → ℕ
 life_of rs = (kept_by rs).life

@@ -4,19 +4,19 @@ use Rattle.std.proofs.Common.{Option, Some, None, refl, sym, ap, ◌∙◌, subs
 use Rattle.std.specs.Prelude.{option_and_then}
 use Rattle.std.proofs.lemmas.List.Sums.{fold-append}
 use Rattle.laws_due.proofs.AccountDeclared.{asks_declared}
-use Rattle.qc_core.specs.Names.{AreSteady, IsLawfulWithFalls}
-use Rattle.qc_decl.specs.Names.{IsAccepted, actors, is_client}
+use Rattle.qc_core.specs.Vocabulary.{AreSteady, IsLawfulWithFalls}
+use Rattle.qc_decl.specs.Vocabulary.{IsAccepted, actors, is_client}
 use Rattle.qc_decl.specs.declared.declaration.Declaration.{Declaration}
 use Rattle.laws_due.proofs.KeptPlanned.{kept_due}
 use Rattle.qc_entry.specs.declared.record.Commit.{Commit as CommitRecord}
 use Rattle.laws_guarantees.proofs.ClockLaw.{counted_passes, reply_clock, sent_clock, take_clock, written_clock}
 use Rattle.laws_guarantees.proofs.DueStamps.{do_stamp, none_some, stamp_of}
-use Rattle.laws_guarantees.specs.Names.{IsCounted}
+use Rattle.laws_guarantees.specs.Vocabulary.{IsCounted}
 use Rattle.laws_votes.proofs.Clients.{IsNumbered, numbered}
-use Rattle.laws_votes.specs.Names.{IsCountedInLife, IsRecorded}
-use Rattle.qc_link.specs.Names.{most_actors}
+use Rattle.laws_votes.specs.Vocabulary.{IsCountedInLife, IsRecorded}
+use Rattle.qc_link.specs.Vocabulary.{most_actors}
 use Rattle.qc_msg.proofs.DeedsGrow.{deeds-append}
-use Rattle.qc_msg.specs.Names.{Deed, Entry, Falls, Rises, Sends, Takes, Tells, Writes, by, deeds, mail}
+use Rattle.qc_msg.specs.Vocabulary.{Deed, Entry, Falls, Rises, Sends, Takes, Tells, Writes, by, deeds, mail}
 use Rattle.qc_msg.specs.declared.message.Message.{Message}
 use Rattle.qc_msg.specs.declared.record.Record.{Record}
 use Rattle.qc_msg.specs.declared.reply.Reply.TheVariants as replies
@@ -25,10 +25,11 @@ use Rattle.qc_msg.specs.declared.reply.AbortCause.TheVariants as causes
 use Rattle.qc_msg.specs.declared.step.Command.{Command}
 use Rattle.qc_msg.specs.declared.step.Command.TheVariants as commands
 use Rattle.qc_msg.specs.declared.step.Input.TheVariants as inputs
-use Rattle.qc_promise.specs.Names.{Account, AreDeedsDue, AreRepliesDue, Current, Due, IsDeedDue, Kept, account_at}
-use Rattle.qc_promise.specs.Names.{account_heard, are_votes_in, commit_row, do_row, due, first_against, is_declared_for}
-use Rattle.qc_promise.specs.Names.{is_prepare, new_account, next_stamp, reply_to, requests_for, row_of, vote_row}
-use Rattle.qc_script.specs.Names.{IsScriptFor, RunsWithFalls}
+use Rattle.qc_promise.specs.Vocabulary.{Account, AreDeedsDue, AreRepliesDue, Current, Due, IsDeedDue, Kept, account_at}
+use Rattle.qc_promise.specs.Vocabulary.{account_heard, are_votes_in, commit_row, do_row, due, first_against}
+use Rattle.qc_promise.specs.Vocabulary.{is_declared_for, is_prepare, new_account, next_stamp, reply_to, requests_for}
+use Rattle.qc_promise.specs.Vocabulary.{row_of, vote_row}
+use Rattle.qc_script.specs.Vocabulary.{IsScriptFor, RunsWithFalls}
 use Rattle.qc_script.specs.declared.script.Script.{Script}
 use Rattle.qc_stamp.specs.declared.stamp.Stamp.{Stamp}
 

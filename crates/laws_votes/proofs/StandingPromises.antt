@@ -7,13 +7,13 @@ use Rattle.std.specs.Option.{option_map_or}
 use Rattle.std.specs.Prelude.{option_and_then}
 use Rattle.std.proofs.lemmas.List.{append-nil}
 use Rattle.std.proofs.lemmas.List.Elements.{filter_map-append}
-use Rattle.qc_core.specs.Names.{journal_after, journal_at}
+use Rattle.qc_core.specs.Vocabulary.{journal_after, journal_at}
 use Rattle.qc_entry.specs.declared.record.Prepared.{Prepared}
-use Rattle.laws_votes.specs.Names.{IsLastPromise, IsUnaborted}
-use Rattle.qc_list.specs.Names.{In}
+use Rattle.laws_votes.specs.Vocabulary.{IsLastPromise, IsUnaborted}
+use Rattle.qc_list.specs.Vocabulary.{In}
 use Rattle.qc_list.proofs.Members.{In-first, In-second}
-use Rattle.qc_msg.specs.Names.{Decided, Deed, Falls, Rises, Sends, Takes, Tells, Writes, decision_in, prepare_in}
-use Rattle.qc_msg.specs.Names.{written_in}
+use Rattle.qc_msg.specs.Vocabulary.{Decided, Deed, Falls, Rises, Sends, Takes, Tells, Writes, decision_in, prepare_in}
+use Rattle.qc_msg.specs.Vocabulary.{written_in}
 use Rattle.qc_msg.specs.declared.message.Envelope.{Envelope}
 use Rattle.qc_msg.specs.declared.message.Message.{Message}
 use Rattle.qc_msg.specs.declared.message.Message.TheVariants as messages
@@ -23,11 +23,11 @@ use Rattle.qc_msg.specs.declared.record.Record.{Record}
 use Rattle.qc_msg.specs.declared.record.Record.TheVariants.{Prepare}
 use Rattle.qc_msg.specs.declared.step.Input.{Input}
 use Rattle.qc_msg.specs.declared.step.Input.TheVariants as inputs
-use Rattle.qc_promise.specs.Names.{Journal, Lifetime, begun_with, frees, is_aborted, is_over, left_of, no_journal}
-use Rattle.qc_promise.specs.Names.{promises_of, promises_since, records_in, redeems, unless_over, unless_redeemed}
-use Rattle.qc_promise.specs.Names.{with_deed}
+use Rattle.qc_promise.specs.Vocabulary.{Journal, Lifetime, begun_with, frees, is_aborted, is_over, left_of, no_journal}
+use Rattle.qc_promise.specs.Vocabulary.{promises_of, promises_since, records_in, redeems, unless_over, unless_redeemed}
+use Rattle.qc_promise.specs.Vocabulary.{with_deed}
 use Rattle.qc_stamp.proofs.Orders.{same_tx_is, same_tx_itself}
-use Rattle.qc_stamp.specs.Names.{same_tx}
+use Rattle.qc_stamp.specs.Vocabulary.{same_tx}
 use Rattle.qc_stamp.specs.declared.stamp.TxId.{TxId}
 
 -- an element of two lists that are appended stands in the first or in the second

@@ -10,24 +10,24 @@ use Rattle.laws_votes.proofs.Unforgotten.{AreAll}
 use Rattle.laws_votes.proofs.Counted.{votes_remember}
 use Rattle.qc_core.proofs.AdminOver.{IsAdminMove, admin_over}
 use Rattle.qc_core.proofs.AdminTurns.{IsAdminReply, SaysAsAdmin}
-use Rattle.qc_core.specs.Names.{IsLawfulWithFalls, actor_after, with_record}
-use Rattle.qc_decl.specs.Names.{IsAccepted, actors, controller, is_client, is_site, most_committed_operations}
+use Rattle.qc_core.specs.Vocabulary.{IsLawfulWithFalls, actor_after, with_record}
+use Rattle.qc_decl.specs.Vocabulary.{IsAccepted, actors, controller, is_client, is_site, most_committed_operations}
 use Rattle.qc_decl.specs.declared.declaration.Declaration.{Declaration}
 use Rattle.qc_entry.specs.declared.record.Commit.{Commit as CommitRecord}
 use Rattle.laws_guarantees.proofs.Against.{IsForgottenVote, due_why}
 use Rattle.laws_votes.proofs.Stamps.{client_due, due_behind}
-use Rattle.qc_inbox.proofs.FallMail.{ready_sent}
+use Rattle.qc_mailbox.proofs.FallMail.{ready_sent}
 use Rattle.laws_turns.proofs.Acted.{deeds-silent}
 use Rattle.laws_turns.proofs.Downs.{due as lawful_due}
 use Rattle.laws_turns.proofs.Numbered.{IsSilent, phase_silent}
-use Rattle.qc_link.specs.Names.{most_actors}
-use Rattle.qc_list.specs.Names.{In}
+use Rattle.qc_link.specs.Vocabulary.{most_actors}
+use Rattle.qc_list.specs.Vocabulary.{In}
 use Rattle.laws_turns.proofs.ByMailWithFalls.{run_by_turns}
 use Rattle.laws_turns.proofs.Lived.{deeds-fall, line_silent}
 use Rattle.qc_msg.proofs.DeedsGrow.{deeds-other}
 use Rattle.qc_msg.proofs.Growth.{deeds-posted_as, deeds-taken}
-use Rattle.qc_msg.specs.Names.{Deed, Entry, Falls, Rises, Takes, Tells, answered, by, deeds, deeds_as, mail, marked}
-use Rattle.qc_msg.specs.Names.{posted_as, sends_of, step_of, tells_of, writes_of}
+use Rattle.qc_msg.specs.Vocabulary.{Deed, Entry, Falls, Rises, Takes, Tells, answered, by, deeds, deeds_as, mail}
+use Rattle.qc_msg.specs.Vocabulary.{marked, posted_as, sends_of, step_of, tells_of, writes_of}
 use Rattle.qc_msg.specs.declared.record.Record.{Record}
 use Rattle.qc_msg.specs.declared.reply.Reply.{Reply}
 use Rattle.qc_msg.specs.declared.reply.Reply.TheVariants as replies
@@ -43,15 +43,15 @@ use Rattle.qc_msg.specs.declared.turn.Appended.TheVariants as ends
 use Rattle.qc_msg.specs.declared.turn.Posting.{Posting}
 use Rattle.qc_msg.specs.declared.turn.Turn.{Turn}
 use Rattle.theory_onecopy.proofs.Lists.{in_split}
-use Rattle.qc_promise.specs.Names.{Account, AreByTurns, AreDeedsDue, AreRepliesDue, Current, Kept, Place, account_of}
-use Rattle.qc_promise.specs.Names.{are_votes_in, commit_row, due, first_against, goes_on, is_declared_for, is_prepare}
-use Rattle.qc_promise.specs.Names.{new_account, pending_next, place_after, reply_to, requests_for, row_of, running_row}
-use Rattle.qc_promise.specs.Names.{vote_row}
+use Rattle.qc_promise.specs.Vocabulary.{Account, AreByTurns, AreDeedsDue, AreRepliesDue, Current, Kept, Place}
+use Rattle.qc_promise.specs.Vocabulary.{account_of, are_votes_in, commit_row, due, first_against, goes_on}
+use Rattle.qc_promise.specs.Vocabulary.{is_declared_for, is_prepare, new_account, pending_next, place_after, reply_to}
+use Rattle.qc_promise.specs.Vocabulary.{requests_for, row_of, running_row, vote_row}
 use Rattle.qc_promise.specs.Turns as turns
 use Rattle.laws_reach.proofs.PostedTurns.{takes_inputs}
-use Rattle.laws_reach.specs.Names.{TakesInputs}
-use Rattle.qc_script.specs.Names.{IsScriptFor, RunsWithFalls, begins, control, damaged, falls, phase, phase_of, posts}
-use Rattle.qc_script.specs.Names.{rises, takes, unopened}
+use Rattle.laws_reach.specs.Vocabulary.{TakesInputs}
+use Rattle.qc_script.specs.Vocabulary.{IsScriptFor, RunsWithFalls, begins, control, damaged, falls, phase, phase_of}
+use Rattle.qc_script.specs.Vocabulary.{posts, rises, takes, unopened}
 use Rattle.qc_script.specs.declared.script.Script.{Script}
 
 -- where an element stands

@@ -9,9 +9,9 @@ use Rattle.laws_votes.proofs.Growing.{IsMindful, Unforgotten, grown, opens_by, o
 use Rattle.laws_votes.proofs.Growing.{opens_taken, quiet_event}
 use Rattle.laws_votes.proofs.Inputs.{deeds-risen}
 use Rattle.laws_votes.proofs.Posted.{IsOfTaken, answers_of_taken, fails_never, rise_answers_nothing}
-use Rattle.qc_core.specs.Names.{ActorMove, IsLawfulWithFalls, actor_takes, with_record}
+use Rattle.qc_core.specs.Vocabulary.{ActorMove, IsLawfulWithFalls, actor_takes, with_record}
 use Rattle.qc_core.specs.declared.actor.Actor.{Actor}
-use Rattle.qc_decl.specs.Names.{IsAccepted, actors, controller, is_client, is_site, most_committed_operations}
+use Rattle.qc_decl.specs.Vocabulary.{IsAccepted, actors, controller, is_client, is_site, most_committed_operations}
 use Rattle.qc_decl.specs.declared.declaration.Declaration.{Declaration}
 use Rattle.qc_entry.specs.declared.record.Commit.{Commit as CommitRecord}
 use Rattle.laws_guarantees.proofs.Accounts.{WasSent}
@@ -20,19 +20,19 @@ use Rattle.laws_guarantees.proofs.Mailed.{sent_as, sent_mail}
 use Rattle.laws_guarantees.proofs.ForgettingAnswers.{Forgets}
 use Rattle.laws_guarantees.proofs.Stale.{below_length}
 use Rattle.laws_guarantees.proofs.AccountsStay.{account_silent}
-use Rattle.laws_guarantees.specs.Names.{IsOpenVote}
+use Rattle.laws_guarantees.specs.Vocabulary.{IsOpenVote}
 use Rattle.laws_votes.proofs.Nets.{at_number, net}
-use Rattle.qc_inbox.proofs.FallMail.{ready_sent}
+use Rattle.qc_mailbox.proofs.FallMail.{ready_sent}
 use Rattle.laws_turns.proofs.Numbered.{IsSilent, mail-silent, phase_silent}
-use Rattle.qc_link.specs.Names.{most_actors}
-use Rattle.qc_list.specs.Names.{In}
+use Rattle.qc_link.specs.Vocabulary.{most_actors}
+use Rattle.qc_list.specs.Vocabulary.{In}
 use Rattle.qc_list.proofs.Members.{In-first, In-second}
 use Rattle.laws_turns.proofs.Downs.{due}
 use Rattle.laws_turns.proofs.Lived.{deeds-fall, line_silent}
 use Rattle.qc_msg.proofs.GrownMail.{mail-append, mail-taken}
 use Rattle.qc_msg.proofs.Growth.{deeds-posted_as, deeds-taken, mail-posted_as}
-use Rattle.qc_msg.specs.Names.{Entry, Falls, Rises, Takes, WasSentTo, answered, by, deeds, deeds_as, mail, marked}
-use Rattle.qc_msg.specs.Names.{posted_as, sends_as, step_of}
+use Rattle.qc_msg.specs.Vocabulary.{Entry, Falls, Rises, Takes, WasSentTo, answered, by, deeds, deeds_as, mail, marked}
+use Rattle.qc_msg.specs.Vocabulary.{posted_as, sends_as, step_of}
 use Rattle.qc_msg.specs.declared.message.Answer.{Answer}
 use Rattle.qc_msg.specs.declared.message.Envelope.{Envelope}
 use Rattle.qc_msg.specs.declared.message.Message.{Message}
@@ -48,14 +48,14 @@ use Rattle.qc_msg.specs.declared.turn.Appended.TheVariants as ends
 use Rattle.qc_msg.specs.declared.turn.Posting.{Posting}
 use Rattle.qc_msg.specs.declared.turn.Turn.{Turn}
 use Rattle.theory_onecopy.proofs.Lists.{in_split}
-use Rattle.qc_promise.specs.Names.{ClientRequest, Current, Kept, account, commits_by, records}
+use Rattle.qc_promise.specs.Vocabulary.{ClientRequest, Current, Kept, account, commits_by, records}
 use Rattle.laws_reach.proofs.RunsStand.{kept_of_first}
 use Rattle.laws_reach.proofs.Stood.{in_site}
-use Rattle.laws_reach.specs.Names.{HasTaken}
-use Rattle.qc_script.specs.Names.{IsScriptFor, RunsWithFalls, begins, control, damaged, falls, phase, phase_of, posts}
-use Rattle.qc_script.specs.Names.{rises, takes, unopened}
+use Rattle.laws_reach.specs.Vocabulary.{HasTaken}
+use Rattle.qc_script.specs.Vocabulary.{IsScriptFor, RunsWithFalls, begins, control, damaged, falls, phase, phase_of}
+use Rattle.qc_script.specs.Vocabulary.{posts, rises, takes, unopened}
 use Rattle.qc_script.specs.declared.script.Script.{Script}
-use Rattle.qc_site.specs.Names.{SiteState, site_takes}
+use Rattle.qc_site.specs.Vocabulary.{SiteState, site_takes}
 use Rattle.laws_votes.proofs.Answering.{never_forgotten}
 use Rattle.laws_votes.proofs.Holding.{granted}
 use Rattle.laws_votes.proofs.LifeGrounds.{has_life_grounds}

@@ -1,8 +1,8 @@
 -- Entries that tell no reply.
 use Rattle.std.proofs.Common.{◌≡◌, ◌+◌, ℕ, List, [], ◌∷◌, ◌++◌, inl, inr, Option, Some, None, refl, sym, ap, ◌∙◌, subst}
-use Rattle.qc_list.specs.Names.{In}
+use Rattle.qc_list.specs.Vocabulary.{In}
 use Rattle.qc_list.proofs.Members.{In-second}
-use Rattle.qc_msg.specs.Names.{Entry, by, marked, sents, step_of}
+use Rattle.qc_msg.specs.Vocabulary.{Entry, by, marked, sents, step_of}
 use Rattle.qc_msg.specs.Steps as post
 use Rattle.qc_msg.specs.declared.record.Record.{Record}
 use Rattle.qc_msg.specs.declared.reply.Reply.{Reply}
@@ -13,7 +13,7 @@ use Rattle.qc_msg.specs.declared.step.Input.TheVariants as inputs
 use Rattle.qc_msg.specs.declared.step.Step.{Step}
 use Rattle.qc_msg.specs.declared.step.Step.TheVariants as steps
 use Rattle.qc_msg.specs.declared.turn.Posting.{Posting}
-use Rattle.qc_script.specs.Names.{controller_step}
+use Rattle.qc_script.specs.Vocabulary.{controller_step}
 
 -- the reply of a step that told one
 abbrev pub reply_of : Step → Option Reply

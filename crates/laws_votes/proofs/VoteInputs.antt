@@ -1,11 +1,11 @@
 -- A site keeps its life as it takes an input, but where it closes its epoch; then it tells no vote.
 use Rattle.std.proofs.Common.{◌≡◌, ◌≤◌, ◌⊎◌, ℕ, not, Bool, true, false, List, inl, inr, refl, ap}
-use Rattle.qc_core.specs.Names.{is_up}
+use Rattle.qc_core.specs.Vocabulary.{is_up}
 use Rattle.qc_decl.specs.declared.declaration.Declaration.{Declaration}
-use Rattle.qc_inbox.specs.Names.{is_down}
-use Rattle.qc_list.specs.Names.{In}
+use Rattle.qc_mailbox.specs.Vocabulary.{is_down}
+use Rattle.qc_list.specs.Vocabulary.{In}
 use Rattle.laws_turns.proofs.Downs.{up_is}
-use Rattle.qc_msg.specs.Names.{Deed, by}
+use Rattle.qc_msg.specs.Vocabulary.{Deed, by}
 use Rattle.qc_msg.specs.declared.message.Answer.TheVariants as answers
 use Rattle.qc_msg.specs.declared.message.Envelope.{Envelope}
 use Rattle.qc_msg.specs.declared.message.Message.{Message}
@@ -18,8 +18,8 @@ use Rattle.qc_msg.specs.declared.step.Input.{Input}
 use Rattle.qc_msg.specs.declared.step.Input.TheVariants as given
 use Rattle.qc_msg.specs.declared.turn.Posting.{Posting}
 use Rattle.laws_reach.proofs.PostedTurns.{never_up}
-use Rattle.qc_site.specs.Names.{SiteMove, SiteState, closed, closes_in, finishes, grants, passed, prepares, shut_answer}
-use Rattle.qc_site.specs.Names.{site_at, site_takes}
+use Rattle.qc_site.specs.Vocabulary.{SiteMove, SiteState, closed, closes_in, finishes, grants, passed, prepares}
+use Rattle.qc_site.specs.Vocabulary.{shut_answer, site_at, site_takes}
 use Rattle.qc_site.proofs.RequestCases.{append_cases, close_cases, join_cases, prepare_cases, read_cases, request_cases}
 use Rattle.qc_site.proofs.Cases.{install_cases, state_cases}
 use Rattle.qc_stamp.specs.declared.stamp.TxId.{TxId}

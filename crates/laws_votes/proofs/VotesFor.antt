@@ -1,12 +1,12 @@
 -- The row of a commit is Committed where all its votes are in and for it; what is taken meanwhile changes no more.
-use Rattle.std.proofs.Common.{◌≡◌, ◌-◌, ◌==◌, ◌&&◌, ℕ, Bool, true, false, cond, if◌then◌else◌, List, ◌∷◌, inl, inr}
+use Rattle.std.proofs.Common.{[], ◌≡◌, ◌-◌, ◌==◌, ◌&&◌, ℕ, Bool, true, false, cond, if◌then◌else◌, List, ◌∷◌, inl, inr}
 use Rattle.std.proofs.Common.{length, Option, Some, None, is_some, refl, sym, ap, ◌∙◌, eqb-true}
 use Rattle.std.specs.Prelude.{option_and_then}
 use Rattle.std.specs.List.{list_all}
 use Rattle.std.specs.Option.{option_or}
 use Rattle.qc_decl.specs.declared.declaration.Declaration.{Declaration}
 use Rattle.laws_guarantees.proofs.DueStamps.{do_stamp, none_some, stamp_of}
-use Rattle.qc_list.specs.Names.{In}
+use Rattle.qc_list.specs.Vocabulary.{In}
 use Rattle.qc_msg.specs.declared.message.Answer.{Answer}
 use Rattle.qc_msg.specs.declared.message.Answer.TheVariants as answers
 use Rattle.qc_msg.specs.declared.reply.Reply.TheVariants as replies
@@ -14,9 +14,9 @@ use Rattle.qc_msg.specs.declared.reply.AbortCause.{AbortCause}
 use Rattle.qc_msg.specs.declared.reply.AbortCause.TheVariants as causes
 use Rattle.qc_msg.specs.declared.step.Command.{Command}
 use Rattle.qc_msg.specs.declared.step.Command.TheVariants as commands
-use Rattle.qc_promise.specs.Names.{Account, ClientRequest, Current, against, are_votes_in, commit_row, first_against}
-use Rattle.qc_promise.specs.Names.{is_open, is_prepare, participants, requests_for, row_of, running_row, taken_for}
-use Rattle.qc_promise.specs.Names.{vote_row}
+use Rattle.qc_promise.specs.Vocabulary.{Account, ClientRequest, Current, against, are_votes_in, commit_row}
+use Rattle.qc_promise.specs.Vocabulary.{first_against, is_open, is_prepare, participants, requests_for, row_of}
+use Rattle.qc_promise.specs.Vocabulary.{running_row, taken_for, vote_row}
 use Rattle.qc_stamp.specs.declared.stamp.Stamp.{Stamp}
 
 -- a vote that isn't against, and is in, is for

@@ -1,26 +1,26 @@
 -- A site that posts a turn votes in the life that its records give it, then and after the turn, where the request names
 -- one; and no other event votes.
-use Rattle.std.proofs.Common.{◌≡◌, ◌≤◌, ◌⊎◌, ℕ, Bool, true, false, List, ◌∷◌, ◌++◌, inl, inr, length, map, take, Some}
-use Rattle.std.proofs.Common.{option_to_list, slice_get, refl, sym, ap, ◌∙◌, subst, arith}
+use Rattle.std.proofs.Common.{[], ◌≡◌, ◌≤◌, ◌⊎◌, ℕ, Bool, true, false, List, ◌∷◌, ◌++◌, inl, inr, length, map, take}
+use Rattle.std.proofs.Common.{Some, option_to_list, slice_get, refl, sym, ap, ◌∙◌, subst, arith}
 use Rattle.qc_core.specs.declared.actor.Actor.{Actor}
-use Rattle.qc_core.specs.Names.{ActorMove, IsLawfulWithFalls, actor_after, actor_takes, is_up, journal_after}
-use Rattle.qc_core.specs.Names.{with_record}
+use Rattle.qc_core.specs.Vocabulary.{ActorMove, IsLawfulWithFalls, actor_after, actor_takes, is_up, journal_after}
+use Rattle.qc_core.specs.Vocabulary.{with_record}
 use Rattle.qc_core.proofs.ByNumber.{site_risen}
 use Rattle.qc_core.proofs.LivesLaws.{journal}
 use Rattle.qc_core.proofs.LivesOfActors as actor_laws
-use Rattle.qc_decl.specs.Names.{IsAccepted, is_site}
+use Rattle.qc_decl.specs.Vocabulary.{IsAccepted, is_site}
 use Rattle.qc_decl.specs.declared.declaration.Declaration.{Declaration}
-use Rattle.laws_votes.specs.Names.{life_at}
+use Rattle.laws_votes.specs.Vocabulary.{life_at}
 use Rattle.laws_votes.proofs.SiteLives.{life_of}
-use Rattle.qc_list.specs.Names.{In}
+use Rattle.qc_list.specs.Vocabulary.{In}
 use Rattle.qc_list.proofs.Members.{In-second}
 use Rattle.qc_entry.specs.declared.record.Prepared.{Prepared}
 use Rattle.qc_msg.specs.declared.step.Step.TheVariants as steps
 use Rattle.laws_turns.proofs.Downs.{due, tells}
 use Rattle.qc_msg.proofs.DeedsGrow.{deeds-append, deeds-rose}
 use Rattle.qc_msg.proofs.Growth.{deeds-posted_as}
-use Rattle.qc_msg.specs.Names.{Deed, Entry, HasRecord, MayEnd, WasSentTo, by, deeds, envelopes, mail, posted_as}
-use Rattle.qc_msg.specs.Names.{sends_as}
+use Rattle.qc_msg.specs.Vocabulary.{Deed, Entry, HasRecord, MayEnd, WasSentTo, by, deeds, envelopes, mail, posted_as}
+use Rattle.qc_msg.specs.Vocabulary.{sends_as}
 use Rattle.qc_msg.specs.declared.message.Answer.TheVariants as answers
 use Rattle.qc_msg.specs.declared.message.Envelope.{Envelope}
 use Rattle.qc_msg.specs.declared.message.Message.TheVariants as messages
@@ -30,19 +30,19 @@ use Rattle.qc_msg.specs.declared.turn.Appended.{Appended}
 use Rattle.qc_msg.specs.declared.turn.Appended.TheVariants.{Done, Failed, Stopped}
 use Rattle.qc_msg.specs.declared.turn.Posting.{Posting}
 use Rattle.qc_msg.specs.declared.turn.Turn.{Turn}
-use Rattle.laws_refinement.specs.Names.{MayCome, Net, Refines, after_site}
+use Rattle.laws_refinement.specs.Vocabulary.{MayCome, Net, Refines, after_site}
 use Rattle.laws_refinement.specs.Net as nets
 use Rattle.laws_refinement.specs.Steps as later_nets
 use Rattle.laws_refinement.proofs.Refining.{nets_refine}
 use Rattle.laws_refinement.proofs.SiteVotes.{no_inquiry, take_silent}
 use Rattle.laws_refinement.proofs.VotesLater.{later_votes_name_later_lives}
-use Rattle.qc_promise.specs.Names.{Journal}
+use Rattle.qc_promise.specs.Vocabulary.{Journal}
 use Rattle.theory_machine.proofs.Names.{put_here}
 use Rattle.laws_reach.proofs.Growing.{journal_posted}
 use Rattle.laws_reach.proofs.Stood.{Stands, Stood, in_site}
-use Rattle.laws_reach.specs.Names.{HasTaken}
-use Rattle.qc_recover.specs.Names.{kept_by, most_inquiries, site_rises}
-use Rattle.qc_site.specs.Names.{SiteMove, SiteState, closes_in, in_order, site_takes}
+use Rattle.laws_reach.specs.Vocabulary.{HasTaken}
+use Rattle.qc_recover.specs.Vocabulary.{kept_by, most_inquiries, site_rises}
+use Rattle.qc_site.specs.Vocabulary.{SiteMove, SiteState, closes_in, in_order, site_takes}
 use Rattle.laws_atomic.proofs.Stood.{may_come}
 use Rattle.laws_votes.proofs.VoteInputs.{IsCast, IsVote, takes_life, takes_none, fallen}
 

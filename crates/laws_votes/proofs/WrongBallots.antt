@@ -2,17 +2,17 @@
 use Rattle.std.proofs.Common.{◌≡◌, ℕ, Bool, true, List, [], ◌∷◌, ◌++◌, if◌then◌else◌, inl, inr, refl, sym, ap, subst}
 use Rattle.std.proofs.Common.{Some}
 use Rattle.std.specs.Prelude.{sum_by}
-use Rattle.laws_votes.specs.Names.{committed_operations}
-use Rattle.qc_decl.specs.Names.{is_client}
+use Rattle.laws_votes.specs.Vocabulary.{committed_operations}
+use Rattle.qc_decl.specs.Vocabulary.{is_client}
 use Rattle.qc_decl.specs.declared.declaration.Declaration.{Declaration}
 use Rattle.qc_entry.specs.declared.record.Commit.{Commit as CommitRecord}
-use Rattle.qc_msg.specs.Names.{Entry, answered, commit, marked, own, risen}
+use Rattle.qc_msg.specs.Vocabulary.{Entry, answered, commit, marked, own, risen}
 use Rattle.qc_msg.specs.declared.record.Record.{Record}
 use Rattle.qc_msg.specs.declared.record.Record.TheVariants.{Commit}
 use Rattle.qc_msg.specs.declared.step.Fall.TheVariants.{Stop}
 use Rattle.qc_msg.specs.declared.step.Step.TheVariants.{Fell, Rose}
-use Rattle.theory_onecopy.specs.Names.{sorted}
-use Rattle.qc_promise.specs.Names.{IsGivenBack, IsKeptAt, Kept}
+use Rattle.theory_onecopy.specs.Vocabulary.{sorted}
+use Rattle.qc_promise.specs.Vocabulary.{IsGivenBack, IsKeptAt, Kept}
 
 -- with the record, or without it, it is given back what disks are trusted with
 

@@ -1,16 +1,16 @@
 -- Other epochs than the one that a request names, and decisions out of turn, are refused.
 use Rattle.std.proofs.Common.{◌≡◌, ◌<◌, ℕ, [], ◌∷◌, inl, inr, refl, sym, ap, ◌∙◌, arith}
-use Rattle.laws_guarantees.specs.Names.{name}
-use Rattle.qc_list.specs.Names.{In}
-use Rattle.qc_msg.specs.Names.{mail}
+use Rattle.laws_guarantees.specs.Vocabulary.{name}
+use Rattle.qc_list.specs.Vocabulary.{In}
+use Rattle.qc_msg.specs.Vocabulary.{mail}
 use Rattle.qc_msg.specs.declared.message.Envelope.{Envelope}
 use Rattle.qc_msg.specs.declared.message.Message.TheVariants.{Decision, Request}
 use Rattle.qc_msg.specs.declared.message.Outcome.TheVariants.{Aborted}
 use Rattle.qc_msg.specs.declared.message.Want.{Want}
 use Rattle.qc_msg.specs.declared.message.Want.TheVariants.{Prepare}
-use Rattle.laws_refinement.specs.Names.{AreInTurn}
+use Rattle.laws_refinement.specs.Vocabulary.{AreInTurn}
 use Rattle.qc_stamp.specs.declared.stamp.TxId.{TxId}
-use Rattle.laws_votes.specs.Names.{AsksIn, asked, decides}
+use Rattle.laws_votes.specs.Vocabulary.{AsksIn, asked, decides}
 
 apart : (m n : ℕ) → n < m → m ≡ n → ⊥
 apart m n less same = omega arith

@@ -1,16 +1,16 @@
 -- Votes, promises and locks of a site that falls and rises: wrong ones are refused, right ones taken.
 use Rattle.std.proofs.Common.{◌≡◌, ◌⊎◌, ◌≤◌, ℕ, List, [], ◌∷◌, ◌++◌, inl, inr, refl, sym, ap, ◌∙◌, subst, arith}
-use Rattle.laws_guarantees.specs.Names.{IsGrantedSince, granted, tx}
-use Rattle.laws_votes.specs.Names.{AreCastSince, HasPromised, IsCastSince, begun, fallen, life_at, promise, promised}
-use Rattle.laws_votes.specs.Names.{risen, voting}
-use Rattle.qc_list.specs.Names.{In}
-use Rattle.qc_msg.specs.Names.{Deed, Takes, mail}
+use Rattle.laws_guarantees.specs.Vocabulary.{IsGrantedSince, granted, tx}
+use Rattle.laws_votes.specs.Vocabulary.{AreCastSince, HasPromised, IsCastSince, begun, fallen, life_at, promise}
+use Rattle.laws_votes.specs.Vocabulary.{promised, risen, voting}
+use Rattle.qc_list.specs.Vocabulary.{In}
+use Rattle.qc_msg.specs.Vocabulary.{Deed, Takes, mail}
 use Rattle.qc_msg.specs.declared.message.Answer.TheVariants.{Yes}
 use Rattle.qc_msg.specs.declared.message.Envelope.{Envelope}
 use Rattle.qc_msg.specs.declared.message.Message.TheVariants.{Answer, Request}
 use Rattle.qc_msg.specs.declared.message.Want.TheVariants.{Prepare, Read}
 use Rattle.qc_msg.specs.declared.step.Input.TheVariants.{Got}
-use Rattle.qc_promise.specs.Names.{last_cut}
+use Rattle.qc_promise.specs.Vocabulary.{last_cut}
 
 abbrev request : ℕ → Envelope
 request life = record { number = 0; from = 1; to = 0; message = Request tx 1 life Prepare }

@@ -1,18 +1,18 @@
 -- Records that were being written as their clients fell: those that rose are committed, and others aren't.
 use Rattle.std.proofs.Common.{◌≡◌, List, [], ◌∷◌, ◌++◌, inl, inr, Some, None, refl, sym, ap, ◌∙◌, arith}
-use Rattle.qc_decl.specs.Names.{three}
+use Rattle.qc_decl.specs.Vocabulary.{three}
 use Rattle.qc_entry.specs.declared.record.Commit.{Commit as CommitRecord}
-use Rattle.qc_list.specs.Names.{In}
-use Rattle.qc_msg.specs.Names.{Entry, by, marked}
+use Rattle.qc_list.specs.Vocabulary.{In}
+use Rattle.qc_msg.specs.Vocabulary.{Entry, by, marked}
 use Rattle.qc_msg.specs.declared.record.Record.TheVariants.{Commit}
 use Rattle.qc_msg.specs.declared.reply.Reply.TheVariants as replies
 use Rattle.qc_msg.specs.declared.step.Command.TheVariants as commands
 use Rattle.qc_msg.specs.declared.step.Fall.TheVariants.{Stop}
 use Rattle.qc_msg.specs.declared.step.Step.TheVariants as steps
-use Rattle.laws_guarantees.specs.Names.{line, name, read, reads, write, writes}
-use Rattle.laws_votes.specs.Names.{DependsOn, IsToldAtFall, IsToldBy, all_fit, fell_bare, fell_later, reader_fell}
-use Rattle.laws_votes.specs.Names.{unknown_fall, writer_fell}
-use Rattle.qc_promise.specs.Names.{Current, committed}
+use Rattle.laws_guarantees.specs.Vocabulary.{line, name, read, reads, write, writes}
+use Rattle.laws_votes.specs.Vocabulary.{DependsOn, IsToldAtFall, IsToldBy, all_fit, fell_bare, fell_later, reader_fell}
+use Rattle.laws_votes.specs.Vocabulary.{unknown_fall, writer_fell}
+use Rattle.qc_promise.specs.Vocabulary.{Current, committed}
 use Rattle.qc_script.specs.declared.script.Script.{Script}
 use Rattle.qc_stamp.specs.declared.stamp.TxId.{TxId}
 

@@ -1,16 +1,16 @@
 -- Promises on the disk of a site that falls and rises: those that were let go are refused, right ones taken.
 use Rattle.std.proofs.Common.{◌≡◌, true, false, List, [], ◌∷◌, ◌++◌, inl, refl, sym, subst}
 use Rattle.std.specs.List.{list_any}
-use Rattle.laws_guarantees.specs.Names.{tx}
-use Rattle.laws_votes.specs.Names.{HasPromisedItems, IsLastPromise, IsPromisedStill, IsUnaborted, aborted_before}
-use Rattle.laws_votes.specs.Names.{aborted_since, finished, prepared, promise, promised}
-use Rattle.qc_lock.specs.Names.{held_of}
-use Rattle.qc_msg.specs.Names.{Writes, deeds}
+use Rattle.laws_guarantees.specs.Vocabulary.{tx}
+use Rattle.laws_votes.specs.Vocabulary.{HasPromisedItems, IsLastPromise, IsPromisedStill, IsUnaborted, aborted_before}
+use Rattle.laws_votes.specs.Vocabulary.{aborted_since, finished, prepared, promise, promised}
+use Rattle.qc_lock.specs.Vocabulary.{held_of}
+use Rattle.qc_msg.specs.Vocabulary.{Writes, deeds}
 use Rattle.qc_msg.specs.declared.message.Message.TheVariants.{Decision}
 use Rattle.qc_msg.specs.declared.message.Outcome.TheVariants.{Aborted}
 use Rattle.qc_msg.specs.declared.record.Record.{Record}
 use Rattle.qc_msg.specs.declared.record.Record.TheVariants.{Done, Life, Prepare}
-use Rattle.qc_promise.specs.Names.{held_shown, redeems}
+use Rattle.qc_promise.specs.Vocabulary.{held_shown, redeems}
 
 last : IsLastPromise (promise ∷ Life ∷ []) prepared
 last = record { before = []; after = Life ∷ []; stands = refl; unredeemed = refl }

@@ -1,7 +1,7 @@
 -- In which epoch a transaction asks sites: the one that its requests name.
 use Rattle.std.specs.Prelude.{◌≡◌, ℕ, List}
-use Rattle.qc_list.specs.Names.{In}
-use Rattle.qc_msg.specs.Names.{Entry, mail}
+use Rattle.qc_list.specs.Vocabulary.{In}
+use Rattle.qc_msg.specs.Vocabulary.{Entry, mail}
 use Rattle.qc_msg.specs.declared.message.Envelope.{Envelope}
 use Rattle.qc_msg.specs.declared.message.Message.TheVariants.{Request}
 use Rattle.qc_msg.specs.declared.message.Want.{Want}

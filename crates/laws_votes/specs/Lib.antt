@@ -9,4 +9,4 @@ pub mod Replies
 pub mod Operations
 pub mod Epochs
 pub mod WrongEpochs
-pub mod Names
+pub mod Vocabulary

@@ -1,19 +1,19 @@
 -- Two committed operations one of which depends on the other, in a run with falls: a moment from which the one is told
 -- until its record is written, or being written as its client falls.
 use Rattle.std.specs.Prelude.{◌≡◌, ◌≢◌, ℕ, Bool, IsTrue, List, ◌++◌, Some}
-use Rattle.qc_core.specs.Names.{IsLawfulWithFalls}
+use Rattle.qc_core.specs.Vocabulary.{IsLawfulWithFalls}
 use Rattle.qc_decl.specs.declared.declaration.Declaration.{Declaration}
 use Rattle.qc_entry.specs.declared.line.Line.{Line}
 use Rattle.qc_entry.specs.declared.line.Op.{Op}
 use Rattle.qc_entry.specs.declared.record.Commit.{Commit}
 use Rattle.laws_votes.specs.Recorded.{AreWriting}
-use Rattle.qc_list.specs.Names.{In}
-use Rattle.qc_msg.specs.Names.{Entry, by}
+use Rattle.qc_list.specs.Vocabulary.{In}
+use Rattle.qc_msg.specs.Vocabulary.{Entry, by}
 use Rattle.qc_msg.specs.declared.record.Record.{Record}
 use Rattle.qc_msg.specs.declared.step.Step.{Step}
-use Rattle.theory_onecopy.specs.Names.{IsLogged, depends_at}
-use Rattle.qc_promise.specs.Names.{Current, account, committed}
-use Rattle.qc_script.specs.Names.{RunsWithFalls}
+use Rattle.theory_onecopy.specs.Vocabulary.{IsLogged, depends_at}
+use Rattle.qc_promise.specs.Vocabulary.{Current, account, committed}
+use Rattle.qc_script.specs.Vocabulary.{RunsWithFalls}
 use Rattle.qc_script.specs.declared.script.Script.{Script}
 
 -- a committed record that was written, or was being written as its client fell; and a moment before it, between two

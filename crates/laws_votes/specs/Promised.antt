@@ -6,17 +6,17 @@ use Rattle.std.specs.List.{list_any}
 use Rattle.qc_entry.specs.declared.line.OwnLine.{OwnLine}
 use Rattle.qc_entry.specs.declared.line.ReadLock.{ReadLock}
 use Rattle.qc_entry.specs.declared.record.Prepared.{Prepared}
-use Rattle.qc_list.specs.Names.{In}
+use Rattle.qc_list.specs.Vocabulary.{In}
 use Rattle.qc_lock.specs.declared.held.Held.{Held}
-use Rattle.qc_msg.specs.Names.{Deed, Entry, Takes, Writes, deeds}
+use Rattle.qc_msg.specs.Vocabulary.{Deed, Entry, Takes, Writes, deeds}
 use Rattle.qc_msg.specs.declared.message.Envelope.{Envelope}
 use Rattle.qc_msg.specs.declared.message.Message.TheVariants.{Decision}
 use Rattle.qc_msg.specs.declared.message.Outcome.TheVariants.{Aborted}
 use Rattle.qc_msg.specs.declared.record.Record.{Record}
 use Rattle.qc_msg.specs.declared.record.Record.TheVariants.{Prepare}
 use Rattle.qc_msg.specs.declared.step.Input.TheVariants.{Got}
-use Rattle.qc_promise.specs.Names.{lifetime, redeems}
-use Rattle.laws_reach.specs.Names.{records_of}
+use Rattle.qc_promise.specs.Vocabulary.{lifetime, redeems}
+use Rattle.laws_reach.specs.Vocabulary.{records_of}
 
 -- the record of the promise stands among these, and none behind it is a promise of the same transaction or says that it
 -- is done

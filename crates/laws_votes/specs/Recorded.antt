@@ -1,12 +1,12 @@
 -- Where a commit record was written, or was being written as its client fell; and what each site has then that had
 -- granted something to its transaction.
 use Rattle.std.specs.Prelude.{◌≡◌, ◌⊎◌, ℕ, ◌+◌, true, List, [], ◌∷◌, ◌++◌, Some}
-use Rattle.qc_decl.specs.Names.{is_client}
+use Rattle.qc_decl.specs.Vocabulary.{is_client}
 use Rattle.qc_decl.specs.declared.declaration.Declaration.{Declaration}
 use Rattle.qc_entry.specs.declared.record.Commit.{Commit as CommitRecord}
 use Rattle.qc_entry.specs.declared.record.Prepared.{Prepared}
-use Rattle.qc_list.specs.Names.{In}
-use Rattle.qc_msg.specs.Names.{Entry, by, has_granted, life_of, mail}
+use Rattle.qc_list.specs.Vocabulary.{In}
+use Rattle.qc_msg.specs.Vocabulary.{Entry, by, has_granted, life_of, mail}
 use Rattle.qc_msg.specs.declared.message.Answer.TheVariants.{Yes}
 use Rattle.qc_msg.specs.declared.message.Envelope.{Envelope}
 use Rattle.qc_msg.specs.declared.message.Message.TheVariants.{Answer, Request}
@@ -16,8 +16,8 @@ use Rattle.qc_msg.specs.declared.reply.Reply.TheVariants.{Unknown}
 use Rattle.qc_msg.specs.declared.step.Fall.{Fall}
 use Rattle.qc_msg.specs.declared.step.Step.{Step}
 use Rattle.qc_msg.specs.declared.step.Step.TheVariants.{Fell, Told, Wrote}
-use Rattle.qc_promise.specs.Names.{Current, account}
-use Rattle.laws_reach.specs.Names.{records_of}
+use Rattle.qc_promise.specs.Vocabulary.{Current, account}
+use Rattle.laws_reach.specs.Vocabulary.{records_of}
 
 -- a client's steps write the record; or it is told Unknown, and falls as it writes it
 abbrev pub AreWriting : List Step → CommitRecord → Type 0

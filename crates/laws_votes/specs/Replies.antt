@@ -1,10 +1,10 @@
 -- Where the entries up to a reply are a run, in which its client has no open input: behind the reply; or behind the
 -- fall that follows it, where the client was told Unknown as it fell with a record that wasn't written.
 use Rattle.std.specs.Prelude.{◌≡◌, ◌⊎◌, ℕ, Bool, false, List, [], ◌∷◌, ◌++◌, Some, slice_get}
-use Rattle.qc_core.specs.Names.{IsLawfulWithFalls}
+use Rattle.qc_core.specs.Vocabulary.{IsLawfulWithFalls}
 use Rattle.qc_decl.specs.declared.declaration.Declaration.{Declaration}
 use Rattle.qc_entry.specs.declared.record.Commit.{Commit as CommitRecord}
-use Rattle.qc_msg.specs.Names.{Entry, by, marked}
+use Rattle.qc_msg.specs.Vocabulary.{Entry, by, marked}
 use Rattle.qc_msg.specs.declared.record.Record.{Record}
 use Rattle.qc_msg.specs.declared.record.Record.TheVariants.{Commit}
 use Rattle.qc_msg.specs.declared.reply.Reply.{Reply}
@@ -12,7 +12,7 @@ use Rattle.qc_msg.specs.declared.reply.Reply.TheVariants.{Unknown}
 use Rattle.qc_msg.specs.declared.step.Fall.{Fall}
 use Rattle.qc_msg.specs.declared.step.Step.{Step}
 use Rattle.qc_msg.specs.declared.step.Step.TheVariants.{Fell, Told}
-use Rattle.qc_script.specs.Names.{RunsWithFalls}
+use Rattle.qc_script.specs.Vocabulary.{RunsWithFalls}
 use Rattle.qc_script.specs.declared.script.Script.{Script}
 
 -- the entries are a run, in which the actor has no open input

@@ -1,12 +1,12 @@
 -- In which life of its site a vote was cast: a site begins a life with each record of a rise.
 use Rattle.std.specs.Prelude.{◌≡◌, ◌≤◌, ◌⊎◌, ℕ, List}
-use Rattle.qc_list.specs.Names.{In}
-use Rattle.qc_msg.specs.Names.{Entry, mail}
+use Rattle.qc_list.specs.Vocabulary.{In}
+use Rattle.qc_msg.specs.Vocabulary.{Entry, mail}
 use Rattle.qc_msg.specs.declared.message.Envelope.{Envelope}
 use Rattle.qc_msg.specs.declared.message.Message.TheVariants.{Request}
 use Rattle.qc_msg.specs.declared.message.Want.TheVariants.{Prepare}
-use Rattle.laws_reach.specs.Names.{records_of}
-use Rattle.qc_recover.specs.Names.{kept_by}
+use Rattle.laws_reach.specs.Vocabulary.{records_of}
+use Rattle.qc_recover.specs.Vocabulary.{kept_by}
 use Rattle.qc_stamp.specs.declared.stamp.TxId.{TxId}
 
 -- the life that a site's records give it after a history

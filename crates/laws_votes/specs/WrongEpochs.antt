@@ -1,7 +1,7 @@
 -- Messages and records of epochs, over three sites and three clients: a request of one epoch, and decisions.
 use Rattle.std.specs.Prelude.{ℕ, List, [], ◌∷◌}
-use Rattle.laws_guarantees.specs.Names.{name}
-use Rattle.qc_msg.specs.Names.{Entry, marked}
+use Rattle.laws_guarantees.specs.Vocabulary.{name}
+use Rattle.qc_msg.specs.Vocabulary.{Entry, marked}
 use Rattle.qc_msg.specs.declared.message.Message.TheVariants.{Decision, Request}
 use Rattle.qc_msg.specs.declared.message.Outcome.TheVariants.{Aborted}
 use Rattle.qc_msg.specs.declared.message.Want.TheVariants.{Prepare}

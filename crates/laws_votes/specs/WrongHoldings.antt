@@ -1,12 +1,12 @@
 -- Histories of one site that falls and rises, right ones and wrong ones: it was asked for a promise, or granted a Read.
 use Rattle.std.specs.Prelude.{◌≡◌, ◌⊎◌, ℕ, true, false, List, [], ◌∷◌, ◌++◌, None}
-use Rattle.qc_decl.specs.Names.{is_site}
+use Rattle.qc_decl.specs.Vocabulary.{is_site}
 use Rattle.qc_decl.specs.declared.declaration.Declaration.{Declaration}
 use Rattle.qc_entry.specs.declared.record.Prepared.{Prepared}
-use Rattle.laws_guarantees.specs.Names.{granted, tx}
+use Rattle.laws_guarantees.specs.Vocabulary.{granted, tx}
 use Rattle.laws_votes.specs.Votes.{IsCastSince}
-use Rattle.qc_list.specs.Names.{In}
-use Rattle.qc_msg.specs.Names.{Deed, Entry, Falls, Rises, Writes, mail, marked}
+use Rattle.qc_list.specs.Vocabulary.{In}
+use Rattle.qc_msg.specs.Vocabulary.{Deed, Entry, Falls, Rises, Writes, mail, marked}
 use Rattle.qc_msg.specs.declared.message.Answer.TheVariants.{Yes}
 use Rattle.qc_msg.specs.declared.message.Envelope.{Envelope}
 use Rattle.qc_msg.specs.declared.message.Message.TheVariants.{Answer, Decision, Request}
@@ -16,7 +16,7 @@ use Rattle.qc_msg.specs.declared.record.Record.{Record}
 use Rattle.qc_msg.specs.declared.record.Record.TheVariants.{Done, Life, Prepare}
 use Rattle.qc_msg.specs.declared.step.Fall.TheVariants.{Script}
 use Rattle.qc_msg.specs.declared.step.Step.TheVariants as steps
-use Rattle.qc_promise.specs.Names.{Current}
+use Rattle.qc_promise.specs.Vocabulary.{Current}
 
 -- the site is actor 0, the client is 1
 abbrev pub decl : Declaration

@@ -2,14 +2,14 @@
 -- register. What it rises with says whether it committed.
 use Rattle.std.specs.Prelude.{ℕ, List, [], ◌∷◌, ◌++◌, Some, None}
 use Rattle.qc_entry.specs.declared.record.Commit.{Commit}
-use Rattle.qc_msg.specs.Names.{Entry, by, marked}
+use Rattle.qc_msg.specs.Vocabulary.{Entry, by, marked}
 use Rattle.qc_msg.specs.declared.record.Record.{Record}
 use Rattle.qc_msg.specs.declared.record.Record.TheVariants as records
 use Rattle.qc_msg.specs.declared.reply.Reply.TheVariants as replies
 use Rattle.qc_msg.specs.declared.step.Command.TheVariants as commands
 use Rattle.qc_msg.specs.declared.step.Fall.TheVariants.{Stop}
 use Rattle.qc_msg.specs.declared.step.Step.TheVariants as steps
-use Rattle.laws_guarantees.specs.Names.{reads, told, writes}
+use Rattle.laws_guarantees.specs.Vocabulary.{reads, told, writes}
 
 -- a client falls as it writes this record, and rises with these
 abbrev pub falls_writing : ℕ → Commit → List Record → List Entry

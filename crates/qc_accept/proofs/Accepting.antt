@@ -15,18 +15,18 @@ use Rattle.qc_plan.proofs.Faultless as plan_proofs
 use Rattle.qc_plan.specs.Faults as plan
 use Rattle.qc_plan.specs.declared.fault.PlanFault.{PlanFault}
 use Rattle.qc_plan.specs.declared.plan.Plan.{Plan}
-use Rattle.qc_table.specs.Names.{IsSound, events_of}
+use Rattle.qc_table.specs.Vocabulary.{IsSound, events_of}
 use Rattle.qc_table.specs.declared.kind.Kind.{Kind}
 use Rattle.qc_decl.specs.declared.declaration.Declaration.{Declaration}
 use Rattle.qc_decl.specs.declared.declaration.KindNames.{KindNames}
-use Rattle.qc_decl.specs.Names.{AreNames, AreThresholds, HasNames, HasThresholds, IsAccepted, IsGood, IsNamed, IsRight}
-use Rattle.qc_decl.specs.Names.{kind_at, most_clients, most_events, most_objects, most_sites, most_types}
+use Rattle.qc_decl.specs.Vocabulary.{AreNames, AreThresholds, HasNames, HasThresholds, IsAccepted, IsGood, IsNamed}
+use Rattle.qc_decl.specs.Vocabulary.{IsRight, kind_at, most_clients, most_events, most_objects, most_sites, most_types}
 use Rattle.qc_accept.specs.declared.fault.DeclFault.TheVariants as decl
-use Rattle.qc_accept.specs.Names.{Answer, AreChecked, AreFew, AreOfStates, ArePlanned, DraftOf, IsFit, IsShaped}
-use Rattle.qc_accept.specs.Names.{ObjectsOf, TypeOf, TypesOf, accepted, admitted, all_admitted, all_certified}
-use Rattle.qc_accept.specs.Names.{all_names, cert_names, certified, declared, document_of, draft, draft_of, keys}
-use Rattle.qc_accept.specs.Names.{kind_names, kind_of, no_others, number, objects_of, places, plan_names, plans_of}
-use Rattle.qc_accept.specs.Names.{types_of}
+use Rattle.qc_accept.specs.Vocabulary.{Answer, AreChecked, AreFew, AreOfStates, ArePlanned, DraftOf, IsFit, IsShaped}
+use Rattle.qc_accept.specs.Vocabulary.{ObjectsOf, TypeOf, TypesOf, accepted, admitted, all_admitted, all_certified}
+use Rattle.qc_accept.specs.Vocabulary.{all_names, cert_names, certified, declared, document_of, draft, draft_of, keys}
+use Rattle.qc_accept.specs.Vocabulary.{kind_names, kind_of, no_others, number, objects_of, places, plan_names, plans_of}
+use Rattle.qc_accept.specs.Vocabulary.{types_of}
 use Rattle.qc_decl.proofs.AcceptedNames.{few_names}
 use Rattle.qc_accept.specs.declared.epochs.Side.{Side}
 use Rattle.qc_accept.specs.declared.epochs.Side.TheVariants.{Initial, Final}

@@ -11,8 +11,8 @@ use Rattle.std.proofs.lemmas.List.Sums.{list_all-from_AllPass}
 use Rattle.toml.specs.Data.{Data}
 use Rattle.qc_cert.specs.declared.triple.Triple.{Triple}
 use Rattle.qc_table.specs.declared.row.Event.{Event}
-use Rattle.qc_decl.specs.Names.{most_alike_triples, most_triples}
-use Rattle.qc_accept.specs.Names.{WordsOf, are_few_alike, is_alike, read_each, triple_in, triples_in, with_read}
+use Rattle.qc_decl.specs.Vocabulary.{most_alike_triples, most_triples}
+use Rattle.qc_accept.specs.Vocabulary.{WordsOf, are_few_alike, is_alike, read_each, triple_in, triples_in, with_read}
 
 -- the place of a triple's two states
 abbrev pub place : Triple → ℕ

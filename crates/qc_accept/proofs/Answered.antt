@@ -6,9 +6,9 @@ use Rattle.std.proofs.lemmas.Bool.{leb-true}
 use Rattle.std.proofs.lemmas.List.Elements.{All-append, All-cons, All-nil}
 use Rattle.std.proofs.lemmas.Option.{cond_some}
 use Rattle.toml.specs.Data.{Data, Members, as_array}
-use Rattle.qc_list.specs.Names.{◌>>=◌}
-use Rattle.qc_accept.specs.Names.{Answer, each, items, items_between, listed, read_each, required, told}
-use Rattle.qc_decl.specs.Names.{is_between}
+use Rattle.qc_list.specs.Vocabulary.{◌>>=◌}
+use Rattle.qc_accept.specs.Vocabulary.{Answer, each, items, items_between, listed, read_each, required, told}
+use Rattle.qc_decl.specs.Vocabulary.{is_between}
 
 -- an answer of two steps: what the first gave
 pub record Came {A B : Type 0} (answer : Answer A) (next : A → Answer B) (b : B) : Type 0 where

@@ -6,9 +6,9 @@ use Rattle.std.specs.Str.{bytes_eq}
 use Rattle.std.proofs.lemmas.List.{length_push}
 use Rattle.std.proofs.lemmas.Option.{cond_some}
 use Rattle.toml.specs.Data.{Data, as_str}
-use Rattle.qc_accept.specs.Names.{ObjectsOf, item_table, keys_path, name_among, no_others, object_keys, required, told}
-use Rattle.qc_accept.specs.Names.{with_name, with_object, with_text}
-use Rattle.qc_decl.specs.Names.{is_name}
+use Rattle.qc_accept.specs.Vocabulary.{ObjectsOf, item_table, keys_path, name_among, no_others, object_keys, required}
+use Rattle.qc_accept.specs.Vocabulary.{told, with_name, with_object, with_text}
+use Rattle.qc_decl.specs.Vocabulary.{is_name}
 use Rattle.qc_accept.proofs.Answered.{came, found, same_ok, told_some}
 
 -- a name more is one more

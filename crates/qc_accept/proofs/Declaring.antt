@@ -1,16 +1,16 @@
 -- A declaration is what its document spells.
-use Rattle.std.proofs.Common.{◌≡◌, ℕ, List, ◌∷◌, ◌++◌, length, map, Option, Some, Ok, refl, sym, ap, ◌∙◌, subst}
+use Rattle.std.proofs.Common.{[], ◌≡◌, ℕ, List, ◌∷◌, ◌++◌, length, map, Option, Some, Ok, refl, sym, ap, ◌∙◌, subst}
 use Rattle.std.specs.Prelude.{codes, option_and_then}
 use Rattle.toml.specs.Data.{Data, Members, as_table, get_member}
 use Rattle.qc_plan.specs.declared.plan.Plan.{Plan}
-use Rattle.qc_decl.specs.Names.{greatest_weight, most_clients, most_epochs, most_objects, most_sites, most_types}
+use Rattle.qc_decl.specs.Vocabulary.{greatest_weight, most_clients, most_epochs, most_objects, most_sites, most_types}
 use Rattle.qc_decl.specs.declared.declaration.Declaration.{Declaration}
 use Rattle.qc_accept.specs.declared.epochs.Side.TheVariants.{Initial, Final}
-use Rattle.qc_accept.specs.Names.{Answer, AreListed, DraftOf, IsDeclared, ObjectsOf, StoreOf, TypesOf, accepted}
-use Rattle.qc_accept.specs.Names.{all_admitted, all_certified, array_at, declared, document_of, draft, draft_of}
-use Rattle.qc_accept.specs.Names.{epoch_keys, item_table, items, keys, keys_path, needs, no_others, number}
-use Rattle.qc_accept.specs.Names.{number_between, objects_of, plan_in, plan_of, plans_of, read_each, required, text_at}
-use Rattle.qc_accept.specs.Names.{told, types_of, weights, with_object, with_plan, with_type, with_weight}
+use Rattle.qc_accept.specs.Vocabulary.{Answer, AreListed, DraftOf, IsDeclared, ObjectsOf, StoreOf, TypesOf, accepted}
+use Rattle.qc_accept.specs.Vocabulary.{all_admitted, all_certified, array_at, declared, document_of, draft, draft_of}
+use Rattle.qc_accept.specs.Vocabulary.{epoch_keys, item_table, items, keys, keys_path, needs, no_others, number}
+use Rattle.qc_accept.specs.Vocabulary.{number_between, objects_of, plan_in, plan_of, plans_of, read_each, required}
+use Rattle.qc_accept.specs.Vocabulary.{text_at, told, types_of, weights, with_object, with_plan, with_type, with_weight}
 use Rattle.qc_accept.proofs.Answered.{came, mapped, same_ok, told_some}
 use Rattle.qc_accept.proofs.Listing.{plan_listed}
 use Rattle.qc_accept.proofs.Spelling.{in_order, items_are}

@@ -1,15 +1,15 @@
 -- The items of a document, their names, types and objects, and what is read of them.
-use Rattle.std.proofs.Common.{◌≡◌, ℕ, List, ◌∷◌, ◌++◌, length, Some, Ok, sym, ap, ◌∙◌}
+use Rattle.std.proofs.Common.{[], ◌≡◌, ℕ, List, ◌∷◌, ◌++◌, length, Some, Ok, sym, ap, ◌∙◌}
 use Rattle.std.specs.Prelude.{◌&&◌, not, codes, slice_get, option_and_then}
 use Rattle.std.specs.List.{list_any}
 use Rattle.std.specs.Str.{bytes_eq}
 use Rattle.std.proofs.lemmas.Option.{cond_some}
 use Rattle.toml.specs.Data.{Data, Members, as_str, as_table, get_member}
 use Rattle.qc_decl.proofs.Places.{place_at}
-use Rattle.qc_decl.specs.Names.{is_name}
-use Rattle.qc_accept.specs.Names.{IsSpelled, ObjectsOf, TypeOf, TypesOf, item_path, item_table, keys_path, name_among}
-use Rattle.qc_accept.specs.Names.{name_at, no_others, number, number_of, object_keys, required, text_at, told, type_of}
-use Rattle.qc_accept.specs.Names.{with_name, with_object, with_text, with_type}
+use Rattle.qc_decl.specs.Vocabulary.{is_name}
+use Rattle.qc_accept.specs.Vocabulary.{IsSpelled, ObjectsOf, TypeOf, TypesOf, item_path, item_table, keys_path}
+use Rattle.qc_accept.specs.Vocabulary.{name_among, name_at, no_others, number, number_of, object_keys, required}
+use Rattle.qc_accept.specs.Vocabulary.{text_at, told, type_of, with_name, with_object, with_text, with_type}
 use Rattle.qc_accept.proofs.Answered.{came, found, same_ok, told_some}
 use Rattle.qc_accept.proofs.Spelling.{type_spelled}
 use Rattle.qc_accept.proofs.ItemLists.{Adds}

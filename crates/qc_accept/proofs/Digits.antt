@@ -6,9 +6,9 @@ use Rattle.std.specs.Prelude.{◌==◌, ◌&&◌, nat_le, if◌then◌else◌, O
 use Rattle.std.specs.Result.{result_ok}
 use Rattle.std.proofs.lemmas.Bool.{leb-true, leb-false, le-leb, eqb-false}
 use Rattle.std.proofs.lemmas.List.Folds.{list_all_at}
-use Rattle.qc_decl.specs.Names.{greatest_threshold, is_between}
-use Rattle.qc_number.specs.Names.{most_digits}
-use Rattle.qc_accept.specs.Names.{number_in, value_of}
+use Rattle.qc_decl.specs.Vocabulary.{greatest_threshold, is_between}
+use Rattle.qc_number.specs.Vocabulary.{most_digits}
+use Rattle.qc_accept.specs.Vocabulary.{number_in, value_of}
 
 -- the first number that so many digits can't write
 abbrev pub limit : ℕ → ℕ

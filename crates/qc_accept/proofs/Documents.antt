@@ -7,7 +7,7 @@ use Rattle.std.proofs.lemmas.Str.{IsUtf8-from_is_utf8, is_utf8-from_IsUtf8}
 use Rattle.toml.specs.Data.{Members}
 use Rattle.toml.specs.Parse.{parse_document}
 use Rattle.qc_accept.specs.declared.fault.DeclFault.TheVariants.{NotToml}
-use Rattle.qc_accept.specs.Names.{Answer, document_of}
+use Rattle.qc_accept.specs.Vocabulary.{Answer, document_of}
 
 -- what is parsed, or the fault
 abbrev parsed : Option Members → Answer Members

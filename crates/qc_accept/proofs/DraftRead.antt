@@ -6,12 +6,12 @@ use Rattle.qc_cert.specs.declared.triple.Triple.{Triple}
 use Rattle.qc_decl.specs.declared.declaration.KindNames.{KindNames}
 use Rattle.qc_plan.specs.declared.plan.Plan.{Plan}
 use Rattle.qc_table.specs.declared.kind.Kind.{Kind}
-use Rattle.qc_decl.specs.Names.{most_clients, most_sites, most_types}
+use Rattle.qc_decl.specs.Vocabulary.{most_clients, most_sites, most_types}
 use Rattle.qc_accept.specs.declared.fault.DeclFault.{DeclFault}
 use Rattle.qc_accept.specs.declared.fault.DeclFault.TheVariants.{OutOfMemory}
-use Rattle.qc_accept.specs.Names.{Answer, DraftOf, IsAnswer, IsFit, ObjectsOf, TypeOf, TypesOf, all_names, draft}
-use Rattle.qc_accept.specs.Names.{draft_of, keys, lists_of, no_others, number, objects_of, plans_of, types_of}
-use Rattle.qc_list.specs.Names.{◌>>=◌}
+use Rattle.qc_accept.specs.Vocabulary.{Answer, DraftOf, IsAnswer, IsFit, ObjectsOf, TypeOf, TypesOf, all_names, draft}
+use Rattle.qc_accept.specs.Vocabulary.{draft_of, keys, lists_of, no_others, number, objects_of, plans_of, types_of}
+use Rattle.qc_list.specs.Vocabulary.{◌>>=◌}
 use Rattle.qc_accept.proofs.Accepting.{store_fits}
 use Rattle.qc_accept.proofs.Drafted.{objects_kept}
 use Rattle.qc_accept.proofs.Kept.{AreTypesKept, types_kept}

@@ -8,14 +8,14 @@ use Rattle.std.proofs.lemmas.List.Elements.{All-nil}
 use Rattle.std.proofs.lemmas.Option.{cond_some, slice_get_within, get_or_from_slice_get}
 use Rattle.toml.specs.Data.{Data, Members, as_integer}
 use Rattle.qc_plan.specs.declared.plan.Plan.{Plan}
-use Rattle.qc_decl.specs.Names.{AreNames, greatest_weight, is_between, most_epochs, most_objects}
+use Rattle.qc_decl.specs.Vocabulary.{AreNames, greatest_weight, is_between, most_epochs, most_objects}
 use Rattle.qc_accept.specs.declared.epochs.Side.{Side}
 use Rattle.qc_accept.specs.declared.epochs.Side.TheVariants.{Initial, Final}
-use Rattle.qc_accept.specs.Names.{EntryOf, ObjectsOf, StoreOf, TypeOf, TypesOf, entries_in, epoch_keys, item_table}
-use Rattle.qc_accept.specs.Names.{items, keys_path, kind_of, name_among, natural, needs, needs_of, no_others, number}
-use Rattle.qc_accept.specs.Names.{number_between, object_keys, objects_of, optional, places, places_of, plan_in}
-use Rattle.qc_accept.specs.Names.{plan_of, plans_of, read_each, required, told, weights, with_name, with_object}
-use Rattle.qc_accept.specs.Names.{with_plan, with_weight}
+use Rattle.qc_accept.specs.Vocabulary.{EntryOf, ObjectsOf, StoreOf, TypeOf, TypesOf, entries_in, epoch_keys, item_table}
+use Rattle.qc_accept.specs.Vocabulary.{items, keys_path, kind_of, name_among, natural, needs, needs_of, no_others}
+use Rattle.qc_accept.specs.Vocabulary.{number, number_between, object_keys, objects_of, optional, places, places_of}
+use Rattle.qc_accept.specs.Vocabulary.{plan_in, plan_of, plans_of, read_each, required, told, weights, with_name}
+use Rattle.qc_accept.specs.Vocabulary.{with_object, with_plan, with_weight}
 use Rattle.qc_accept.proofs.Answered.{came, found, mapped, told_some, same_ok, each_keeps, read_each_keeps, between}
 use Rattle.qc_accept.proofs.Answered.{so_many, one_more}
 use Rattle.qc_accept.proofs.Listed.{IsThreshold, list_of, needs_at, needs_long, needs_small, thresholds_long}

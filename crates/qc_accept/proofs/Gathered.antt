@@ -2,14 +2,14 @@
 use Rattle.std.proofs.Common.{◌≡◌, ◌≢◌, ℕ, List, Ok, Err, refl, subst}
 use Rattle.toml.specs.Data.{Members}
 use Rattle.qc_cert.specs.declared.triple.Triple.{Triple}
-use Rattle.qc_table.specs.Names.{Rules, events_of}
+use Rattle.qc_table.specs.Vocabulary.{Rules, events_of}
 use Rattle.qc_table.specs.declared.row.Event.{Event}
 use Rattle.qc_accept.specs.declared.fault.DeclFault.{DeclFault}
 use Rattle.qc_accept.specs.declared.fault.DeclFault.TheVariants.{OutOfMemory}
 use Rattle.qc_accept.specs.declared.kinds.Certificate.{Certificate}
-use Rattle.qc_list.specs.Names.{◌>>=◌}
-use Rattle.qc_accept.specs.Names.{Answer, WordsOf, certificate_of, no_others, relation, rest_of, rows, table_of}
-use Rattle.qc_accept.specs.Names.{triples, type_keys, type_of, type_with, words}
+use Rattle.qc_list.specs.Vocabulary.{◌>>=◌}
+use Rattle.qc_accept.specs.Vocabulary.{Answer, WordsOf, certificate_of, no_others, relation, rest_of, rows, table_of}
+use Rattle.qc_accept.specs.Vocabulary.{triples, type_keys, type_of, type_with, words}
 use Rattle.qc_accept.proofs.Told.{then_err}
 use Rattle.qc_accept.proofs.TypeFields.{has_ruled, has_words}
 

@@ -7,7 +7,7 @@ use Rattle.std.specs.List.{list_any, position_or_len}
 use Rattle.std.specs.Str.{bytes_eq}
 use Rattle.std.proofs.lemmas.List.{map-append, length-map, take_more, get_or-take, length-take}
 use Rattle.qc_table.specs.declared.row.Event.{Event}
-use Rattle.qc_table.specs.Names.{same_event}
+use Rattle.qc_table.specs.Vocabulary.{same_event}
 use Rattle.qc_table.proofs.Distinct.{AreDistinct}
 use Rattle.qc_table.proofs.Numbered.{same_is, same_itself}
 use Rattle.qc_accept.proofs.Texts.{any_place}

@@ -9,17 +9,17 @@ use Rattle.std.proofs.lemmas.Option.{cond_some}
 use Rattle.toml.specs.Data.{Data, Members, as_str, as_table, get_member}
 use Rattle.qc_plan.specs.declared.plan.Plan.{Plan}
 use Rattle.qc_decl.proofs.Places.{place_at}
-use Rattle.qc_decl.specs.Names.{greatest_weight, is_name, most_clients, most_epochs, most_objects, most_sites}
-use Rattle.qc_decl.specs.Names.{most_types}
+use Rattle.qc_decl.specs.Vocabulary.{greatest_weight, is_name, most_clients, most_epochs, most_objects, most_sites}
+use Rattle.qc_decl.specs.Vocabulary.{most_types}
 use Rattle.qc_decl.specs.declared.declaration.Declaration.{Declaration}
 use Rattle.qc_accept.specs.declared.epochs.Side.TheVariants.{Initial, Final}
-use Rattle.qc_accept.specs.Names.{Answer, AreListed, DraftOf, IsDeclared, IsSpelled, ObjectsOf, StoreOf, TypeOf}
-use Rattle.qc_accept.specs.Names.{TypesOf, accepted, all_admitted, all_certified, array_at, declared, document_of}
-use Rattle.qc_accept.specs.Names.{draft, draft_of, each, epoch_keys, item_path, item_table, items, keys, keys_path}
-use Rattle.qc_accept.specs.Names.{name_among, name_at, needs, no_others, number, number_between, number_of, object_keys}
-use Rattle.qc_accept.specs.Names.{objects_of, plan_in, plan_of, plans_of, read_each, required, text_at, told, type_of}
-use Rattle.qc_accept.specs.Names.{types_of, weights, with_name, with_object, with_plan, with_text, with_type}
-use Rattle.qc_accept.specs.Names.{with_weight}
+use Rattle.qc_accept.specs.Vocabulary.{Answer, AreListed, DraftOf, IsDeclared, IsSpelled, ObjectsOf, StoreOf, TypeOf}
+use Rattle.qc_accept.specs.Vocabulary.{TypesOf, accepted, all_admitted, all_certified, array_at, declared, document_of}
+use Rattle.qc_accept.specs.Vocabulary.{draft, draft_of, each, epoch_keys, item_path, item_table, items, keys, keys_path}
+use Rattle.qc_accept.specs.Vocabulary.{name_among, name_at, needs, no_others, number, number_between, number_of}
+use Rattle.qc_accept.specs.Vocabulary.{object_keys, objects_of, plan_in, plan_of, plans_of, read_each, required}
+use Rattle.qc_accept.specs.Vocabulary.{text_at, told, type_of, types_of, weights, with_name, with_object, with_plan}
+use Rattle.qc_accept.specs.Vocabulary.{with_text, with_type, with_weight}
 use Rattle.qc_accept.proofs.Answered.{Came, came, found, mapped, same_ok, told_some}
 use Rattle.qc_accept.proofs.Listing.{plan_listed}
 use Rattle.qc_accept.proofs.Spelling.{in_order, items_are, type_spelled}

@@ -11,17 +11,17 @@ use Rattle.std.proofs.lemmas.List.Quantifiers.{position-Some}
 use Rattle.std.proofs.lemmas.Option.{cond_some}
 use Rattle.toml.specs.Data.{Data, Members, as_str}
 use Rattle.qc_cert.specs.declared.triple.Triple.{Triple}
-use Rattle.qc_table.specs.Names.{IsSound, Rules, events_of, fault_of, first_repeat, is_unknown, ranked, rules_of}
+use Rattle.qc_table.specs.Vocabulary.{IsSound, Rules, events_of, fault_of, first_repeat, is_unknown, ranked, rules_of}
 use Rattle.qc_table.specs.declared.fault.TableFault.{TableFault}
 use Rattle.qc_table.specs.declared.row.Event.{Event}
 use Rattle.qc_table.specs.declared.row.Row.{Row}
-use Rattle.qc_decl.specs.Names.{AreNames, is_name, most_events, most_invocations, most_responses, most_states}
-use Rattle.qc_decl.specs.Names.{most_triples, most_types}
-use Rattle.qc_accept.specs.Names.{AreFew, AreOfStates, AreSome, TypeOf, TypesOf, WordsOf, are_few_alike, item_table}
-use Rattle.qc_accept.specs.Names.{items, keys_path, name_among, name_at, names, no_others, number_of, optional, out_in}
-use Rattle.qc_accept.specs.Names.{read_each, relation, required, rows, ruled, table_of, three, told, triple_in, triples}
-use Rattle.qc_accept.specs.Names.{triples_in, type_keys, type_of, types_of, with_name, with_read, with_text, with_type}
-use Rattle.qc_accept.specs.Names.{words}
+use Rattle.qc_decl.specs.Vocabulary.{AreNames, is_name, most_events, most_invocations, most_responses, most_states}
+use Rattle.qc_decl.specs.Vocabulary.{most_triples, most_types}
+use Rattle.qc_accept.specs.Vocabulary.{AreFew, AreOfStates, AreSome, TypeOf, TypesOf, WordsOf, are_few_alike}
+use Rattle.qc_accept.specs.Vocabulary.{item_table, items, keys_path, name_among, name_at, names, no_others, number_of}
+use Rattle.qc_accept.specs.Vocabulary.{optional, out_in, read_each, relation, required, rows, ruled, table_of, three}
+use Rattle.qc_accept.specs.Vocabulary.{told, triple_in, triples, triples_in, type_keys, type_of, types_of, with_name}
+use Rattle.qc_accept.specs.Vocabulary.{with_read, with_text, with_type, words}
 use Rattle.qc_accept.proofs.Naming.{names_are, names_more, no_names}
 use Rattle.qc_accept.proofs.Answered.{Came, came, Found, found, mapped, told_some, same_ok, each_keeps, read_each_keeps}
 use Rattle.qc_accept.proofs.Answered.{so_many, one_more}

@@ -5,7 +5,7 @@ use Rattle.std.specs.Prelude.{option_map, option_and_then}
 use Rattle.toml.specs.Data.{as_str}
 use Rattle.toml.specs.View.{view}
 use Rattle.toml.specs.declared.value.Value.{Value}
-use Rattle.qc_accept.specs.Names.{data_of, read_each, with_read}
+use Rattle.qc_accept.specs.Vocabulary.{data_of, read_each, with_read}
 use Rattle.qc_accept.proofs.Reading.{reads_on, reads_none, item_seen}
 
 -- a list with an item, where there is one

@@ -9,13 +9,13 @@ use Rattle.std.proofs.lemmas.List.{length-append}
 use Rattle.std.proofs.lemmas.List.Elements.{All-nil}
 use Rattle.std.proofs.lemmas.Option.{cond_some, slice_get_past}
 use Rattle.toml.specs.Data.{Data, as_str}
-use Rattle.qc_plan.specs.Names.{need_of}
-use Rattle.qc_decl.specs.Names.{greatest_threshold, is_between}
-use Rattle.qc_number.specs.Names.{most_digits}
+use Rattle.qc_plan.specs.Vocabulary.{need_of}
+use Rattle.qc_decl.specs.Vocabulary.{greatest_threshold, is_between}
+use Rattle.qc_number.specs.Vocabulary.{most_digits}
 use Rattle.qc_accept.specs.declared.epochs.Side.{Side}
-use Rattle.qc_accept.specs.Names.{EntryOf, StoreOf, entries_in, entry_in, is_at, kind_of, needs_of, number_in}
-use Rattle.qc_accept.specs.Names.{number_of, place_in, places_of, three, threshold_of, thresholds, value_of, with_entry}
-use Rattle.qc_accept.specs.Names.{with_item}
+use Rattle.qc_accept.specs.Vocabulary.{EntryOf, StoreOf, entries_in, entry_in, is_at, kind_of, needs_of, number_in}
+use Rattle.qc_accept.specs.Vocabulary.{number_of, place_in, places_of, three, threshold_of, thresholds, value_of}
+use Rattle.qc_accept.specs.Vocabulary.{with_entry, with_item}
 use Rattle.qc_accept.proofs.Answered.{both, found, mapped, one_more, read_each_keeps}
 
 -- an item of a list that grows at its end

@@ -7,15 +7,15 @@ use Rattle.std.specs.Option.{option_map_or}
 use Rattle.std.proofs.lemmas.Bool.{eq-eqb, eqb-true, leb-true, leb-false}
 use Rattle.std.proofs.lemmas.List.Quantifiers.{position-Some}
 use Rattle.toml.specs.Data.{Data, Members, as_str}
-use Rattle.qc_plan.specs.Names.{need_of}
+use Rattle.qc_plan.specs.Vocabulary.{need_of}
 use Rattle.qc_plan.specs.declared.plan.Plan.{Plan}
-use Rattle.qc_table.specs.Names.{event, same_event}
+use Rattle.qc_table.specs.Vocabulary.{event, same_event}
 use Rattle.qc_accept.specs.declared.epochs.Side.{Side}
 use Rattle.qc_accept.specs.declared.epochs.Side.TheVariants.{Initial, Final}
-use Rattle.qc_accept.specs.Names.{AreListed, EntryOf, IsListed, StoreOf, TypeOf, array_at, cut, entries_in, entry_in}
-use Rattle.qc_accept.specs.Names.{epoch_keys, is_at, kind_of, needs, needs_of, no_others, number_in, number_of}
-use Rattle.qc_accept.specs.Names.{optional, place_in, places, places_of, plan_of, read_each, three, threshold_of, told}
-use Rattle.qc_accept.specs.Names.{weights, with_item}
+use Rattle.qc_accept.specs.Vocabulary.{AreListed, EntryOf, IsListed, StoreOf, TypeOf, array_at, cut, entries_in}
+use Rattle.qc_accept.specs.Vocabulary.{entry_in, epoch_keys, is_at, kind_of, needs, needs_of, no_others, number_in}
+use Rattle.qc_accept.specs.Vocabulary.{number_of, optional, place_in, places, places_of, plan_of, read_each, three}
+use Rattle.qc_accept.specs.Vocabulary.{threshold_of, told, weights, with_item}
 use Rattle.qc_accept.proofs.Answered.{both, came, found, mapped, same_ok, told_some}
 use Rattle.qc_accept.proofs.Kept.{number_within}
 use Rattle.qc_accept.proofs.Listed.{IsEntry, entry_more, need_is, need_past_objects, need_past_places}

@@ -9,8 +9,8 @@ use Rattle.std.proofs.lemmas.List.Quantifiers.{all_pairs_push}
 use Rattle.std.proofs.lemmas.Option.{cond_some}
 use Rattle.std.proofs.lemmas.Slice.Eq.{bytes_eq-Decides}
 use Rattle.toml.specs.Data.{Data, Members, as_str}
-use Rattle.qc_decl.specs.Names.{AreNames, is_name}
-use Rattle.qc_accept.specs.Names.{items, names, read_each, told, with_name, with_text}
+use Rattle.qc_decl.specs.Vocabulary.{AreNames, is_name}
+use Rattle.qc_accept.specs.Vocabulary.{items, names, read_each, told, with_name, with_text}
 use Rattle.qc_accept.proofs.Answered.{both, came, found, read_each_keeps, told_some}
 
 -- none yet

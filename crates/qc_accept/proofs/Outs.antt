@@ -3,9 +3,9 @@ use Rattle.std.proofs.Common.{◌≡◌, ℕ, Bool, false, cond, List, Option, S
 use Rattle.std.specs.Prelude.{◌==◌, option_and_then}
 use Rattle.std.specs.List.{slice_split}
 use Rattle.std.specs.Str.{bytes_eq}
-use Rattle.qc_table.specs.Names.{event, event_number}
+use Rattle.qc_table.specs.Vocabulary.{event, event_number}
 use Rattle.qc_table.specs.declared.row.Event.{Event}
-use Rattle.qc_accept.specs.Names.{WordsOf, cut, event_of_text, number_of, out_in, read_each, with_new}
+use Rattle.qc_accept.specs.Vocabulary.{WordsOf, cut, event_of_text, number_of, out_in, read_each, with_new}
 
 -- the event of a text that was cut
 abbrev event_of_cut : WordsOf → List Event → Option (List ℕ × List ℕ) → Option ℕ

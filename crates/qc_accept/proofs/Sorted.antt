@@ -7,7 +7,7 @@ use Rattle.qc_cert.specs.declared.triple.Triple.{Triple}
 use Rattle.qc_table.specs.declared.kind.Kind.{Kind}
 use Rattle.qc_decl.specs.declared.declaration.KindNames.{KindNames}
 use Rattle.qc_accept.specs.declared.kinds.TypeRead.{TypeRead}
-use Rattle.qc_accept.specs.Names.{TypeOf, all_names, kind_names, type_in}
+use Rattle.qc_accept.specs.Vocabulary.{TypeOf, all_names, kind_names, type_in}
 
 -- what is kept of a type and its name
 abbrev pub kind_in : TypeRead × List ℕ → Kind

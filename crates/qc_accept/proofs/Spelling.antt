@@ -7,18 +7,19 @@ use Rattle.std.specs.Option.{option_map_or}
 use Rattle.std.proofs.lemmas.List.{append-nil, append_assoc, map-append}
 use Rattle.std.proofs.lemmas.Option.{cond_some}
 use Rattle.toml.specs.Data.{Data, Items, Members, as_array, as_str, get_member}
-use Rattle.qc_table.specs.Names.{Rules, events_of, fault_of, relation_of, rules_of}
+use Rattle.qc_table.specs.Vocabulary.{Rules, events_of, fault_of, relation_of, rules_of}
 use Rattle.qc_table.specs.declared.relation.Pair.{Pair}
 use Rattle.qc_table.specs.declared.row.Event.{Event}
 use Rattle.qc_table.specs.declared.row.Row.{Row}
 use Rattle.qc_cert.specs.declared.triple.Triple.{Triple}
 use Rattle.qc_decl.proofs.Places.{place_at}
-use Rattle.qc_decl.specs.Names.{is_between, is_name, most_invocations, most_responses, most_rows, most_states}
-use Rattle.qc_decl.specs.Names.{most_triples}
-use Rattle.qc_accept.specs.Names.{AreTexts, IsSpelled, TypeOf, WordsOf, are_few_alike, array_at, items, items_between}
-use Rattle.qc_accept.specs.Names.{listed, name_among, names, no_others, number_of, optional, pair_in, pairs_in}
-use Rattle.qc_accept.specs.Names.{read_each, relation, required, row_in, rows, rows_in, table_of, told, triple_in}
-use Rattle.qc_accept.specs.Names.{triples, triples_in, type_keys, type_of, with_name, with_read, with_text, words}
+use Rattle.qc_decl.specs.Vocabulary.{is_between, is_name, most_invocations, most_responses, most_rows, most_states}
+use Rattle.qc_decl.specs.Vocabulary.{most_triples}
+use Rattle.qc_accept.specs.Vocabulary.{AreTexts, IsSpelled, TypeOf, WordsOf, are_few_alike, array_at, items}
+use Rattle.qc_accept.specs.Vocabulary.{items_between, listed, name_among, names, no_others, number_of, optional}
+use Rattle.qc_accept.specs.Vocabulary.{pair_in, pairs_in, read_each, relation, required, row_in, rows, rows_in}
+use Rattle.qc_accept.specs.Vocabulary.{table_of, told, triple_in, triples, triples_in, type_keys, type_of, with_name}
+use Rattle.qc_accept.specs.Vocabulary.{with_read, with_text, words}
 use Rattle.qc_accept.proofs.Answered.{came, found, mapped, same_ok, told_some}
 use Rattle.qc_accept.proofs.Kept.{ruled_ok, then_some}
 

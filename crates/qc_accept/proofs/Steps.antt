@@ -3,7 +3,7 @@ use Rattle.std.proofs.Common.{◌≡◌, ℕ, suc, ◌+◌, ◌<◌, ◌≤◌, 
 use Rattle.std.proofs.Common.{drop-cons, sym, ap, ◌∙◌, arith}
 use Rattle.std.proofs.lemmas.List.{get_or-map, length-map, drop_all}
 use Rattle.std.specs.Prelude.{option_and_then}
-use Rattle.qc_accept.specs.Names.{read_each}
+use Rattle.qc_accept.specs.Vocabulary.{read_each}
 
 module _ {X A B : Type 0} (add : A → B → Option A) (see : X → B) (xs : List X) (i : ℕ) where
   -- what is left at an item begins with it

@@ -15,9 +15,10 @@ use Rattle.qc_table.specs.declared.kind.Kind.{Kind}
 use Rattle.qc_decl.specs.declared.declaration.Declaration.{Declaration}
 use Rattle.qc_decl.specs.declared.declaration.KindNames.{KindNames}
 use Rattle.qc_accept.specs.declared.fault.DeclFault.TheVariants as decl
-use Rattle.qc_accept.specs.Names.{Answer, AreAdmitted, AreInductive, DraftOf, accepted, admitted, all_admitted}
-use Rattle.qc_accept.specs.Names.{all_certified, cert_names, certified, declared, document_of, draft_of, plan_names}
-use Rattle.qc_list.specs.Names.{◌>>=◌}
+use Rattle.qc_accept.specs.Vocabulary.{Answer, AreAdmitted, AreInductive, DraftOf, accepted, admitted, all_admitted}
+use Rattle.qc_accept.specs.Vocabulary.{all_certified, cert_names, certified, declared, document_of, draft_of}
+use Rattle.qc_accept.specs.Vocabulary.{plan_names}
+use Rattle.qc_list.specs.Vocabulary.{◌>>=◌}
 
 certified_all : (place : ℕ) (names : List KindNames) (kinds : List Kind) (lists : List (List Triple))
     → ((k : ℕ) (kind : Kind) (list : List Triple) → slice_get kinds k ≡ Some kind → slice_get lists k ≡ Some list

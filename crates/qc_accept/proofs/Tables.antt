@@ -12,8 +12,8 @@ use Rattle.std.specs.Str.{bytes_eq}
 use Rattle.toml.specs.Data.{Data, Items, as_array}
 use Rattle.toml.specs.View.{view, items_view, members_view}
 use Rattle.toml.specs.declared.value.Value.{Value}
-use Rattle.qc_accept.specs.Names.{first_other, items_between, listed}
-use Rattle.qc_decl.specs.Names.{is_between}
+use Rattle.qc_accept.specs.Vocabulary.{first_other, items_between, listed}
+use Rattle.qc_decl.specs.Vocabulary.{is_between}
 
 -- an array's items, as a list
 pub listed_view : (vs : List Value) → listed (items_view vs) ≡ map view vs

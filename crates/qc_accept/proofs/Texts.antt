@@ -9,8 +9,8 @@ use Rattle.std.specs.Str.Pattern.{FindsChar}
 use Rattle.std.proofs.lemmas.Bool.{eqb-true, eqb-false, eq-eqb, le-leb}
 use Rattle.std.proofs.lemmas.List.Folds.{list_any_at}
 use Rattle.std.proofs.lemmas.Str.Pattern.{IsSplitOnceResult, split_once_first, contains_char}
-use Rattle.qc_decl.specs.Names.{is_between, is_name, is_name_byte, longest_name}
-use Rattle.qc_accept.specs.Names.{cut, two}
+use Rattle.qc_decl.specs.Vocabulary.{is_between, is_name, is_name_byte, longest_name}
+use Rattle.qc_accept.specs.Vocabulary.{cut, two}
 
 -- a text with such a byte is cut around the first one
 cut_around : (c : ℕ) (s : List ℕ) → position_or_len (λ b. b == c) s < length s

@@ -8,7 +8,7 @@ use Rattle.std.specs.Option.{option_map_or}
 use Rattle.std.proofs.lemmas.Cmp.{nat_eq_equiv}
 use Rattle.std.proofs.lemmas.List.{map-append}
 use Rattle.indexmap.specs.IndexMap.{insert_entry}
-use Rattle.qc_accept.specs.Names.{EntryOf, entry_at, is_at, threshold_of, with_entry}
+use Rattle.qc_accept.specs.Vocabulary.{EntryOf, entry_at, is_at, threshold_of, with_entry}
 
 -- whether a key is of this object and place
 abbrev pub is_key : ℕ → ℕ → ℕ × ℕ → Bool

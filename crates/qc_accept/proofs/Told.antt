@@ -5,8 +5,8 @@ use Rattle.qc_accept.specs.declared.fault.DeclFault.{DeclFault}
 use Rattle.qc_accept.specs.declared.fault.DeclFault.TheVariants.{OutOfMemory, Field}
 use Rattle.qc_accept.specs.declared.fault.Wrong.{Wrong}
 use Rattle.qc_accept.specs.declared.fault.Wrong.TheVariants.{Form}
-use Rattle.qc_list.specs.Names.{◌>>=◌}
-use Rattle.qc_accept.specs.Names.{Answer, IsAnswer, IsReading, told}
+use Rattle.qc_list.specs.Vocabulary.{◌>>=◌}
+use Rattle.qc_accept.specs.Vocabulary.{Answer, IsAnswer, IsReading, told}
 
 -- what follows an answer
 pub then_ok : {A B : Type 0} (answer : Answer A) (next : A → Answer B) (a : A) (b : Answer B) → answer ≡ Ok a

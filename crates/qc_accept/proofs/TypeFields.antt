@@ -4,15 +4,15 @@ use Rattle.std.proofs.Common.{arith}
 use Rattle.std.specs.Prelude.{codes}
 use Rattle.toml.specs.Data.{Data, Members}
 use Rattle.qc_cert.specs.declared.triple.Triple.{Triple}
-use Rattle.qc_table.specs.Names.{Rules, events_of}
+use Rattle.qc_table.specs.Vocabulary.{Rules, events_of}
 use Rattle.qc_table.specs.declared.row.Event.{Event}
 use Rattle.qc_table.specs.declared.row.Row.{Row}
-use Rattle.qc_decl.specs.Names.{most_events, most_rows}
+use Rattle.qc_decl.specs.Vocabulary.{most_events, most_rows}
 use Rattle.qc_accept.specs.declared.fault.DeclFault.{DeclFault}
 use Rattle.qc_accept.specs.declared.fault.DeclFault.TheVariants.{OutOfMemory}
-use Rattle.qc_list.specs.Names.{◌>>=◌}
-use Rattle.qc_accept.specs.Names.{Answer, TypeOf, WordsOf, items, no_others, relation, row_in, rows, rows_in, table_of}
-use Rattle.qc_accept.specs.Names.{told, triples, type_keys, type_of, with_read, words}
+use Rattle.qc_list.specs.Vocabulary.{◌>>=◌}
+use Rattle.qc_accept.specs.Vocabulary.{Answer, TypeOf, WordsOf, items, no_others, relation, row_in, rows, rows_in}
+use Rattle.qc_accept.specs.Vocabulary.{table_of, told, triples, type_keys, type_of, with_read, words}
 use Rattle.qc_accept.proofs.Answered.{came, read_each_keeps, told_some, so_many}
 use Rattle.qc_accept.proofs.Kept.{IsTable, few_events, read_long, table_is, words_are}
 use Rattle.qc_accept.proofs.Told.{then_ok, then_err}

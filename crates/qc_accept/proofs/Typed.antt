@@ -3,13 +3,13 @@ use Rattle.std.proofs.Common.{◌≡◌, ◌≢◌, ℕ, suc, List, [], ◌∷�
 use Rattle.std.specs.Prelude.{codes}
 use Rattle.std.proofs.lemmas.List.{map-append}
 use Rattle.toml.specs.Data.{Data, Members}
-use Rattle.qc_decl.specs.Names.{most_types}
+use Rattle.qc_decl.specs.Vocabulary.{most_types}
 use Rattle.qc_accept.specs.declared.fault.DeclFault.{DeclFault}
 use Rattle.qc_accept.specs.declared.fault.DeclFault.TheVariants.{OutOfMemory}
 use Rattle.qc_accept.specs.declared.kinds.TypeRead.{TypeRead}
-use Rattle.qc_list.specs.Names.{◌>>=◌}
-use Rattle.qc_accept.specs.Names.{Answer, TypeOf, TypesOf, each, item_table, items, keys_path, name_at, required, told}
-use Rattle.qc_accept.specs.Names.{type_in, type_of, types_of, with_name, with_type}
+use Rattle.qc_list.specs.Vocabulary.{◌>>=◌}
+use Rattle.qc_accept.specs.Vocabulary.{Answer, TypeOf, TypesOf, each, item_table, items, keys_path, name_at, required}
+use Rattle.qc_accept.specs.Vocabulary.{told, type_in, type_of, types_of, with_name, with_type}
 use Rattle.qc_accept.proofs.Answered.{came, told_some, same_ok}
 use Rattle.qc_accept.proofs.Kept.{name_more}
 use Rattle.qc_accept.proofs.Told.{then_ok, then_err}

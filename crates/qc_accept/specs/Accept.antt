@@ -17,15 +17,15 @@ use Rattle.qc_plan.specs.Faults as plan
 use Rattle.qc_plan.specs.declared.fault.PlanFault.{PlanFault}
 use Rattle.qc_plan.specs.declared.fault.PlanFault.TheVariants.{NoWeight, TooHeavy, CanMiss}
 use Rattle.qc_plan.specs.declared.plan.Plan.{Plan}
-use Rattle.qc_table.specs.Names.{Rules, events_of}
+use Rattle.qc_table.specs.Vocabulary.{Rules, events_of}
 use Rattle.qc_table.specs.declared.kind.Kind.{Kind}
 use Rattle.qc_table.specs.declared.row.Event.{Event}
 use Rattle.qc_decl.specs.declared.declaration.Declaration.{Declaration}
 use Rattle.qc_decl.specs.declared.declaration.KindNames.{KindNames}
-use Rattle.qc_decl.specs.Names.{kind_at, most_clients, most_epochs, most_objects, most_sites, most_triples, most_types}
-use Rattle.qc_decl.specs.Names.{names_of}
+use Rattle.qc_decl.specs.Vocabulary.{kind_at, most_clients, most_epochs, most_objects, most_sites, most_triples}
+use Rattle.qc_decl.specs.Vocabulary.{most_types, names_of}
 use Rattle.qc_accept.specs.declared.fault.DeclFault.TheVariants as decl
-use Rattle.qc_list.specs.Names.{◌>>=◌}
+use Rattle.qc_list.specs.Vocabulary.{◌>>=◌}
 use Rattle.qc_accept.specs.Answers.{Answer}
 use Rattle.qc_accept.specs.Epochs.{plans_of}
 use Rattle.qc_accept.specs.Fields.{number, no_others}

@@ -1,10 +1,10 @@
 -- What stands behind a type's rows: its relation and its triples, and no unknown key.
 use Rattle.std.specs.Prelude.{ℕ, List, Ok}
 use Rattle.toml.specs.Data.{Members}
-use Rattle.qc_table.specs.Names.{Rules, events_of}
+use Rattle.qc_table.specs.Vocabulary.{Rules, events_of}
 use Rattle.qc_table.specs.declared.row.Event.{Event}
 use Rattle.qc_accept.specs.declared.kinds.Certificate.{Certificate}
-use Rattle.qc_list.specs.Names.{◌>>=◌}
+use Rattle.qc_list.specs.Vocabulary.{◌>>=◌}
 use Rattle.qc_accept.specs.Answers.{Answer}
 use Rattle.qc_accept.specs.Fields.{no_others}
 use Rattle.qc_accept.specs.Types.{WordsOf, TypeOf, relation, triples, type_keys}

@@ -5,10 +5,10 @@ use Rattle.std.specs.List.{list_any}
 use Rattle.std.specs.Option.{option_map_or}
 use Rattle.toml.specs.Data.{Data, Members, as_str}
 use Rattle.qc_plan.specs.declared.plan.Plan.{Plan}
-use Rattle.qc_decl.specs.Names.{greatest_weight, most_epochs, most_events, most_objects, most_sites}
+use Rattle.qc_decl.specs.Vocabulary.{greatest_weight, most_epochs, most_events, most_objects, most_sites}
 use Rattle.qc_accept.specs.declared.epochs.Side.{Side}
 use Rattle.qc_accept.specs.declared.epochs.Side.TheVariants.{Initial, Final}
-use Rattle.qc_list.specs.Names.{◌>>=◌}
+use Rattle.qc_list.specs.Vocabulary.{◌>>=◌}
 use Rattle.qc_accept.specs.Answers.{Answer, each, read_each}
 use Rattle.qc_accept.specs.Fields.{told, items, optional, number_between, no_others, item_table, keys_path}
 use Rattle.qc_accept.specs.Objects.{ObjectsOf, kind_of}

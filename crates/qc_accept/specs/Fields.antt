@@ -7,9 +7,9 @@ use Rattle.std.specs.Str.{bytes_eq}
 use Rattle.toml.specs.Data.{Data, Items, no_items, item, Members, no_members, member, get_member, as_str, as_integer}
 use Rattle.toml.specs.Data.{as_array, as_table}
 use Rattle.qc_accept.specs.declared.fault.DeclFault.TheVariants.{Field}
-use Rattle.qc_list.specs.Names.{◌>>=◌}
+use Rattle.qc_list.specs.Vocabulary.{◌>>=◌}
 use Rattle.qc_accept.specs.Answers.{Answer, read_each}
-use Rattle.qc_decl.specs.Names.{is_between, is_name}
+use Rattle.qc_decl.specs.Vocabulary.{is_between, is_name}
 use Rattle.qc_accept.specs.Words.{number_of}
 
 -- A table of the document stands under a path: none for the document itself, `type[0].` for the first item of `type`. A

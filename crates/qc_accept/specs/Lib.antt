@@ -9,4 +9,4 @@ pub mod Sufficient
 pub mod Types
 pub mod Views
 pub mod Words
-pub mod Names
+pub mod Vocabulary

@@ -1,8 +1,8 @@
 -- The objects of a declaration.
 use Rattle.std.specs.Prelude.{ℕ, List, [], ◌∷◌, ◌++◌, length, Option, Ok, codes, slice_get, option_and_then}
 use Rattle.toml.specs.Data.{Data, Members}
-use Rattle.qc_list.specs.Names.{◌>>=◌}
-use Rattle.qc_decl.specs.Names.{most_objects}
+use Rattle.qc_list.specs.Vocabulary.{◌>>=◌}
+use Rattle.qc_decl.specs.Vocabulary.{most_objects}
 use Rattle.qc_accept.specs.Answers.{Answer, each}
 use Rattle.qc_accept.specs.Fields.{told, required, items, name_among, with_name, no_others, item_table, keys_path}
 use Rattle.qc_accept.specs.Types.{TypeOf, TypesOf}

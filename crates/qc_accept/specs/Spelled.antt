@@ -2,11 +2,11 @@
 use Rattle.std.specs.Prelude.{◌≡◌, ℕ, List, [], Option, Some, codes, length, map, slice_get, option_and_then}
 use Rattle.std.specs.Option.{option_map_or}
 use Rattle.toml.specs.Data.{Data, Members, as_array, as_str, as_table, get_member}
-use Rattle.qc_decl.specs.Names.{greatest_weight, most_clients, most_sites}
+use Rattle.qc_decl.specs.Vocabulary.{greatest_weight, most_clients, most_sites}
 use Rattle.qc_decl.specs.declared.declaration.Declaration.{Declaration}
 use Rattle.qc_plan.specs.declared.plan.Plan.{Plan}
-use Rattle.qc_plan.specs.Names.{need_of}
-use Rattle.qc_table.specs.Names.{events_of, relation_of, rules_of}
+use Rattle.qc_plan.specs.Vocabulary.{need_of}
+use Rattle.qc_table.specs.Vocabulary.{events_of, relation_of, rules_of}
 use Rattle.qc_table.specs.declared.relation.Pair.{Pair}
 use Rattle.qc_table.specs.declared.row.Row.{Row}
 use Rattle.qc_accept.specs.declared.epochs.Side.{Side}

@@ -1,9 +1,9 @@
 -- What suffices for a declaration whose fields are read: certificates that are inductive, and plans that are admitted.
 use Rattle.std.specs.Prelude.{◌≡◌, ℕ, List, Some, slice_get}
 use Rattle.qc_accept.specs.Accept.{DraftOf}
-use Rattle.qc_cert.specs.Names.{IsInductive}
+use Rattle.qc_cert.specs.Vocabulary.{IsInductive}
 use Rattle.qc_cert.specs.declared.triple.Triple.{Triple}
-use Rattle.qc_plan.specs.Names.{IsAdmitted}
+use Rattle.qc_plan.specs.Vocabulary.{IsAdmitted}
 use Rattle.qc_plan.specs.declared.plan.Plan.{Plan}
 use Rattle.qc_table.specs.declared.kind.Kind.{Kind}
 

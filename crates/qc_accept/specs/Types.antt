@@ -6,16 +6,16 @@ use Rattle.std.specs.List.{list_all, slice_split}
 use Rattle.std.specs.Str.{bytes_eq}
 use Rattle.toml.specs.Data.{Data, Members, as_str}
 use Rattle.qc_cert.specs.declared.triple.Triple.{Triple}
-use Rattle.qc_table.specs.Names.{Rules, events_of, fault_of, has, relation_of, rules_of, with_member}
+use Rattle.qc_table.specs.Vocabulary.{Rules, events_of, fault_of, has, relation_of, rules_of, with_member}
 use Rattle.qc_table.specs.declared.fault.TableFault.{TableFault}
 use Rattle.qc_table.specs.declared.kind.Kind.{Kind}
 use Rattle.qc_table.specs.declared.relation.Pair.{Pair}
 use Rattle.qc_table.specs.declared.row.Event.{Event}
 use Rattle.qc_table.specs.declared.row.Row.{Row}
-use Rattle.qc_decl.specs.Names.{is_name, most_alike_triples, most_invocations, most_responses, most_rows, most_states}
-use Rattle.qc_decl.specs.Names.{most_triples, most_types}
+use Rattle.qc_decl.specs.Vocabulary.{is_name, most_alike_triples, most_invocations, most_responses, most_rows}
+use Rattle.qc_decl.specs.Vocabulary.{most_states, most_triples, most_types}
 use Rattle.qc_accept.specs.declared.fault.DeclFault.TheVariants.{Table}
-use Rattle.qc_list.specs.Names.{◌>>=◌}
+use Rattle.qc_list.specs.Vocabulary.{◌>>=◌}
 use Rattle.qc_accept.specs.Answers.{Answer, each, read_each}
 use Rattle.qc_accept.specs.Fields.{told, required, items, optional, names, name_among, with_name, no_others, item_table}
 use Rattle.qc_accept.specs.Fields.{keys_path}

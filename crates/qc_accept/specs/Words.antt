@@ -3,10 +3,10 @@ use Rattle.std.specs.Prelude.{ℕ, ◌+◌, ◌-◌, ◌*◌, ◌==◌, ◌&&◌
 use Rattle.std.specs.Prelude.{if◌then◌else◌, option_map, option_and_then, position}
 use Rattle.std.specs.List.{list_any, list_all}
 use Rattle.std.specs.Str.{bytes_eq}
-use Rattle.qc_table.specs.Names.{event, event_number}
+use Rattle.qc_table.specs.Vocabulary.{event, event_number}
 use Rattle.qc_table.specs.declared.row.Event.{Event}
-use Rattle.qc_decl.specs.Names.{greatest_threshold, is_between}
-use Rattle.qc_number.specs.Names.{most_digits}
+use Rattle.qc_decl.specs.Vocabulary.{greatest_threshold, is_between}
+use Rattle.qc_number.specs.Vocabulary.{most_digits}
 
 -- what stands before and behind the first byte of this kind
 abbrev pub cut : ℕ → List ℕ → Option (List ℕ × List ℕ)

@@ -3,11 +3,12 @@ use Rattle.std.proofs.Common.{◌≡◌, ℕ, zero, suc, ◌+◌, Bool, true, fa
 use Rattle.std.proofs.Common.{None, option_map, refl, ap}
 use Rattle.std.specs.List.{AllByRecursion as Every}
 use Rattle.qc_stamp.specs.declared.stamp.TxId.{TxId}
-use Rattle.qc_stamp.specs.Names.{same_tx}
+use Rattle.qc_stamp.specs.Vocabulary.{same_tx}
 use Rattle.qc_decl.specs.declared.declaration.Declaration.{Declaration}
-use Rattle.qc_epoch.specs.Names.{Question, ask_of, clock_in, first_doubt, is_settled, stamp_in, stamp_of}
+use Rattle.qc_epoch.specs.Vocabulary.{Question, ask_of, clock_in, first_doubt, is_settled, stamp_in, stamp_of}
 use Rattle.qc_admin.specs.declared.questions.Query.{Query}
-use Rattle.qc_admin.specs.Names.{ask_about, asked_from, in_doubt, latest_of, number_at, question_of, shown, unasked}
+use Rattle.qc_admin.specs.Vocabulary.{ask_about, asked_from, in_doubt, latest_of, number_at, question_of, shown}
+use Rattle.qc_admin.specs.Vocabulary.{unasked}
 
 -- the first doubt
 

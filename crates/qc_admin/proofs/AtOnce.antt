@@ -5,7 +5,7 @@ use Rattle.std.specs.Prelude.{nat_le}
 use Rattle.std.specs.Option.{option_map_or}
 use Rattle.std.proofs.Math.Nat.{zero-mod}
 use Rattle.qc_decl.specs.declared.declaration.Declaration.{Declaration}
-use Rattle.qc_decl.specs.Names.{IsAccepted, most_record_bytes, plan_in}
+use Rattle.qc_decl.specs.Vocabulary.{IsAccepted, most_record_bytes, plan_in}
 use Rattle.qc_msg.specs.declared.call.Call.{Call}
 use Rattle.qc_msg.specs.declared.message.Answer.{Answer}
 use Rattle.qc_msg.specs.declared.message.Message.{Message}
@@ -16,20 +16,20 @@ use Rattle.qc_msg.specs.declared.step.Command.TheVariants as commands
 use Rattle.qc_msg.specs.declared.step.Input.{Input}
 use Rattle.qc_msg.specs.declared.step.Input.TheVariants as inputs
 use Rattle.qc_msg.specs.declared.turn.Turn.{Turn}
-use Rattle.qc_msg.specs.Names.{epoch_length, quiet, sending, site_called, without_call}
+use Rattle.qc_msg.specs.Vocabulary.{epoch_length, quiet, sending, site_called, without_call}
 use Rattle.qc_plan.specs.declared.plan.Plan.{Plan}
 use Rattle.qc_plan.specs.declared.standing.Verdict.{Verdict}
 use Rattle.qc_plan.specs.declared.standing.Verdict.TheVariants as verdicts
-use Rattle.qc_plan.specs.Names.{RoundState, note, start, verdict}
-use Rattle.qc_front.specs.Names.{IsRound, awaited, weights_of}
-use Rattle.qc_epoch.specs.Names.{Admin, Asking, Closing, Decided, Doing, Installing, Question, Resting, ShutSite}
-use Rattle.qc_epoch.specs.Names.{admin_takes, again, all_taken, answered_in, ask_of, asks, called, close_need}
-use Rattle.qc_epoch.specs.Names.{close_round, close_round_by, closes, closes_by, closing_takes, decide_turn, decides}
-use Rattle.qc_epoch.specs.Names.{decision, doing, first_doubt, goes_on, heard, in_asked_order, install_sends}
-use Rattle.qc_epoch.specs.Names.{installing, installing_takes, most_asks, moved, moves_to, outcome_in, questions_of}
-use Rattle.qc_epoch.specs.Names.{replies_with, settles, settles_by, site_set, standing_of, taken_for, with_installed}
-use Rattle.qc_epoch.specs.Names.{with_shut_of}
-use Rattle.qc_admin.specs.Names.{AdminHolds, DoingHolds, IsNumberedAtOnce}
+use Rattle.qc_plan.specs.Vocabulary.{RoundState, note, start, verdict}
+use Rattle.qc_front.specs.Vocabulary.{IsRound, awaited, weights_of}
+use Rattle.qc_epoch.specs.Vocabulary.{Admin, Asking, Closing, Decided, Doing, Installing, Question, Resting, ShutSite}
+use Rattle.qc_epoch.specs.Vocabulary.{admin_takes, again, all_taken, answered_in, ask_of, asks, called, close_need}
+use Rattle.qc_epoch.specs.Vocabulary.{close_round, close_round_by, closes, closes_by, closing_takes, decide_turn}
+use Rattle.qc_epoch.specs.Vocabulary.{decides, decision, doing, first_doubt, goes_on, heard, in_asked_order}
+use Rattle.qc_epoch.specs.Vocabulary.{install_sends, installing, installing_takes, most_asks, moved, moves_to}
+use Rattle.qc_epoch.specs.Vocabulary.{outcome_in, questions_of, replies_with, settles, settles_by, site_set}
+use Rattle.qc_epoch.specs.Vocabulary.{standing_of, taken_for, with_installed, with_shut_of}
+use Rattle.qc_admin.specs.Vocabulary.{AdminHolds, DoingHolds, IsNumberedAtOnce}
 use Rattle.qc_admin.proofs.NumberedCloses.{asks_new, asks_on, unsent}
 use Rattle.qc_admin.proofs.Numbered.{all_unasked, asking_new, installs_new, taken_asked}
 

@@ -7,9 +7,9 @@ use Rattle.std.proofs.Math.Nat.{pow-le-pow_right}
 use Rattle.std.proofs.lemmas.Bool.{ltb-false, ltb-true}
 use Rattle.std.proofs.lemmas.List.Sums.{sum_by-append, sum_by-cons, sum_by-drop_more}
 use Rattle.qc_msg.specs.declared.call.Call.{Call}
-use Rattle.qc_msg.specs.Names.{site_called, without_call}
-use Rattle.qc_front.specs.Names.{sites_called}
-use Rattle.qc_epoch.specs.Names.{site_set}
+use Rattle.qc_msg.specs.Vocabulary.{site_called, without_call}
+use Rattle.qc_front.specs.Vocabulary.{sites_called}
+use Rattle.qc_epoch.specs.Vocabulary.{site_set}
 
 -- one site more, first or last
 

@@ -3,7 +3,7 @@ use Rattle.std.proofs.Common.{◌≡◌, ℕ, ◌+◌, ◌^◌, ◌≤◌, ◌<�
 use Rattle.std.proofs.Common.{take, Option, Some, None, refl, sym, subst, eqb-true, arith}
 use Rattle.std.specs.Prelude.{nat_le}
 use Rattle.qc_decl.specs.declared.declaration.Declaration.{Declaration}
-use Rattle.qc_decl.specs.Names.{IsAccepted, most_record_bytes}
+use Rattle.qc_decl.specs.Vocabulary.{IsAccepted, most_record_bytes}
 use Rattle.qc_msg.specs.declared.call.Call.{Call}
 use Rattle.qc_msg.specs.declared.message.Answer.{Answer}
 use Rattle.qc_msg.specs.declared.message.Answer.TheVariants as answers
@@ -14,20 +14,20 @@ use Rattle.qc_msg.specs.declared.step.Command.TheVariants as commands
 use Rattle.qc_msg.specs.declared.step.Input.{Input}
 use Rattle.qc_msg.specs.declared.step.Input.TheVariants as inputs
 use Rattle.qc_msg.specs.declared.reply.Reply.TheVariants as replies
-use Rattle.qc_msg.specs.Names.{calls_from, epoch_length, quiet, sending, site_called, without_call}
+use Rattle.qc_msg.specs.Vocabulary.{calls_from, epoch_length, quiet, sending, site_called, without_call}
 use Rattle.qc_plan.specs.declared.standing.Verdict.{Verdict}
 use Rattle.qc_plan.specs.declared.standing.Verdict.TheVariants as verdicts
-use Rattle.qc_plan.specs.Names.{RoundState, note, verdict}
-use Rattle.qc_front.specs.Names.{sites_called}
+use Rattle.qc_plan.specs.Vocabulary.{RoundState, note, verdict}
+use Rattle.qc_front.specs.Vocabulary.{sites_called}
 use Rattle.qc_front.proofs.Awaited.{sites_stay}
-use Rattle.qc_epoch.specs.Names.{Admin, Asking, Closing, Decided, Doing, Installing, Question, Resting, ShutSite}
-use Rattle.qc_epoch.specs.Names.{admin_takes, again, all_sites, all_taken, answered_in, ask_of, asking_takes, asks}
-use Rattle.qc_epoch.specs.Names.{called, close_round, closes, closes_by, closing_takes, decide_turn, decides, decision}
-use Rattle.qc_epoch.specs.Names.{doing, first_doubt, heard, in_asked_order, installing, installing_takes, most_asks}
-use Rattle.qc_epoch.specs.Names.{moved, moves_to, outcome_in, questions_of, replies_with, settles, settles_by, site_set}
-use Rattle.qc_epoch.specs.Names.{standing_of, taken_for, with_installed, with_shut_of}
-use Rattle.qc_admin.specs.Names.{AdminFits, AnswerFits, AreSites, DoingFits, GivenFits, InstallsFit, MessageFits}
-use Rattle.qc_admin.specs.Names.{ShutsFit, numbered, sent, sites_in}
+use Rattle.qc_epoch.specs.Vocabulary.{Admin, Asking, Closing, Decided, Doing, Installing, Question, Resting, ShutSite}
+use Rattle.qc_epoch.specs.Vocabulary.{admin_takes, again, all_sites, all_taken, answered_in, ask_of, asking_takes, asks}
+use Rattle.qc_epoch.specs.Vocabulary.{called, close_round, closes, closes_by, closing_takes, decide_turn, decides}
+use Rattle.qc_epoch.specs.Vocabulary.{decision, doing, first_doubt, heard, in_asked_order, installing, installing_takes}
+use Rattle.qc_epoch.specs.Vocabulary.{most_asks, moved, moves_to, outcome_in, questions_of, replies_with, settles}
+use Rattle.qc_epoch.specs.Vocabulary.{settles_by, site_set, standing_of, taken_for, with_installed, with_shut_of}
+use Rattle.qc_admin.specs.Vocabulary.{AdminFits, AnswerFits, AreSites, DoingFits, GivenFits, InstallsFit, MessageFits}
+use Rattle.qc_admin.specs.Vocabulary.{ShutsFit, numbered, sent, sites_in}
 use Rattle.qc_admin.proofs.Bits.{last_bit, taken_bit}
 use Rattle.qc_admin.proofs.Moves.{last_fits, shut_last}
 use Rattle.qc_admin.proofs.NumberedCloses.{from_sites}

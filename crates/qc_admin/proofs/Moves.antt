@@ -10,24 +10,24 @@ use Rattle.qc_msg.specs.declared.call.Call.{Call}
 use Rattle.qc_msg.specs.declared.message.Answer.{Answer}
 use Rattle.qc_msg.specs.declared.message.Answer.TheVariants as answers
 use Rattle.qc_msg.specs.declared.message.Outcome.{Outcome}
-use Rattle.qc_msg.specs.Names.{quiet, site_called, without_call}
+use Rattle.qc_msg.specs.Vocabulary.{quiet, site_called, without_call}
 use Rattle.qc_plan.specs.declared.standing.Asked.{Asked}
 use Rattle.qc_plan.specs.declared.standing.Verdict.TheVariants as verdicts
 use Rattle.qc_plan.specs.declared.plan.Plan.{Plan}
-use Rattle.qc_plan.specs.Names.{RoundState, has_granted, note, start, verdict, weight}
-use Rattle.qc_decl.specs.Names.{plan_in}
-use Rattle.qc_epoch.specs.Names.{Admin, AdminMove, Doing, Question, ShutSite, all_taken, answered, answered_in, asks}
-use Rattle.qc_epoch.specs.Names.{close_need, close_round, close_round_by, closes, closes_by, closing_takes, doing}
-use Rattle.qc_epoch.specs.Names.{in_asked_order, moved, outcome_in, questions_of, settles, shut_at, shut_list}
-use Rattle.qc_epoch.specs.Names.{standing_of, taken_for, with_shut_of}
+use Rattle.qc_plan.specs.Vocabulary.{RoundState, has_granted, note, start, verdict, weight}
+use Rattle.qc_decl.specs.Vocabulary.{plan_in}
+use Rattle.qc_epoch.specs.Vocabulary.{Admin, AdminMove, Doing, Question, ShutSite, all_taken, answered, answered_in}
+use Rattle.qc_epoch.specs.Vocabulary.{asks, close_need, close_round, close_round_by, closes, closes_by, closing_takes}
+use Rattle.qc_epoch.specs.Vocabulary.{doing, in_asked_order, moved, outcome_in, questions_of, settles, shut_at}
+use Rattle.qc_epoch.specs.Vocabulary.{shut_list, standing_of, taken_for, with_shut_of}
 use Rattle.qc_epoch.specs.Admin as admins
 use Rattle.qc_admin.specs.declared.asking.Asking.{Asking}
 use Rattle.qc_admin.specs.declared.closing.Closing.{Closing}
 use Rattle.qc_admin.specs.declared.doing.Doing.TheVariants as runs
 use Rattle.qc_admin.specs.declared.next.Next.{Next}
 use Rattle.qc_admin.specs.declared.next.Next.TheVariants as nexts
-use Rattle.qc_admin.specs.Names.{AnswerFits, AreOfClients, ShutsFit, asking_of, becomes, begun, closing_of, shut_in}
-use Rattle.qc_admin.specs.Names.{with_last}
+use Rattle.qc_admin.specs.Vocabulary.{AnswerFits, AreOfClients, ShutsFit, asking_of, becomes, begun, closing_of}
+use Rattle.qc_admin.specs.Vocabulary.{shut_in, with_last}
 
 -- what ran before doesn't matter
 pub becomes_over : (m : Admin) (before d : Doing) (next : Next) → becomes (doing m before) d next ≡ becomes m d next

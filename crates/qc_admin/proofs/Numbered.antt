@@ -1,20 +1,21 @@
 -- What runs, once requests get their numbers: Closes, Asks and Installs.
-use Rattle.std.proofs.Common.{◌≡◌, ℕ, zero, suc, ◌+◌, ◌<◌, ◌==◌, ◌&&◌, Bool, true, false, cond, List, ◌∷◌, ◌++◌, fold}
-use Rattle.std.proofs.Common.{length, map, take, Option, Some, None, is_none, refl, sym, ap, ◌∙◌, append_assoc, arith}
+use Rattle.std.proofs.Common.{[], ◌≡◌, ℕ, zero, suc, ◌+◌, ◌<◌, ◌==◌, ◌&&◌, Bool, true, false, cond, List, ◌∷◌, ◌++◌}
+use Rattle.std.proofs.Common.{fold, length, map, take, Option, Some, None, is_none, refl, sym, ap, ◌∙◌, append_assoc}
+use Rattle.std.proofs.Common.{arith}
 use Rattle.std.proofs.lemmas.Bool.{ne_eqb}
 use Rattle.std.proofs.lemmas.List.{append-nil}
 use Rattle.std.proofs.lemmas.List.FromFn.{length-range_with_len}
 use Rattle.qc_entry.specs.declared.record.Prepared.{Prepared}
 use Rattle.qc_decl.specs.declared.declaration.Declaration.{Declaration}
-use Rattle.qc_decl.specs.Names.{IsAccepted}
+use Rattle.qc_decl.specs.Vocabulary.{IsAccepted}
 use Rattle.qc_msg.specs.declared.call.Call.{Call}
 use Rattle.qc_msg.specs.declared.turn.Turn.{Turn}
-use Rattle.qc_msg.specs.Names.{calls_from, sending, with_call}
-use Rattle.qc_epoch.specs.Names.{Admin, Asking, Decided, Installing, Question, ShutSite, all_sites, ask_of, doing}
-use Rattle.qc_epoch.specs.Names.{install_of, install_sends, installing, is_number, is_questioned, most_asks, moved}
-use Rattle.qc_epoch.specs.Names.{numbered_first, taken_for, with_question, with_questions}
+use Rattle.qc_msg.specs.Vocabulary.{calls_from, sending, with_call}
+use Rattle.qc_epoch.specs.Vocabulary.{Admin, Asking, Decided, Installing, Question, ShutSite, all_sites, ask_of, doing}
+use Rattle.qc_epoch.specs.Vocabulary.{install_of, install_sends, installing, is_number, is_questioned, most_asks, moved}
+use Rattle.qc_epoch.specs.Vocabulary.{numbered_first, taken_for, with_question, with_questions}
 use Rattle.qc_msg.specs.declared.message.Outcome.{Outcome}
-use Rattle.qc_admin.specs.Names.{IsNumberedAtOnce, is_unasked, numbered_all, sent_each}
+use Rattle.qc_admin.specs.Vocabulary.{IsNumberedAtOnce, is_unasked, numbered_all, sent_each}
 
 -- Installs get their numbers
 

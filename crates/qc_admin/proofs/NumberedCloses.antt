@@ -1,27 +1,27 @@
 -- Closes and Asks get their numbers: a round after what came of a request, as requests are numbered.
-use Rattle.std.proofs.Common.{◌≡◌, ℕ, ◌+◌, ◌<◌, ◌==◌, Bool, true, false, cond, List, ◌∷◌, ◌++◌, length, map, take, Some}
-use Rattle.std.proofs.Common.{inl, inr, refl, sym, ap, ◌∙◌, subst, append_assoc, arith}
+use Rattle.std.proofs.Common.{[], ◌≡◌, ℕ, ◌+◌, ◌<◌, ◌==◌, Bool, true, false, cond, List, ◌∷◌, ◌++◌, length, map, take}
+use Rattle.std.proofs.Common.{Some, inl, inr, refl, sym, ap, ◌∙◌, subst, append_assoc, arith}
 use Rattle.std.specs.Ordering.{nat_cmp}
 use Rattle.std.proofs.lemmas.Bool.{ne_eqb}
 use Rattle.std.proofs.lemmas.List.{append-nil}
-use Rattle.qc_list.specs.Names.{Ascends, In}
+use Rattle.qc_list.specs.Vocabulary.{Ascends, In}
 use Rattle.qc_decl.specs.declared.declaration.Declaration.{Declaration}
 use Rattle.qc_msg.specs.declared.call.Call.{Call}
 use Rattle.qc_msg.specs.declared.turn.Turn.{Turn}
-use Rattle.qc_msg.specs.Names.{calls_from, numbered_from, sending, site_called, with_call, without_call}
+use Rattle.qc_msg.specs.Vocabulary.{calls_from, numbered_from, sending, site_called, with_call, without_call}
 use Rattle.qc_plan.specs.declared.standing.Standing.{Standing}
 use Rattle.qc_plan.specs.declared.standing.Verdict.TheVariants as verdicts
-use Rattle.qc_plan.specs.Names.{RoundState, all_noted, asking_all, note, verdict, wanted}
-use Rattle.qc_front.specs.Names.{IsAwaiting, IsRound, awaited, sites_called, sites_of}
+use Rattle.qc_plan.specs.Vocabulary.{RoundState, all_noted, asking_all, note, verdict, wanted}
+use Rattle.qc_front.specs.Vocabulary.{IsAwaiting, IsRound, awaited, sites_called, sites_of}
 use Rattle.qc_front.proofs.Apart.{AreApart}
 use Rattle.qc_front.proofs.Awaited.{asking_awaits, asking_round, asking_waits}
 use Rattle.qc_front.proofs.NotedRounds.{note_round, note_wants, round_apart}
 use Rattle.qc_front.proofs.Noting.{awaits_some, no_calls, note_numbered, note_open, noted_awaits}
 use Rattle.qc_front.proofs.Recording.{below_one}
-use Rattle.qc_epoch.specs.Names.{Admin, Asking, Closing, Doing, Installing, Resting, ShutSite, called, close_of, doing}
-use Rattle.qc_epoch.specs.Names.{goes_on, most_asks, moved}
-use Rattle.qc_admin.specs.Names.{AdminHolds, ClosingHolds, DoingHolds, IsNumberedAtOnce, numbered, numbered_all}
-use Rattle.qc_admin.specs.Names.{sent_each}
+use Rattle.qc_epoch.specs.Vocabulary.{Admin, Asking, Closing, Doing, Installing, Resting, ShutSite, called, close_of}
+use Rattle.qc_epoch.specs.Vocabulary.{doing, goes_on, most_asks, moved}
+use Rattle.qc_admin.specs.Vocabulary.{AdminHolds, ClosingHolds, DoingHolds, IsNumberedAtOnce, numbered, numbered_all}
+use Rattle.qc_admin.specs.Vocabulary.{sent_each}
 
 -- calls with consecutive numbers
 

@@ -4,9 +4,10 @@ use Rattle.std.proofs.Common.{length, take, Option, Some, None, is_none, refl, s
 use Rattle.std.specs.List.{AllByRecursion as Every}
 use Rattle.std.specs.Prelude.{nat_lt}
 use Rattle.std.proofs.lemmas.Bool.{le-ltb, lt-ltb}
-use Rattle.qc_epoch.specs.Names.{Question, most_asks, numbered_first}
+use Rattle.qc_epoch.specs.Vocabulary.{Question, most_asks, numbered_first}
 use Rattle.qc_admin.specs.declared.questions.Query.{Query}
-use Rattle.qc_admin.specs.Names.{asked_from, is_unasked, number_at, numbered_all, question_of, unasked, with_numbers}
+use Rattle.qc_admin.specs.Vocabulary.{asked_from, is_unasked, number_at, numbered_all, question_of, unasked}
+use Rattle.qc_admin.specs.Vocabulary.{with_numbers}
 
 -- all of these have numbers
 abbrev AreNumbered : List Question → Type 0

@@ -3,9 +3,9 @@ use Rattle.std.proofs.Common.{◌<◌, ◌++◌, ◌∷◌, [], ℕ, List, Bool,
 use Rattle.std.specs.List.{AllByRecursion as Every}
 use Rattle.qc_entry.specs.declared.record.Prepared.{Prepared}
 use Rattle.qc_list.proofs.Members.{every-append}
-use Rattle.qc_decl.specs.Names.{most_clients}
-use Rattle.qc_epoch.specs.Names.{Question, ShutSite, is_questioned, questions_of, with_question, with_questions}
-use Rattle.qc_admin.specs.Names.{AreOfClients, ShutsFit}
+use Rattle.qc_decl.specs.Vocabulary.{most_clients}
+use Rattle.qc_epoch.specs.Vocabulary.{Question, ShutSite, is_questioned, questions_of, with_question, with_questions}
+use Rattle.qc_admin.specs.Vocabulary.{AreOfClients, ShutsFit}
 
 -- about a transaction of a client that may be declared
 abbrev pub AreAsked : List Question → Type 0

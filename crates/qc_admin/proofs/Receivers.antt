@@ -5,7 +5,7 @@ use Rattle.std.specs.List.{AllByRecursion as Every}
 use Rattle.std.specs.Prelude.{nat_le}
 use Rattle.std.proofs.lemmas.List.{length-append, length-map, length-take}
 use Rattle.qc_decl.specs.declared.declaration.Declaration.{Declaration}
-use Rattle.qc_decl.specs.Names.{IsAccepted, most_record_bytes}
+use Rattle.qc_decl.specs.Vocabulary.{IsAccepted, most_record_bytes}
 use Rattle.qc_msg.specs.declared.call.Call.{Call}
 use Rattle.qc_msg.specs.declared.message.Answer.{Answer}
 use Rattle.qc_msg.specs.declared.message.Message.{Message}
@@ -17,20 +17,21 @@ use Rattle.qc_msg.specs.declared.step.Input.{Input}
 use Rattle.qc_msg.specs.declared.step.Input.TheVariants as inputs
 use Rattle.qc_msg.specs.declared.turn.Posting.{Posting}
 use Rattle.qc_msg.specs.declared.turn.Turn.{Turn}
-use Rattle.qc_msg.specs.Names.{epoch_length, quiet, sending, site_called, without_call}
+use Rattle.qc_msg.specs.Vocabulary.{epoch_length, quiet, sending, site_called, without_call}
 use Rattle.qc_plan.specs.declared.standing.Verdict.{Verdict}
 use Rattle.qc_plan.specs.declared.standing.Verdict.TheVariants as verdicts
-use Rattle.qc_plan.specs.Names.{RoundState, note, verdict, wanted}
-use Rattle.qc_front.specs.Names.{IsPrefix, sites_of}
+use Rattle.qc_plan.specs.Vocabulary.{RoundState, note, verdict, wanted}
+use Rattle.qc_front.specs.Vocabulary.{IsPrefix, sites_of}
 use Rattle.qc_front.proofs.Awaited.{wanted_is}
-use Rattle.qc_epoch.specs.Names.{Admin, Asking, Closing, Decided, Doing, Installing, Question, Resting, ShutSite}
-use Rattle.qc_epoch.specs.Names.{admin_takes, again, all_sites, all_taken, answered_in, ask_of, asks, called, close_of}
-use Rattle.qc_epoch.specs.Names.{close_round, closes, closes_by, closing_takes, decide_turn, decides, decision, doing}
-use Rattle.qc_epoch.specs.Names.{first_doubt, goes_on, heard, in_asked_order, install_of, installing, installing_takes}
-use Rattle.qc_epoch.specs.Names.{most_asks, moved, moves_to, outcome_in, questions_of, replies_with, settles}
-use Rattle.qc_epoch.specs.Names.{settles_by, site_set, standing_of, taken_for, with_installed, with_shut_of}
-use Rattle.qc_admin.specs.Names.{AdminFits, AnswerFits, AreSites, DoingFits, GivenFits, GoesToActors, MessageFits}
-use Rattle.qc_admin.specs.Names.{ShutsFit, sites_in}
+use Rattle.qc_epoch.specs.Vocabulary.{Admin, Asking, Closing, Decided, Doing, Installing, Question, Resting, ShutSite}
+use Rattle.qc_epoch.specs.Vocabulary.{admin_takes, again, all_sites, all_taken, answered_in, ask_of, asks, called}
+use Rattle.qc_epoch.specs.Vocabulary.{close_of, close_round, closes, closes_by, closing_takes, decide_turn, decides}
+use Rattle.qc_epoch.specs.Vocabulary.{decision, doing, first_doubt, goes_on, heard, in_asked_order, install_of}
+use Rattle.qc_epoch.specs.Vocabulary.{installing, installing_takes, most_asks, moved, moves_to, outcome_in}
+use Rattle.qc_epoch.specs.Vocabulary.{questions_of, replies_with, settles, settles_by, site_set, standing_of, taken_for}
+use Rattle.qc_epoch.specs.Vocabulary.{with_installed, with_shut_of}
+use Rattle.qc_admin.specs.Vocabulary.{AdminFits, AnswerFits, AreSites, DoingFits, GivenFits, GoesToActors, MessageFits}
+use Rattle.qc_admin.specs.Vocabulary.{ShutsFit, sites_in}
 use Rattle.qc_admin.proofs.Bits.{below_16, both_sets, first_bit}
 use Rattle.qc_admin.proofs.Moves.{last_fits, ordered_fit, shut_last}
 use Rattle.qc_admin.proofs.Promised.{AreAsked, questions_asked}

@@ -9,15 +9,15 @@ use Rattle.std.proofs.Math.Pow.{pow_mono}
 use Rattle.std.proofs.lemmas.List.{append-nil, map-append}
 use Rattle.std.proofs.lemmas.List.FromFn.{length-range_with_len}
 use Rattle.qc_decl.specs.declared.declaration.Declaration.{Declaration}
-use Rattle.qc_decl.specs.Names.{IsAccepted, IsGood, plan_in}
+use Rattle.qc_decl.specs.Vocabulary.{IsAccepted, IsGood, plan_in}
 use Rattle.qc_plan.specs.declared.plan.Plan.{Plan}
 use Rattle.qc_plan.specs.declared.standing.Asked.{Asked}
 use Rattle.qc_plan.specs.declared.standing.Standing.{Standing}
-use Rattle.qc_plan.specs.Names.{RoundState, note, note_in, start, weight_at}
-use Rattle.qc_front.specs.Names.{sites_of}
-use Rattle.qc_epoch.specs.Names.{ShutSite, close_need, close_round, close_round_by, in_asked_order, shut_at, shut_list}
-use Rattle.qc_epoch.specs.Names.{site_set}
-use Rattle.qc_admin.specs.Names.{AreSites, sites_in}
+use Rattle.qc_plan.specs.Vocabulary.{RoundState, note, note_in, start, weight_at}
+use Rattle.qc_front.specs.Vocabulary.{sites_of}
+use Rattle.qc_epoch.specs.Vocabulary.{ShutSite, close_need, close_round, close_round_by, in_asked_order, shut_at}
+use Rattle.qc_epoch.specs.Vocabulary.{shut_list, site_set}
+use Rattle.qc_admin.specs.Vocabulary.{AreSites, sites_in}
 use Rattle.qc_admin.proofs.Bits.{both_sets, first_bit}
 
 -- sites in a row

@@ -7,10 +7,10 @@ use Rattle.std.specs.Prelude.{nat_le, nat_lt}
 use Rattle.std.proofs.lemmas.Bool.{eq-eqb, leb-false, leb-true, lt-ltb, ltb-true, ne_eqb}
 use Rattle.std.proofs.lemmas.List.Sums.{sum_by-cons}
 use Rattle.qc_msg.specs.declared.message.Outcome.{Outcome}
-use Rattle.qc_epoch.specs.Names.{Question, all_taken, is_number, most_asks, taken_for}
+use Rattle.qc_epoch.specs.Vocabulary.{Question, all_taken, is_number, most_asks, taken_for}
 use Rattle.qc_admin.specs.declared.questions.Query.{Query}
-use Rattle.qc_admin.specs.Names.{asked_from, is_open, number_at, open_at, open_place, question_of, shown, unasked}
-use Rattle.qc_admin.specs.Names.{waiting_in}
+use Rattle.qc_admin.specs.Vocabulary.{asked_from, is_open, number_at, open_at, open_place, question_of, shown, unasked}
+use Rattle.qc_admin.specs.Vocabulary.{waiting_in}
 
 -- one question, with what is taken for it
 

@@ -1,7 +1,7 @@
 -- What holds of him, and of what he takes, in every run, and his calls rely on.
 use Rattle.std.specs.Prelude.{◌≡◌, ℕ, ◌+◌, ◌^◌, ◌<◌, ◌≤◌, List, [], ◌++◌, length, map, Option, Some, None}
 use Rattle.std.specs.List.{AllByRecursion as Every}
-use Rattle.qc_decl.specs.Names.{most_clients, most_sites}
+use Rattle.qc_decl.specs.Vocabulary.{most_clients, most_sites}
 use Rattle.qc_entry.specs.declared.record.Prepared.{Prepared}
 use Rattle.qc_msg.specs.declared.message.Answer.{Answer}
 use Rattle.qc_msg.specs.declared.message.Answer.TheVariants as answers
@@ -11,9 +11,9 @@ use Rattle.qc_msg.specs.declared.step.Input.{Input}
 use Rattle.qc_msg.specs.declared.step.Input.TheVariants as inputs
 use Rattle.qc_msg.specs.declared.turn.Posting.{Posting}
 use Rattle.qc_msg.specs.declared.turn.Turn.{Turn}
-use Rattle.qc_plan.specs.Names.{RoundState}
-use Rattle.qc_front.specs.Names.{sites_called, sites_of}
-use Rattle.qc_epoch.specs.Names.{Admin, Asking, Closing, Doing, Installing, Resting, ShutSite, most_asks, site_set}
+use Rattle.qc_plan.specs.Vocabulary.{RoundState}
+use Rattle.qc_front.specs.Vocabulary.{sites_called, sites_of}
+use Rattle.qc_epoch.specs.Vocabulary.{Admin, Asking, Closing, Doing, Installing, Resting, ShutSite, most_asks, site_set}
 
 -- few sites, which are a set of 16 bits
 pub record AreSites (sites : List ℕ) : Type 0 where

@@ -3,9 +3,9 @@
 use Rattle.std.specs.Prelude.{◌≡◌, ℕ, ◌==◌, false, List, length}
 use Rattle.qc_decl.specs.declared.declaration.Declaration.{Declaration}
 use Rattle.qc_msg.specs.declared.call.Call.{Call}
-use Rattle.qc_plan.specs.Names.{RoundState}
-use Rattle.qc_front.specs.Names.{AreOpen, IsAwaiting, IsRound, awaited, sites_called}
-use Rattle.qc_epoch.specs.Names.{Admin, AdminMove, Asking, Closing, Doing, Installing, Resting}
+use Rattle.qc_plan.specs.Vocabulary.{RoundState}
+use Rattle.qc_front.specs.Vocabulary.{AreOpen, IsAwaiting, IsRound, awaited, sites_called}
+use Rattle.qc_epoch.specs.Vocabulary.{Admin, AdminMove, Asking, Closing, Doing, Installing, Resting}
 use Rattle.qc_admin.specs.Sent.{is_unasked, sent, sent_each}
 
 -- a round by the plan of the decided epoch, from site 0, in which each awaited site has an open request

@@ -6,4 +6,4 @@ pub mod Next
 pub mod Sent
 pub mod Fits
 pub mod Holds
-pub mod Names
+pub mod Vocabulary

@@ -4,11 +4,11 @@ use Rattle.std.specs.Prelude.{List, fold, Option, Some, None}
 use Rattle.std.specs.BTreeMap.{get}
 use Rattle.qc_stamp.specs.declared.stamp.Stamp.{Stamp}
 use Rattle.qc_stamp.specs.declared.stamp.TxId.{TxId}
-use Rattle.qc_stamp.specs.Names.{tx_cmp}
+use Rattle.qc_stamp.specs.Vocabulary.{tx_cmp}
 use Rattle.qc_entry.specs.declared.line.Line.{Line}
 use Rattle.qc_entry.specs.declared.record.Prepared.{Prepared}
-use Rattle.qc_entry.specs.Names.{union}
-use Rattle.qc_epoch.specs.Names.{ShutSite, promised_lines}
+use Rattle.qc_entry.specs.Vocabulary.{union}
+use Rattle.qc_epoch.specs.Vocabulary.{ShutSite, promised_lines}
 use Rattle.qc_admin.specs.declared.stamps.Stamps.{Stamps}
 
 -- the stamp that is kept for a transaction

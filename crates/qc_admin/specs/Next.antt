@@ -1,8 +1,8 @@
 -- What becomes of him, as it is built before anything is replaced.
 use Rattle.std.specs.Prelude.{Some}
 use Rattle.qc_msg.specs.declared.reply.Reply.{Reply}
-use Rattle.qc_msg.specs.Names.{quiet, telling}
-use Rattle.qc_epoch.specs.Names.{Admin, AdminMove, Doing as Runs, doing, moved}
+use Rattle.qc_msg.specs.Vocabulary.{quiet, telling}
+use Rattle.qc_epoch.specs.Vocabulary.{Admin, AdminMove, Doing as Runs, doing, moved}
 use Rattle.qc_admin.specs.declared.doing.Doing.{Doing}
 use Rattle.qc_admin.specs.declared.doing.Doing.TheVariants.{Resting}
 use Rattle.qc_admin.specs.declared.next.Next.{Next}

@@ -5,16 +5,16 @@ use Rattle.std.specs.Prelude.{count_by, fold, map, take, slice_get, Option, Some
 use Rattle.std.specs.List.{AllByRecursion}
 use Rattle.std.specs.BTreeSet.{BTreeSet, contains}
 use Rattle.qc_stamp.specs.declared.stamp.TxId.{TxId}
-use Rattle.qc_stamp.specs.Names.{tx_cmp}
+use Rattle.qc_stamp.specs.Vocabulary.{tx_cmp}
 use Rattle.qc_decl.specs.declared.declaration.Declaration.{Declaration}
-use Rattle.qc_decl.specs.Names.{client_actor}
+use Rattle.qc_decl.specs.Vocabulary.{client_actor}
 use Rattle.qc_msg.specs.declared.message.Answer.{Answer}
 use Rattle.qc_msg.specs.declared.message.Answer.TheVariants as answers
 use Rattle.qc_msg.specs.declared.message.Message.TheVariants as messages
 use Rattle.qc_msg.specs.declared.reply.Reply.{Reply}
 use Rattle.qc_msg.specs.declared.reply.Reply.TheVariants as replies
 use Rattle.qc_msg.specs.declared.turn.Posting.{Posting}
-use Rattle.qc_epoch.specs.Names.{Question, clock_in, is_questioned, most_asks, stamp_in}
+use Rattle.qc_epoch.specs.Vocabulary.{Question, clock_in, is_questioned, most_asks, stamp_in}
 use Rattle.qc_admin.specs.declared.questions.Query.{Query}
 
 abbrev pub question_of : Option ℕ → Query → Question

@@ -3,10 +3,10 @@
 use Rattle.std.specs.Prelude.{ℕ, zero, suc, ◌+◌, Bool, if◌then◌else◌, List, [], ◌∷◌, length, take, is_none}
 use Rattle.std.specs.List.{list_all}
 use Rattle.qc_msg.specs.declared.turn.Posting.{Posting}
-use Rattle.qc_msg.specs.Names.{numbered_from}
-use Rattle.qc_epoch.specs.Names.{Admin, Asking, Closing, Doing, Installing, Question, Resting, doing, most_asks}
-use Rattle.qc_epoch.specs.Names.{numbered_first, sent_one}
-use Rattle.qc_front.specs.Names.{awaited}
+use Rattle.qc_msg.specs.Vocabulary.{numbered_from}
+use Rattle.qc_epoch.specs.Vocabulary.{Admin, Asking, Closing, Doing, Installing, Question, Resting, doing, most_asks}
+use Rattle.qc_epoch.specs.Vocabulary.{numbered_first, sent_one}
+use Rattle.qc_front.specs.Vocabulary.{awaited}
 
 -- so many questions get numbers, one after another from this one on
 abbrev pub numbered_all : ℕ → ℕ → List Question → List Question

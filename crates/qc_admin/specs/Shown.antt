@@ -1,6 +1,6 @@
 -- What runs, as the definitions of the administrator have it.
 use Rattle.qc_epoch.specs.Admin as admins
-use Rattle.qc_epoch.specs.Names.{Doing as Runs}
+use Rattle.qc_epoch.specs.Vocabulary.{Doing as Runs}
 use Rattle.qc_admin.specs.declared.asking.Asking.{Asking as Asks}
 use Rattle.qc_admin.specs.declared.closing.Closing.{Closing as Closes}
 use Rattle.qc_admin.specs.declared.doing.Doing.{Doing}

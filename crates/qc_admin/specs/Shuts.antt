@@ -2,7 +2,7 @@
 use Rattle.std.specs.Prelude.{ℕ, List, ◌++◌, Option, Some, None}
 use Rattle.qc_msg.specs.declared.message.Answer.{Answer}
 use Rattle.qc_msg.specs.declared.message.Answer.TheVariants as answers
-use Rattle.qc_epoch.specs.Names.{ShutSite, shut_list}
+use Rattle.qc_epoch.specs.Vocabulary.{ShutSite, shut_list}
 
 abbrev pub shut_in : ℕ → Option Answer → Option ShutSite
 shut_in site None = None

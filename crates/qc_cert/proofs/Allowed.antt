@@ -2,7 +2,7 @@
 use Rattle.std.proofs.Common.{◌≡◌, ℕ, Bool, true, false, cond, Some, None, refl, sym, ap, ◌∙◌}
 use Rattle.std.specs.Prelude.{◌↔◌, IsBitSet, IsTrue, not}
 use mathlib.Core.Bool.{beq}
-use Rattle.qc_cert.specs.Names.{AreAllowed, is_allowed, unequal_fault}
+use Rattle.qc_cert.specs.Vocabulary.{AreAllowed, is_allowed, unequal_fault}
 use Rattle.qc_cert.specs.declared.fault.CertFault.{CertFault}
 use Rattle.qc_cert.specs.declared.fault.CertFault.TheVariants.{Unequal}
 use Rattle.qc_cert.specs.declared.triple.Triple.{Triple}

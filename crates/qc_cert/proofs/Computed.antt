@@ -5,9 +5,9 @@ use Rattle.std.specs.Prelude.{◌↔◌, ◌==◌, ◌&&◌, ◌||◌}
 use Rattle.std.specs.Int.{bit_at}
 use Rattle.std.proofs.lemmas.Bool.{eqb-true, eqb-false, eq-eqb, and_from, and_parts, or_left, or_right, true≢false}
 use Rattle.std.proofs.lemmas.Nat.Bits.{bit_at_and, bit_at-lt, bit_at-zero, same_from_bits}
-use Rattle.qc_table.specs.Names.{IsWithin, depended, is_within}
+use Rattle.qc_table.specs.Vocabulary.{IsWithin, depended, is_within}
 use Rattle.qc_table.specs.declared.kind.Kind.{Kind}
-use Rattle.qc_cert.specs.Names.{Covers, IsCovered, IsFree, covers, is_covered, is_free}
+use Rattle.qc_cert.specs.Vocabulary.{Covers, IsCovered, IsFree, covers, is_covered, is_free}
 use Rattle.qc_cert.specs.declared.triple.Triple.{Triple}
 
 -- a set is within another where the two have just its members in common

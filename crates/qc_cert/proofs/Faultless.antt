@@ -5,16 +5,16 @@ use Rattle.std.specs.Prelude.{is_some, ◌==◌, option_and_then}
 use Rattle.std.specs.Option.{option_or}
 use Rattle.std.proofs.lemmas.Bool.{eqb-true, eq-eqb, true≢false}
 use Rattle.std.proofs.lemmas.Option.{slice_get_within}
-use Rattle.qc_list.specs.Names.{first_below}
+use Rattle.qc_list.specs.Vocabulary.{first_below}
 use Rattle.qc_list.proofs.Search.{none_parts, none_from, none_below, below_none}
-use Rattle.qc_table.specs.Names.{IsSound, event, events_of, step_of, with_member}
+use Rattle.qc_table.specs.Vocabulary.{IsSound, event, events_of, step_of, with_member}
 use Rattle.qc_table.specs.declared.kind.Kind.{Kind}
 use Rattle.qc_table.proofs.Named.{allowed_within}
 use Rattle.qc_cert.proofs.Computed.{free_true, true_free, covered_true, true_covered}
 use Rattle.qc_cert.proofs.Walk.{IsStep, step_is}
-use Rattle.qc_cert.specs.Names.{IsCovered, IsFree, IsInductive, fault_of, inv_fault, inv_of, is_allowed, is_covered}
-use Rattle.qc_cert.specs.Names.{is_free, left_out_fault, taken_fault, triple, triple_fault, triples_fault}
-use Rattle.qc_cert.specs.Names.{unequal_fault, unless_covered}
+use Rattle.qc_cert.specs.Vocabulary.{IsCovered, IsFree, IsInductive, fault_of, inv_fault, inv_of, is_allowed}
+use Rattle.qc_cert.specs.Vocabulary.{is_covered, is_free, left_out_fault, taken_fault, triple, triple_fault}
+use Rattle.qc_cert.specs.Vocabulary.{triples_fault, unequal_fault, unless_covered}
 use Rattle.qc_cert.specs.declared.fault.CertFault.{CertFault}
 use Rattle.qc_cert.specs.declared.fault.CertFault.TheVariants.{NoStart, Uncovered, Unequal}
 use Rattle.qc_cert.specs.declared.triple.Triple.{Triple}

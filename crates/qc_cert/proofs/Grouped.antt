@@ -6,10 +6,10 @@ use Rattle.std.specs.List.{list_any}
 use Rattle.std.proofs.lemmas.Bool.{eqb-true, eqb-false, eq-eqb, ne_eqb}
 use Rattle.std.proofs.lemmas.List.{get_or-set_same, get_or-set_other}
 use Rattle.std.proofs.lemmas.List.Folds.{list_any_none}
-use Rattle.qc_cert.specs.Names.{AreStates, any_within, covers, is_covered, outs_at, parts_within, place_of}
+use Rattle.qc_cert.specs.Vocabulary.{AreStates, any_within, covers, is_covered, outs_at, parts_within, place_of}
 use Rattle.qc_cert.proofs.Shared.{or_none, or_deep}
 use Rattle.qc_cert.specs.declared.triple.Triple.{Triple}
-use Rattle.qc_table.specs.Names.{is_within}
+use Rattle.qc_table.specs.Vocabulary.{is_within}
 
 -- of a list's first triple
 head_of : (t : Triple) (ts : List Triple) → All AreStates (t ∷ ts) → AreStates t

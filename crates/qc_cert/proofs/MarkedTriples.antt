@@ -1,5 +1,5 @@
 -- Marks of the triples that stand nowhere before: what those cover.
-use Rattle.std.proofs.Common.{◌≡◌, ℕ, suc, ◌+◌, ◌<◌, Bool, true, false, cond, List, ◌∷◌, ◌++◌, All, length, get_or}
+use Rattle.std.proofs.Common.{[], ◌≡◌, ℕ, suc, ◌+◌, ◌<◌, Bool, true, false, cond, List, ◌∷◌, ◌++◌, All, length, get_or}
 use Rattle.std.proofs.Common.{take, drop, refl, sym, ap, ◌∙◌, arith, Ordering}
 use Rattle.std.specs.Prelude.{not, ◌==◌, ◌&&◌, ◌||◌}
 use Rattle.std.specs.List.{list_any, AllByRecursion}
@@ -9,7 +9,8 @@ use Rattle.std.proofs.lemmas.List.{take_more, drop_more}
 use Rattle.std.proofs.lemmas.Grind.{common_steps}
 use Rattle.std.proofs.lemmas.List.Elements.{All-from_recursion, recursion_from_All}
 use Rattle.std.proofs.lemmas.List.Folds.{list_any-append}
-use Rattle.qc_cert.specs.Names.{covers, distinct, firsts, firsts_after, is_among, is_covered, is_same, marked, triple}
+use Rattle.qc_cert.specs.Vocabulary.{covers, distinct, firsts, firsts_after, is_among, is_covered, is_same, marked}
+use Rattle.qc_cert.specs.Vocabulary.{triple}
 use Rattle.qc_cert.specs.declared.triple.Triple.{Triple}
 
 -- ---- what the set's order tells

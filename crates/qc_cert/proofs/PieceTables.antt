@@ -15,9 +15,9 @@ use Rattle.std.proofs.lemmas.Option.{get_or_from_slice_get, slice_get_within}
 use Rattle.std.proofs.Math.Nat.{mod-lt}
 use Rattle.qc_cert.proofs.Computed.{true_within, within_true}
 use Rattle.qc_cert.proofs.Shared.{below_64, lowest_has}
-use Rattle.qc_cert.specs.Names.{AreLeft, IsLeft, IsRow, IsWord, agrees, any_within, keeps, piece}
+use Rattle.qc_cert.specs.Vocabulary.{AreLeft, IsLeft, IsRow, IsWord, agrees, any_within, keeps, piece}
 use Rattle.qc_cert.specs.declared.blocks.Row.{Row}
-use Rattle.qc_table.specs.Names.{IsWithin, has, is_within}
+use Rattle.qc_table.specs.Vocabulary.{IsWithin, has, is_within}
 
 -- ---- pieces
 -- a number shifted, and its lowest bits

@@ -1,17 +1,17 @@
 -- The triples that stand nowhere before tell of all: what is covered, and the first fault.
-use Rattle.std.proofs.Common.{◌≡◌, ℕ, suc, ◌+◌, ◌<◌, Bool, true, false, cond, List, ◌∷◌, ◌++◌, Option, Some, None}
+use Rattle.std.proofs.Common.{[], ◌≡◌, ℕ, suc, ◌+◌, ◌<◌, Bool, true, false, cond, List, ◌∷◌, ◌++◌, Option, Some, None}
 use Rattle.std.proofs.Common.{length, get_or, drop, refl, sym, ap, ◌∙◌, add-one, ◌≤◌}
 use Rattle.std.specs.Prelude.{is_some, not, ◌==◌, ◌||◌, option_and_then}
 use Rattle.std.specs.Option.{option_or}
 use Rattle.std.proofs.lemmas.Bool.{true≢false}
 use Rattle.std.proofs.lemmas.List.{drop_more, drop_all}
-use Rattle.qc_list.specs.Names.{first_below}
+use Rattle.qc_list.specs.Vocabulary.{first_below}
 use Rattle.qc_list.proofs.Search.{none_parts, none_from, none_below, below_none}
-use Rattle.qc_table.specs.Names.{events_of, step_of, with_member}
+use Rattle.qc_table.specs.Vocabulary.{events_of, step_of, with_member}
 use Rattle.qc_table.specs.declared.kind.Kind.{Kind}
-use Rattle.qc_cert.specs.Names.{firsts, firsts_after, inv_fault, inv_of, is_allowed, is_among, is_covered, is_free}
-use Rattle.qc_cert.specs.Names.{is_same, left_out_fault, marked_fault, taken_fault, triple, triple_fault, triples_fault}
-use Rattle.qc_cert.specs.Names.{unequal_fault, unless_covered}
+use Rattle.qc_cert.specs.Vocabulary.{firsts, firsts_after, inv_fault, inv_of, is_allowed, is_among, is_covered, is_free}
+use Rattle.qc_cert.specs.Vocabulary.{is_same, left_out_fault, marked_fault, taken_fault, triple, triple_fault}
+use Rattle.qc_cert.specs.Vocabulary.{triples_fault, unequal_fault, unless_covered}
 use Rattle.qc_cert.specs.declared.fault.CertFault.{CertFault}
 use Rattle.qc_cert.specs.declared.fault.CertFault.TheVariants.{Uncovered, Unequal}
 use Rattle.qc_cert.specs.declared.triple.Triple.{Triple}

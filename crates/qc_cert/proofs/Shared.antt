@@ -11,9 +11,9 @@ use Rattle.std.proofs.lemmas.List.Elements.{All-push}
 use Rattle.std.proofs.lemmas.List.Folds.{list_any-append, list_any_at, list_any_none}
 use Rattle.std.proofs.lemmas.Nat.Bits.{bit_at-lt, bit_at-zero, bit_at_above, bit_at_and, bit_at_not, bit_at_clear_same}
 use Rattle.std.proofs.lemmas.Nat.Bits.{bit_at_clear_other, bit_at-trailing_zeros}
-use Rattle.qc_cert.specs.Names.{AreParted, any_within, parts_within, sets_of}
+use Rattle.qc_cert.specs.Vocabulary.{AreParted, any_within, parts_within, sets_of}
 use Rattle.qc_cert.proofs.Computed.{within_true}
-use Rattle.qc_table.specs.Names.{has, is_within}
+use Rattle.qc_table.specs.Vocabulary.{has, is_within}
 
 -- a number below 2 ^ 64 has events below 64
 pub below_64 : (set k : ℕ) → set < 2 ^ 64 → has set k ≡ true → k < 64

@@ -1,5 +1,5 @@
 -- Tables of bits tell which sets are within another: what a row is, how rows join, and what is left in the end.
-use Rattle.std.proofs.Common.{◌≡◌, ◌⊎◌, inl, inr, ℕ, max, ◌+◌, ◌-◌, ◌*◌, ◌/◌, ◌%◌, ◌^◌, ◌<◌, ◌≤◌, Bool, true, false}
+use Rattle.std.proofs.Common.{[], ◌≡◌, ◌⊎◌, inl, inr, ℕ, max, ◌+◌, ◌-◌, ◌*◌, ◌/◌, ◌%◌, ◌^◌, ◌<◌, ◌≤◌, Bool, true, false}
 use Rattle.std.proofs.Common.{List, ◌∷◌, ◌++◌, All, Some, slice_get, length, get_or, bit_or, refl, sym, ap, subst, ◌∙◌}
 use Rattle.std.proofs.Common.{arith}
 use Rattle.std.specs.Prelude.{◌==◌, ◌||◌, not}
@@ -11,10 +11,10 @@ use Rattle.std.proofs.lemmas.Nat.{or_comm}
 use Rattle.std.proofs.lemmas.Nat.Bits.{bit_at-zero, bit_at_or, same_from_bits}
 use Rattle.std.proofs.lemmas.Option.{slice_get-get_or}
 use Rattle.qc_cert.proofs.Shared.{none_left, or_none, or_true}
-use Rattle.qc_cert.specs.Names.{AreLeft, AreRows, IsLeft, IsRow, IsWord, agrees, any_within, keeps, no_row}
+use Rattle.qc_cert.specs.Vocabulary.{AreLeft, AreRows, IsLeft, IsRow, IsWord, agrees, any_within, keeps, no_row}
 use Rattle.qc_cert.specs.declared.blocks.Row.{Row}
 use Rattle.qc_table.proofs.Related.{has_with}
-use Rattle.qc_table.specs.Names.{has, is_within, with_member}
+use Rattle.qc_table.specs.Vocabulary.{has, is_within, with_member}
 use Rattle.qc_cert.proofs.PieceTables.{within_agrees, word_hit}
 
 -- words without one

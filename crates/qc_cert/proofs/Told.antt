@@ -6,13 +6,13 @@ use Rattle.std.specs.Int.{trailing_zeros}
 use Rattle.std.proofs.lemmas.Bool.{cases_lt, eqb-true, eqb-false, eq-eqb, false_from_ne_true, true≢false}
 use Rattle.std.proofs.lemmas.Nat.Bits.{bit_at-trailing_zeros}
 use Rattle.qc_cert.proofs.Shared.{below_64, without, without_other, without_same, without_small}
-use Rattle.qc_cert.specs.Names.{AreEvents, inv_of, taken_fault}
+use Rattle.qc_cert.specs.Vocabulary.{AreEvents, inv_of, taken_fault}
 use Rattle.qc_cert.specs.declared.fault.CertFault.{CertFault}
 use Rattle.qc_cert.specs.declared.triple.Triple.{Triple}
 use Rattle.qc_list.proofs.Search.{below_none, first_found}
-use Rattle.qc_list.specs.Names.{first_below}
+use Rattle.qc_list.specs.Vocabulary.{first_below}
 use Rattle.qc_table.proofs.Related.{has_with}
-use Rattle.qc_table.specs.Names.{events_of, has, with_member}
+use Rattle.qc_table.specs.Vocabulary.{events_of, has, with_member}
 use Rattle.qc_table.specs.declared.kind.Kind.{Kind}
 
 -- ---- gathered

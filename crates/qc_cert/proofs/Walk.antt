@@ -7,11 +7,11 @@ use Rattle.std.proofs.lemmas.Nat.Bits.{bit_at-zero}
 use Rattle.std.proofs.lemmas.Bool.{eqb-true, false_from_ne_true, true≢false}
 use Rattle.qc_table.proofs.Related.{has_with}
 use Rattle.qc_table.proofs.Runs.{reached_none}
-use Rattle.qc_table.specs.Names.{depends, event, events_of, has, next_in, reached, step_of, with_member}
+use Rattle.qc_table.specs.Vocabulary.{depends, event, events_of, has, next_in, reached, step_of, with_member}
 use Rattle.qc_table.specs.declared.kind.Kind.{Kind}
 use Rattle.qc_table.specs.declared.row.Event.{Event}
-use Rattle.qc_cert.specs.Names.{IsAccountedFor, IsClosed, IsCovered, IsExact, IsFree, IsInductive, IsLegalFor}
-use Rattle.qc_cert.specs.Names.{StandsOutside, inv_of, is_allowed, picked, state_after, triple}
+use Rattle.qc_cert.specs.Vocabulary.{IsAccountedFor, IsClosed, IsCovered, IsExact, IsFree, IsInductive, IsLegalFor}
+use Rattle.qc_cert.specs.Vocabulary.{StandsOutside, inv_of, is_allowed, picked, state_after, triple}
 use Rattle.qc_cert.specs.declared.triple.Triple.{Triple}
 
 some_of : {A : Type 0} (o : Option A) → IsSome o → (x : A) × (o ≡ Some x)

@@ -2,7 +2,7 @@
 use Rattle.std.specs.Prelude.{◌≡◌, ℕ, Bool, false, IsTrue, List, slice_get, Some}
 use Rattle.qc_cert.specs.Views.{state_after, picked}
 use Rattle.qc_cert.specs.declared.triple.Triple.{Triple}
-use Rattle.qc_table.specs.Names.{has}
+use Rattle.qc_table.specs.Vocabulary.{has}
 use Rattle.qc_table.specs.declared.kind.Kind.{Kind}
 
 -- the event stands at some position outside the set

@@ -9,8 +9,8 @@ use Rattle.qc_cert.specs.Views.{inv_of}
 use Rattle.qc_cert.specs.declared.fault.CertFault.{CertFault}
 use Rattle.qc_cert.specs.declared.fault.CertFault.TheVariants.{NoStart, Uncovered, Unequal, OutOfMemory}
 use Rattle.qc_cert.specs.declared.triple.Triple.{Triple}
-use Rattle.qc_table.specs.Names.{are_apart, depended, events_of, is_within, step_of, with_member}
-use Rattle.qc_list.specs.Names.{first_below}
+use Rattle.qc_table.specs.Vocabulary.{are_apart, depended, events_of, is_within, step_of, with_member}
+use Rattle.qc_list.specs.Vocabulary.{first_below}
 use Rattle.qc_table.specs.declared.kind.Kind.{Kind}
 
 -- whether the first covers the second

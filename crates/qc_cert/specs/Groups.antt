@@ -4,7 +4,7 @@ use Rattle.std.specs.Prelude.{slice_index_or, if◌then◌else◌}
 use Rattle.std.specs.List.{list_any}
 use Rattle.qc_cert.specs.Firsts.{firsts, distinct}
 use Rattle.qc_cert.specs.declared.triple.Triple.{Triple}
-use Rattle.qc_table.specs.Names.{has, is_within, most_states}
+use Rattle.qc_table.specs.Vocabulary.{has, is_within, most_states}
 use Rattle.qc_cert.specs.Tables.{most_sets}
 
 -- both states are below the most states

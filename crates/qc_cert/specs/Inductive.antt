@@ -2,7 +2,7 @@
 use Rattle.std.specs.Prelude.{◌≡◌, ℕ, Bool, false, IsTrue, List, slice_get, Some, is_some}
 use Rattle.qc_cert.specs.Views.{inv_of}
 use Rattle.qc_cert.specs.declared.triple.Triple.{Triple}
-use Rattle.qc_table.specs.Names.{IsWithin, depends, event, has, next_in, step_of, with_member}
+use Rattle.qc_table.specs.Vocabulary.{IsWithin, depends, event, has, next_in, step_of, with_member}
 use Rattle.qc_table.specs.declared.kind.Kind.{Kind}
 
 -- A triple says: where the log's events lead to the state `log`, and those that the view has lead to `view`, the events

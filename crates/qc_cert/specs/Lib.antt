@@ -7,4 +7,4 @@ pub mod Limits
 pub mod Prepared
 pub mod Tables
 pub mod Views
-pub mod Names
+pub mod Vocabulary

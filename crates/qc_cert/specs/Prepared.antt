@@ -1,7 +1,7 @@
 -- A type with what each triple asks of it.
 use Rattle.std.specs.Prelude.{◌≡◌, ℕ, ◌+◌, ◌*◌, ◌<◌, ◌↔◌, List, length, true, IsBitSet, IsSome, slice_index_or}
 use Rattle.qc_cert.specs.Views.{inv_of}
-use Rattle.qc_table.specs.Names.{event, events_of, has, most_invocations, next_in}
+use Rattle.qc_table.specs.Vocabulary.{event, events_of, has, most_invocations, next_in}
 use Rattle.qc_table.specs.declared.kind.Kind.{Kind}
 
 -- a set has the events of an invocation, and none that the type hasn't

@@ -3,7 +3,7 @@ use Rattle.std.specs.Prelude.{◌≡◌, ℕ, zero, suc, ◌+◌, ◌*◌, ◌/�
 use Rattle.std.specs.Prelude.{length, slice_get, slice_index_or}
 use Rattle.std.specs.Option.{option_map_or}
 use Rattle.qc_cert.specs.declared.blocks.Row.{Row}
-use Rattle.qc_table.specs.Names.{has, is_within}
+use Rattle.qc_table.specs.Vocabulary.{has, is_within}
 
 -- the most sets of a block: one for each bit of a row
 abbrev pub most_sets : ℕ

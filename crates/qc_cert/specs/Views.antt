@@ -4,7 +4,7 @@
 use Rattle.std.specs.Prelude.{◌≡◌, ℕ, suc, ◌<◌, Bool, IsTrue, List, [], ◌∷◌, Option, Some, is_some, if◌then◌else◌}
 use Rattle.std.specs.Prelude.{slice_get, option_and_then}
 use Rattle.std.specs.Option.{option_map_or}
-use Rattle.qc_table.specs.Names.{IsLegal, after, depends, event, events_of, next_in, step_of}
+use Rattle.qc_table.specs.Vocabulary.{IsLegal, after, depends, event, events_of, next_in, step_of}
 use Rattle.qc_table.specs.declared.kind.Kind.{Kind}
 use Rattle.qc_table.specs.declared.row.Event.{Event}
 

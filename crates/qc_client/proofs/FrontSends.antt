@@ -1,11 +1,11 @@
 -- What a front end sends, and the name of its transaction after a move.
-use Rattle.std.proofs.Common.{◌≡◌, ℕ, ◌+◌, ◌≤◌, ◌⊎◌, List, ◌∷◌, ◌++◌, map, Option, Some, None, option_map, inl, inr}
+use Rattle.std.proofs.Common.{[], ◌≡◌, ℕ, ◌+◌, ◌≤◌, ◌⊎◌, List, ◌∷◌, ◌++◌, map, Option, Some, None, option_map, inl, inr}
 use Rattle.std.proofs.Common.{refl, sym, ap, subst, arith}
 use Rattle.std.specs.List.{AllByRecursion as Every, slice_get}
-use Rattle.qc_plan.specs.Names.{verdict, wanted}
+use Rattle.qc_plan.specs.Vocabulary.{verdict, wanted}
 use Rattle.qc_stamp.specs.declared.stamp.TxId.{TxId}
 use Rattle.qc_view.specs.declared.view.View.{View}
-use Rattle.qc_view.specs.Names.{with_log, with_own}
+use Rattle.qc_view.specs.Vocabulary.{with_log, with_own}
 use Rattle.qc_entry.specs.declared.line.Line.{Line}
 use Rattle.qc_msg.specs.declared.begun.Begun.{Begun}
 use Rattle.qc_msg.specs.declared.message.Answer.{Answer}
@@ -23,9 +23,9 @@ use Rattle.qc_front.specs.declared.doing.Doing.{Doing}
 use Rattle.qc_front.specs.declared.doing.Doing.TheVariants.{Idle}
 use Rattle.qc_front.specs.declared.front.Front.{Front}
 use Rattle.qc_front.specs.declared.transaction.Transaction.{Transaction}
-use Rattle.qc_front.specs.Names.{FrontMove, appended_with, gives_up, learns, lived, moved, next_own, next_tx, read_with}
-use Rattle.qc_front.specs.Names.{request_of, turned, with_event, with_granted, with_view}
-use Rattle.qc_client.specs.Names.{name_of}
+use Rattle.qc_front.specs.Vocabulary.{FrontMove, appended_with, gives_up, learns, lived, moved, next_own, next_tx}
+use Rattle.qc_front.specs.Vocabulary.{read_with, request_of, turned, with_event, with_granted, with_view}
+use Rattle.qc_client.specs.Vocabulary.{name_of}
 
 -- what a front end sends: requests of its rounds, or that the transaction that was begun aborted, which has ended
 

@@ -1,10 +1,10 @@
 -- What a move of a front end leaves: its numbers, the name of its transaction; and what it sends.
-use Rattle.std.proofs.Common.{◌≡◌, ℕ, Bool, true, false, cond, List, map, length, Option, Some, None, inr, refl, sym}
-use Rattle.std.proofs.Common.{ap, ◌∙◌, arith}
+use Rattle.std.proofs.Common.{[], ◌≡◌, ℕ, Bool, true, false, cond, List, map, length, Option, Some, None, inr, refl}
+use Rattle.std.proofs.Common.{sym, ap, ◌∙◌, arith}
 use Rattle.std.specs.Prelude.{nat_le}
 use Rattle.qc_decl.specs.declared.declaration.Declaration.{Declaration}
-use Rattle.qc_decl.specs.Names.{append_need_of, most_transaction_operations, read_need_of}
-use Rattle.qc_plan.specs.Names.{RoundState, asking_all, note, verdict, wanted}
+use Rattle.qc_decl.specs.Vocabulary.{append_need_of, most_transaction_operations, read_need_of}
+use Rattle.qc_plan.specs.Vocabulary.{RoundState, asking_all, note, verdict, wanted}
 use Rattle.qc_plan.specs.declared.standing.Verdict.{Verdict}
 use Rattle.qc_plan.specs.declared.standing.Verdict.TheVariants as verdicts
 use Rattle.qc_stamp.specs.declared.stamp.TxId.{TxId}
@@ -16,16 +16,17 @@ use Rattle.qc_msg.specs.declared.reply.AbortCause.TheVariants as causes
 use Rattle.qc_msg.specs.declared.reply.Reply.TheVariants as replies
 use Rattle.qc_msg.specs.declared.step.Command.{Command}
 use Rattle.qc_msg.specs.declared.step.Command.TheVariants as commands
-use Rattle.qc_msg.specs.Names.{quiet, sending, site_called, telling, without_call}
+use Rattle.qc_msg.specs.Vocabulary.{quiet, sending, site_called, telling, without_call}
 use Rattle.qc_front.specs.declared.doing.Doing.{Doing}
 use Rattle.qc_front.specs.declared.doing.Doing.TheVariants.{Idle, Reading, Appending}
 use Rattle.qc_front.specs.declared.front.Front.{Front}
 use Rattle.qc_front.specs.declared.transaction.Transaction.{Transaction}
-use Rattle.qc_front.specs.Names.{aborts, answer_of, answered, append_by, append_want, appended_with, appending_takes}
-use Rattle.qc_front.specs.Names.{begins, called, commits, doomed, gives_up, learns, moved, op_of, performs, read_by}
-use Rattle.qc_front.specs.Names.{read_want, read_with, reading_takes, reads, request_of, resp_of, round_for}
-use Rattle.qc_front.specs.Names.{standing_of, takes, takes_in, turned, with_asked, with_event, with_op}
-use Rattle.qc_client.specs.Names.{name_of}
+use Rattle.qc_front.specs.Vocabulary.{aborts, answer_of, answered, append_by, append_want, appended_with}
+use Rattle.qc_front.specs.Vocabulary.{appending_takes, begins, called, commits, doomed, gives_up, learns, moved, op_of}
+use Rattle.qc_front.specs.Vocabulary.{performs, read_by, read_want, read_with, reading_takes, reads, request_of}
+use Rattle.qc_front.specs.Vocabulary.{resp_of, round_for, standing_of, takes, takes_in, turned, with_asked, with_event}
+use Rattle.qc_front.specs.Vocabulary.{with_op}
+use Rattle.qc_client.specs.Vocabulary.{name_of}
 use Rattle.qc_client.proofs.FrontSends.{IsFrontMove, IsSame, itself, stands, goes, gives, asked, read-name}
 use Rattle.qc_client.proofs.FrontSends.{appended-name, event-name, learned}
 

@@ -8,19 +8,19 @@ use Rattle.std.proofs.lemmas.List.Elements.{All-head, All-nil, All-push, All-tai
 use Rattle.std.proofs.lemmas.List.Quantifiers.{all_pairs_push}
 use Rattle.qc_decl.specs.declared.declaration.Declaration.{Declaration}
 use Rattle.qc_stamp.specs.declared.stamp.TxId.{TxId}
-use Rattle.qc_stamp.specs.Names.{same_tx}
+use Rattle.qc_stamp.specs.Vocabulary.{same_tx}
 use Rattle.qc_entry.specs.declared.record.Commit.{Commit}
 use Rattle.qc_commit.specs.declared.desk.Desk.{Desk}
 use Rattle.qc_commit.specs.declared.desk.Known.TheVariants.{Uncommitted}
 use Rattle.qc_commit.specs.declared.desk.Voting.{Voting}
 use Rattle.qc_commit.specs.Conduct as desks
-use Rattle.qc_commit.specs.Names.{DeskMove, commit_of, known, known_by, record_of}
+use Rattle.qc_commit.specs.Vocabulary.{DeskMove, commit_of, known, known_by, record_of}
 use Rattle.qc_commit.proofs.Moves.{Aborts, Commits, IsMove, Waits, prepare-moves, tx_of, vote-moves}
 use Rattle.qc_commit.proofs.Names.{unknown-apart}
 use Rattle.qc_front.specs.declared.front.Front.{Front}
 use Rattle.qc_front.specs.declared.transaction.Transaction.{Transaction}
 use Rattle.qc_front.specs.Conduct as fronts
-use Rattle.qc_front.specs.Names.{FrontMove, ended, next_tx}
+use Rattle.qc_front.specs.Vocabulary.{FrontMove, ended, next_tx}
 use Rattle.qc_msg.specs.declared.message.Answer.{Answer}
 use Rattle.qc_msg.specs.declared.message.Answer.TheVariants as answers
 use Rattle.qc_msg.specs.declared.turn.Turn.{Turn}
@@ -31,9 +31,9 @@ use Rattle.qc_msg.specs.declared.step.Command.TheVariants as commands
 use Rattle.qc_msg.specs.declared.step.Input.{Input}
 use Rattle.qc_msg.specs.declared.step.Input.TheVariants as given
 use Rattle.qc_client.specs.declared.client.Client.{Client}
-use Rattle.qc_client.specs.Names.{AreReady, ClientMove, IsFree, IsReady, NumberedInput, after_input, after_inputs}
-use Rattle.qc_client.specs.Names.{answered, answered_by, by_desk, by_front, called, client_takes, commits, heard, moved}
-use Rattle.qc_client.specs.Names.{name_of, new_client, sent, sent_by}
+use Rattle.qc_client.specs.Vocabulary.{AreReady, ClientMove, IsFree, IsReady, NumberedInput, after_input, after_inputs}
+use Rattle.qc_client.specs.Vocabulary.{answered, answered_by, by_desk, by_front, called, client_takes, commits, heard}
+use Rattle.qc_client.specs.Vocabulary.{moved, name_of, new_client, sent, sent_by}
 use Rattle.qc_client.proofs.FrontSends.{IsFrontMove, IsNamed}
 use Rattle.qc_client.proofs.Fronts.{called-goes, takes-goes}
 

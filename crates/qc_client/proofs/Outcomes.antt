@@ -10,7 +10,7 @@ use Rattle.qc_commit.specs.declared.desk.Desk.{Desk}
 use Rattle.qc_commit.specs.declared.desk.Known.{Known}
 use Rattle.qc_commit.specs.declared.desk.Known.TheVariants as knowns
 use Rattle.qc_commit.specs.declared.desk.Voting.{Voting}
-use Rattle.qc_commit.specs.Names.{DeskMove, IsCommitted, Numbers, Prepares, Votes, known, known_by, record_of}
+use Rattle.qc_commit.specs.Vocabulary.{DeskMove, IsCommitted, Numbers, Prepares, Votes, known, known_by, record_of}
 use Rattle.qc_commit.specs.Conduct as desks
 use Rattle.qc_entry.specs.declared.record.Commit.{Commit}
 use Rattle.qc_commit.proofs.Moves.{Aborts, Commits, IsMove, IsPrepare, IsPromiseWanted, Waits, prepare-moves, tx_of}
@@ -19,7 +19,7 @@ use Rattle.qc_commit.proofs.Rising.{known-call, known-new}
 use Rattle.qc_front.specs.declared.front.Front.{Front}
 use Rattle.qc_front.specs.declared.transaction.Transaction.{Transaction}
 use Rattle.qc_front.specs.Conduct as fronts
-use Rattle.qc_front.specs.Names.{FrontMove, ended}
+use Rattle.qc_front.specs.Vocabulary.{FrontMove, ended}
 use Rattle.qc_msg.specs.declared.begun.Begun.{Begun}
 use Rattle.qc_msg.specs.declared.message.Answer.{Answer}
 use Rattle.qc_msg.specs.declared.message.Message.{Message}
@@ -33,9 +33,9 @@ use Rattle.qc_msg.specs.declared.step.Input.TheVariants as given
 use Rattle.qc_msg.specs.declared.turn.Posting.{Posting}
 use Rattle.qc_msg.specs.declared.turn.Turn.{Turn}
 use Rattle.qc_client.specs.declared.client.Client.{Client}
-use Rattle.qc_client.specs.Names.{ClientMove, IsReady, NumberedInput, TellsOutcome, after_input, after_inputs, answered}
-use Rattle.qc_client.specs.Names.{answered_by, by_desk, by_front, called, client_takes, commits, heard, is_begun}
-use Rattle.qc_client.specs.Names.{name_of, outcome_by, outcome_of, sent, sent_by}
+use Rattle.qc_client.specs.Vocabulary.{ClientMove, IsReady, NumberedInput, TellsOutcome, after_input, after_inputs}
+use Rattle.qc_client.specs.Vocabulary.{answered, answered_by, by_desk, by_front, called, client_takes, commits, heard}
+use Rattle.qc_client.specs.Vocabulary.{is_begun, name_of, outcome_by, outcome_of, sent, sent_by}
 use Rattle.qc_client.proofs.FrontSends.{IsFrontMove, IsSending, IsVerdict}
 use Rattle.qc_client.proofs.Fronts.{called-goes, takes-goes}
 use Rattle.qc_client.proofs.Names.{IsWell}

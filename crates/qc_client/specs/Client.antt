@@ -1,12 +1,12 @@
 -- A client's moves: those of its front end, and those of its desk, after which the front end's transaction has ended.
 use Rattle.std.specs.Prelude.{ℕ, Bool, true, false, Option, Some, None, is_some, if◌then◌else◌}
 use Rattle.qc_stamp.specs.declared.stamp.TxId.{TxId}
-use Rattle.qc_stamp.specs.Names.{same_tx}
+use Rattle.qc_stamp.specs.Vocabulary.{same_tx}
 use Rattle.qc_commit.specs.declared.desk.Known.{Known}
 use Rattle.qc_commit.specs.declared.desk.Known.TheVariants as knowns
-use Rattle.qc_commit.specs.Names.{DeskMove, known, new_desk}
+use Rattle.qc_commit.specs.Vocabulary.{DeskMove, known, new_desk}
 use Rattle.qc_front.specs.declared.transaction.Transaction.{Transaction}
-use Rattle.qc_front.specs.Names.{FrontMove, ended, new_front}
+use Rattle.qc_front.specs.Vocabulary.{FrontMove, ended, new_front}
 use Rattle.qc_msg.specs.declared.message.Outcome.{Outcome}
 use Rattle.qc_msg.specs.declared.message.Outcome.TheVariants.{Committed, Aborted, Active}
 use Rattle.qc_msg.specs.declared.turn.Turn.{Turn}

@@ -1,7 +1,7 @@
 -- What holds of a client and of what it takes in every run, and its calls rely on.
 use Rattle.std.specs.Prelude.{ℕ, ◌^◌, ◌<◌, Some}
-use Rattle.qc_commit.specs.Names.{DeskFits, promised}
-use Rattle.qc_front.specs.Names.{FrontFits}
+use Rattle.qc_commit.specs.Vocabulary.{DeskFits, promised}
+use Rattle.qc_front.specs.Vocabulary.{FrontFits}
 use Rattle.qc_msg.specs.declared.message.Message.{Message}
 use Rattle.qc_msg.specs.declared.message.Message.TheVariants as messages
 use Rattle.qc_client.specs.declared.client.Client.{Client}

@@ -2,4 +2,4 @@ pub mod Client
 pub mod Conduct
 pub mod Fits
 pub mod Inputs
-pub mod Names
+pub mod Vocabulary

@@ -5,21 +5,21 @@ use Rattle.std.specs.List.{find, range_with_len}
 use Rattle.std.proofs.lemmas.List.{length-append, length-map}
 use Rattle.std.proofs.lemmas.List.FromFn.{length-range_with_len}
 use Rattle.qc_decl.specs.declared.declaration.Declaration.{Declaration}
-use Rattle.qc_decl.specs.Names.{most_sites}
-use Rattle.qc_plan.specs.Names.{cyclic}
+use Rattle.qc_decl.specs.Vocabulary.{most_sites}
+use Rattle.qc_plan.specs.Vocabulary.{cyclic}
 use Rattle.qc_msg.specs.declared.begun.Begun.{Begun}
 use Rattle.qc_msg.specs.declared.call.Call.{Call}
 use Rattle.qc_msg.specs.declared.message.Answer.{Answer}
 use Rattle.qc_msg.specs.declared.reply.AbortCause.{AbortCause}
-use Rattle.qc_msg.specs.Names.{has_granted, quiet, sending, site_called, without_call}
+use Rattle.qc_msg.specs.Vocabulary.{has_granted, quiet, sending, site_called, without_call}
 use Rattle.qc_commit.specs.declared.ballot.Ballot.{Ballot}
 use Rattle.qc_commit.specs.declared.ballot.Vote.{Vote}
 use Rattle.qc_commit.specs.declared.desk.Desk.{Desk}
 use Rattle.qc_commit.specs.declared.desk.Voting.{Voting}
-use Rattle.qc_commit.specs.Names.{AsksFew, DeskCall, DeskMove, HasFew, Numbers, Prepares, Sends, Votes, after_call}
-use Rattle.qc_commit.specs.Names.{are_cast, blank, cast, counted_out, counts, decides, first_against, learns, moved}
-use Rattle.qc_commit.specs.Names.{participants, passed, prepare, prepared_in, prepares, sent_in, vote, vote_of}
-use Rattle.qc_commit.specs.Names.{votes_at, votes_in}
+use Rattle.qc_commit.specs.Vocabulary.{AsksFew, DeskCall, DeskMove, HasFew, Numbers, Prepares, Sends, Votes, after_call}
+use Rattle.qc_commit.specs.Vocabulary.{are_cast, blank, cast, counted_out, counts, decides, first_against, learns}
+use Rattle.qc_commit.specs.Vocabulary.{moved, participants, passed, prepare, prepared_in, prepares, sent_in, vote}
+use Rattle.qc_commit.specs.Vocabulary.{vote_of, votes_at, votes_in}
 
 -- a request that something was taken for isn't open any more
 

@@ -3,13 +3,13 @@ use Rattle.std.proofs.Common.{◌≡◌, ℕ, ◌+◌, ◌-◌, ◌%◌, ◌<◌
 use Rattle.std.specs.List.{range_with_len, AllPairs}
 use Rattle.std.proofs.lemmas.Bool.{cases_lt}
 use Rattle.qc_decl.specs.declared.declaration.Declaration.{Declaration}
-use Rattle.qc_decl.specs.Names.{first_site}
-use Rattle.qc_plan.specs.Names.{cyclic}
-use Rattle.qc_list.specs.Names.{In}
+use Rattle.qc_decl.specs.Vocabulary.{first_site}
+use Rattle.qc_plan.specs.Vocabulary.{cyclic}
+use Rattle.qc_list.specs.Vocabulary.{In}
 use Rattle.qc_list.proofs.Members.{In-filter, In-first, In-passes, In-second, In-unfiltered}
 use Rattle.qc_msg.specs.declared.begun.Begun.{Begun}
-use Rattle.qc_msg.specs.Names.{has_granted}
-use Rattle.qc_commit.specs.Names.{participants}
+use Rattle.qc_msg.specs.Vocabulary.{has_granted}
+use Rattle.qc_commit.specs.Vocabulary.{participants}
 use Rattle.qc_commit.proofs.Once.{Once, once-append, once-filter, once-pairs, range-high, range-in, range-low}
 use Rattle.qc_commit.proofs.Once.{range-once, In-split}
 

@@ -5,14 +5,14 @@ use Rattle.std.specs.List.{find}
 use Rattle.std.specs.Option.{is_none, option_map_or, option_or}
 use Rattle.std.proofs.lemmas.Bool.{cases_eq, eq-eqb, ne_eqb}
 use Rattle.std.proofs.lemmas.List.Folds.{find-append}
-use Rattle.qc_list.specs.Names.{In}
+use Rattle.qc_list.specs.Vocabulary.{In}
 use Rattle.qc_msg.specs.declared.begun.Begun.{Begun}
 use Rattle.qc_msg.specs.declared.call.Call.{Call}
 use Rattle.qc_msg.specs.declared.message.Answer.{Answer}
-use Rattle.qc_msg.specs.Names.{site_called, without_call}
+use Rattle.qc_msg.specs.Vocabulary.{site_called, without_call}
 use Rattle.qc_commit.specs.declared.ballot.Ballot.{Ballot}
-use Rattle.qc_commit.specs.Names.{Taken, ballots_by, cast, first_taken, greatest_promised, open_calls, promised}
-use Rattle.qc_commit.specs.Names.{vote_of}
+use Rattle.qc_commit.specs.Vocabulary.{Taken, ballots_by, cast, first_taken, greatest_promised, open_calls, promised}
+use Rattle.qc_commit.specs.Vocabulary.{vote_of}
 use Rattle.qc_commit.proofs.Once.{Once}
 
 max-assoc : (a b c : ℕ) → max (max a b) c ≡ max a (max b c)

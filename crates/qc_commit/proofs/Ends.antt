@@ -10,10 +10,10 @@ use Rattle.qc_commit.specs.declared.ballot.Ballot.{Ballot}
 use Rattle.qc_commit.specs.declared.ballot.Vote.{Vote}
 use Rattle.qc_commit.specs.declared.ballot.Vote.TheVariants.{For, Against}
 use Rattle.qc_commit.specs.declared.desk.Desk.{Desk}
-use Rattle.qc_commit.specs.Names.{AreFor, IsAborted, IsCommitted, IsRefused, Taken, are_cast, commit_of, commit_turn}
-use Rattle.qc_commit.specs.Names.{course_ballots, course_clock, course_desk, decides, first_against, gives_up, learns}
-use Rattle.qc_commit.specs.Names.{participants, passed, prepare, prepares, stamp_after, vote}
-use Rattle.qc_msg.specs.Names.{sending}
+use Rattle.qc_commit.specs.Vocabulary.{AreFor, IsAborted, IsCommitted, IsRefused, Taken, are_cast, commit_of}
+use Rattle.qc_commit.specs.Vocabulary.{commit_turn, course_ballots, course_clock, course_desk, decides, first_against}
+use Rattle.qc_commit.specs.Vocabulary.{gives_up, learns, participants, passed, prepare, prepares, stamp_after, vote}
+use Rattle.qc_msg.specs.Vocabulary.{sending}
 use Rattle.qc_commit.proofs.Going.{Waits, ends-by, ends-clock, for-cast, for-none, refused-why, waits-on}
 use Rattle.qc_commit.proofs.Learned.{learned-client, learned-commits}
 

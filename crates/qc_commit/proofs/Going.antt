@@ -8,14 +8,14 @@ use Rattle.qc_msg.specs.declared.begun.Begun.{Begun}
 use Rattle.qc_msg.specs.declared.call.Call.{Call}
 use Rattle.qc_msg.specs.declared.message.Answer.{Answer}
 use Rattle.qc_msg.specs.declared.reply.AbortCause.{AbortCause}
-use Rattle.qc_msg.specs.Names.{calls_from, quiet, site_called}
+use Rattle.qc_msg.specs.Vocabulary.{calls_from, quiet, site_called}
 use Rattle.qc_commit.specs.declared.ballot.Ballot.{Ballot}
 use Rattle.qc_commit.specs.declared.ballot.Vote.TheVariants.{Against}
 use Rattle.qc_commit.specs.declared.desk.Desk.{Desk}
-use Rattle.qc_commit.specs.Names.{AreFor, DeskMove, IsWaiting, Taken, after_all, are_cast, awaited, ballots_by, blank}
-use Rattle.qc_commit.specs.Names.{counted_out, counts, course_ballots, course_clock, course_desk, first_against}
-use Rattle.qc_commit.specs.Names.{first_taken, greatest_promised, learns, moved, open_calls, participants, prepare}
-use Rattle.qc_commit.specs.Names.{promised, sent, vote, vote_of, votes_at, votes_in}
+use Rattle.qc_commit.specs.Vocabulary.{AreFor, DeskMove, IsWaiting, Taken, after_all, are_cast, awaited, ballots_by}
+use Rattle.qc_commit.specs.Vocabulary.{blank, counted_out, counts, course_ballots, course_clock, course_desk}
+use Rattle.qc_commit.specs.Vocabulary.{first_against, first_taken, greatest_promised, learns, moved, open_calls}
+use Rattle.qc_commit.specs.Vocabulary.{participants, prepare, promised, sent, vote, vote_of, votes_at, votes_in}
 use Rattle.qc_commit.proofs.Asking.{participants-once}
 use Rattle.qc_commit.proofs.Counting.{IsCounted, IsUncounted, counted, taken-stays, uncounted}
 use Rattle.qc_commit.proofs.Learned.{learned-client, learned-clock, learned-commits}

@@ -4,7 +4,7 @@ use Rattle.std.proofs.Math.Nat.{max-zero}
 use Rattle.qc_msg.specs.declared.message.Answer.{Answer}
 use Rattle.qc_msg.specs.declared.message.Answer.TheVariants as answers
 use Rattle.qc_commit.specs.declared.desk.Desk.{Desk}
-use Rattle.qc_commit.specs.Names.{closed, learns, promised}
+use Rattle.qc_commit.specs.Vocabulary.{closed, learns, promised}
 
 same_desk : (desk : Desk) (clock epoch : ℕ) → clock ≡ desk.clock.value → epoch ≡ desk.epoch
     → desk ≡ record desk { clock = record { value = clock }; epoch = epoch }

@@ -15,13 +15,13 @@ use Rattle.qc_msg.specs.declared.message.Want.{Want}
 use Rattle.qc_msg.specs.declared.message.Want.TheVariants.{Read, Append, Prepare}
 use Rattle.qc_msg.specs.declared.reply.AbortCause.{AbortCause}
 use Rattle.qc_msg.specs.declared.turn.Posting.{Posting}
-use Rattle.qc_msg.specs.Names.{quiet, sending, site_called, without_call}
+use Rattle.qc_msg.specs.Vocabulary.{quiet, sending, site_called, without_call}
 use Rattle.qc_commit.specs.declared.ballot.Ballot.{Ballot}
 use Rattle.qc_commit.specs.declared.desk.Desk.{Desk}
 use Rattle.qc_commit.specs.declared.desk.Voting.{Voting}
-use Rattle.qc_commit.specs.Names.{DeskMove, abort_turn, are_cast, blank, cast, commit_of, commit_turn, counted_out}
-use Rattle.qc_commit.specs.Names.{counts, decides, first_against, learns, moved, next_stamp, participants, passed}
-use Rattle.qc_commit.specs.Names.{prepare, prepares, vote, vote_of, votes_at, votes_in}
+use Rattle.qc_commit.specs.Vocabulary.{DeskMove, abort_turn, are_cast, blank, cast, commit_of, commit_turn, counted_out}
+use Rattle.qc_commit.specs.Vocabulary.{counts, decides, first_against, learns, moved, next_stamp, participants, passed}
+use Rattle.qc_commit.specs.Vocabulary.{prepare, prepares, vote, vote_of, votes_at, votes_in}
 use Rattle.qc_commit.proofs.Learned.{learned-above, learned-client, learned-commits}
 
 -- the transaction that a commit waits for

@@ -7,12 +7,12 @@ use Rattle.std.proofs.lemmas.List.Elements.{All-tail, All-head, All-weaker}
 use Rattle.std.proofs.lemmas.List.Folds.{find-append}
 use Rattle.std.proofs.lemmas.List.Quantifiers.{all_pairs_push}
 use Rattle.qc_stamp.specs.declared.stamp.TxId.{TxId}
-use Rattle.qc_stamp.specs.Names.{same_tx}
+use Rattle.qc_stamp.specs.Vocabulary.{same_tx}
 use Rattle.qc_entry.specs.declared.record.Commit.{Commit}
 use Rattle.qc_commit.specs.declared.desk.Desk.{Desk}
 use Rattle.qc_commit.specs.declared.desk.Known.TheVariants.{Uncommitted}
-use Rattle.qc_commit.specs.Names.{AreNewTo, DeskCall, IsNewTo, Numbers, Prepares, Sends, Votes, after_call, after_calls}
-use Rattle.qc_commit.specs.Names.{commit_of, handed, known, known_by, new_desk, record_of}
+use Rattle.qc_commit.specs.Vocabulary.{AreNewTo, DeskCall, IsNewTo, Numbers, Prepares, Sends, Votes, after_call}
+use Rattle.qc_commit.specs.Vocabulary.{after_calls, commit_of, handed, known, known_by, new_desk, record_of}
 use Rattle.qc_commit.proofs.Moves.{tx_of}
 use Rattle.qc_commit.proofs.Records.{Goes, goes, in_hand}
 

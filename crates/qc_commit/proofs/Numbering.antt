@@ -7,14 +7,14 @@ use Rattle.std.proofs.lemmas.Bool.{ne_eqb}
 use Rattle.qc_decl.specs.declared.declaration.Declaration.{Declaration}
 use Rattle.qc_msg.specs.declared.begun.Begun.{Begun}
 use Rattle.qc_msg.specs.declared.call.Call.{Call}
-use Rattle.qc_msg.specs.Names.{calls_from}
+use Rattle.qc_msg.specs.Vocabulary.{calls_from}
 use Rattle.qc_commit.specs.declared.ballot.Ballot.{Ballot}
 use Rattle.qc_commit.specs.declared.ballot.Vote.{Vote}
 use Rattle.qc_commit.specs.declared.desk.Desk.{Desk}
 use Rattle.qc_commit.specs.declared.desk.Voting.{Voting}
-use Rattle.qc_commit.specs.Names.{DeskMove, Taken, are_cast, awaited, ballots_by, blank, counted_out, course_ballots}
-use Rattle.qc_commit.specs.Names.{course_desk, first_against, learns, open_calls, participants, passed, prepare, sent}
-use Rattle.qc_commit.specs.Names.{sent_each, sent_in, vote, with_voting}
+use Rattle.qc_commit.specs.Vocabulary.{DeskMove, Taken, are_cast, awaited, ballots_by, blank, counted_out}
+use Rattle.qc_commit.specs.Vocabulary.{course_ballots, course_desk, first_against, learns, open_calls, participants}
+use Rattle.qc_commit.specs.Vocabulary.{passed, prepare, sent, sent_each, sent_in, vote, with_voting}
 use Rattle.qc_msg.specs.declared.message.Answer.{Answer}
 use Rattle.qc_msg.specs.declared.reply.AbortCause.{AbortCause}
 use Rattle.qc_commit.proofs.Aside.{unvoted}

@@ -5,8 +5,8 @@ use Rattle.qc_stamp.specs.declared.stamp.TxId.{TxId}
 use Rattle.qc_msg.specs.declared.begun.Begun.{Begun}
 use Rattle.qc_commit.specs.declared.desk.Desk.{Desk}
 use Rattle.qc_commit.specs.declared.desk.Voting.{Voting}
-use Rattle.qc_commit.specs.Names.{DeskCall, DeskMove, Numbers, Prepares, Sends, Votes, after_call, commit_of, prepare}
-use Rattle.qc_commit.specs.Names.{prepared_in, sent_in, vote}
+use Rattle.qc_commit.specs.Vocabulary.{DeskCall, DeskMove, Numbers, Prepares, Sends, Votes, after_call, commit_of}
+use Rattle.qc_commit.specs.Vocabulary.{prepare, prepared_in, sent_in, vote}
 use Rattle.qc_commit.proofs.Moves.{IsMove, prepare-moves, tx_of, vote-moves}
 
 -- the transaction that a call may end

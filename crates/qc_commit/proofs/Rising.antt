@@ -9,13 +9,13 @@ use Rattle.std.proofs.lemmas.List.Folds.{find-append}
 use Rattle.std.proofs.lemmas.List.Quantifiers.{all_pairs_push}
 use Rattle.qc_stamp.specs.declared.stamp.Stamp.{Stamp}
 use Rattle.qc_stamp.specs.declared.stamp.TxId.{TxId}
-use Rattle.qc_stamp.specs.Names.{same_tx}
+use Rattle.qc_stamp.specs.Vocabulary.{same_tx}
 use Rattle.qc_entry.specs.declared.record.Commit.{Commit}
 use Rattle.qc_msg.specs.declared.begun.Begun.{Begun}
 use Rattle.qc_commit.specs.declared.desk.Desk.{Desk}
 use Rattle.qc_commit.specs.declared.desk.Known.TheVariants.{Committed, Uncommitted}
-use Rattle.qc_commit.specs.Names.{DeskCall, DeskMove, IsCommitted, after_call, after_calls, commit_of, known, known_by}
-use Rattle.qc_commit.specs.Names.{new_desk, record_of}
+use Rattle.qc_commit.specs.Vocabulary.{DeskCall, DeskMove, IsCommitted, after_call, after_calls, commit_of, known}
+use Rattle.qc_commit.specs.Vocabulary.{known_by, new_desk, record_of}
 use Rattle.qc_commit.proofs.Records.{Goes, goes, in_hand}
 
 -- records rise up to a clock, and have the client's stamps

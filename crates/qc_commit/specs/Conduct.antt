@@ -14,7 +14,8 @@ use Rattle.qc_msg.specs.declared.reply.Reply.TheVariants as replies
 use Rattle.qc_msg.specs.declared.reply.AbortCause.{AbortCause}
 use Rattle.qc_msg.specs.declared.turn.Appended.TheVariants.{Done}
 use Rattle.qc_msg.specs.declared.turn.Turn.{Turn}
-use Rattle.qc_msg.specs.Names.{decisions, ending, numbered_from, quiet, sending, site_called, with_call, without_call}
+use Rattle.qc_msg.specs.Vocabulary.{decisions, ending, numbered_from, quiet, sending, site_called, with_call}
+use Rattle.qc_msg.specs.Vocabulary.{without_call}
 use Rattle.qc_commit.specs.declared.ballot.Ballot.{Ballot}
 use Rattle.qc_commit.specs.declared.desk.Desk.{Desk}
 use Rattle.qc_commit.specs.declared.desk.Voting.{Voting}

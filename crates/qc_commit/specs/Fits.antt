@@ -1,6 +1,6 @@
 -- What holds of a desk in every run, and its calls rely on.
 use Rattle.std.specs.Prelude.{◌^◌, ◌<◌, ◌≤◌, Option, Some, None, length}
-use Rattle.qc_decl.specs.Names.{most_sites}
+use Rattle.qc_decl.specs.Vocabulary.{most_sites}
 use Rattle.qc_commit.specs.declared.desk.Desk.{Desk}
 use Rattle.qc_commit.specs.declared.desk.Voting.{Voting}
 

@@ -5,4 +5,4 @@ pub mod Learning
 pub mod Fits
 pub mod Course
 pub mod Calls
-pub mod Names
+pub mod Vocabulary

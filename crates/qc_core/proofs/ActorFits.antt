@@ -4,7 +4,7 @@ use Rattle.std.proofs.Common.{None, refl, sym, ap, ◌∙◌, subst, arith}
 use Rattle.std.specs.List.{AllByRecursion as Every}
 use Rattle.std.proofs.lemmas.List.Sums.{fold-append}
 use Rattle.qc_decl.specs.declared.declaration.Declaration.{Declaration}
-use Rattle.qc_decl.specs.Names.{IsAccepted, administrator, is_client, is_site}
+use Rattle.qc_decl.specs.Vocabulary.{IsAccepted, administrator, is_client, is_site}
 use Rattle.qc_commit.specs.declared.desk.Voting.{Voting}
 use Rattle.qc_commit.specs.Conduct as desks
 use Rattle.qc_commit.specs.Fits as votes
@@ -15,13 +15,13 @@ use Rattle.qc_front.specs.Fits as rounds
 use Rattle.qc_front.proofs.Fitting.{fits}
 use Rattle.qc_msg.specs.declared.step.Input.{Input}
 use Rattle.qc_msg.specs.declared.turn.Turn.{Turn}
-use Rattle.qc_msg.specs.Names.{Deed, Falls, Rises, Sends, Takes, Tells, Writes, turn_deeds}
+use Rattle.qc_msg.specs.Vocabulary.{Deed, Falls, Rises, Sends, Takes, Tells, Writes, turn_deeds}
 use Rattle.qc_client.specs.declared.client.Client.{Client}
-use Rattle.qc_client.specs.Names.{ClientFits, ClientMove, client_after, client_does, client_takes, sent, sent_by}
-use Rattle.qc_site.specs.Names.{SiteMove, SiteState, site_after, site_does, site_takes}
+use Rattle.qc_client.specs.Vocabulary.{ClientFits, ClientMove, client_after, client_does, client_takes, sent, sent_by}
+use Rattle.qc_site.specs.Vocabulary.{SiteMove, SiteState, site_after, site_does, site_takes}
 use Rattle.qc_core.specs.declared.actor.Actor.TheVariants as actor
-use Rattle.qc_core.specs.Names.{ActorFits, ActorMove, ActorWithin, Acts, AsksFew, IsFrom, IsFromActor, IsShort, MayTake}
-use Rattle.qc_core.specs.Names.{actor_after, actor_takes, is_running, posts, starts, takes}
+use Rattle.qc_core.specs.Vocabulary.{ActorFits, ActorMove, ActorWithin, Acts, AsksFew, IsFrom, IsFromActor, IsShort}
+use Rattle.qc_core.specs.Vocabulary.{MayTake, actor_after, actor_takes, is_running, posts, starts, takes}
 use Rattle.qc_core.proofs.ActorLaws.{at_client, at_site, other_client}
 use Rattle.qc_core.proofs.ActorSent.{known, lawful_turn, sent_at_once}
 use Rattle.qc_core.proofs.ClientReaches.{AskedFit, client_reach, new_asked, sent_asked}

@@ -4,18 +4,18 @@ use Rattle.std.proofs.Common.{fold, Some, None, refl, ap, sym, ◌∙◌, arith}
 use Rattle.std.proofs.lemmas.Bool.Decides.{nat_tests}
 use Rattle.std.proofs.lemmas.List.Sums.{fold-append}
 use Rattle.qc_decl.specs.declared.declaration.Declaration.{Declaration}
-use Rattle.qc_decl.specs.Names.{administrator, is_client, is_site}
-use Rattle.qc_client.specs.Names.{ClientMove, client_after, client_does, moved as client_moved, new_client}
+use Rattle.qc_decl.specs.Vocabulary.{administrator, is_client, is_site}
+use Rattle.qc_client.specs.Vocabulary.{ClientMove, client_after, client_does, moved as client_moved, new_client}
 use Rattle.qc_msg.specs.declared.message.Envelope.{Envelope}
 use Rattle.qc_msg.specs.declared.step.Input.{Input}
 use Rattle.qc_msg.specs.declared.step.Input.TheVariants as inputs
-use Rattle.qc_msg.specs.Names.{Deed, Falls, Rises, Sends, Takes, Tells, Writes, quiet}
-use Rattle.qc_site.specs.Names.{SiteMove, moved as site_moved, new_site, site_after, site_does}
+use Rattle.qc_msg.specs.Vocabulary.{Deed, Falls, Rises, Sends, Takes, Tells, Writes, quiet}
+use Rattle.qc_site.specs.Vocabulary.{SiteMove, moved as site_moved, new_site, site_after, site_does}
 use Rattle.qc_core.specs.declared.actor.Actor.{Actor}
-use Rattle.qc_epoch.specs.Names.{new_admin}
+use Rattle.qc_epoch.specs.Vocabulary.{new_admin}
 use Rattle.qc_core.specs.declared.actor.Actor.TheVariants.{Site, Client, Admin, Down}
-use Rattle.qc_core.specs.Names.{ActorMove, AreSteady, IsSteady, actor_after, actor_does, actor_hears, actor_takes}
-use Rattle.qc_core.specs.Names.{by_client, by_site, moved, turn_after}
+use Rattle.qc_core.specs.Vocabulary.{ActorMove, AreSteady, IsSteady, actor_after, actor_does, actor_hears, actor_takes}
+use Rattle.qc_core.specs.Vocabulary.{by_client, by_site, moved, turn_after}
 
 -- one more input
 

@@ -3,18 +3,19 @@ use Rattle.std.proofs.Common.{◌≡◌, ℕ, ◌+◌, ◌-◌, ◌<◌, ◌≤�
 use Rattle.std.proofs.Common.{Some, None, refl, sym, ap, ◌∙◌, subst}
 use Rattle.std.proofs.lemmas.List.Sums.{fold-append}
 use Rattle.qc_decl.specs.declared.declaration.Declaration.{Declaration}
-use Rattle.qc_decl.specs.Names.{administrator, is_client, is_site, most_sites}
+use Rattle.qc_decl.specs.Vocabulary.{administrator, is_client, is_site, most_sites}
 use Rattle.qc_msg.specs.declared.record.Record.{Record}
 use Rattle.qc_msg.specs.declared.reply.Reply.{Reply}
 use Rattle.qc_msg.specs.declared.step.Input.{Input}
 use Rattle.qc_msg.specs.declared.turn.Posting.{Posting}
 use Rattle.qc_msg.specs.declared.turn.Turn.{Turn}
-use Rattle.qc_msg.specs.Names.{Deed, Takes, quiet, sends_of, tells_of, turn_deeds, writes_of}
+use Rattle.qc_msg.specs.Vocabulary.{Deed, Takes, quiet, sends_of, tells_of, turn_deeds, writes_of}
 use Rattle.qc_client.specs.declared.client.Client.{Client}
-use Rattle.qc_client.specs.Names.{ClientMove, client_after, client_does, client_takes, sent, sent_one}
-use Rattle.qc_site.specs.Names.{SiteMove, site_after, site_does, site_takes}
-use Rattle.qc_core.specs.Names.{ActorMove, Acts, AreSteady, IsLawful, MayTake, actor_after, actor_sent, actor_takes}
-use Rattle.qc_core.specs.Names.{by_client, by_site, is_running, posts, runs_at, runs_given, starts, takes}
+use Rattle.qc_client.specs.Vocabulary.{ClientMove, client_after, client_does, client_takes, sent, sent_one}
+use Rattle.qc_site.specs.Vocabulary.{SiteMove, site_after, site_does, site_takes}
+use Rattle.qc_core.specs.Vocabulary.{ActorMove, Acts, AreSteady, IsLawful, MayTake, actor_after, actor_sent}
+use Rattle.qc_core.specs.Vocabulary.{actor_takes, by_client, by_site, is_running, posts, runs_at, runs_given, starts}
+use Rattle.qc_core.specs.Vocabulary.{takes}
 use Rattle.qc_core.proofs.ActorLaws.{at_client, at_site, other_client}
 use Rattle.qc_core.proofs.ClientLands.{lands}
 use Rattle.qc_core.proofs.ClientStands.{Stands, new_stands, runs_told, sends_all}

@@ -1,9 +1,9 @@
 -- The administrator's turns: what they send, write and tell.
-use Rattle.std.proofs.Common.{◌≡◌, ◌⊎◌, inl, inr, true, List, ◌∷◌, Option, Some, None, refl}
+use Rattle.std.proofs.Common.{[], ◌≡◌, ◌⊎◌, inl, inr, true, List, ◌∷◌, Option, Some, None, refl}
 use Rattle.std.specs.List.{AllByRecursion as Every}
 use Rattle.qc_core.proofs.FrontWrites.{NoAnswer, says_neither, tells_neither}
 use Rattle.qc_core.proofs.SiteWrites.{writes_no_life}
-use Rattle.qc_msg.specs.Names.{answer_in, quiet, sending, telling}
+use Rattle.qc_msg.specs.Vocabulary.{answer_in, quiet, sending, telling}
 use Rattle.qc_msg.specs.declared.message.Answer.{Answer}
 use Rattle.qc_msg.specs.declared.message.Message.{Message}
 use Rattle.qc_msg.specs.declared.message.Message.TheVariants as messages
@@ -14,8 +14,8 @@ use Rattle.qc_msg.specs.declared.reply.Reply.TheVariants as replies
 use Rattle.qc_msg.specs.declared.turn.Appended.TheVariants.{Done}
 use Rattle.qc_msg.specs.declared.turn.Posting.{Posting}
 use Rattle.qc_msg.specs.declared.turn.Turn.{Turn}
-use Rattle.qc_promise.specs.Names.{saying_of}
-use Rattle.qc_plan.specs.Names.{verdict}
+use Rattle.qc_promise.specs.Vocabulary.{saying_of}
+use Rattle.qc_plan.specs.Vocabulary.{verdict}
 
 -- he tells neither that he is down nor that a record isn't written; or a fault, and does nothing else
 

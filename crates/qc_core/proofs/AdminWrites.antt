@@ -1,15 +1,16 @@
 -- What the administrator's turns write and tell: a decision at most, whose failure is told alone, as that it is too long
 -- for a record; and he answers nothing.
-use Rattle.std.proofs.Common.{ℕ, ◌+◌, ◌==◌, inl, nat_le, Bool, true, false, cond, List, ◌∷◌, length, map, take, Option}
-use Rattle.std.proofs.Common.{Some, None, refl}
+use Rattle.std.proofs.Common.{[], ℕ, ◌+◌, ◌==◌, inl, nat_le, Bool, true, false, cond, List, ◌∷◌, length, map, take}
+use Rattle.std.proofs.Common.{Option, Some, None, refl}
 use Rattle.std.specs.List.{AllByRecursion as Every}
-use Rattle.qc_decl.specs.Names.{most_record_bytes}
+use Rattle.qc_decl.specs.Vocabulary.{most_record_bytes}
 use Rattle.qc_decl.specs.declared.declaration.Declaration.{Declaration}
-use Rattle.qc_epoch.specs.Names.{Admin, Asking, Closing, Decided, Doing, Installing, Question, Resting, ShutSite}
-use Rattle.qc_epoch.specs.Names.{all_taken, decision, first_doubt, in_asked_order, most_asks, moved as admins_moved}
-use Rattle.qc_epoch.specs.Names.{outcome_in, questions_of, standing_of, taken_for, with_installed, with_shut_of}
+use Rattle.qc_epoch.specs.Vocabulary.{Admin, Asking, Closing, Decided, Doing, Installing, Question, Resting, ShutSite}
+use Rattle.qc_epoch.specs.Vocabulary.{all_taken, decision, first_doubt, in_asked_order, most_asks}
+use Rattle.qc_epoch.specs.Vocabulary.{moved as admins_moved, outcome_in, questions_of, standing_of, taken_for}
+use Rattle.qc_epoch.specs.Vocabulary.{with_installed, with_shut_of}
 use Rattle.qc_epoch.specs.Conduct as admins
-use Rattle.qc_msg.specs.Names.{epoch_length, quiet, sending, site_called, without_call}
+use Rattle.qc_msg.specs.Vocabulary.{epoch_length, quiet, sending, site_called, without_call}
 use Rattle.qc_msg.specs.declared.call.Call.{Call}
 use Rattle.qc_msg.specs.declared.message.Answer.{Answer}
 use Rattle.qc_msg.specs.declared.message.Message.{Message}
@@ -20,7 +21,7 @@ use Rattle.qc_msg.specs.declared.step.Command.{Command}
 use Rattle.qc_msg.specs.declared.step.Command.TheVariants as commands
 use Rattle.qc_msg.specs.declared.step.Input.{Input}
 use Rattle.qc_msg.specs.declared.step.Input.TheVariants as inputs
-use Rattle.qc_plan.specs.Names.{RoundState, note, verdict, wanted}
+use Rattle.qc_plan.specs.Vocabulary.{RoundState, note, verdict, wanted}
 use Rattle.qc_plan.specs.declared.standing.Verdict.{Verdict}
 use Rattle.qc_plan.specs.declared.standing.Verdict.TheVariants as verdicts
 use Rattle.qc_core.proofs.AdminTurns.{IsSentByAdmin, IsAdminTurn, quiet_well, tells_well, fault_well, sends_well}

@@ -4,7 +4,7 @@ use Rattle.std.proofs.Common.{◌≡◌, ℕ, ◌-◌, Bool, true, false, cond, 
 use Rattle.std.proofs.Common.{subst}
 use Rattle.std.specs.List.{AllByRecursion as Every}
 use Rattle.qc_decl.specs.declared.declaration.Declaration.{Declaration}
-use Rattle.qc_decl.specs.Names.{is_client, is_site}
+use Rattle.qc_decl.specs.Vocabulary.{is_client, is_site}
 use Rattle.qc_msg.specs.declared.record.Record.{Record}
 use Rattle.qc_msg.specs.declared.step.Input.{Input}
 use Rattle.qc_msg.specs.declared.step.Input.TheVariants as inputs
@@ -12,15 +12,15 @@ use Rattle.qc_msg.specs.declared.turn.Appended.{Appended}
 use Rattle.qc_msg.specs.declared.turn.Appended.TheVariants.{Done, Failed, Stopped}
 use Rattle.qc_msg.specs.declared.turn.Posting.{Posting}
 use Rattle.qc_msg.specs.declared.turn.Turn.{Turn}
-use Rattle.qc_msg.specs.Names.{Deed, Rises, Takes, sends_as}
-use Rattle.qc_recover.specs.Names.{admin_rises, client_rises, inquiry, kept_by, most_inquiries, site_rises}
-use Rattle.qc_site.specs.Names.{in_order}
+use Rattle.qc_msg.specs.Vocabulary.{Deed, Rises, Takes, sends_as}
+use Rattle.qc_recover.specs.Vocabulary.{admin_rises, client_rises, inquiry, kept_by, most_inquiries, site_rises}
+use Rattle.qc_site.specs.Vocabulary.{in_order}
 use Rattle.qc_stamp.specs.declared.stamp.TxId.{TxId}
 use Rattle.qc_entry.specs.declared.record.Prepared.{Prepared}
 use Rattle.qc_core.specs.declared.actor.Actor.{Actor}
 use Rattle.qc_core.specs.declared.actor.Actor.TheVariants as actor
-use Rattle.qc_core.specs.Names.{ActorMove, IsLawfulWithFalls, actor_after, actor_rises, actor_takes, by_admin}
-use Rattle.qc_core.specs.Names.{by_client, by_site, with_record}
+use Rattle.qc_core.specs.Vocabulary.{ActorMove, IsLawfulWithFalls, actor_after, actor_rises, actor_takes, by_admin}
+use Rattle.qc_core.specs.Vocabulary.{by_client, by_site, with_record}
 use Rattle.qc_core.proofs.PostsByTurns.{after_takes, called_turn}
 use Rattle.qc_core.proofs.LivesOfActors.{rises}
 use Rattle.qc_core.proofs.FrontWrites.{NoAnswer}

@@ -2,17 +2,17 @@
 use Rattle.std.proofs.Common.{◌≡◌, ◌≤◌, ◌&&◌, ℕ, ◌-◌, nat_le, nat_lt, Bool, true, false, cond, List, refl, ap, ◌∙◌}
 use Rattle.std.proofs.Common.{arith}
 use Rattle.std.proofs.lemmas.Bool.{le-ltb}
-use Rattle.qc_client.specs.Names.{new_client}
+use Rattle.qc_client.specs.Vocabulary.{new_client}
 use Rattle.qc_decl.proofs.Clients.{client_no_site}
-use Rattle.qc_decl.specs.Names.{administrator, is_client, is_site}
+use Rattle.qc_decl.specs.Vocabulary.{administrator, is_client, is_site}
 use Rattle.qc_decl.specs.declared.declaration.Declaration.{Declaration}
-use Rattle.qc_epoch.specs.Names.{new_admin}
+use Rattle.qc_epoch.specs.Vocabulary.{new_admin}
 use Rattle.qc_msg.specs.declared.record.Record.{Record}
-use Rattle.qc_recover.specs.Names.{admin_rises, client_rises, site_rises}
-use Rattle.qc_site.specs.Names.{new_site}
+use Rattle.qc_recover.specs.Vocabulary.{admin_rises, client_rises, site_rises}
+use Rattle.qc_site.specs.Vocabulary.{new_site}
 use Rattle.qc_core.specs.declared.actor.Actor.{Actor}
 use Rattle.qc_core.specs.declared.actor.Actor.TheVariants.{Site, Client, Admin}
-use Rattle.qc_core.specs.Names.{ActorMove, actor_rises, by_admin, by_client, by_site, new_actor}
+use Rattle.qc_core.specs.Vocabulary.{ActorMove, actor_rises, by_admin, by_client, by_site, new_actor}
 
 module _ (decl : Declaration) (a : ℕ) where
   abbrev pub new_by : Bool → Bool → Actor

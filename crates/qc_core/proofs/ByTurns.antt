@@ -1,8 +1,8 @@
 -- Who lives goes by turns: what stands in one place of this order, after each thing that an actor does.
-use Rattle.std.proofs.Common.{◌≡◌, ℕ, ◌+◌, ◌-◌, Bool, true, false, cond, List, ◌∷◌, ◌++◌, fold, ◌&&◌, Option, Some}
+use Rattle.std.proofs.Common.{[], ◌≡◌, ℕ, ◌+◌, ◌-◌, Bool, true, false, cond, List, ◌∷◌, ◌++◌, fold, ◌&&◌, Option, Some}
 use Rattle.std.proofs.Common.{None, is_some, refl, sym, ap, ◌∙◌, subst}
 use Rattle.qc_decl.specs.declared.declaration.Declaration.{Declaration}
-use Rattle.qc_decl.specs.Names.{is_client, is_site}
+use Rattle.qc_decl.specs.Vocabulary.{is_client, is_site}
 use Rattle.qc_msg.specs.declared.record.Record.{Record}
 use Rattle.qc_msg.specs.declared.record.Record.TheVariants as records
 use Rattle.qc_msg.specs.declared.reply.Reply.TheVariants as replies
@@ -14,17 +14,17 @@ use Rattle.qc_msg.specs.declared.turn.Appended.{Appended}
 use Rattle.qc_msg.specs.declared.turn.Appended.TheVariants.{Done, Failed, Stopped}
 use Rattle.qc_msg.specs.declared.turn.Posting.{Posting}
 use Rattle.qc_msg.specs.declared.turn.Turn.{Turn}
-use Rattle.qc_msg.specs.Names.{Deed, Falls, IsByDisk, Rises, Takes, Tells, command_in, deeds_as, telling}
+use Rattle.qc_msg.specs.Vocabulary.{Deed, Falls, IsByDisk, Rises, Takes, Tells, command_in, deeds_as, telling}
 use Rattle.qc_msg.specs.declared.step.Command.{Command}
 use Rattle.std.specs.List.{AllByRecursion as Every}
-use Rattle.qc_promise.specs.Names.{AreByTurns, Called, Failing, Fallen, Faulted, Idle, Open, Place, Rising, Sending}
-use Rattle.qc_promise.specs.Names.{Written, place_after}
-use Rattle.qc_recover.specs.Names.{admin_rises, client_rises, rising, site_rises}
+use Rattle.qc_promise.specs.Vocabulary.{AreByTurns, Called, Failing, Fallen, Faulted, Idle, Open, Place, Rising}
+use Rattle.qc_promise.specs.Vocabulary.{Sending, Written, place_after}
+use Rattle.qc_recover.specs.Vocabulary.{admin_rises, client_rises, rising, site_rises}
 use Rattle.qc_core.specs.declared.actor.Actor.{Actor}
 use Rattle.qc_core.specs.declared.actor.Actor.TheVariants as actor
-use Rattle.qc_core.specs.Names.{ActorMove, AreUncommanded, IsLawfulWithFalls, IsUncommanded, Lives, MayReach}
-use Rattle.qc_core.specs.Names.{actor_after, actor_rises, actor_takes, by_admin, by_client, by_site, down_takes, is_up}
-use Rattle.qc_core.specs.Names.{up_at, with_record}
+use Rattle.qc_core.specs.Vocabulary.{ActorMove, AreUncommanded, IsLawfulWithFalls, IsUncommanded, Lives, MayReach}
+use Rattle.qc_core.specs.Vocabulary.{actor_after, actor_rises, actor_takes, by_admin, by_client, by_site, down_takes}
+use Rattle.qc_core.specs.Vocabulary.{is_up, up_at, with_record}
 use Rattle.qc_core.specs.Lives as lives
 use Rattle.qc_core.proofs.LivesOfActors.{down, rises, up}
 use Rattle.qc_core.proofs.OpenedInputs.{Opened, opened, up_more, post_up}

@@ -2,12 +2,12 @@
 use Rattle.std.proofs.Common.{◌≡◌, ℕ, ◌+◌, ◌<◌, ◌≤◌, ◌==◌, Bool, true, false, cond, List, [], ◌∷◌, map, length, Option}
 use Rattle.std.proofs.Common.{Some, None, is_some, refl, sym, ap, ◌∙◌, subst}
 use Rattle.qc_decl.specs.declared.declaration.Declaration.{Declaration}
-use Rattle.qc_decl.specs.Names.{most_sites}
+use Rattle.qc_decl.specs.Vocabulary.{most_sites}
 use Rattle.qc_commit.specs.declared.ballot.Ballot.{Ballot}
 use Rattle.qc_commit.specs.declared.desk.Desk.{Desk}
 use Rattle.qc_commit.specs.declared.desk.Voting.{Voting}
-use Rattle.qc_commit.specs.Names.{AsksFew, DeskMove, Numbers, Prepares, Votes, are_cast, blank, cast, first_against}
-use Rattle.qc_commit.specs.Names.{moved as desk_moved, participants, prepares, sent_each, vote_of}
+use Rattle.qc_commit.specs.Vocabulary.{AsksFew, DeskMove, Numbers, Prepares, Votes, are_cast, blank, cast}
+use Rattle.qc_commit.specs.Vocabulary.{first_against, moved as desk_moved, participants, prepares, sent_each, vote_of}
 use Rattle.qc_commit.specs.Conduct as desks
 use Rattle.qc_commit.proofs.Aside.{few-after}
 use Rattle.qc_commit.proofs.Numbering.{IsSettled, each-sent, settled-prepare, settled-sent, settled-vote}
@@ -16,7 +16,7 @@ use Rattle.qc_front.specs.declared.doing.Doing.TheVariants.{Idle, Reading, Appen
 use Rattle.qc_front.specs.declared.front.Front.{Front}
 use Rattle.qc_front.specs.declared.transaction.Transaction.{Transaction}
 use Rattle.qc_front.specs.Conduct as fronts
-use Rattle.qc_front.specs.Names.{aborts, begins, gives_up, is_idle, moved as front_moved}
+use Rattle.qc_front.specs.Vocabulary.{aborts, begins, gives_up, is_idle, moved as front_moved}
 use Rattle.qc_front.proofs.AtOnce.{called_at_once, takes_at_once}
 use Rattle.qc_front.proofs.Goes.{do_goes, takes_goes}
 use Rattle.qc_front.proofs.CommandsKeep.{called_holds}
@@ -35,10 +35,10 @@ use Rattle.qc_msg.specs.declared.step.Command.{Command}
 use Rattle.qc_msg.specs.declared.step.Command.TheVariants as commands
 use Rattle.qc_msg.specs.declared.step.Input.{Input}
 use Rattle.qc_msg.specs.declared.step.Input.TheVariants as inputs
-use Rattle.qc_msg.specs.Names.{Deed, quiet, sending, site_called, without_call}
+use Rattle.qc_msg.specs.Vocabulary.{Deed, quiet, sending, site_called, without_call}
 use Rattle.qc_client.specs.declared.client.Client.{Client}
-use Rattle.qc_client.specs.Names.{answered, answered_by, by_desk, by_front, called, client_takes, commits, heard}
-use Rattle.qc_core.specs.Names.{MayTake, is_running, runs_given}
+use Rattle.qc_client.specs.Vocabulary.{answered, answered_by, by_desk, by_front, called, client_takes, commits, heard}
+use Rattle.qc_core.specs.Vocabulary.{MayTake, is_running, runs_given}
 use Rattle.qc_core.proofs.ClientStands.{Lands, Stands, ended_lands, front_lands, runs_told, sends_all, stays, tells_one}
 use Rattle.qc_core.proofs.ClientStands.{waits_lands}
 

@@ -5,17 +5,17 @@ use Rattle.std.specs.List.{AllByRecursion as Every, range_with_len}
 use Rattle.std.proofs.lemmas.List.{length-map}
 use Rattle.qc_list.proofs.Members.{every-append, every-filter}
 use Rattle.qc_decl.specs.declared.declaration.Declaration.{Declaration}
-use Rattle.qc_decl.specs.Names.{IsAccepted, first_site}
-use Rattle.qc_plan.specs.Names.{cyclic}
+use Rattle.qc_decl.specs.Vocabulary.{IsAccepted, first_site}
+use Rattle.qc_plan.specs.Vocabulary.{cyclic}
 use Rattle.qc_commit.specs.declared.ballot.Ballot.{Ballot}
 use Rattle.qc_commit.specs.declared.desk.Desk.{Desk}
 use Rattle.qc_commit.specs.declared.desk.Voting.{Voting}
 use Rattle.qc_commit.specs.Conduct as desks
-use Rattle.qc_commit.specs.Names.{DeskMove, are_cast, blank, cast, first_against, moved as desk_moved, participants}
-use Rattle.qc_commit.specs.Names.{prepares, vote_of}
+use Rattle.qc_commit.specs.Vocabulary.{DeskMove, are_cast, blank, cast, first_against, moved as desk_moved}
+use Rattle.qc_commit.specs.Vocabulary.{participants, prepares, vote_of}
 use Rattle.qc_front.specs.declared.transaction.Transaction.{Transaction}
 use Rattle.qc_front.specs.Conduct as fronts
-use Rattle.qc_front.specs.Names.{FrontHolds, FrontMove, ended}
+use Rattle.qc_front.specs.Vocabulary.{FrontHolds, FrontMove, ended}
 use Rattle.qc_msg.specs.declared.begun.Begun.{Begun}
 use Rattle.qc_msg.specs.declared.message.Answer.{Answer}
 use Rattle.qc_msg.specs.declared.message.Message.{Message}
@@ -30,15 +30,15 @@ use Rattle.qc_msg.specs.declared.step.Input.{Input}
 use Rattle.qc_msg.specs.declared.step.Input.TheVariants as inputs
 use Rattle.qc_msg.specs.declared.turn.Posting.{Posting}
 use Rattle.qc_msg.specs.declared.turn.Turn.{Turn}
-use Rattle.qc_msg.specs.Names.{decisions, has_granted, quiet, sending, site_called, without_call}
+use Rattle.qc_msg.specs.Vocabulary.{decisions, has_granted, quiet, sending, site_called, without_call}
 use Rattle.qc_client.specs.declared.client.Client.{Client}
-use Rattle.qc_client.specs.Names.{ClientMove, answered, answered_by, by_desk, by_front, called, client_takes, commits}
-use Rattle.qc_client.specs.Names.{heard, moved, new_client, sent, sent_by}
-use Rattle.qc_core.specs.Names.{IsFrom, IsShort}
+use Rattle.qc_client.specs.Vocabulary.{ClientMove, answered, answered_by, by_desk, by_front, called, client_takes}
+use Rattle.qc_client.specs.Vocabulary.{commits, heard, moved, new_client, sent, sent_by}
+use Rattle.qc_core.specs.Vocabulary.{IsFrom, IsShort}
 use Rattle.qc_core.proofs.FewSites.{AreSites}
 use Rattle.qc_core.proofs.FrontReaches.{Reaches, asked_in, called_reaches, takes_reaches, verdicts_few, verdicts_reach}
 use Rattle.qc_core.proofs.RoundSites.{cyclic_length, length_filter}
-use Rattle.qc_link.specs.Names.{most_actors}
+use Rattle.qc_link.specs.Vocabulary.{most_actors}
 
 -- the sites that a client's transactions asked are sites
 

@@ -7,19 +7,19 @@ use Rattle.qc_stamp.specs.declared.stamp.TxId.{TxId}
 use Rattle.qc_commit.specs.declared.desk.Desk.{Desk}
 use Rattle.qc_commit.specs.declared.desk.Voting.{Voting}
 use Rattle.qc_commit.specs.Conduct as desks
-use Rattle.qc_commit.specs.Names.{AsksFew, DeskMove}
+use Rattle.qc_commit.specs.Vocabulary.{AsksFew, DeskMove}
 use Rattle.qc_commit.proofs.Numbering.{IsSettled, settled-sent}
 use Rattle.qc_front.specs.declared.doing.Doing.{Doing}
 use Rattle.qc_front.specs.declared.doing.Doing.TheVariants.{Idle, Reading, Appending}
 use Rattle.qc_front.specs.declared.front.Front.{Front}
 use Rattle.qc_front.specs.declared.transaction.Transaction.{Transaction}
 use Rattle.qc_front.specs.Conduct as fronts
-use Rattle.qc_front.specs.Names.{AreSent, AsksAtOnce, FrontHolds, FrontMove, IsFor, IsNumbered, IsRequestOf, IsSent}
-use Rattle.qc_front.specs.Names.{ended, numbered_all, numbered_one}
+use Rattle.qc_front.specs.Vocabulary.{AreSent, AsksAtOnce, FrontHolds, FrontMove, IsFor, IsNumbered, IsRequestOf}
+use Rattle.qc_front.specs.Vocabulary.{IsSent, ended, numbered_all, numbered_one}
 use Rattle.qc_front.proofs.AtOnce.{called_at_once}
 use Rattle.qc_front.proofs.Keeping.{ended_holds, new_holds}
 use Rattle.qc_front.proofs.Numbering.{sent_holds}
-use Rattle.qc_list.specs.Names.{In}
+use Rattle.qc_list.specs.Vocabulary.{In}
 use Rattle.qc_msg.specs.declared.begun.Begun.{Begun}
 use Rattle.qc_msg.specs.declared.message.Message.{Message}
 use Rattle.qc_msg.specs.declared.message.Message.TheVariants as messages
@@ -30,10 +30,10 @@ use Rattle.qc_msg.specs.declared.reply.Reply.{Reply}
 use Rattle.qc_msg.specs.declared.step.Command.TheVariants as commands
 use Rattle.qc_msg.specs.declared.turn.Posting.{Posting}
 use Rattle.qc_msg.specs.declared.turn.Turn.{Turn}
-use Rattle.qc_msg.specs.Names.{quiet}
+use Rattle.qc_msg.specs.Vocabulary.{quiet}
 use Rattle.qc_client.specs.declared.client.Client.{Client}
-use Rattle.qc_client.specs.Names.{ClientMove, IsFree, by_desk, by_front, moved, new_client, requested, sent, sent_by}
-use Rattle.qc_client.specs.Names.{sent_one}
+use Rattle.qc_client.specs.Vocabulary.{ClientMove, IsFree, by_desk, by_front, moved, new_client, requested, sent}
+use Rattle.qc_client.specs.Vocabulary.{sent_by, sent_one}
 
 -- whether a command runs after a turn
 abbrev pub runs_told : Bool → Option Reply → Bool

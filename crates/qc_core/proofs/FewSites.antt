@@ -6,9 +6,9 @@ use Rattle.std.specs.declared.cmp.Ordering.{Ordering}
 use Rattle.std.specs.declared.cmp.Ordering.TheVariants.{Less, Equal, Greater}
 use Rattle.std.proofs.lemmas.Cmp.{nat_cmp_total}
 use Rattle.std.proofs.lemmas.Bool.Decides.{nat_tests}
-use Rattle.qc_list.specs.Names.{Ascends, IsBelowAll, by_order, inserted}
+use Rattle.qc_list.specs.Vocabulary.{Ascends, IsBelowAll, by_order, inserted}
 use Rattle.qc_list.proofs.Order.{ascends-inserted}
-use Rattle.qc_msg.specs.Names.{with_site}
+use Rattle.qc_msg.specs.Vocabulary.{with_site}
 
 pub record AreSites (n : ℕ) (xs : List ℕ) : Type 0 where
   pub below : Every (λ site. site < n) xs

@@ -5,12 +5,12 @@ use Rattle.std.specs.Prelude.{slice_get}
 use Rattle.std.specs.List.{AllByRecursion as Every}
 use Rattle.std.proofs.lemmas.List.{length-map}
 use Rattle.qc_decl.specs.declared.declaration.Declaration.{Declaration}
-use Rattle.qc_decl.specs.Names.{IsAccepted, append_need_of, most_transaction_operations, read_need_of}
+use Rattle.qc_decl.specs.Vocabulary.{IsAccepted, append_need_of, most_transaction_operations, read_need_of}
 use Rattle.qc_plan.specs.declared.standing.Verdict.{Verdict}
 use Rattle.qc_plan.specs.declared.standing.Verdict.TheVariants as verdicts
-use Rattle.qc_plan.specs.Names.{RoundState, note, verdict, wanted}
+use Rattle.qc_plan.specs.Vocabulary.{RoundState, note, verdict, wanted}
 use Rattle.qc_view.specs.declared.view.View.{View}
-use Rattle.qc_view.specs.Names.{with_log, with_own}
+use Rattle.qc_view.specs.Vocabulary.{with_log, with_own}
 use Rattle.qc_msg.specs.declared.begun.Begun.{Begun}
 use Rattle.qc_msg.specs.declared.call.Call.{Call}
 use Rattle.qc_msg.specs.declared.message.Answer.{Answer}
@@ -26,15 +26,16 @@ use Rattle.qc_msg.specs.declared.step.Command.{Command}
 use Rattle.qc_msg.specs.declared.step.Command.TheVariants as commands
 use Rattle.qc_msg.specs.declared.turn.Posting.{Posting}
 use Rattle.qc_msg.specs.declared.turn.Turn.{Turn}
-use Rattle.qc_msg.specs.Names.{decisions, quiet, site_called, telling, without_call}
+use Rattle.qc_msg.specs.Vocabulary.{decisions, quiet, site_called, telling, without_call}
 use Rattle.qc_front.specs.declared.doing.Doing.{Doing}
 use Rattle.qc_front.specs.declared.doing.Doing.TheVariants.{Idle, Reading, Appending}
 use Rattle.qc_front.specs.declared.front.Front.{Front}
 use Rattle.qc_front.specs.declared.transaction.Transaction.{Transaction}
-use Rattle.qc_front.specs.Names.{BegunHolds, FrontHolds, FrontMove, aborts, answer_of, answered, append_by, append_want}
-use Rattle.qc_front.specs.Names.{appended_with, appending_takes, begins, called, commits, gives_up, goes_on, learns}
-use Rattle.qc_front.specs.Names.{lived, moved, next_own, performs, read_by, read_want, read_with, reading_takes, reads}
-use Rattle.qc_front.specs.Names.{request_of, resp_of, round_for, standing_of, takes, takes_in, with_event, with_view}
+use Rattle.qc_front.specs.Vocabulary.{BegunHolds, FrontHolds, FrontMove, aborts, answer_of, answered, append_by}
+use Rattle.qc_front.specs.Vocabulary.{append_want, appended_with, appending_takes, begins, called, commits, gives_up}
+use Rattle.qc_front.specs.Vocabulary.{goes_on, learns, lived, moved, next_own, performs, read_by, read_want, read_with}
+use Rattle.qc_front.specs.Vocabulary.{reading_takes, reads, request_of, resp_of, round_for, standing_of, takes}
+use Rattle.qc_front.specs.Vocabulary.{takes_in, with_event, with_view}
 use Rattle.qc_core.proofs.FewSites.{AreSites, few_sites, more_sites}
 use Rattle.qc_core.proofs.RoundSites.{RestFits, round_fits, start_fits, wanted_below, wanted_few}
 

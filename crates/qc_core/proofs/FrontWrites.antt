@@ -4,18 +4,19 @@ use Rattle.std.proofs.Common.{refl}
 use Rattle.qc_stamp.specs.declared.stamp.Stamp.{Stamp}
 use Rattle.qc_stamp.specs.declared.stamp.TxId.{TxId}
 use Rattle.qc_decl.specs.declared.declaration.Declaration.{Declaration}
-use Rattle.qc_decl.specs.Names.{append_need_of, most_transaction_operations, read_need_of}
+use Rattle.qc_decl.specs.Vocabulary.{append_need_of, most_transaction_operations, read_need_of}
 use Rattle.qc_lock.specs.declared.clash.Clash.{Clash as Conflict}
 use Rattle.std.specs.List.{AllByRecursion as Every}
 use Rattle.qc_msg.specs.declared.reply.Reply.{Reply}
 use Rattle.qc_msg.specs.declared.turn.Posting.{Posting}
 use Rattle.qc_msg.specs.declared.turn.Turn.{Turn}
-use Rattle.qc_msg.specs.Names.{answer_in, decisions, ending, quiet, says, sending, site_called, telling, without_call}
-use Rattle.qc_promise.specs.Names.{Saying, SaysDown, SaysFault, SaysNeither, SaysUnwritten, saying_of}
+use Rattle.qc_msg.specs.Vocabulary.{answer_in, decisions, ending, quiet, says, sending, site_called, telling}
+use Rattle.qc_msg.specs.Vocabulary.{without_call}
+use Rattle.qc_promise.specs.Vocabulary.{Saying, SaysDown, SaysFault, SaysNeither, SaysUnwritten, saying_of}
 use Rattle.qc_msg.specs.declared.reply.Half.TheVariants as halves
 use Rattle.qc_plan.specs.declared.standing.Verdict.{Verdict}
 use Rattle.qc_plan.specs.declared.standing.Verdict.TheVariants as verdicts
-use Rattle.qc_plan.specs.Names.{RoundState, note, verdict, wanted}
+use Rattle.qc_plan.specs.Vocabulary.{RoundState, note, verdict, wanted}
 use Rattle.qc_msg.specs.declared.begun.Begun.{Begun}
 use Rattle.qc_msg.specs.declared.call.Call.{Call}
 use Rattle.qc_msg.specs.declared.message.Answer.{Answer}
@@ -31,14 +32,14 @@ use Rattle.qc_msg.specs.declared.step.Command.{Command}
 use Rattle.qc_msg.specs.declared.step.Command.TheVariants as commands
 use Rattle.qc_msg.specs.declared.turn.Appended.TheVariants.{Done}
 use Rattle.qc_commit.specs.Conduct as desks
-use Rattle.qc_commit.specs.Names.{prepares as asks_for}
+use Rattle.qc_commit.specs.Vocabulary.{prepares as asks_for}
 use Rattle.qc_front.specs.declared.doing.Doing.{Doing}
 use Rattle.qc_front.specs.declared.doing.Doing.TheVariants.{Idle, Reading, Appending}
 use Rattle.qc_front.specs.declared.front.Front.{Front}
 use Rattle.qc_front.specs.declared.transaction.Transaction.{Transaction}
-use Rattle.qc_front.specs.Names.{aborts, answer_of, answered, append_by, append_want, appended_with, begins, gives_up}
-use Rattle.qc_front.specs.Names.{learns, moved as front_moved, next_tx, performs, read_by, read_want, read_with, reads}
-use Rattle.qc_front.specs.Names.{request_of, resp_of, round_for, standing_of}
+use Rattle.qc_front.specs.Vocabulary.{aborts, answer_of, answered, append_by, append_want, appended_with, begins}
+use Rattle.qc_front.specs.Vocabulary.{gives_up, learns, moved as front_moved, next_tx, performs, read_by, read_want}
+use Rattle.qc_front.specs.Vocabulary.{read_with, reads, request_of, resp_of, round_for, standing_of}
 use Rattle.qc_front.specs.Conduct as fronts
 use Rattle.qc_core.proofs.SiteWrites.{writes_no_life}
 

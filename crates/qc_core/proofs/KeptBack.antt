@@ -4,12 +4,12 @@ use Rattle.std.proofs.Common.{Some, None, option_to_list, slice_get, refl, ap, �
 use Rattle.std.proofs.lemmas.List.{map-append}
 use Rattle.std.proofs.lemmas.List.Elements.{filter-append}
 use Rattle.std.proofs.lemmas.List.Sums.{fold-append}
-use Rattle.qc_core.specs.Names.{AreGivenBack, journal_at}
+use Rattle.qc_core.specs.Vocabulary.{AreGivenBack, journal_at}
 use Rattle.qc_msg.specs.declared.message.Envelope.{Envelope}
 use Rattle.qc_msg.specs.declared.step.Step.{Step}
 use Rattle.qc_msg.specs.declared.step.Step.TheVariants as steps
-use Rattle.qc_msg.specs.Names.{Deed, Entry, deed_at, deeds, envelope_of, heard, own}
-use Rattle.qc_promise.specs.Names.{IsKeptAt, Journal, Kept, journal_of, journal_with, no_journal}
+use Rattle.qc_msg.specs.Vocabulary.{Deed, Entry, deed_at, deeds, envelope_of, heard, own}
+use Rattle.qc_promise.specs.Vocabulary.{IsKeptAt, Journal, Kept, journal_of, journal_with, no_journal}
 
 step_back : (before : List Step) (ms : List Envelope) (step : Step) (later : List Deed) → IsKeptAt before step
     → AreGivenBack (journal_with (journal_of before) step) later

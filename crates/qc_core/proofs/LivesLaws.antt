@@ -1,11 +1,11 @@
 -- An actor through its falls and rises: who is down has no state; who never falls lives as it acts; what it puts into its
 -- journal its steps put there.
-use Rattle.std.proofs.Common.{◌≡◌, ℕ, ◌+◌, ◌-◌, ◌==◌, Bool, true, false, cond, List, ◌∷◌, ◌++◌, fold, length, filter}
-use Rattle.std.proofs.Common.{map, Option, Some, None, option_to_list, slice_get, append_assoc, refl, sym, ap, ◌∙◌}
-use Rattle.std.proofs.Common.{subst}
+use Rattle.std.proofs.Common.{[], ◌≡◌, ℕ, ◌+◌, ◌-◌, ◌==◌, Bool, true, false, cond, List, ◌∷◌, ◌++◌, fold, length}
+use Rattle.std.proofs.Common.{filter, map, Option, Some, None, option_to_list, slice_get, append_assoc, refl, sym, ap}
+use Rattle.std.proofs.Common.{◌∙◌, subst}
 use Rattle.std.proofs.lemmas.List.Sums.{fold-append}
 use Rattle.qc_decl.specs.declared.declaration.Declaration.{Declaration}
-use Rattle.qc_decl.specs.Names.{is_administrator, is_client, is_site}
+use Rattle.qc_decl.specs.Vocabulary.{is_administrator, is_client, is_site}
 use Rattle.qc_msg.specs.declared.message.Envelope.{Envelope}
 use Rattle.qc_msg.specs.declared.record.Record.{Record}
 use Rattle.qc_msg.specs.declared.step.Fall.{Fall}
@@ -15,12 +15,12 @@ use Rattle.qc_msg.specs.declared.step.Step.TheVariants as steps
 use Rattle.qc_msg.specs.declared.turn.Appended.{Appended}
 use Rattle.qc_msg.specs.declared.turn.Appended.TheVariants.{Done, Failed, Stopped}
 use Rattle.qc_msg.specs.declared.turn.Turn.{Turn}
-use Rattle.qc_msg.specs.Names.{Deed, Entry, Falls, MayEnd, Rises, Sends, Takes, Tells, Writes, deed_at, deeds, deeds_as}
-use Rattle.qc_msg.specs.Names.{envelope_of, heard, own, sends_as, sends_of, tells_of, turn_deeds}
-use Rattle.qc_promise.specs.Names.{Journal, journal_of, journal_with, no_journal}
+use Rattle.qc_msg.specs.Vocabulary.{Deed, Entry, Falls, MayEnd, Rises, Sends, Takes, Tells, Writes, deed_at, deeds}
+use Rattle.qc_msg.specs.Vocabulary.{deeds_as, envelope_of, heard, own, sends_as, sends_of, tells_of, turn_deeds}
+use Rattle.qc_promise.specs.Vocabulary.{Journal, journal_of, journal_with, no_journal}
 use Rattle.qc_core.specs.declared.actor.Actor.TheVariants as actor
-use Rattle.qc_core.specs.Names.{Acts, AreSteady, IsLawful, IsLawfulWithFalls, Lives, actor_after, is_up, journal_after}
-use Rattle.qc_core.specs.Names.{journal_at, turn_with_falls, up_at}
+use Rattle.qc_core.specs.Vocabulary.{Acts, AreSteady, IsLawful, IsLawfulWithFalls, Lives, actor_after, is_up}
+use Rattle.qc_core.specs.Vocabulary.{journal_after, journal_at, turn_with_falls, up_at}
 use Rattle.qc_core.specs.Acts as acts
 use Rattle.qc_core.specs.Lives as lives
 use Rattle.qc_core.proofs.ActorLaws.{turn}

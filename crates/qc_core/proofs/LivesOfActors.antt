@@ -1,24 +1,24 @@
 -- An actor through its falls and rises, deed by deed.
-use Rattle.std.proofs.Common.{◌≡◌, ℕ, ◌+◌, ◌-◌, ◌<◌, ◌&&◌, nat_le, nat_lt, arith, ltb-true, Bool, true, false, cond}
+use Rattle.std.proofs.Common.{[], ◌≡◌, ℕ, ◌+◌, ◌-◌, ◌<◌, ◌&&◌, nat_le, nat_lt, arith, ltb-true, Bool, true, false, cond}
 use Rattle.std.proofs.Common.{not, List, ◌∷◌, ◌++◌, fold, Option, Some, None, refl, sym, ap, ◌∙◌}
 use Rattle.std.proofs.lemmas.List.Sums.{fold-append}
 use Rattle.qc_decl.specs.declared.declaration.Declaration.{Declaration}
-use Rattle.qc_decl.specs.Names.{administrator, is_administrator, is_client, is_site}
-use Rattle.qc_client.specs.Names.{client_after, new_client}
+use Rattle.qc_decl.specs.Vocabulary.{administrator, is_administrator, is_client, is_site}
+use Rattle.qc_client.specs.Vocabulary.{client_after, new_client}
 use Rattle.qc_msg.specs.declared.record.Record.{Record}
 use Rattle.qc_msg.specs.declared.step.Fall.{Fall}
 use Rattle.qc_msg.specs.declared.step.Input.{Input}
 use Rattle.qc_msg.specs.declared.step.Input.TheVariants as inputs
 use Rattle.qc_msg.specs.declared.turn.Turn.{Turn}
-use Rattle.qc_msg.specs.Names.{Deed, Falls, Rises, Sends, Takes, Tells, Writes, quiet}
-use Rattle.qc_site.specs.Names.{new_site, site_after}
-use Rattle.qc_epoch.specs.Names.{new_admin}
-use Rattle.qc_recover.specs.Names.{admin_rises, client_rises, site_rises}
+use Rattle.qc_msg.specs.Vocabulary.{Deed, Falls, Rises, Sends, Takes, Tells, Writes, quiet}
+use Rattle.qc_site.specs.Vocabulary.{new_site, site_after}
+use Rattle.qc_epoch.specs.Vocabulary.{new_admin}
+use Rattle.qc_recover.specs.Vocabulary.{admin_rises, client_rises, site_rises}
 use Rattle.qc_core.specs.declared.actor.Actor.{Actor}
 use Rattle.qc_core.specs.declared.actor.Actor.TheVariants as actor
-use Rattle.qc_core.specs.Names.{ActorMove, AreSteady, IsLawful, MayReach, actor_after, actor_does, actor_rises}
-use Rattle.qc_core.specs.Names.{actor_sends, actor_takes, by_admin, by_client, by_site, is_up, moved, turn_after}
-use Rattle.qc_core.specs.Names.{turn_with_falls, up_at}
+use Rattle.qc_core.specs.Vocabulary.{ActorMove, AreSteady, IsLawful, MayReach, actor_after, actor_does, actor_rises}
+use Rattle.qc_core.specs.Vocabulary.{actor_sends, actor_takes, by_admin, by_client, by_site, is_up, moved, turn_after}
+use Rattle.qc_core.specs.Vocabulary.{turn_with_falls, up_at}
 use Rattle.qc_core.proofs.ActorLaws.{other_client, turn}
 
 -- one deed more

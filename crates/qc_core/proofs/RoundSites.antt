@@ -8,10 +8,10 @@ use Rattle.std.proofs.lemmas.List.{length-append}
 use Rattle.std.proofs.lemmas.List.FromFn.{length-range_with_len}
 use Rattle.qc_list.proofs.Members.{In-passes, every-from_In}
 use Rattle.qc_decl.specs.declared.declaration.Declaration.{Declaration}
-use Rattle.qc_decl.specs.Names.{IsAccepted, IsGood, first_site, plan_in}
+use Rattle.qc_decl.specs.Vocabulary.{IsAccepted, IsGood, first_site, plan_in}
 use Rattle.qc_plan.specs.declared.plan.Plan.{Plan}
-use Rattle.qc_plan.specs.Names.{RoundState, cyclic, start, wanted, weighing, weight_at}
-use Rattle.qc_front.specs.Names.{IsRound, sites_of, weights_of}
+use Rattle.qc_plan.specs.Vocabulary.{RoundState, cyclic, start, wanted, weighing, weight_at}
+use Rattle.qc_front.specs.Vocabulary.{IsRound, sites_of, weights_of}
 use Rattle.qc_front.proofs.Awaited.{wanted_is}
 
 pub record RestFits (n : ℕ) (r : RoundState) : Type 0 where

@@ -6,13 +6,13 @@ use Rattle.std.specs.Option.{option_map_or}
 use Rattle.std.proofs.lemmas.List.{append-nil}
 use Rattle.qc_stamp.specs.declared.stamp.Stamp.{Stamp}
 use Rattle.qc_stamp.specs.declared.stamp.TxId.{TxId}
-use Rattle.qc_stamp.specs.Names.{same_tx}
+use Rattle.qc_stamp.specs.Vocabulary.{same_tx}
 use Rattle.qc_entry.specs.declared.line.Line.{Line}
 use Rattle.qc_entry.specs.declared.record.Prepared.{Prepared}
-use Rattle.qc_entry.specs.Names.{union, without}
+use Rattle.qc_entry.specs.Vocabulary.{union, without}
 use Rattle.qc_entry.proofs.Union.{union-nil}
 use Rattle.qc_lock.specs.declared.held.Held.{Held}
-use Rattle.qc_lock.specs.Names.{without_held}
+use Rattle.qc_lock.specs.Vocabulary.{without_held}
 use Rattle.qc_msg.specs.declared.message.Answer.TheVariants as answers
 use Rattle.qc_msg.specs.declared.message.Message.TheVariants as messages
 use Rattle.qc_msg.specs.declared.message.Outcome.{Outcome}
@@ -22,10 +22,10 @@ use Rattle.qc_msg.specs.declared.record.Record.TheVariants as records
 use Rattle.qc_msg.specs.declared.step.Input.{Input}
 use Rattle.qc_msg.specs.declared.turn.Appended.TheVariants.{Done}
 use Rattle.qc_msg.specs.declared.turn.Turn.{Turn}
-use Rattle.qc_msg.specs.Names.{Deed, Finished, Takes, quiet, turn_deeds}
-use Rattle.qc_promise.specs.Names.{Grant, Lines, done_lines, is_ended, is_final, last_cut, learning, lines_of}
-use Rattle.qc_promise.specs.Names.{lines_shown, records_in, standing, view_in, with_promise}
-use Rattle.qc_site.specs.Names.{SiteState, answering, dropped, finishes, is_prepared, joins, moved, prepared_of}
+use Rattle.qc_msg.specs.Vocabulary.{Deed, Finished, Takes, quiet, turn_deeds}
+use Rattle.qc_promise.specs.Vocabulary.{Grant, Lines, done_lines, is_ended, is_final, last_cut, learning, lines_of}
+use Rattle.qc_promise.specs.Vocabulary.{lines_shown, records_in, standing, view_in, with_promise}
+use Rattle.qc_site.specs.Vocabulary.{SiteState, answering, dropped, finishes, is_prepared, joins, moved, prepared_of}
 use Rattle.qc_core.proofs.SiteDrops.{drops, drops_promises}
 use Rattle.qc_core.proofs.SiteGrowth.{lasts, stays}
 use Rattle.qc_core.proofs.SiteHolds.{hold, remaining, remains}

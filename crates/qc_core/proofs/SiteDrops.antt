@@ -2,17 +2,17 @@
 use Rattle.std.proofs.Common.{◌≡◌, ◌==◌, ◌&&◌, not, Bool, true, false, cond, List, [], ◌∷◌, refl, sym, ap, ◌∙◌, subst}
 use Rattle.std.specs.Prelude.{filter, fold, length}
 use Rattle.qc_stamp.specs.declared.stamp.TxId.{TxId}
-use Rattle.qc_stamp.specs.Names.{same_tx}
+use Rattle.qc_stamp.specs.Vocabulary.{same_tx}
 use Rattle.qc_stamp.proofs.Orders.{other_tx_sym, same_tx_is, same_tx_itself}
 use Rattle.qc_entry.specs.declared.line.OwnLine.{OwnLine}
 use Rattle.qc_entry.specs.declared.line.ReadLock.{ReadLock}
 use Rattle.qc_lock.specs.declared.held.Held.{Held}
-use Rattle.qc_lock.specs.Names.{held_of, with_entry, with_held, with_locks, with_owns, without_held}
+use Rattle.qc_lock.specs.Vocabulary.{held_of, with_entry, with_held, with_locks, with_owns, without_held}
 use Rattle.qc_lock.proofs.Entries.{held-without_other}
 use Rattle.qc_msg.specs.declared.message.Want.{Want}
 use Rattle.qc_msg.specs.declared.message.Want.TheVariants.{Read, Append, Prepare}
 use Rattle.qc_entry.specs.declared.record.Prepared.{Prepared}
-use Rattle.qc_promise.specs.Names.{Grant, holding, with_promise}
+use Rattle.qc_promise.specs.Vocabulary.{Grant, holding, with_promise}
 use Rattle.qc_core.proofs.SiteHolds.{hold}
 
 without-put_same : (held : List Held) (e : Held) (tx : TxId) → same_tx e.tx tx ≡ true

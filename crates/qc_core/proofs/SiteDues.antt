@@ -6,14 +6,14 @@ use Rattle.std.specs.Option.{option_map_or, option_or}
 use Rattle.std.proofs.lemmas.List.{append-nil}
 use Rattle.qc_stamp.specs.declared.stamp.Stamp.{Stamp}
 use Rattle.qc_stamp.specs.declared.stamp.TxId.{TxId}
-use Rattle.qc_stamp.specs.Names.{same_tx}
+use Rattle.qc_stamp.specs.Vocabulary.{same_tx}
 use Rattle.qc_entry.specs.declared.line.Line.{Line}
 use Rattle.qc_entry.specs.declared.record.Prepared.{Prepared}
-use Rattle.qc_entry.specs.Names.{union}
+use Rattle.qc_entry.specs.Vocabulary.{union}
 use Rattle.qc_decl.specs.declared.declaration.Declaration.{Declaration}
-use Rattle.qc_decl.specs.Names.{most_record_bytes}
+use Rattle.qc_decl.specs.Vocabulary.{most_record_bytes}
 use Rattle.qc_lock.specs.declared.clash.Clash.{Clash as Conflict}
-use Rattle.qc_lock.specs.Names.{append_clash, is_held, read_clash}
+use Rattle.qc_lock.specs.Vocabulary.{append_clash, is_held, read_clash}
 use Rattle.qc_msg.specs.declared.message.Answer.{Answer}
 use Rattle.qc_msg.specs.declared.message.Answer.TheVariants as answers
 use Rattle.qc_msg.specs.declared.message.Envelope.{Envelope}
@@ -27,15 +27,15 @@ use Rattle.qc_msg.specs.declared.turn.Appended.TheVariants.{Done}
 use Rattle.qc_msg.specs.declared.step.Input.{Input}
 use Rattle.qc_msg.specs.declared.step.Input.TheVariants as inputs
 use Rattle.qc_msg.specs.declared.turn.Posting.{Posting}
-use Rattle.qc_msg.specs.Names.{Deed, Requested, Takes, epoch_length, quiet}
-use Rattle.qc_promise.specs.Names.{TurnDue, answers_due, clash_told, closed_refusal, epoch_refusal, fits_record}
-use Rattle.qc_promise.specs.Names.{granting_turn, inquiries_due, is_declared, is_epoch, is_promised, prepared_shown}
-use Rattle.qc_promise.specs.Names.{promise_due, promise_in, promise_turn, quiet_turn, recording_turn, sending, shut_due}
-use Rattle.qc_promise.specs.Names.{telling_turn, turn_due, want_refusal}
-use Rattle.qc_site.specs.Names.{SiteState, answering, answers as answered, appends_by, closed, closed_fault, closes}
-use Rattle.qc_site.specs.Names.{fault_of, grants, installed, installs, is_closed_for, joins, moved, names_declared}
-use Rattle.qc_site.specs.Names.{promise_of, reads_by, recording, relation_at, requested, shut_answer, site_at, site_on}
-use Rattle.qc_site.specs.Names.{site_takes}
+use Rattle.qc_msg.specs.Vocabulary.{Deed, Requested, Takes, epoch_length, quiet}
+use Rattle.qc_promise.specs.Vocabulary.{TurnDue, answers_due, clash_told, closed_refusal, epoch_refusal, fits_record}
+use Rattle.qc_promise.specs.Vocabulary.{granting_turn, inquiries_due, is_declared, is_epoch, is_promised}
+use Rattle.qc_promise.specs.Vocabulary.{prepared_shown, promise_due, promise_in, promise_turn, quiet_turn}
+use Rattle.qc_promise.specs.Vocabulary.{recording_turn, sending, shut_due, telling_turn, turn_due, want_refusal}
+use Rattle.qc_site.specs.Vocabulary.{SiteState, answering, answers as answered, appends_by, closed, closed_fault}
+use Rattle.qc_site.specs.Vocabulary.{closes, fault_of, grants, installed, installs, is_closed_for, joins, moved}
+use Rattle.qc_site.specs.Vocabulary.{names_declared, promise_of, reads_by, recording, relation_at, requested}
+use Rattle.qc_site.specs.Vocabulary.{shut_answer, site_at, site_on, site_takes}
 use Rattle.qc_core.proofs.SiteDecisions.{promising}
 use Rattle.qc_core.proofs.SiteGrowth.{lasts}
 use Rattle.qc_core.proofs.SiteShown.{shown, shown-more}

@@ -5,17 +5,18 @@ use Rattle.std.specs.Prelude.{filter, fold}
 use Rattle.std.proofs.lemmas.List.{append-nil}
 use Rattle.qc_entry.specs.declared.line.Line.{Line}
 use Rattle.qc_entry.specs.declared.record.Prepared.{Prepared}
-use Rattle.qc_decl.specs.Names.{most_record_bytes}
+use Rattle.qc_decl.specs.Vocabulary.{most_record_bytes}
 use Rattle.qc_msg.specs.declared.message.Answer.{Answer}
 use Rattle.qc_msg.specs.declared.message.Answer.TheVariants as answers
 use Rattle.qc_msg.specs.declared.message.Message.TheVariants as messages
 use Rattle.qc_msg.specs.declared.record.Record.TheVariants as records
 use Rattle.qc_msg.specs.declared.step.Input.{Input}
 use Rattle.qc_msg.specs.declared.turn.Turn.{Turn}
-use Rattle.qc_msg.specs.Names.{Deed, epoch_length}
-use Rattle.qc_promise.specs.Names.{Lines, learning, lines_shown, prepared_shown, recorded_by, records_in, with_promise}
-use Rattle.qc_site.specs.Names.{SiteState, answering, answers as answered, closed, closes, installed, installs}
-use Rattle.qc_site.specs.Names.{is_closed_for, moved, recording, shut_answer}
+use Rattle.qc_msg.specs.Vocabulary.{Deed, epoch_length}
+use Rattle.qc_promise.specs.Vocabulary.{Lines, learning, lines_shown, prepared_shown, recorded_by, records_in}
+use Rattle.qc_promise.specs.Vocabulary.{with_promise}
+use Rattle.qc_site.specs.Vocabulary.{SiteState, answering, answers as answered, closed, closes, installed, installs}
+use Rattle.qc_site.specs.Vocabulary.{is_closed_for, moved, recording, shut_answer}
 use Rattle.qc_core.proofs.SiteGrowth.{lasts}
 use Rattle.qc_core.proofs.SitePosts.{learning-nil, post_frees}
 use Rattle.qc_core.proofs.SiteRecorded.{posted, prepared_then}

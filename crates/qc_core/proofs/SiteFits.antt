@@ -8,10 +8,10 @@ use Rattle.qc_msg.specs.declared.step.Fall.{Fall}
 use Rattle.qc_msg.specs.declared.step.Fall.TheVariants as causes
 use Rattle.qc_msg.specs.declared.turn.Appended.{Appended}
 use Rattle.qc_msg.specs.declared.turn.Appended.TheVariants.{Done, Failed, Stopped}
-use Rattle.qc_msg.specs.Names.{Falls, HasRecord, MayEnd, deeds_as, tells_of, turn_deeds}
+use Rattle.qc_msg.specs.Vocabulary.{Falls, HasRecord, MayEnd, deeds_as, tells_of, turn_deeds}
 use Rattle.qc_msg.specs.declared.turn.Turn.{Turn}
-use Rattle.qc_promise.specs.Names.{Act, Fell, IsPostOf, Sent, TurnDue, Wrote, ends_with, fallen_in, posted_due}
-use Rattle.qc_promise.specs.Names.{posted_next}
+use Rattle.qc_promise.specs.Vocabulary.{Act, Fell, IsPostOf, Sent, TurnDue, Wrote, ends_with, fallen_in, posted_due}
+use Rattle.qc_promise.specs.Vocabulary.{posted_next}
 use Rattle.qc_promise.proofs.Posts.{fallen_none, fallen_sent, posted_sends}
 use Rattle.qc_core.proofs.SitePosts.{post_acts, told_of}
 

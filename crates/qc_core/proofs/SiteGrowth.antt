@@ -12,11 +12,12 @@ use Rattle.qc_entry.specs.declared.record.Prepared.{Prepared}
 use Rattle.qc_msg.specs.declared.message.Envelope.{Envelope}
 use Rattle.qc_msg.specs.declared.record.Record.{Record}
 use Rattle.qc_msg.specs.declared.turn.Posting.{Posting}
-use Rattle.qc_msg.specs.Names.{Deed, Installing, Requested, got_in, install_in, prepare_in, request_in, written_in}
-use Rattle.qc_promise.specs.Names.{Act, Grant, Lines, begun_with_lines, frees, grants, is_decision, is_ended, is_final}
-use Rattle.qc_promise.specs.Names.{is_granted, is_over, joining, learning, left_of, lines_done, lines_from, posted_next}
-use Rattle.qc_promise.specs.Names.{promises_since, recorded_from, sent_by, standing, standing_as, standing_by}
-use Rattle.qc_promise.specs.Names.{unless_over, view_by, view_in, with_given, with_joined, with_written}
+use Rattle.qc_msg.specs.Vocabulary.{Deed, Installing, Requested, got_in, install_in, prepare_in, request_in, written_in}
+use Rattle.qc_promise.specs.Vocabulary.{Act, Grant, Lines, begun_with_lines, frees, grants, is_decision, is_ended}
+use Rattle.qc_promise.specs.Vocabulary.{is_final, is_granted, is_over, joining, learning, left_of, lines_done}
+use Rattle.qc_promise.specs.Vocabulary.{lines_from, posted_next, promises_since, recorded_from, sent_by, standing}
+use Rattle.qc_promise.specs.Vocabulary.{standing_as, standing_by, unless_over, view_by, view_in, with_given}
+use Rattle.qc_promise.specs.Vocabulary.{with_joined, with_written}
 use Rattle.qc_promise.proofs.Posts.{posted-more}
 
 abbrev pub stays : List Deed → Grant → Bool

@@ -15,9 +15,10 @@ use Rattle.qc_msg.specs.declared.reply.Reply.{Reply}
 use Rattle.qc_msg.specs.declared.step.Input.{Input}
 use Rattle.qc_msg.specs.declared.turn.Posting.{Posting}
 use Rattle.qc_msg.specs.declared.turn.Turn.{Turn}
-use Rattle.qc_msg.specs.Names.{Deed, Takes, Writes, close_in, heard_in, install_in, turn_deeds, writes_of}
-use Rattle.qc_promise.specs.Names.{Grant, Holding, cuts, frees, held_shown, holding, is_decision, is_ended, is_final}
-use Rattle.qc_promise.specs.Names.{last_cut, prepared_shown, standing, standing_by, with_cut, with_promise}
+use Rattle.qc_msg.specs.Vocabulary.{Deed, Takes, Writes, close_in, heard_in, install_in, turn_deeds, writes_of}
+use Rattle.qc_promise.specs.Vocabulary.{Grant, Holding, cuts, frees, held_shown, holding, is_decision, is_ended}
+use Rattle.qc_promise.specs.Vocabulary.{is_final, last_cut, prepared_shown, standing, standing_by, with_cut}
+use Rattle.qc_promise.specs.Vocabulary.{with_promise}
 use Rattle.qc_core.proofs.SiteGrowth.{lasts, standing-more, stays}
 use Rattle.qc_core.proofs.SitePosts.{post_frees, post_stands, promises_by, talk, talk_ends, talk_stands}
 use Rattle.qc_core.proofs.SitePrepares.{filter_same}

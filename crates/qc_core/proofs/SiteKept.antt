@@ -6,18 +6,18 @@ use Rattle.std.specs.Option.{option_map_or, option_or}
 use Rattle.std.proofs.lemmas.List.Sums.{fold-append}
 use Rattle.std.proofs.lemmas.List.Folds.{fold-map, find-append}
 use Rattle.qc_stamp.specs.declared.stamp.TxId.{TxId}
-use Rattle.qc_stamp.specs.Names.{first_life, same_tx}
+use Rattle.qc_stamp.specs.Vocabulary.{first_life, same_tx}
 use Rattle.qc_stamp.proofs.Orders.{same_tx_is}
 use Rattle.qc_entry.specs.declared.line.Line.{Line}
 use Rattle.qc_entry.specs.declared.record.Prepared.{Prepared}
 use Rattle.qc_msg.specs.declared.record.Record.{Record}
 use Rattle.qc_msg.specs.declared.record.Record.TheVariants as journals
-use Rattle.qc_msg.specs.Names.{first_epoch}
-use Rattle.qc_site.specs.Names.{lines_of, prepared_of, without_prepared}
+use Rattle.qc_msg.specs.Vocabulary.{first_epoch}
+use Rattle.qc_site.specs.Vocabulary.{lines_of, prepared_of, without_prepared}
 use Rattle.qc_site.proofs.Votes.{prepared-without, prepared-without_other}
-use Rattle.qc_recover.specs.Names.{Kept, done_stamp, keeps, kept_by, nothing_kept}
-use Rattle.qc_promise.specs.Names.{Lines, clocks_in_record, clocks_of, closed_by, epoch_by, last_prepare, learning}
-use Rattle.qc_promise.specs.Names.{life_by, prepare_by, promises_of, recorded_by, recorded_from}
+use Rattle.qc_recover.specs.Vocabulary.{Kept, done_stamp, keeps, kept_by, nothing_kept}
+use Rattle.qc_promise.specs.Vocabulary.{Lines, clocks_in_record, clocks_of, closed_by, epoch_by, last_prepare, learning}
+use Rattle.qc_promise.specs.Vocabulary.{life_by, prepare_by, promises_of, recorded_by, recorded_from}
 use Rattle.qc_promise.proofs.Promises.{promises_by_record, promises_with}
 use Rattle.qc_core.proofs.SitePosts.{learning-nil}
 

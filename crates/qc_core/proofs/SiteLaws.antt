@@ -4,7 +4,7 @@ use Rattle.std.proofs.Common.{ap, subst, append_assoc}
 use Rattle.std.proofs.lemmas.Bool.{lt-ltb}
 use Rattle.std.proofs.lemmas.List.{append-nil}
 use Rattle.qc_decl.specs.declared.declaration.Declaration.{Declaration}
-use Rattle.qc_decl.specs.Names.{is_site}
+use Rattle.qc_decl.specs.Vocabulary.{is_site}
 use Rattle.qc_msg.specs.declared.record.Record.{Record}
 use Rattle.qc_msg.specs.declared.reply.Reply.{Reply}
 use Rattle.qc_msg.specs.declared.step.Fall.{Fall}
@@ -13,14 +13,17 @@ use Rattle.qc_msg.specs.declared.turn.Appended.{Appended}
 use Rattle.qc_msg.specs.declared.turn.Appended.TheVariants.{Done, Failed, Stopped}
 use Rattle.qc_msg.specs.declared.turn.Posting.{Posting}
 use Rattle.qc_msg.specs.declared.turn.Turn.{Turn}
-use Rattle.qc_msg.specs.Names.{Deed, Falls, Rises, Sends, Takes, Tells, Writes, deeds_as, sends_of, tells_of, writes_of}
-use Rattle.qc_promise.specs.Names.{Act, AreDue, IsDueAt, IsPostOf, Sent, Told, TurnDue, Wrote, posted_next, turn_due}
+use Rattle.qc_msg.specs.Vocabulary.{Deed, Falls, Rises, Sends, Takes, Tells, Writes, deeds_as, sends_of, tells_of}
+use Rattle.qc_msg.specs.Vocabulary.{writes_of}
+use Rattle.qc_promise.specs.Vocabulary.{Act, AreDue, IsDueAt, IsPostOf, Sent, Told, TurnDue, Wrote, posted_next}
+use Rattle.qc_promise.specs.Vocabulary.{turn_due}
 use Rattle.qc_promise.specs.SiteDue.{rising_turn}
 use Rattle.qc_promise.proofs.Posts.{post_more}
-use Rattle.qc_recover.specs.Names.{site_rises}
-use Rattle.qc_site.specs.Names.{SiteMove, SiteState, site_takes}
+use Rattle.qc_recover.specs.Vocabulary.{site_rises}
+use Rattle.qc_site.specs.Vocabulary.{SiteMove, SiteState, site_takes}
 use Rattle.qc_core.specs.declared.actor.Actor.TheVariants.{Site}
-use Rattle.qc_core.specs.Names.{IsShown, Serves, actor_after, crashes, rises, serves, stays_up, unopened, with_record}
+use Rattle.qc_core.specs.Vocabulary.{IsShown, Serves, actor_after, crashes, rises, serves, stays_up, unopened}
+use Rattle.qc_core.specs.Vocabulary.{with_record}
 use Rattle.qc_core.specs.Sites.{starts}
 use Rattle.qc_core.proofs.SiteDues.{turns_are_due}
 use Rattle.qc_core.proofs.SiteFits.{Does, IsFit, post_fits}

@@ -6,14 +6,14 @@ use Rattle.std.specs.List.{cons_option, filter_map}
 use Rattle.std.specs.Option.{option_map_or}
 use Rattle.qc_entry.specs.declared.line.Line.{Line}
 use Rattle.qc_entry.specs.declared.record.Prepared.{Prepared}
-use Rattle.qc_entry.specs.Names.{union}
+use Rattle.qc_entry.specs.Vocabulary.{union}
 use Rattle.qc_msg.specs.declared.record.Record.{Record}
 use Rattle.qc_msg.specs.declared.step.Input.{Input}
 use Rattle.qc_msg.specs.declared.turn.Turn.{Turn}
-use Rattle.qc_msg.specs.Names.{Deed, Installing, heard_in, install_in, prepare_in, turn_deeds, written_in}
-use Rattle.qc_promise.specs.Names.{Lifetime, Lines, begun_with_lines, joining, learning, lifetime, lines_done}
-use Rattle.qc_promise.specs.Names.{lines_from, lines_shown, no_lines, recorded_by, recorded_from, records_in, view_by}
-use Rattle.qc_promise.specs.Names.{with_given, with_written}
+use Rattle.qc_msg.specs.Vocabulary.{Deed, Installing, heard_in, install_in, prepare_in, turn_deeds, written_in}
+use Rattle.qc_promise.specs.Vocabulary.{Lifetime, Lines, begun_with_lines, joining, learning, lifetime, lines_done}
+use Rattle.qc_promise.specs.Vocabulary.{lines_from, lines_shown, no_lines, recorded_by, recorded_from, records_in}
+use Rattle.qc_promise.specs.Vocabulary.{view_by, with_given, with_written}
 use Rattle.qc_core.proofs.SiteGrowth.{lines-more, recorded-more, written_then}
 use Rattle.qc_core.proofs.SitePosts.{lines_written, post_lines}
 use Rattle.qc_core.proofs.SiteRecorded.{all_records, life_goes_on, posted}

@@ -14,9 +14,9 @@ use Rattle.qc_msg.specs.declared.turn.Appended.{Appended}
 use Rattle.qc_msg.specs.declared.turn.Appended.TheVariants.{Done, Failed, Stopped}
 use Rattle.qc_msg.specs.declared.turn.Posting.{Posting}
 use Rattle.qc_msg.specs.declared.turn.Turn.{Turn}
-use Rattle.qc_msg.specs.Names.{Deed, Falls, Rises, Takes, deeds_as, sends_of, tells_of, writes_of}
-use Rattle.qc_core.specs.Names.{IsInput, IsLawfulWithFalls, IsSiteDeed, IsSiteInput, Lives, MayReach, Serves, is_up}
-use Rattle.qc_core.specs.Names.{stays_up, up_at}
+use Rattle.qc_msg.specs.Vocabulary.{Deed, Falls, Rises, Takes, deeds_as, sends_of, tells_of, writes_of}
+use Rattle.qc_core.specs.Vocabulary.{IsInput, IsLawfulWithFalls, IsSiteDeed, IsSiteInput, Lives, MayReach, Serves}
+use Rattle.qc_core.specs.Vocabulary.{is_up, stays_up, up_at}
 use Rattle.qc_core.specs.Lives as lives
 use Rattle.qc_core.specs.Sites as serving
 

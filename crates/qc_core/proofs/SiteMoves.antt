@@ -2,11 +2,11 @@
 use Rattle.std.proofs.Common.{◌≡◌, ℕ, ◌==◌, not, nat_le, nat_lt, Bool, true, false, cond, List, [], ◌∷◌, ◌++◌, Option}
 use Rattle.std.proofs.Common.{Some, None, is_some, refl, sym, ◌∙◌}
 use Rattle.qc_stamp.specs.declared.stamp.TxId.{TxId}
-use Rattle.qc_entry.specs.Names.{union}
+use Rattle.qc_entry.specs.Vocabulary.{union}
 use Rattle.qc_decl.specs.declared.declaration.Declaration.{Declaration}
-use Rattle.qc_decl.specs.Names.{most_record_bytes}
+use Rattle.qc_decl.specs.Vocabulary.{most_record_bytes}
 use Rattle.qc_lock.specs.declared.clash.Clash.{Clash as Conflict}
-use Rattle.qc_lock.specs.Names.{append_clash, is_held, read_clash}
+use Rattle.qc_lock.specs.Vocabulary.{append_clash, is_held, read_clash}
 use Rattle.qc_msg.specs.declared.message.Answer.{Answer}
 use Rattle.qc_msg.specs.declared.message.Answer.TheVariants as answers
 use Rattle.qc_msg.specs.declared.message.Message.{Message}
@@ -16,11 +16,11 @@ use Rattle.qc_msg.specs.declared.message.Want.{Want}
 use Rattle.qc_msg.specs.declared.message.Want.TheVariants.{Read, Append, Prepare}
 use Rattle.qc_msg.specs.declared.step.Input.{Input}
 use Rattle.qc_msg.specs.declared.step.Input.TheVariants as inputs
-use Rattle.qc_msg.specs.Names.{Deed, granted_in, quiet}
-use Rattle.qc_site.specs.Names.{SiteState, answers as answered, appends_by, closed_fault, fault_of, grants, is_prepared}
-use Rattle.qc_site.specs.Names.{moved, names_declared, prepare_length, promise_of, promises, reads_by, relation_at}
-use Rattle.qc_site.specs.Names.{requested, site_at, site_on, site_takes}
-use Rattle.qc_core.specs.Names.{IsInput, IsStamped}
+use Rattle.qc_msg.specs.Vocabulary.{Deed, granted_in, quiet}
+use Rattle.qc_site.specs.Vocabulary.{SiteState, answers as answered, appends_by, closed_fault, fault_of, grants}
+use Rattle.qc_site.specs.Vocabulary.{is_prepared, moved, names_declared, prepare_length, promise_of, promises, reads_by}
+use Rattle.qc_site.specs.Vocabulary.{relation_at, requested, site_at, site_on, site_takes}
+use Rattle.qc_core.specs.Vocabulary.{IsInput, IsStamped}
 use Rattle.qc_core.proofs.SiteDecisions.{aborted, active, committed, promise, promising}
 use Rattle.qc_core.proofs.SiteEpochs.{close, install}
 use Rattle.qc_core.proofs.SiteShown.{shown, shown-more}

@@ -13,11 +13,11 @@ use Rattle.qc_msg.specs.declared.record.Record.{Record}
 use Rattle.qc_msg.specs.declared.reply.Reply.{Reply}
 use Rattle.qc_msg.specs.declared.turn.Posting.{Posting}
 use Rattle.qc_msg.specs.declared.turn.Turn.{Turn}
-use Rattle.qc_msg.specs.Names.{Deed, Installing, install_in, prepare_in, sends_of, tells_of, turn_deeds, writes_of}
-use Rattle.qc_msg.specs.Names.{written_in}
-use Rattle.qc_promise.specs.Names.{Act, Lines, Sent, Told, Wrote, begun_with_lines, clocks_at, clocks_written, is_ended}
-use Rattle.qc_promise.specs.Names.{is_over, learning, lines_done, lines_from, posted_next, promises_since, redeems}
-use Rattle.qc_promise.specs.Names.{sent_by, standing, unless_over}
+use Rattle.qc_msg.specs.Vocabulary.{Deed, Installing, install_in, prepare_in, sends_of, tells_of, turn_deeds, writes_of}
+use Rattle.qc_msg.specs.Vocabulary.{written_in}
+use Rattle.qc_promise.specs.Vocabulary.{Act, Lines, Sent, Told, Wrote, begun_with_lines, clocks_at, clocks_written}
+use Rattle.qc_promise.specs.Vocabulary.{is_ended, is_over, learning, lines_done, lines_from, posted_next}
+use Rattle.qc_promise.specs.Vocabulary.{promises_since, redeems, sent_by, standing, unless_over}
 use Rattle.qc_promise.proofs.Lifetimes.{AreNoRises}
 use Rattle.qc_promise.proofs.Posts.{posted_sends}
 

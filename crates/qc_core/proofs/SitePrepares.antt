@@ -7,16 +7,16 @@ use Rattle.std.specs.Option.{option_map_or, option_or}
 use Rattle.std.proofs.lemmas.List.Folds.{find-append}
 use Rattle.std.proofs.lemmas.List.Sums.{fold-append}
 use Rattle.qc_stamp.specs.declared.stamp.TxId.{TxId}
-use Rattle.qc_stamp.specs.Names.{same_tx}
+use Rattle.qc_stamp.specs.Vocabulary.{same_tx}
 use Rattle.qc_stamp.proofs.Orders.{other_tx_sym, same_tx_is, same_tx_itself}
 use Rattle.qc_entry.specs.declared.record.Prepared.{Prepared}
 use Rattle.qc_msg.specs.declared.record.Record.{Record}
 use Rattle.qc_msg.specs.declared.record.Record.TheVariants as records
-use Rattle.qc_msg.specs.Names.{Deed, Writes, prepare_in, written_in}
-use Rattle.qc_promise.specs.Names.{is_aborted, is_decision, is_over, last_prepare, left_of, lifetime, prepare_by}
-use Rattle.qc_promise.specs.Names.{prepared_shown, promise_in, promises_of, promises_since, records_in, redeems}
-use Rattle.qc_promise.specs.Names.{unless_over, unless_redeemed}
-use Rattle.qc_site.specs.Names.{is_prepared, prepared_of, without_prepared}
+use Rattle.qc_msg.specs.Vocabulary.{Deed, Writes, prepare_in, written_in}
+use Rattle.qc_promise.specs.Vocabulary.{is_aborted, is_decision, is_over, last_prepare, left_of, lifetime, prepare_by}
+use Rattle.qc_promise.specs.Vocabulary.{prepared_shown, promise_in, promises_of, promises_since, records_in, redeems}
+use Rattle.qc_promise.specs.Vocabulary.{unless_over, unless_redeemed}
+use Rattle.qc_site.specs.Vocabulary.{is_prepared, prepared_of, without_prepared}
 
 pub sym_tx : (a b : TxId) → same_tx a b ≡ same_tx b a
 sym_tx a b = by (same_tx a b) refl

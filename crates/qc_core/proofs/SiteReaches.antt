@@ -7,11 +7,11 @@ use Rattle.qc_stamp.specs.declared.stamp.TxId.{TxId}
 use Rattle.qc_entry.specs.declared.line.Line.{Line}
 use Rattle.qc_entry.specs.declared.line.OwnLine.{OwnLine}
 use Rattle.qc_entry.specs.declared.record.Prepared.{Prepared}
-use Rattle.qc_entry.specs.Names.{of_object}
+use Rattle.qc_entry.specs.Vocabulary.{of_object}
 use Rattle.qc_decl.specs.declared.declaration.Declaration.{Declaration}
-use Rattle.qc_decl.specs.Names.{IsAccepted, most_clients, most_record_bytes}
+use Rattle.qc_decl.specs.Vocabulary.{IsAccepted, most_clients, most_record_bytes}
 use Rattle.qc_lock.specs.declared.clash.Clash.{Clash as Conflict}
-use Rattle.qc_lock.specs.Names.{append_clash, is_held, read_clash}
+use Rattle.qc_lock.specs.Vocabulary.{append_clash, is_held, read_clash}
 use Rattle.qc_msg.specs.declared.message.Answer.{Answer}
 use Rattle.qc_msg.specs.declared.message.Answer.TheVariants as answers
 use Rattle.qc_msg.specs.declared.message.Message.{Message}
@@ -24,17 +24,18 @@ use Rattle.qc_msg.specs.declared.step.Input.{Input}
 use Rattle.qc_msg.specs.declared.step.Input.TheVariants as inputs
 use Rattle.qc_msg.specs.declared.record.Record.{Record}
 use Rattle.qc_msg.specs.declared.record.Record.TheVariants as records
-use Rattle.qc_msg.specs.Names.{epoch_length, quiet}
-use Rattle.qc_site.specs.Names.{AreByClients, AreOfClients, SiteMove, SiteState, answers as answered, appends_by}
-use Rattle.qc_site.specs.Names.{clashing, closed, closes, dropped, fault_of, finishes, grants, installed, installs}
-use Rattle.qc_site.specs.Names.{is_closed_for, is_prepared, joins, known as known_lines, moved, names_declared}
-use Rattle.qc_site.specs.Names.{names_object, passed, prepare_length, prepared_of, prepares, promise_of, promised}
-use Rattle.qc_site.specs.Names.{reads_by, recording, relation_at, requested, shut_answer, site_at, site_takes, votes}
+use Rattle.qc_msg.specs.Vocabulary.{epoch_length, quiet}
+use Rattle.qc_site.specs.Vocabulary.{AreByClients, AreOfClients, SiteMove, SiteState, answers as answered, appends_by}
+use Rattle.qc_site.specs.Vocabulary.{clashing, closed, closes, dropped, fault_of, finishes, grants, installed, installs}
+use Rattle.qc_site.specs.Vocabulary.{is_closed_for, is_prepared, joins, known as known_lines, moved, names_declared}
+use Rattle.qc_site.specs.Vocabulary.{names_object, passed, prepare_length, prepared_of, prepares, promise_of, promised}
+use Rattle.qc_site.specs.Vocabulary.{reads_by, recording, relation_at, requested, shut_answer, site_at, site_takes}
+use Rattle.qc_site.specs.Vocabulary.{votes}
 use Rattle.qc_site.proofs.Holders.{append_client, by_clients-push, by_clients-without, clients-held, clients-promised}
 use Rattle.qc_site.proofs.Holders.{clients-without, read_client}
-use Rattle.qc_core.specs.Names.{IsFrom, IsShort}
+use Rattle.qc_core.specs.Vocabulary.{IsFrom, IsShort}
 use Rattle.qc_core.proofs.ClientReaches.{one_short, quiet_short}
-use Rattle.qc_link.specs.Names.{most_actors}
+use Rattle.qc_link.specs.Vocabulary.{most_actors}
 
 -- a site holds something, and has promised something, of clients alone
 pub record IsOfClients (s : SiteState) : Type 0 where

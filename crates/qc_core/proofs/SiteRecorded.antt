@@ -10,9 +10,9 @@ use Rattle.qc_entry.specs.declared.record.Prepared.{Prepared}
 use Rattle.qc_msg.specs.declared.record.Record.{Record}
 use Rattle.qc_msg.specs.declared.step.Input.{Input}
 use Rattle.qc_msg.specs.declared.turn.Turn.{Turn}
-use Rattle.qc_msg.specs.Names.{Deed, Takes, turn_deeds}
-use Rattle.qc_promise.specs.Names.{Lifetime, clock_shown, clocks_at, clocks_in_record, left_of, lifetime}
-use Rattle.qc_promise.specs.Names.{prepared_shown, promises_of, promises_since, records_in}
+use Rattle.qc_msg.specs.Vocabulary.{Deed, Takes, turn_deeds}
+use Rattle.qc_promise.specs.Vocabulary.{Lifetime, clock_shown, clocks_at, clocks_in_record, left_of, lifetime}
+use Rattle.qc_promise.specs.Vocabulary.{prepared_shown, promises_of, promises_since, records_in}
 use Rattle.qc_promise.proofs.Lifetimes.{AreNoRises, lived, lives_on, more_records}
 use Rattle.qc_core.proofs.SiteGrowth.{lasts, left-more, prepared-more}
 use Rattle.qc_core.proofs.SitePosts.{clocks_by, post_clocks, post_prepares, post_records, post_rises, promises_by}

@@ -8,21 +8,21 @@ use Rattle.std.specs.Option.{option_map_or}
 use Rattle.std.proofs.lemmas.List.{append-nil}
 use Rattle.std.proofs.lemmas.List.Sums.{fold-append}
 use Rattle.qc_stamp.specs.declared.stamp.TxId.{TxId}
-use Rattle.qc_stamp.specs.Names.{first_life}
+use Rattle.qc_stamp.specs.Vocabulary.{first_life}
 use Rattle.qc_entry.specs.declared.record.Prepared.{Prepared}
 use Rattle.qc_decl.specs.declared.declaration.Declaration.{Declaration}
 use Rattle.qc_msg.specs.declared.record.Record.{Record}
 use Rattle.qc_msg.specs.declared.record.Record.TheVariants as journals
 use Rattle.qc_msg.specs.declared.turn.Turn.{Turn}
-use Rattle.qc_msg.specs.Names.{Deed, Rises, first_epoch, turn_deeds, writes_of, written_in}
-use Rattle.qc_promise.specs.Names.{Grant, Holding, Lifetime, Lines, clock_shown, clocks_at, clocks_in_record, closed_by}
-use Rattle.qc_promise.specs.Names.{epoch_by, held_shown, is_over, last_cut, left_of, life_by, lifetime, lines_from}
-use Rattle.qc_promise.specs.Names.{lines_shown, no_lines, prepared_shown, promises_of, promises_since, recorded_by}
-use Rattle.qc_promise.specs.Names.{records_in, redeems, with_cut, with_promise}
+use Rattle.qc_msg.specs.Vocabulary.{Deed, Rises, first_epoch, turn_deeds, writes_of, written_in}
+use Rattle.qc_promise.specs.Vocabulary.{Grant, Holding, Lifetime, Lines, clock_shown, clocks_at, clocks_in_record}
+use Rattle.qc_promise.specs.Vocabulary.{closed_by, epoch_by, held_shown, is_over, last_cut, left_of, life_by, lifetime}
+use Rattle.qc_promise.specs.Vocabulary.{lines_from, lines_shown, no_lines, prepared_shown, promises_of, promises_since}
+use Rattle.qc_promise.specs.Vocabulary.{recorded_by, records_in, redeems, with_cut, with_promise}
 use Rattle.qc_promise.specs.SiteDue.{rising_turn}
 use Rattle.qc_promise.proofs.Lifetimes.{life_after, life_begins}
-use Rattle.qc_site.specs.Names.{held_by}
-use Rattle.qc_recover.specs.Names.{inquiries, keeps, kept_by, nothing_kept, site_by, site_of, site_rises}
+use Rattle.qc_site.specs.Vocabulary.{held_by}
+use Rattle.qc_recover.specs.Vocabulary.{inquiries, keeps, kept_by, nothing_kept, site_by, site_of, site_rises}
 use Rattle.qc_core.proofs.SiteFits.{Does}
 use Rattle.qc_core.proofs.SiteGrowth.{recorded-more}
 use Rattle.qc_core.proofs.SiteKept.{clock_by_records, closed_by_records, epoch_by_records, life_by_records}

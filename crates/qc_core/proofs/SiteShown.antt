@@ -3,11 +3,11 @@ use Rattle.std.proofs.Common.{◌≡◌, ℕ, List, ◌++◌, None, refl, ap, �
 use Rattle.std.specs.Prelude.{fold, option_to_list}
 use Rattle.qc_msg.specs.declared.step.Input.{Input}
 use Rattle.qc_msg.specs.declared.turn.Turn.{Turn}
-use Rattle.qc_msg.specs.Names.{Deed, first_epoch}
-use Rattle.qc_stamp.specs.Names.{first_life}
-use Rattle.qc_promise.specs.Names.{Lines, clock_shown, closed_by, closed_shown, epoch_by, epoch_shown, held_shown}
-use Rattle.qc_promise.specs.Names.{life_by, life_shown, lines_shown, prepared_shown, recorded_shown, since_shown}
-use Rattle.qc_site.specs.Names.{SiteState}
+use Rattle.qc_msg.specs.Vocabulary.{Deed, first_epoch}
+use Rattle.qc_stamp.specs.Vocabulary.{first_life}
+use Rattle.qc_promise.specs.Vocabulary.{Lines, clock_shown, closed_by, closed_shown, epoch_by, epoch_shown, held_shown}
+use Rattle.qc_promise.specs.Vocabulary.{life_by, life_shown, lines_shown, prepared_shown, recorded_shown, since_shown}
+use Rattle.qc_site.specs.Vocabulary.{SiteState}
 use Rattle.qc_core.proofs.SiteHolds.{held_then, more_held}
 use Rattle.qc_core.proofs.SiteLines.{lines_then, more_lines, more_recorded, recorded_then}
 use Rattle.qc_core.proofs.SiteRecorded.{by_records, clock_then, more_clock, more_prepared, posted, prepared_then}

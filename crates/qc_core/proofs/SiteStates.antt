@@ -3,9 +3,9 @@ use Rattle.std.proofs.Common.{◌≡◌, ℕ, ◌+◌, ◌-◌, Bool, true, cond
 use Rattle.std.proofs.Common.{ap, ◌∙◌, append_assoc}
 use Rattle.std.specs.Prelude.{fold}
 use Rattle.std.proofs.lemmas.List.Sums.{fold-append}
-use Rattle.qc_client.specs.Names.{new_client}
+use Rattle.qc_client.specs.Vocabulary.{new_client}
 use Rattle.qc_decl.specs.declared.declaration.Declaration.{Declaration}
-use Rattle.qc_decl.specs.Names.{is_administrator, is_client, is_site}
+use Rattle.qc_decl.specs.Vocabulary.{is_administrator, is_client, is_site}
 use Rattle.qc_msg.specs.declared.record.Record.{Record}
 use Rattle.qc_msg.specs.declared.record.Record.TheVariants as journals
 use Rattle.qc_msg.specs.declared.reply.Reply.{Reply}
@@ -14,14 +14,15 @@ use Rattle.qc_msg.specs.declared.turn.Appended.{Appended}
 use Rattle.qc_msg.specs.declared.turn.Appended.TheVariants.{Done, Failed, Stopped}
 use Rattle.qc_msg.specs.declared.turn.Posting.{Posting}
 use Rattle.qc_msg.specs.declared.turn.Turn.{Turn}
-use Rattle.qc_msg.specs.Names.{Deed, Rises, Takes, deeds_as, turn_deeds, writes_of}
-use Rattle.qc_epoch.specs.Names.{new_admin}
-use Rattle.qc_recover.specs.Names.{admin_rises, client_rises, site_rises}
-use Rattle.qc_site.specs.Names.{SiteMove, SiteState, new_site, site_takes}
+use Rattle.qc_msg.specs.Vocabulary.{Deed, Rises, Takes, deeds_as, turn_deeds, writes_of}
+use Rattle.qc_epoch.specs.Vocabulary.{new_admin}
+use Rattle.qc_recover.specs.Vocabulary.{admin_rises, client_rises, site_rises}
+use Rattle.qc_site.specs.Vocabulary.{SiteMove, SiteState, new_site, site_takes}
 use Rattle.qc_core.specs.declared.actor.Actor.{Actor}
 use Rattle.qc_core.specs.declared.actor.Actor.TheVariants.{Site, Client, Admin}
-use Rattle.qc_core.specs.Names.{ActorMove, IsLawfulWithFalls, Serves, actor_after, actor_does, actor_takes, by_admin}
-use Rattle.qc_core.specs.Names.{by_client, by_site, crashes, moved, rises, serves, stays_up, unopened, with_record}
+use Rattle.qc_core.specs.Vocabulary.{ActorMove, IsLawfulWithFalls, Serves, actor_after, actor_does, actor_takes}
+use Rattle.qc_core.specs.Vocabulary.{by_admin, by_client, by_site, crashes, moved, rises, serves, stays_up, unopened}
+use Rattle.qc_core.specs.Vocabulary.{with_record}
 use Rattle.qc_core.specs.Sites.{starts}
 use Rattle.qc_core.proofs.SiteMoves.{steps}
 use Rattle.qc_core.proofs.SitePosts.{talk}

@@ -4,7 +4,7 @@ use Rattle.std.proofs.Common.{is_some, refl, sym, ap, ◌∙◌, eq-eqb}
 use Rattle.qc_stamp.specs.declared.stamp.TxId.{TxId}
 use Rattle.qc_entry.specs.declared.line.Line.{Line}
 use Rattle.qc_entry.specs.declared.line.OwnLine.{OwnLine}
-use Rattle.qc_entry.specs.Names.{of_object}
+use Rattle.qc_entry.specs.Vocabulary.{of_object}
 use Rattle.qc_decl.specs.declared.declaration.Declaration.{Declaration}
 use Rattle.qc_lock.specs.declared.clash.Clash.{Clash as Conflict}
 use Rattle.qc_msg.specs.declared.message.Answer.{Answer}
@@ -17,10 +17,10 @@ use Rattle.qc_msg.specs.declared.reply.Reply.{Reply}
 use Rattle.qc_msg.specs.declared.step.Input.{Input}
 use Rattle.qc_msg.specs.declared.step.Input.TheVariants as inputs
 use Rattle.qc_msg.specs.declared.turn.Posting.{Posting}
-use Rattle.qc_msg.specs.Names.{Deed, Takes, granted_in, quiet, says, turn_deeds}
-use Rattle.qc_promise.specs.Names.{Lines, lines_shown, view_in}
-use Rattle.qc_site.specs.Names.{SiteMove, SiteState, answering, answers as answered, appends, clashing, clock_after}
-use Rattle.qc_site.specs.Names.{known, learned, moved, reads}
+use Rattle.qc_msg.specs.Vocabulary.{Deed, Takes, granted_in, quiet, says, turn_deeds}
+use Rattle.qc_promise.specs.Vocabulary.{Lines, lines_shown, view_in}
+use Rattle.qc_site.specs.Vocabulary.{SiteMove, SiteState, answering, answers as answered, appends, clashing}
+use Rattle.qc_site.specs.Vocabulary.{clock_after, known, learned, moved, reads}
 use Rattle.qc_core.proofs.SiteHolds.{hold, standing_given}
 use Rattle.qc_core.proofs.SiteLines.{view_given}
 use Rattle.qc_core.proofs.SitePosts.{learning-nil}

@@ -13,11 +13,11 @@ use Rattle.qc_msg.specs.declared.reply.Reply.{Reply}
 use Rattle.qc_msg.specs.declared.step.Input.{Input}
 use Rattle.qc_msg.specs.declared.turn.Posting.{Posting}
 use Rattle.qc_msg.specs.declared.turn.Turn.{Turn}
-use Rattle.qc_msg.specs.Names.{Deed, Takes, says, turn_deeds}
-use Rattle.qc_promise.specs.Names.{Grant, Lines, clock_shown, clocks_in, clocks_of, held_shown, is_aborted, is_decision}
-use Rattle.qc_promise.specs.Names.{is_ended, is_final, is_over, last_cut, learning, lines_shown, prepared_shown}
-use Rattle.qc_promise.specs.Names.{standing, with_promise}
-use Rattle.qc_site.specs.Names.{clock_after, latest}
+use Rattle.qc_msg.specs.Vocabulary.{Deed, Takes, says, turn_deeds}
+use Rattle.qc_promise.specs.Vocabulary.{Grant, Lines, clock_shown, clocks_in, clocks_of, held_shown, is_aborted}
+use Rattle.qc_promise.specs.Vocabulary.{is_decision, is_ended, is_final, is_over, last_cut, learning, lines_shown}
+use Rattle.qc_promise.specs.Vocabulary.{prepared_shown, standing, with_promise}
+use Rattle.qc_site.specs.Vocabulary.{clock_after, latest}
 use Rattle.qc_core.proofs.SiteGrowth.{lasts, stays}
 use Rattle.qc_core.proofs.SiteHolds.{hold, held_on, remaining, remains, standing_given}
 use Rattle.qc_core.proofs.SiteLines.{view_given}

@@ -6,18 +6,18 @@ use Rattle.qc_stamp.specs.declared.stamp.Stamp.{Stamp}
 use Rattle.qc_stamp.specs.declared.stamp.TxId.{TxId}
 use Rattle.qc_entry.specs.declared.line.Line.{Line}
 use Rattle.qc_entry.specs.declared.record.Prepared.{Prepared}
-use Rattle.qc_entry.specs.Names.{of_object}
+use Rattle.qc_entry.specs.Vocabulary.{of_object}
 use Rattle.qc_decl.specs.declared.declaration.Declaration.{Declaration}
-use Rattle.qc_decl.specs.Names.{most_record_bytes}
+use Rattle.qc_decl.specs.Vocabulary.{most_record_bytes}
 use Rattle.qc_lock.specs.declared.clash.Clash.{Clash as Conflict}
 use Rattle.std.specs.List.{AllByRecursion as Every}
 use Rattle.qc_msg.specs.declared.message.Envelope.{Envelope}
 use Rattle.qc_msg.specs.declared.turn.Posting.{Posting}
 use Rattle.qc_msg.specs.declared.turn.Turn.{Turn}
-use Rattle.qc_msg.specs.Names.{Answered, answer_in, epoch_length, heard_in, quiet}
-use Rattle.qc_promise.specs.Names.{asks_answer, other}
-use Rattle.qc_lock.specs.Names.{append_clash, is_held, read_clash}
-use Rattle.qc_plan.specs.Names.{verdict}
+use Rattle.qc_msg.specs.Vocabulary.{Answered, answer_in, epoch_length, heard_in, quiet}
+use Rattle.qc_promise.specs.Vocabulary.{asks_answer, other}
+use Rattle.qc_lock.specs.Vocabulary.{append_clash, is_held, read_clash}
+use Rattle.qc_plan.specs.Vocabulary.{verdict}
 use Rattle.qc_msg.specs.declared.message.Answer.{Answer}
 use Rattle.qc_msg.specs.declared.message.Answer.TheVariants as answers
 use Rattle.qc_msg.specs.declared.message.Message.{Message}
@@ -31,11 +31,11 @@ use Rattle.qc_msg.specs.declared.record.Record.TheVariants as records
 use Rattle.qc_msg.specs.declared.step.Input.{Input}
 use Rattle.qc_msg.specs.declared.step.Input.TheVariants as inputs
 use Rattle.qc_msg.specs.declared.turn.Appended.TheVariants.{Done}
-use Rattle.qc_site.specs.Names.{SiteState, answers as answered_with, appends_by, clashing, closed, closes, fault_of}
-use Rattle.qc_site.specs.Names.{finishes, grants, installed, installs, is_closed_for, is_prepared, joins, known}
-use Rattle.qc_site.specs.Names.{moved as site_moved, names_declared, passed, prepare_length, prepared_of, prepares}
-use Rattle.qc_site.specs.Names.{promise_of, promised, reads_by, recording, records_done, relation_at, requested}
-use Rattle.qc_site.specs.Names.{shut_answer, site_at, site_takes, votes}
+use Rattle.qc_site.specs.Vocabulary.{SiteState, answers as answered_with, appends_by, clashing, closed, closes}
+use Rattle.qc_site.specs.Vocabulary.{fault_of, finishes, grants, installed, installs, is_closed_for, is_prepared, joins}
+use Rattle.qc_site.specs.Vocabulary.{known, moved as site_moved, names_declared, passed, prepare_length, prepared_of}
+use Rattle.qc_site.specs.Vocabulary.{prepares, promise_of, promised, reads_by, recording, records_done, relation_at}
+use Rattle.qc_site.specs.Vocabulary.{requested, shut_answer, site_at, site_takes, votes}
 
 -- a turn that tells nothing, and writes no record of a rise; what it answers, where its record fails too, it was asked
 -- for

@@ -6,8 +6,8 @@ use Rattle.qc_msg.specs.declared.reply.Reply.{Reply}
 use Rattle.qc_msg.specs.declared.step.Input.{Input}
 use Rattle.qc_msg.specs.declared.turn.Posting.{Posting}
 use Rattle.qc_msg.specs.declared.turn.Turn.{Turn}
-use Rattle.qc_msg.specs.Names.{Deed, Takes, sends_of, tells_of, turn_deeds, writes_of}
-use Rattle.qc_core.specs.Names.{Acts, AreSteady, posts, starts, takes}
+use Rattle.qc_msg.specs.Vocabulary.{Deed, Takes, sends_of, tells_of, turn_deeds, writes_of}
+use Rattle.qc_core.specs.Vocabulary.{Acts, AreSteady, posts, starts, takes}
 
 pub both_steady : (xs ys : List Deed) → AreSteady xs → AreSteady ys → AreSteady (xs ++ ys)
 both_steady [] ys first second = second

@@ -3,16 +3,16 @@
 use Rattle.std.proofs.Common.{◌≡◌, ℕ, ◌==◌, ◌-◌, Bool, true, false, cond, List, [], ◌∷◌, fold, length, map, Option}
 use Rattle.std.proofs.Common.{Some, None, refl, ap, subst, sym}
 use Rattle.qc_decl.specs.declared.declaration.Declaration.{Declaration}
-use Rattle.qc_decl.specs.Names.{is_client, is_site}
+use Rattle.qc_decl.specs.Vocabulary.{is_client, is_site}
 use Rattle.std.specs.List.{AllByRecursion as Every}
 use Rattle.qc_list.proofs.Members.{every-weaker}
 use Rattle.qc_msg.specs.declared.message.Envelope.{Envelope}
 use Rattle.qc_msg.specs.declared.turn.Posting.{Posting}
 use Rattle.qc_msg.specs.declared.turn.Turn.{Turn}
-use Rattle.qc_msg.specs.Names.{Deed, Falls, Rises, Sends, Takes, Tells, Writes, heard_in, quiet, sending, site_called}
-use Rattle.qc_msg.specs.Names.{without_call}
-use Rattle.qc_promise.specs.Names.{asks_answer}
-use Rattle.qc_plan.specs.Names.{verdict}
+use Rattle.qc_msg.specs.Vocabulary.{Deed, Falls, Rises, Sends, Takes, Tells, Writes, heard_in, quiet, sending}
+use Rattle.qc_msg.specs.Vocabulary.{site_called, without_call}
+use Rattle.qc_promise.specs.Vocabulary.{asks_answer}
+use Rattle.qc_plan.specs.Vocabulary.{verdict}
 use Rattle.qc_msg.specs.declared.begun.Begun.{Begun}
 use Rattle.qc_msg.specs.declared.message.Answer.{Answer}
 use Rattle.qc_msg.specs.declared.message.Message.{Message}
@@ -26,24 +26,24 @@ use Rattle.qc_msg.specs.declared.step.Command.TheVariants as commands
 use Rattle.qc_msg.specs.declared.step.Input.{Input}
 use Rattle.qc_msg.specs.declared.step.Input.TheVariants as inputs
 use Rattle.qc_msg.specs.declared.turn.Appended.TheVariants.{Done}
-use Rattle.qc_site.specs.Names.{passed}
+use Rattle.qc_site.specs.Vocabulary.{passed}
 use Rattle.qc_commit.specs.declared.ballot.Ballot.{Ballot}
 use Rattle.qc_commit.specs.declared.desk.Desk.{Desk}
 use Rattle.qc_commit.specs.declared.desk.Voting.{Voting}
 use Rattle.qc_commit.specs.Conduct as desks
-use Rattle.qc_commit.specs.Names.{are_cast, blank, cast, first_against, moved as desk_moved, participants}
-use Rattle.qc_commit.specs.Names.{prepares as asks_for, vote_of}
+use Rattle.qc_commit.specs.Vocabulary.{are_cast, blank, cast, first_against, moved as desk_moved, participants}
+use Rattle.qc_commit.specs.Vocabulary.{prepares as asks_for, vote_of}
 use Rattle.qc_front.specs.declared.transaction.Transaction.{Transaction}
 use Rattle.qc_front.specs.Conduct as fronts
-use Rattle.qc_front.specs.Names.{answered, learns}
+use Rattle.qc_front.specs.Vocabulary.{answered, learns}
 use Rattle.qc_client.specs.declared.client.Client.{Client}
-use Rattle.qc_client.specs.Names.{by_desk, by_front}
+use Rattle.qc_client.specs.Vocabulary.{by_desk, by_front}
 use Rattle.qc_client.specs.Conduct as clients
 use Rattle.qc_core.specs.declared.actor.Actor.{Actor}
 use Rattle.qc_core.specs.declared.actor.Actor.TheVariants as actor
-use Rattle.qc_recover.specs.Names.{admin_rises, client_rises, site_rises}
-use Rattle.qc_core.specs.Names.{ActorMove, actor_after, actor_does, actor_rises, actor_sends, actor_takes, by_admin}
-use Rattle.qc_core.specs.Names.{by_client, by_site, down_takes, moved}
+use Rattle.qc_recover.specs.Vocabulary.{admin_rises, client_rises, site_rises}
+use Rattle.qc_core.specs.Vocabulary.{ActorMove, actor_after, actor_does, actor_rises, actor_sends, actor_takes}
+use Rattle.qc_core.specs.Vocabulary.{by_admin, by_client, by_site, down_takes, moved}
 use Rattle.qc_core.proofs.AdminWrites.{admin_written}
 use Rattle.qc_core.proofs.FrontWrites.{IsAsking, IsClientTurn, command_written, commits_asks, ends_asks, prepares_ask}
 use Rattle.qc_core.proofs.FrontWrites.{quiet_asks, says_well, takes_in_written}

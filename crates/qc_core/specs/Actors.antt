@@ -3,13 +3,13 @@
 use Rattle.std.specs.Prelude.{ℕ, ◌-◌, ◌^◌, ◌<◌, ◌≤◌, if◌then◌else◌, List, fold, length}
 use Rattle.std.specs.List.{AllByRecursion as Every}
 use Rattle.qc_decl.specs.declared.declaration.Declaration.{Declaration}
-use Rattle.qc_admin.specs.Names.{AdminFits, sent as admin_sent}
-use Rattle.qc_decl.specs.Names.{is_client, is_site, most_sites}
+use Rattle.qc_admin.specs.Vocabulary.{AdminFits, sent as admin_sent}
+use Rattle.qc_decl.specs.Vocabulary.{is_client, is_site, most_sites}
 use Rattle.qc_commit.specs.Fits as votes
 use Rattle.qc_front.specs.Fits as rounds
-use Rattle.qc_client.specs.Names.{ClientFits, ClientMove, new_client}
+use Rattle.qc_client.specs.Vocabulary.{ClientFits, ClientMove, new_client}
 use Rattle.qc_client.specs.Conduct as clients
-use Rattle.qc_epoch.specs.Names.{AdminMove, new_admin}
+use Rattle.qc_epoch.specs.Vocabulary.{AdminMove, new_admin}
 use Rattle.qc_epoch.specs.Conduct as admins
 use Rattle.qc_msg.specs.declared.message.Message.{Message}
 use Rattle.qc_msg.specs.declared.record.Record.{Record}
@@ -18,12 +18,12 @@ use Rattle.qc_msg.specs.declared.step.Input.{Input}
 use Rattle.qc_msg.specs.declared.step.Input.TheVariants as inputs
 use Rattle.qc_msg.specs.declared.turn.Posting.{Posting}
 use Rattle.qc_msg.specs.declared.turn.Turn.{Turn}
-use Rattle.qc_msg.specs.Names.{Deed, Falls, Rises, Sends, Takes, Tells, Writes, quiet, telling}
-use Rattle.qc_recover.specs.Names.{admin_rises, client_rises, site_rises}
-use Rattle.qc_site.specs.Names.{SiteMove, new_site, site_on, site_takes}
+use Rattle.qc_msg.specs.Vocabulary.{Deed, Falls, Rises, Sends, Takes, Tells, Writes, quiet, telling}
+use Rattle.qc_recover.specs.Vocabulary.{admin_rises, client_rises, site_rises}
+use Rattle.qc_site.specs.Vocabulary.{SiteMove, new_site, site_on, site_takes}
 use Rattle.qc_core.specs.declared.actor.Actor.{Actor}
 use Rattle.qc_core.specs.declared.actor.Actor.TheVariants.{Site, Client, Admin, Down}
-use Rattle.qc_link.specs.Names.{most_actors}
+use Rattle.qc_link.specs.Vocabulary.{most_actors}
 
 -- what an actor becomes, and what it does
 pub record ActorMove : Type 0 where

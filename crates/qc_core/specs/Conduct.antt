@@ -2,12 +2,12 @@
 -- nobody else takes inputs.
 use Rattle.std.specs.Prelude.{◌≡◌, ℕ, ◌-◌, if◌then◌else◌, List, Option, Some, None}
 use Rattle.qc_decl.specs.declared.declaration.Declaration.{Declaration}
-use Rattle.qc_decl.specs.Names.{is_administrator, is_client, is_site}
-use Rattle.qc_client.specs.Names.{client_after}
+use Rattle.qc_decl.specs.Vocabulary.{is_administrator, is_client, is_site}
+use Rattle.qc_client.specs.Vocabulary.{client_after}
 use Rattle.qc_msg.specs.declared.turn.Appended.TheVariants.{Done}
 use Rattle.qc_msg.specs.declared.turn.Turn.{Turn}
-use Rattle.qc_msg.specs.Names.{Deed, MayEnd}
-use Rattle.qc_site.specs.Names.{site_after}
+use Rattle.qc_msg.specs.Vocabulary.{Deed, MayEnd}
+use Rattle.qc_site.specs.Vocabulary.{site_after}
 use Rattle.qc_core.specs.Actors.{actor_after}
 
 -- where no actor falls, and nobody asks the administrator: the conduct of a site, or of a client, alone

@@ -1,8 +1,8 @@
 -- Deeds among which each rise gives back what its actor's journal holds then.
 use Rattle.std.specs.Prelude.{List, [], ◌∷◌}
 use Rattle.qc_core.specs.Journals.{journal_at}
-use Rattle.qc_msg.specs.Names.{Deed, Falls, Rises, Sends, Takes, Tells, Writes}
-use Rattle.qc_promise.specs.Names.{IsGivenBack, Journal}
+use Rattle.qc_msg.specs.Vocabulary.{Deed, Falls, Rises, Sends, Takes, Tells, Writes}
+use Rattle.qc_promise.specs.Vocabulary.{IsGivenBack, Journal}
 
 abbrev pub IsGivenBackAt : Journal → Deed → Type 0
 IsGivenBackAt j (Takes given) = Unit {0}

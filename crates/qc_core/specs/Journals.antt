@@ -1,7 +1,7 @@
 -- What an actor's deeds put into its journal; what a rise may give back of it is `IsGivenBack` of that journal.
 use Rattle.std.specs.Prelude.{List, [], ◌∷◌, ◌++◌, None, fold}
-use Rattle.qc_msg.specs.Names.{Deed, Falls, Rises, Sends, Takes, Tells, Writes}
-use Rattle.qc_promise.specs.Names.{Journal, no_journal, pending_with}
+use Rattle.qc_msg.specs.Vocabulary.{Deed, Falls, Rises, Sends, Takes, Tells, Writes}
+use Rattle.qc_promise.specs.Vocabulary.{Journal, no_journal, pending_with}
 
 abbrev pub journal_at : Journal → Deed → Journal
 journal_at j (Takes given) = j

@@ -5,4 +5,4 @@ pub mod Actors
 pub mod Lives
 pub mod Journals
 pub mod GivenBack
-pub mod Names
+pub mod Vocabulary

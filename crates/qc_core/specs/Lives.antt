@@ -9,8 +9,8 @@ use Rattle.qc_msg.specs.declared.step.Fall.TheVariants.{Script}
 use Rattle.qc_msg.specs.declared.step.Input.{Input}
 use Rattle.qc_msg.specs.declared.step.Input.TheVariants as inputs
 use Rattle.qc_msg.specs.declared.turn.Turn.{Turn}
-use Rattle.qc_msg.specs.Names.{Deed, Falls, IsByDisk, Rises, Sends, Takes, Tells, Writes, command_in, deeds_as}
-use Rattle.qc_msg.specs.Names.{sends_as}
+use Rattle.qc_msg.specs.Vocabulary.{Deed, Falls, IsByDisk, Rises, Sends, Takes, Tells, Writes, command_in, deeds_as}
+use Rattle.qc_msg.specs.Vocabulary.{sends_as}
 use Rattle.qc_core.specs.Acts.{MayTake}
 use Rattle.qc_core.specs.Conduct.{IsLawfulWithFalls}
 

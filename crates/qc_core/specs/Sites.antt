@@ -15,10 +15,10 @@ use Rattle.qc_msg.specs.declared.step.Fall.TheVariants.{Script}
 use Rattle.qc_msg.specs.declared.turn.Appended.{Appended}
 use Rattle.qc_msg.specs.declared.turn.Appended.TheVariants.{Done, Failed, Stopped}
 use Rattle.qc_msg.specs.declared.turn.Turn.{Turn}
-use Rattle.qc_msg.specs.Names.{Deed, Falls, Rises, Sends, Takes, Tells, Writes, deeds_as}
-use Rattle.qc_promise.specs.Names.{began_shown, clock_shown, closed_shown, epoch_shown, held_shown, life_shown}
-use Rattle.qc_promise.specs.Names.{prepared_shown, recorded_shown, since_shown}
-use Rattle.qc_site.specs.Names.{SiteState}
+use Rattle.qc_msg.specs.Vocabulary.{Deed, Falls, Rises, Sends, Takes, Tells, Writes, deeds_as}
+use Rattle.qc_promise.specs.Vocabulary.{began_shown, clock_shown, closed_shown, epoch_shown, held_shown, life_shown}
+use Rattle.qc_promise.specs.Vocabulary.{prepared_shown, recorded_shown, since_shown}
+use Rattle.qc_site.specs.Vocabulary.{SiteState}
 use Rattle.qc_core.specs.Conduct.{IsLawfulWithFalls}
 
 -- a Decision Committed names a stamp of the transaction's own client: a site's record tells the stamp's clock alone

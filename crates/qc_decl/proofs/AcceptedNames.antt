@@ -5,7 +5,7 @@ use Rattle.std.proofs.lemmas.List.{length-map}
 use Rattle.std.proofs.lemmas.Option.{slice_get_within}
 use Rattle.qc_table.specs.declared.kind.Kind.{Kind}
 use Rattle.qc_decl.proofs.Places.{names_stand}
-use Rattle.qc_decl.specs.Names.{HasNames, IsAccepted, IsNamed, StandForPlaces, most_invocations}
+use Rattle.qc_decl.specs.Vocabulary.{HasNames, IsAccepted, IsNamed, StandForPlaces, most_invocations}
 use Rattle.qc_decl.specs.declared.declaration.Declaration.{Declaration}
 use Rattle.qc_decl.specs.declared.declaration.KindNames.{KindNames}
 

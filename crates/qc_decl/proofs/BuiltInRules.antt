@@ -5,17 +5,17 @@ use Rattle.std.specs.Prelude.{All, codes}
 use Rattle.std.proofs.lemmas.List.Elements.{All-cons, All-nil}
 use Rattle.qc_cert.proofs.Faultless.{inductive}
 use Rattle.qc_cert.proofs.Walk.{exact}
-use Rattle.qc_cert.specs.Names.{IsExact, triple}
+use Rattle.qc_cert.specs.Vocabulary.{IsExact, triple}
 use Rattle.qc_cert.specs.declared.triple.Triple.{Triple}
 use Rattle.qc_decl.proofs.Places.{all_differ}
-use Rattle.qc_decl.specs.Names.{AreNames, AreThresholds, HasNames, HasThresholds, IsAccepted, IsGood, IsRight}
-use Rattle.qc_decl.specs.Names.{greatest_threshold, greatest_weight, kind_at, most_sites, one, register, register_kind}
-use Rattle.qc_decl.specs.Names.{register_names, register_plan, register_store, three}
+use Rattle.qc_decl.specs.Vocabulary.{AreNames, AreThresholds, HasNames, HasThresholds, IsAccepted, IsGood, IsRight}
+use Rattle.qc_decl.specs.Vocabulary.{greatest_threshold, greatest_weight, kind_at, most_sites, one, register}
+use Rattle.qc_decl.specs.Vocabulary.{register_kind, register_names, register_plan, register_store, three}
 use Rattle.qc_decl.specs.declared.declaration.KindNames.{KindNames}
 use Rattle.qc_plan.proofs.Faultless as plan_proofs
-use Rattle.qc_plan.specs.Names.{fault_of}
+use Rattle.qc_plan.specs.Vocabulary.{fault_of}
 use Rattle.qc_plan.specs.declared.plan.Plan.{Plan}
-use Rattle.qc_table.specs.Names.{IsSound, events_of}
+use Rattle.qc_table.specs.Vocabulary.{IsSound, events_of}
 use Rattle.qc_table.specs.declared.kind.Kind.{Kind}
 
 -- the certificate: where view and history differ, the last write was left out

@@ -1,7 +1,7 @@
 -- Where a client's number stands: behind the sites', before the administrator's.
 use Rattle.std.proofs.Common.{◌≡◌, ◌&&◌, ℕ, ◌<◌, ◌≤◌, nat_le, nat_lt, Bool, true, false, refl, arith}
 use Rattle.std.proofs.lemmas.Bool.{leb-true, ltb-true}
-use Rattle.qc_decl.specs.Names.{actors, administrator, is_client, is_site}
+use Rattle.qc_decl.specs.Vocabulary.{actors, administrator, is_client, is_site}
 use Rattle.qc_decl.specs.declared.declaration.Declaration.{Declaration}
 
 both : (x y : Bool) → (x && y) ≡ true → (x ≡ true) × (y ≡ true)

@@ -10,7 +10,7 @@ use Rattle.std.proofs.lemmas.List.Kept.{AllPairs-cons}
 use Rattle.std.proofs.lemmas.List.Quantifiers.{position-Some}
 use Rattle.std.proofs.lemmas.Option.{get_or_from_slice_get, slice_get-get_or, slice_get_within}
 use Rattle.std.proofs.lemmas.Slice.Eq.{bytes_eq-Decides}
-use Rattle.qc_decl.specs.Names.{StandForPlaces, place_of}
+use Rattle.qc_decl.specs.Vocabulary.{StandForPlaces, place_of}
 
 -- a test of names: none is among those behind it
 abbrev pub differ : List (List ℕ) → Bool

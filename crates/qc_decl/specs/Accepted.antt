@@ -1,16 +1,16 @@
 -- What every accepted declaration has: counts within the limits, relations that are exact, quorums that meet, a
 -- threshold for each invocation and event, and a name for each thing.
 use Rattle.std.specs.Prelude.{◌≡◌, ℕ, ◌<◌, ◌≤◌, All, List, Some, length, map, slice_get}
-use Rattle.qc_cert.specs.Names.{IsExact}
+use Rattle.qc_cert.specs.Vocabulary.{IsExact}
 use Rattle.qc_decl.specs.Limits.{greatest_threshold, greatest_weight, most_clients, most_epochs, most_objects}
 use Rattle.qc_decl.specs.Limits.{most_sites, most_types}
 use Rattle.qc_decl.specs.Lookup.{kind_at}
 use Rattle.qc_decl.specs.Names.{AreNames}
 use Rattle.qc_decl.specs.declared.declaration.Declaration.{Declaration}
 use Rattle.qc_decl.specs.declared.declaration.KindNames.{KindNames}
-use Rattle.qc_plan.specs.Names.{IsAdmitted}
+use Rattle.qc_plan.specs.Vocabulary.{IsAdmitted}
 use Rattle.qc_plan.specs.declared.plan.Plan.{Plan}
-use Rattle.qc_table.specs.Names.{IsSound, events_of}
+use Rattle.qc_table.specs.Vocabulary.{IsSound, events_of}
 use Rattle.qc_table.specs.declared.kind.Kind.{Kind}
 
 -- a type's rows are sound, and its relation is exact

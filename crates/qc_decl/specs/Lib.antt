@@ -5,3 +5,4 @@ pub mod Lookup
 pub mod Named
 pub mod Names
 pub mod One
+pub mod Vocabulary

@@ -3,8 +3,8 @@ use Rattle.std.specs.Prelude.{ℕ, ◌==◌, ◌-◌, cond, Option, None, slice_
 use Rattle.std.specs.Option.{option_map_or}
 use Rattle.qc_decl.specs.declared.declaration.Declaration.{Declaration}
 use Rattle.qc_plan.specs.declared.plan.Plan.{Plan}
-use Rattle.qc_plan.specs.Names.{need_of}
-use Rattle.qc_table.specs.Names.{Rules}
+use Rattle.qc_plan.specs.Vocabulary.{need_of}
+use Rattle.qc_table.specs.Vocabulary.{Rules}
 use Rattle.qc_table.specs.declared.kind.Kind.{Kind}
 
 -- the type of an object

@@ -1,14 +1,22 @@
--- What proofs, and other crates, name of this crate's definitions.
-pub use Rattle.qc_decl.specs.Accepted.{AreThresholds, HasNames, HasThresholds, IsAccepted, IsGood, IsRight}
-pub use Rattle.qc_decl.specs.Actors.{actors, administrator, client_actor, controller, first_site, is_administrator}
-pub use Rattle.qc_decl.specs.Actors.{is_client, is_site}
-pub use Rattle.qc_decl.specs.Limits.{greatest_threshold, greatest_weight, longest_name, most_alike_triples}
-pub use Rattle.qc_decl.specs.Limits.{most_carried_lines, most_clients, most_committed_operations, most_epochs}
-pub use Rattle.qc_decl.specs.Limits.{most_events, most_invocations, most_objects, most_record_bytes, most_responses}
-pub use Rattle.qc_decl.specs.Limits.{most_rows, most_sites, most_states, most_steps, most_transaction_operations}
-pub use Rattle.qc_decl.specs.Limits.{most_triples, most_types}
-pub use Rattle.qc_decl.specs.Lookup.{append_need_of, kind_at, plan_in, read_need_of, table_at}
-pub use Rattle.qc_decl.specs.Named.{IsNamed, StandForPlaces, inv_named, names_of, object_named, place_of}
-pub use Rattle.qc_decl.specs.Names.{AreNames, is_between, is_name, is_name_byte}
-pub use Rattle.qc_decl.specs.One.{built_in_of, one, register, register_kind, register_names, register_pairs}
-pub use Rattle.qc_decl.specs.One.{register_plan, register_store, row, three}
+-- Names: which texts are names, and lists of names.
+use Rattle.std.specs.Prelude.{◌≡◌, ◌≢◌, ℕ, Bool, ◌==◌, ◌&&◌, ◌||◌, nat_le, List, length, AllPairs, IsTrue}
+use Rattle.std.specs.List.{list_all}
+use Rattle.qc_decl.specs.Limits.{longest_name}
+
+-- whether a number is one from the first to the last of these
+abbrev pub is_between : ℕ → ℕ → ℕ → Bool
+is_between first last b = nat_le first b && nat_le b last
+
+-- an ASCII letter, a digit or `_` (95)
+abbrev pub is_name_byte : ℕ → Bool
+is_name_byte b = is_between 48 57 b || (is_between 65 90 b || (is_between 97 122 b || b == 95))
+
+-- a name is one or more of them, and not too many
+abbrev pub is_name : List ℕ → Bool
+is_name text = is_between 1 longest_name (length text) && list_all is_name_byte text
+
+-- so many names, and no two the same
+pub record AreNames (many : ℕ) (names : List (List ℕ)) : Type 0 where
+  pub count : length names ≡ many
+  pub formed : IsTrue (list_all is_name names)
+  pub distinct : AllPairs (λ a b. a ≢ b) names

@@ -6,7 +6,7 @@ use Rattle.qc_decl.specs.declared.declaration.KindNames.{KindNames}
 use Rattle.qc_decl.specs.declared.declaration.Declaration.{Declaration}
 use Rattle.qc_plan.specs.declared.plan.Plan.{Plan}
 use Rattle.qc_table.specs.declared.row.Row.{Row}
-use Rattle.qc_table.specs.Names.{Rules, relation_of}
+use Rattle.qc_table.specs.Vocabulary.{Rules, relation_of}
 use Rattle.qc_table.specs.declared.kind.Kind.{Kind}
 use Rattle.qc_table.specs.declared.relation.Pair.{Pair}
 

@@ -5,7 +5,7 @@ use Rattle.std.proofs.lemmas.List.{append-nil, take-append-drop}
 use Rattle.std.specs.List.{AllByRecursion as Every, slice_get}
 use Rattle.std.specs.declared.cmp.Ordering.TheVariants.{Less}
 use Rattle.qc_entry.specs.declared.line.Line.{Line}
-use Rattle.qc_entry.specs.Names.{line_cmp, union}
+use Rattle.qc_entry.specs.Vocabulary.{line_cmp, union}
 use Rattle.qc_entry.proofs.Union.{union-nil, union-after, union-shared}
 use Rattle.qc_entry.proofs.Walks.{whole-rest}
 

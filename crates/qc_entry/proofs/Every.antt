@@ -4,7 +4,7 @@ use Rattle.std.specs.List.{AllByRecursion as Every, slice_get}
 use Rattle.std.specs.Ordering.{is_lt}
 use Rattle.std.specs.declared.cmp.Ordering.TheVariants.{Less}
 use Rattle.qc_entry.specs.declared.line.Line.{Line}
-use Rattle.qc_entry.specs.Names.{IsAscending, line_cmp}
+use Rattle.qc_entry.specs.Vocabulary.{IsAscending, line_cmp}
 use Rattle.qc_list.proofs.Members.{every-at}
 use Rattle.qc_list.proofs.Order.{less_is}
 use Rattle.qc_entry.proofs.Orders.{line_order}

@@ -5,8 +5,8 @@ use Rattle.std.proofs.lemmas.Cmp.{tied_itself}
 use Rattle.std.specs.List.{filter}
 use Rattle.std.specs.declared.cmp.Ordering.TheVariants.{Less, Equal}
 use Rattle.qc_entry.specs.declared.line.Line.{Line}
-use Rattle.qc_entry.specs.Names.{IsAscending, line_cmp, of_object, union}
-use Rattle.qc_list.specs.Names.{In, IsBelowAll, by_order}
+use Rattle.qc_entry.specs.Vocabulary.{IsAscending, line_cmp, of_object, union}
+use Rattle.qc_list.specs.Vocabulary.{In, IsBelowAll, by_order}
 use Rattle.qc_list.proofs.Members.{every-In, In-filter, In-passes, In-unfiltered}
 use Rattle.qc_entry.proofs.Orders.{line_order}
 use Rattle.qc_list.proofs.Order.{ascends-filter}

@@ -4,8 +4,8 @@ use Rattle.std.proofs.lemmas.Cmp.{then_total, on_total, nat_cmp_total}
 use Rattle.std.specs.Ordering.{nat_cmp, ordering_reverse}
 use Rattle.std.specs.declared.cmp.Ordering.TheVariants.{Less, Greater}
 use Rattle.qc_entry.specs.declared.line.Line.{Line}
-use Rattle.qc_entry.specs.Names.{line_cmp}
-use Rattle.qc_stamp.specs.Names.{IsOrder, stamp_cmp, tx_cmp}
+use Rattle.qc_entry.specs.Vocabulary.{line_cmp}
+use Rattle.qc_stamp.specs.Vocabulary.{IsOrder, stamp_cmp, tx_cmp}
 use Rattle.qc_stamp.proofs.Orders.{stamp_order, tx_order, nat_apart, first_Equal, second_Equal}
 
 pub line_order : IsOrder line_cmp

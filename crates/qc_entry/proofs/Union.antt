@@ -4,8 +4,8 @@ use Rattle.std.specs.List.{AllByRecursion as Every, slice_get}
 use Rattle.std.specs.declared.cmp.Ordering.{Ordering}
 use Rattle.std.specs.declared.cmp.Ordering.TheVariants.{Less, Equal, Greater}
 use Rattle.qc_entry.specs.declared.line.Line.{Line}
-use Rattle.qc_entry.specs.Names.{IsAscending, IsUnion, line_cmp, union, union_from}
-use Rattle.qc_list.specs.Names.{In, IsBelowAll, by_order}
+use Rattle.qc_entry.specs.Vocabulary.{IsAscending, IsUnion, line_cmp, union, union_from}
+use Rattle.qc_list.specs.Vocabulary.{In, IsBelowAll, by_order}
 use Rattle.qc_list.proofs.Members.{every-In, every-from_In}
 use Rattle.qc_entry.proofs.Orders.{line_order, above}
 use Rattle.std.specs.Cmp.{tied_itself}

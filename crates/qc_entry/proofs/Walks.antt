@@ -6,9 +6,9 @@ use Rattle.std.proofs.Math.Seq.{take-length}
 use Rattle.std.proofs.lemmas.List.{append-nil, length-drop}
 use Rattle.std.specs.declared.cmp.Ordering.TheVariants.{Less, Equal, Greater}
 use Rattle.qc_entry.specs.declared.line.Line.{Line}
-use Rattle.qc_entry.specs.Names.{IsAscending, line_cmp, union, without}
+use Rattle.qc_entry.specs.Vocabulary.{IsAscending, line_cmp, union, without}
 use Rattle.qc_list.proofs.Order.{ascends-drop}
-use Rattle.qc_list.specs.Names.{IsBelowAll}
+use Rattle.qc_list.specs.Vocabulary.{IsBelowAll}
 use Rattle.qc_entry.proofs.Union.{union-nil}
 use Rattle.qc_entry.proofs.Without.{without-nil, without-Less, without-Equal, without-Greater}
 

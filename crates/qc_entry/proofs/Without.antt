@@ -5,8 +5,8 @@ use Rattle.std.proofs.lemmas.Cmp.{tied_itself}
 use Rattle.std.specs.declared.cmp.Ordering.TheVariants.{Less, Equal, Greater}
 use Rattle.std.specs.Prelude.{not}
 use Rattle.qc_entry.specs.declared.line.Line.{Line}
-use Rattle.qc_entry.specs.Names.{IsAscending, has_line, line_cmp, without}
-use Rattle.qc_list.specs.Names.{IsBelowAll}
+use Rattle.qc_entry.specs.Vocabulary.{IsAscending, has_line, line_cmp, without}
+use Rattle.qc_list.specs.Vocabulary.{IsBelowAll}
 use Rattle.qc_entry.proofs.Orders.{line_order, above, below}
 use Rattle.qc_list.proofs.Order.{below_trans}
 

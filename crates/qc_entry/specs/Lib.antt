@@ -1,3 +1,3 @@
 pub mod Line
 pub mod Log
-pub mod Names
+pub mod Vocabulary

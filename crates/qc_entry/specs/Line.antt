@@ -2,9 +2,9 @@
 use Rattle.std.specs.Prelude.{List}
 use Rattle.std.specs.Ordering.{nat_cmp, on, then_cmp}
 use Rattle.std.specs.declared.cmp.Ordering.{Ordering}
-use Rattle.qc_list.specs.Names.{Ascends}
+use Rattle.qc_list.specs.Vocabulary.{Ascends}
 use Rattle.qc_entry.specs.declared.line.Line.{Line}
-use Rattle.qc_stamp.specs.Names.{stamp_cmp, tx_cmp}
+use Rattle.qc_stamp.specs.Vocabulary.{stamp_cmp, tx_cmp}
 
 -- lines by stamp, transaction, operation, object and event
 abbrev pub line_cmp : Line → Line → Ordering

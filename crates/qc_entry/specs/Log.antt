@@ -2,11 +2,11 @@
 use Rattle.std.specs.Prelude.{◌↔◌, ◌⊎◌, ℕ, Bool, List, [], ◌∷◌, ◌==◌, filter, not}
 use Rattle.std.specs.List.{list_any}
 use Rattle.std.specs.Ordering.{is_eq, is_lt}
-use Rattle.qc_list.specs.Names.{In, by_order}
+use Rattle.qc_list.specs.Vocabulary.{In, by_order}
 use Rattle.qc_entry.specs.declared.line.Line.{Line}
 use Rattle.qc_entry.specs.Line.{line_cmp, IsAscending}
 use Rattle.qc_stamp.specs.declared.stamp.Stamp.{Stamp}
-use Rattle.qc_stamp.specs.Names.{stamp_cmp}
+use Rattle.qc_stamp.specs.Vocabulary.{stamp_cmp}
 
 -- the merge of x, before a rest that merges by itself, with a list
 abbrev pub union_from : Line → List Line → (List Line → List Line) → List Line → List Line

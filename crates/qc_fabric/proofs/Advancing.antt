@@ -3,10 +3,10 @@ use Rattle.std.proofs.Common.{◌≡◌, ℕ, ◌≤◌, Bool, List, Some, None,
 use Rattle.qc_decl.specs.declared.declaration.Declaration.{Declaration}
 use Rattle.qc_msg.specs.declared.step.Control.{Control}
 use Rattle.qc_msg.specs.declared.step.Control.TheVariants as controls
-use Rattle.qc_msg.specs.Names.{Entry}
-use Rattle.qc_script.specs.Names.{controls_left}
+use Rattle.qc_msg.specs.Vocabulary.{Entry}
+use Rattle.qc_script.specs.Vocabulary.{controls_left}
 use Rattle.qc_script.specs.declared.script.Script.{Script}
-use Rattle.qc_fabric.specs.Names.{ComesNext, IsUpTo, MayDo}
+use Rattle.qc_fabric.specs.Vocabulary.{ComesNext, IsUpTo, MayDo}
 
 module _ (decl : Declaration) (script : Script) (h : List Entry) (inputs : List Bool) where
   -- where no line is left and no phase comes, nothing does

@@ -1,15 +1,15 @@
 -- The history before its last event goes on with each event, and what is posted leaves it.
 use Rattle.std.proofs.Common.{◌≡◌, Bool, true, false, List, [], ◌∷◌, ◌++◌, Some, refl, ap, subst, ◌∙◌}
 use Rattle.std.specs.Prelude.{◌||◌, if◌then◌else◌}
-use Rattle.qc_msg.specs.Names.{Entry, step_of}
+use Rattle.qc_msg.specs.Vocabulary.{Entry, step_of}
 use Rattle.qc_msg.specs.declared.step.Control.{Control}
 use Rattle.qc_msg.specs.declared.step.Control.TheVariants as controls
 use Rattle.qc_msg.specs.declared.step.Input.{Input}
 use Rattle.qc_msg.specs.declared.step.Input.TheVariants as inputs
 use Rattle.qc_msg.specs.declared.step.Step.{Step}
 use Rattle.qc_msg.specs.declared.step.Step.TheVariants as steps
-use Rattle.qc_script.specs.Names.{step_of_control}
-use Rattle.qc_fabric.specs.Names.{before_last_event, begins_event, has_event}
+use Rattle.qc_script.specs.Vocabulary.{step_of_control}
+use Rattle.qc_fabric.specs.Vocabulary.{before_last_event, begins_event, has_event}
 
 -- an event stands in a history
 or_true : (b : Bool) → (b || true) ≡ true

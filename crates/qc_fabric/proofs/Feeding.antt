@@ -4,21 +4,20 @@ use Rattle.std.proofs.Common.{arith, length-append, Option, Some, None, sum}
 use Rattle.std.specs.Prelude.{slice_get, slice_set}
 use Rattle.std.proofs.lemmas.List.{append-nil}
 use Rattle.atomic_table.specs.Seated.{TableId}
-use Rattle.qc_decl.specs.Names.{actors}
+use Rattle.qc_decl.specs.Vocabulary.{actors}
 use Rattle.qc_decl.specs.declared.declaration.Declaration.{Declaration}
-use Rattle.qc_inbox.specs.Names.{IsKept}
-use Rattle.qc_mailbox.specs.Names.{Roomy}
+use Rattle.qc_mailbox.specs.Vocabulary.{IsKept, Roomy}
 use Rattle.qc_msg.specs.declared.record.Record.{Record}
 use Rattle.qc_msg.specs.declared.step.Step.{Step}
 use Rattle.qc_msg.specs.declared.turn.Turn.{Turn}
-use Rattle.qc_msg.specs.Names.{Deed, Entry, by, deeds}
+use Rattle.qc_msg.specs.Vocabulary.{Deed, Entry, by, deeds}
 use Rattle.qc_pass.specs.declared.token.Pass.{Pass}
 use Rattle.qc_pass.specs.declared.token.Right.{Right}
-use Rattle.qc_pass.specs.Names.{Met, all, ends, mine, number, room, rooms, seen}
-use Rattle.qc_script.specs.Names.{RunsWithFalls, phase_of}
+use Rattle.qc_pass.specs.Vocabulary.{Met, all, ends, mine, number, room, rooms, seen}
+use Rattle.qc_script.specs.Vocabulary.{RunsWithFalls, phase_of}
 use Rattle.qc_script.specs.declared.script.Script.{Script}
-use Rattle.qc_fabric.specs.Names.{ArmsNone, ArmsNoneBehind, Fed, HasGrown, IsFabricState, IsSame, Logged, Sees}
-use Rattle.qc_fabric.specs.Names.{before_last_event, full_of}
+use Rattle.qc_fabric.specs.Vocabulary.{ArmsNone, ArmsNoneBehind, Fed, HasGrown, IsFabricState, IsSame, Logged, Sees}
+use Rattle.qc_fabric.specs.Vocabulary.{before_last_event, full_of}
 use Rattle.qc_fabric.proofs.Fed.{length-by, length_set, rooms_kept}
 use Rattle.qc_fabric.proofs.Gains.{Gain, end_else, end_here, gain, saw, unarmed_by}
 use Rattle.qc_fabric.proofs.KeptParts.{all_of, right_of, rooms_of, unarmed_of}

@@ -7,14 +7,14 @@ use Rattle.std.proofs.lemmas.List.{append-nil, drop_at}
 use mathlib.Core.Logic.{dite}
 use native.Mathlib.Decide.{ℕ_discrete}
 use Rattle.qc_list.proofs.Members.{every-append}
-use Rattle.qc_msg.specs.Names.{Entry, by, deeds, own}
+use Rattle.qc_msg.specs.Vocabulary.{Entry, by, deeds, own}
 use Rattle.qc_msg.specs.declared.step.Step.{Step}
 use Rattle.qc_msg.proofs.DeedsGrow.{own-append}
 use Rattle.qc_pass.specs.declared.token.Pass.{Pass}
 use Rattle.qc_pass.specs.declared.token.Right.{Right}
-use Rattle.qc_pass.specs.Names.{Met, all, ends, mine, number, seen}
-use Rattle.qc_promise.specs.Names.{IsOfOthers, arms_disk}
-use Rattle.qc_fabric.specs.Names.{ArmsNone, ArmsNoneBehind, Sees}
+use Rattle.qc_pass.specs.Vocabulary.{Met, all, ends, mine, number, seen}
+use Rattle.qc_promise.specs.Vocabulary.{IsOfOthers, arms_disk}
+use Rattle.qc_fabric.specs.Vocabulary.{ArmsNone, ArmsNoneBehind, Sees}
 use Rattle.qc_fabric.proofs.Fed.{deeds_of_front, get_else}
 
 nothing_more : (xs ys : List Step) → xs ++ ys ≡ xs → ys ≡ []

@@ -1,30 +1,29 @@
 -- An empty history has what the state under the lock keeps; looks, rooms, one step more keep it.
-use Rattle.std.proofs.Common.{◌≡◌, ℕ, zero, suc, ◌+◌, ◌-◌, ◌<◌, ◌≤◌, Bool, true, false, List, length, refl, ap, sym}
+use Rattle.std.proofs.Common.{[], ◌≡◌, ℕ, zero, suc, ◌+◌, ◌-◌, ◌<◌, ◌≤◌, Bool, true, false, List, length, refl, ap, sym}
 use Rattle.std.proofs.Common.{◌∙◌, subst, arith, Option, Some, sum, replicate, drop}
 use Rattle.std.specs.Prelude.{slice_get, slice_set}
 use Rattle.std.proofs.lemmas.List.{length-replicate}
 use mathlib.Core.Logic.{dite}
 use native.Mathlib.Decide.{ℕ_discrete}
 use Rattle.atomic_table.specs.Seated.{TableId}
-use Rattle.qc_decl.specs.Names.{actors, controller}
+use Rattle.qc_decl.specs.Vocabulary.{actors, controller}
 use Rattle.qc_decl.specs.declared.declaration.Declaration.{Declaration}
-use Rattle.qc_inbox.specs.Names.{Inboxes, IsKept, TellsWhereDown, empty_inboxes}
-use Rattle.qc_inbox.proofs.Keeping.{kept_begins}
-use Rattle.qc_mailbox.specs.Names.{Roomy}
+use Rattle.qc_mailbox.specs.Vocabulary.{Inboxes, IsKept, TellsWhereDown, empty_inboxes, Roomy}
+use Rattle.qc_mailbox.proofs.Keeping.{kept_begins}
 use Rattle.qc_msg.specs.declared.record.Record.{Record}
 use Rattle.qc_msg.specs.declared.step.Step.{Step}
 use Rattle.qc_msg.specs.declared.turn.Turn.{Turn}
-use Rattle.qc_msg.specs.Names.{Deed, Entry}
+use Rattle.qc_msg.specs.Vocabulary.{Deed, Entry}
 use Rattle.qc_pass.specs.declared.token.Pass.{Pass}
 use Rattle.qc_pass.specs.declared.token.Right.{Right}
-use Rattle.qc_pass.specs.Names.{IsFirst, Met, all, ends, number, room, rooms}
-use Rattle.qc_script.specs.Names.{IsScriptFor, RunsWithFalls, begins, phase_of}
+use Rattle.qc_pass.specs.Vocabulary.{IsFirst, Met, all, ends, number, room, rooms}
+use Rattle.qc_script.specs.Vocabulary.{IsScriptFor, RunsWithFalls, begins, phase_of}
 use Rattle.qc_script.specs.declared.script.Script.{Script}
-use Rattle.qc_fabric.specs.Names.{ArmsNone, ArmsNoneBehind, IsFabricState, Logged, before_last_event, full_of}
-use Rattle.qc_fabric.specs.Names.{most_history}
+use Rattle.qc_fabric.specs.Vocabulary.{ArmsNone, ArmsNoneBehind, IsFabricState, Logged, before_last_event, full_of}
+use Rattle.qc_fabric.specs.Vocabulary.{most_history}
 use Rattle.qc_fabric.proofs.Fed.{get_else, length_set, sum-set, sum_cons}
 use Rattle.qc_fabric.proofs.Gains.{look_unarmed}
-use Rattle.qc_link.specs.Names.{most_actors}
+use Rattle.qc_link.specs.Vocabulary.{most_actors}
 use Rattle.qc_fabric.proofs.KeptParts.{no_room_at, unarmed_at, all_of, rooms_of, right_of, unarmed_of}
 
 module _ {L : ℕ → List Deed → Turn → Type 0} {F : ℕ → List Record → Type 0} {D : Declaration} {S : Script} {z : TableId}

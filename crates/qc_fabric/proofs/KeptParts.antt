@@ -1,24 +1,23 @@
 -- What the state under the lock keeps, with other memory, other spare room, after a look, and one step more.
-use Rattle.std.proofs.Common.{◌≡◌, ℕ, suc, ◌+◌, ◌-◌, ◌<◌, ◌≤◌, Bool, true, false, List, ◌∷◌, ◌++◌, length, refl, ap}
+use Rattle.std.proofs.Common.{[], ◌≡◌, ℕ, suc, ◌+◌, ◌-◌, ◌<◌, ◌≤◌, Bool, true, false, List, ◌∷◌, ◌++◌, length, refl, ap}
 use Rattle.std.proofs.Common.{sym, ◌∙◌, subst, arith, length-append, Option, Some, None, sum}
 use Rattle.std.specs.Prelude.{slice_get, slice_set}
 use Rattle.atomic_table.specs.Seated.{TableId}
-use Rattle.qc_decl.specs.Names.{actors}
+use Rattle.qc_decl.specs.Vocabulary.{actors}
 use Rattle.qc_decl.specs.declared.declaration.Declaration.{Declaration}
-use Rattle.qc_inbox.specs.Names.{Inboxes, IsKept}
-use Rattle.qc_mailbox.specs.Names.{Roomy}
+use Rattle.qc_mailbox.specs.Vocabulary.{Inboxes, IsKept, Roomy}
 use Rattle.qc_msg.specs.declared.record.Record.{Record}
 use Rattle.qc_msg.specs.declared.step.Step.{Step}
 use Rattle.qc_msg.specs.declared.turn.Turn.{Turn}
-use Rattle.qc_msg.specs.Names.{Deed, Entry, marked}
+use Rattle.qc_msg.specs.Vocabulary.{Deed, Entry, marked}
 use Rattle.qc_pass.specs.declared.token.Pass.{Pass}
 use Rattle.qc_pass.specs.declared.token.Right.{Right}
-use Rattle.qc_pass.specs.Names.{Met, all, ends, number, right_table, room, rooms}
-use Rattle.qc_promise.specs.Names.{arms_disk}
-use Rattle.qc_script.specs.Names.{RunsWithFalls, phase_of}
+use Rattle.qc_pass.specs.Vocabulary.{Met, all, ends, number, right_table, room, rooms}
+use Rattle.qc_promise.specs.Vocabulary.{arms_disk}
+use Rattle.qc_script.specs.Vocabulary.{RunsWithFalls, phase_of}
 use Rattle.qc_script.specs.declared.script.Script.{Script}
-use Rattle.qc_fabric.specs.Names.{ArmsNoneBehind, HasGrown, IsFabricState, Logged, before_last_event, begins_event}
-use Rattle.qc_fabric.specs.Names.{full_of, most_history}
+use Rattle.qc_fabric.specs.Vocabulary.{ArmsNoneBehind, HasGrown, IsFabricState, Logged, before_last_event, begins_event}
+use Rattle.qc_fabric.specs.Vocabulary.{full_of, most_history}
 use Rattle.qc_fabric.proofs.Events.{before_event}
 use Rattle.qc_fabric.proofs.Fed.{get_here, rooms_kept}
 use Rattle.qc_fabric.proofs.Gains.{look_unarmed, met_unarmed}

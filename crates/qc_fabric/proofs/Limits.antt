@@ -3,10 +3,10 @@ use Rattle.std.proofs.Common.{◌≡◌, ℕ, ◌<◌, ◌^◌, ◌-◌, Bool, t
 use Rattle.std.proofs.Common.{arith}
 use Rattle.std.specs.Prelude.{nat_le, if◌then◌else◌}
 use Rattle.std.proofs.lemmas.Bool.{leb-false, leb-true}
-use Rattle.qc_decl.specs.Names.{most_carried_lines, most_committed_operations, most_steps}
-use Rattle.qc_msg.specs.Names.{Entry, carried_of, operations_of}
+use Rattle.qc_decl.specs.Vocabulary.{most_carried_lines, most_committed_operations, most_steps}
+use Rattle.qc_msg.specs.Vocabulary.{Entry, carried_of, operations_of}
 use Rattle.qc_msg.specs.declared.step.Quantity.TheVariants.{Steps, Operations, Carried}
-use Rattle.qc_fabric.specs.Names.{HasReached, IsBelow, counted, full_of}
+use Rattle.qc_fabric.specs.Vocabulary.{HasReached, IsBelow, counted, full_of}
 use Rattle.qc_fabric.specs.declared.full.Full.{Full}
 
 below_counted : (n limit : ℕ) → limit < 2 ^ 32 - 1 → counted n < limit → n < limit

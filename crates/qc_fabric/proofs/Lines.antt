@@ -7,13 +7,12 @@ use Rattle.std.proofs.lemmas.List.{append-nil}
 use mathlib.Core.Logic.{dite}
 use native.Mathlib.Decide.{ℕ_discrete}
 use Rattle.atomic_table.specs.Seated.{TableId}
-use Rattle.qc_decl.specs.Names.{actors, controller}
+use Rattle.qc_decl.specs.Vocabulary.{actors, controller}
 use Rattle.qc_decl.specs.declared.declaration.Declaration.{Declaration}
-use Rattle.qc_inbox.specs.Names.{Inboxes, IsKept, after_control, after_fall_by_line, after_first}
-use Rattle.qc_inbox.proofs.Bounds.{controls_shown}
-use Rattle.qc_inbox.proofs.Controlling.{kept_control}
-use Rattle.qc_inbox.proofs.FallTrays.{kept_fall_by_line}
-use Rattle.qc_mailbox.specs.Names.{Roomy}
+use Rattle.qc_mailbox.specs.Vocabulary.{Inboxes, IsKept, after_control, after_fall_by_line, after_first, Roomy}
+use Rattle.qc_mailbox.proofs.Bounds.{controls_shown}
+use Rattle.qc_mailbox.proofs.Controlling.{kept_control}
+use Rattle.qc_mailbox.proofs.FallTrays.{kept_fall_by_line}
 use Rattle.qc_msg.specs.declared.record.Record.{Record}
 use Rattle.qc_msg.specs.declared.step.Control.{Control}
 use Rattle.qc_msg.specs.declared.step.Control.TheVariants as controls
@@ -21,16 +20,16 @@ use Rattle.qc_msg.specs.declared.step.Fall.TheVariants as causes
 use Rattle.qc_msg.specs.declared.step.Step.{Step}
 use Rattle.qc_msg.specs.declared.step.Step.TheVariants as steps
 use Rattle.qc_msg.specs.declared.turn.Turn.{Turn}
-use Rattle.qc_msg.specs.Names.{Deed, Entry, Falls, deeds, mail, marked}
+use Rattle.qc_msg.specs.Vocabulary.{Deed, Entry, Falls, deeds, mail, marked}
 use Rattle.qc_msg.proofs.DeedsGrow.{deeds-append, deeds-fell}
 use Rattle.qc_outside.specs.declared.disk.ArmKind.{ArmKind}
 use Rattle.qc_pass.specs.declared.token.Pass.{Pass}
 use Rattle.qc_pass.specs.declared.token.Right.{Right}
-use Rattle.qc_pass.specs.Names.{Met, all, ends, mine, number, room, rooms, seen}
-use Rattle.qc_script.specs.Names.{RunsWithFalls, control, controls_left, falls, phase_of}
+use Rattle.qc_pass.specs.Vocabulary.{Met, all, ends, mine, number, room, rooms, seen}
+use Rattle.qc_script.specs.Vocabulary.{RunsWithFalls, control, controls_left, falls, phase_of}
 use Rattle.qc_script.specs.declared.script.Script.{Script}
-use Rattle.qc_fabric.specs.Names.{Arms, ArmsNone, ArmsNoneBehind, FallsByLine, HasGrown, IsFabricState, Logged, MayDo}
-use Rattle.qc_fabric.specs.Names.{Sees, before_last_event, full_of, most_history}
+use Rattle.qc_fabric.specs.Vocabulary.{Arms, ArmsNone, ArmsNoneBehind, FallsByLine, HasGrown, IsFabricState, Logged}
+use Rattle.qc_fabric.specs.Vocabulary.{MayDo, Sees, before_last_event, full_of, most_history}
 use Rattle.qc_fabric.proofs.Events.{before_event}
 use Rattle.qc_fabric.proofs.Fed.{deeds_of_front, rooms_kept}
 use Rattle.qc_fabric.proofs.Gains.{Gain, end_else, end_here, gain, saw, unarmed_on}

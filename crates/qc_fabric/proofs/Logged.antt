@@ -4,8 +4,8 @@ use Rattle.std.proofs.Common.{length, min, replicate, set, sum_by, refl, sym, su
 use Rattle.std.proofs.lemmas.List.{append-nil, get_or-replicate, get_or-set_other, get_or-set_same, length-replicate}
 use Rattle.std.proofs.lemmas.List.Sums.{sum_by-append, sum_by-cons}
 use Rattle.qc_msg.proofs.Growth.{operations-more, standing-more}
-use Rattle.qc_msg.specs.Names.{Entry, answered_at, carried_at, carried_of, operations_of, standing_after, tally_of}
-use Rattle.qc_fabric.specs.Names.{IsLog, counted, named_actors, place_of, places_of, stored}
+use Rattle.qc_msg.specs.Vocabulary.{Entry, answered_at, carried_at, carried_of, operations_of, standing_after, tally_of}
+use Rattle.qc_fabric.specs.Vocabulary.{IsLog, counted, named_actors, place_of, places_of, stored}
 use Rattle.qc_fabric.proofs.Placed.{places-append}
 
 -- of no entry

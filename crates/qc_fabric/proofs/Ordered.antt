@@ -3,29 +3,29 @@ use Rattle.std.proofs.Common.{◌≡◌, ℕ, ◌+◌, ◌≤◌, Bool, false, L
 use Rattle.std.proofs.Common.{sym, ◌∙◌, subst, arith, slice_get}
 use mathlib.Core.List.{IsPrefix}
 use Rattle.atomic_table.specs.Seated.{TableId}
-use Rattle.qc_decl.specs.Names.{controller}
+use Rattle.qc_decl.specs.Vocabulary.{controller}
 use Rattle.qc_decl.specs.declared.declaration.Declaration.{Declaration}
 use Rattle.std.specs.Option.{IfSome}
-use Rattle.qc_inbox.specs.Names.{Inboxes, IsKept, IsWithin, after_control, after_first, after_phase}
-use Rattle.qc_inbox.proofs.Bounds.{controls_shown, controls_within}
-use Rattle.qc_inbox.proofs.Controlling.{kept_control, kept_phase}
-use Rattle.qc_mailbox.specs.Names.{Roomy}
+use Rattle.qc_mailbox.specs.Vocabulary.{Inboxes, IsKept, IsWithin, after_control, after_first, after_phase, Roomy}
+use Rattle.qc_mailbox.proofs.Bounds.{controls_shown, controls_within}
+use Rattle.qc_mailbox.proofs.Controlling.{kept_control, kept_phase}
 use Rattle.qc_msg.specs.declared.record.Record.{Record}
 use Rattle.qc_msg.specs.declared.step.Control.{Control}
 use Rattle.qc_msg.specs.declared.step.Control.TheVariants as controls
 use Rattle.qc_msg.specs.declared.step.Step.{Step}
 use Rattle.qc_msg.specs.declared.step.Step.TheVariants as steps
 use Rattle.qc_msg.specs.declared.turn.Turn.{Turn}
-use Rattle.qc_msg.specs.Names.{Deed, Entry, marked}
+use Rattle.qc_msg.specs.Vocabulary.{Deed, Entry, marked}
 use Rattle.qc_pass.specs.declared.token.Pass.{Pass}
 use Rattle.qc_pass.specs.declared.token.Right.{Right}
-use Rattle.qc_pass.specs.Names.{Met, all, number, room, seen}
-use Rattle.qc_promise.specs.Names.{arms_disk}
-use Rattle.qc_script.specs.Names.{RunsWithFalls, control, controller_step, controls_left, phase, phase_of}
-use Rattle.qc_script.specs.Names.{step_of_control}
+use Rattle.qc_pass.specs.Vocabulary.{Met, all, number, room, seen}
+use Rattle.qc_promise.specs.Vocabulary.{arms_disk}
+use Rattle.qc_script.specs.Vocabulary.{RunsWithFalls, control, controller_step, controls_left, phase, phase_of}
+use Rattle.qc_script.specs.Vocabulary.{step_of_control}
 use Rattle.qc_script.specs.declared.script.PhaseLines.{PhaseLines}
 use Rattle.qc_script.specs.declared.script.Script.{Script}
-use Rattle.qc_fabric.specs.Names.{Does, HasGrown, IsFabricState, Logged, MayDo, control_step, full_of, most_history}
+use Rattle.qc_fabric.specs.Vocabulary.{Does, HasGrown, IsFabricState, Logged, MayDo, control_step, full_of}
+use Rattle.qc_fabric.specs.Vocabulary.{most_history}
 use Rattle.qc_fabric.proofs.Events.{begins_control}
 use Rattle.qc_fabric.proofs.KeptParts.{all_of, steps_on}
 use Rattle.qc_fabric.proofs.Phased.{phase_control, phase_more}

@@ -4,7 +4,7 @@ use Rattle.std.proofs.Common.{subst, arith}
 use Rattle.std.specs.Prelude.{fold}
 use Rattle.std.specs.List.{AllByRecursion as Every}
 use Rattle.std.proofs.lemmas.List.Sums.{fold-append}
-use Rattle.qc_decl.specs.Names.{controller}
+use Rattle.qc_decl.specs.Vocabulary.{controller}
 use Rattle.qc_decl.specs.declared.declaration.Declaration.{Declaration}
 use Rattle.qc_msg.specs.declared.record.Record.{Record}
 use Rattle.qc_msg.specs.declared.step.Fall.TheVariants as causes
@@ -15,10 +15,10 @@ use Rattle.qc_msg.specs.declared.step.Input.TheVariants as given
 use Rattle.qc_msg.specs.declared.step.Step.{Step}
 use Rattle.qc_msg.specs.declared.step.Step.TheVariants as steps
 use Rattle.qc_msg.specs.declared.turn.Turn.{Turn}
-use Rattle.qc_msg.specs.Names.{Deed, Entry, HasRecord, by, deeds, mail, marked, posted_as, step_of}
-use Rattle.qc_inbox.specs.Names.{TellsWhereDown}
-use Rattle.qc_script.specs.Names.{RunsWithFalls, begins, control, controller_step, damaged, falls, phase, phase_at}
-use Rattle.qc_script.specs.Names.{phase_of, posts, rises, step_of_control, takes, unopened}
+use Rattle.qc_msg.specs.Vocabulary.{Deed, Entry, HasRecord, by, deeds, mail, marked, posted_as, step_of}
+use Rattle.qc_mailbox.specs.Vocabulary.{TellsWhereDown}
+use Rattle.qc_script.specs.Vocabulary.{RunsWithFalls, begins, control, controller_step, damaged, falls, phase, phase_at}
+use Rattle.qc_script.specs.Vocabulary.{phase_of, posts, rises, step_of_control, takes, unopened}
 use Rattle.qc_script.specs.declared.script.Script.{Script}
 use Rattle.qc_fabric.proofs.Plain.{IsPlain, may_end, plain_leaves_phase, posted_plain}
 

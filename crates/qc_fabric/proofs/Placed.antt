@@ -4,8 +4,8 @@ use Rattle.std.proofs.Common.{Some, None, option_to_list, refl, ap, sym, subst, 
 use Rattle.qc_msg.specs.declared.message.Envelope.{Envelope}
 use Rattle.qc_msg.specs.declared.step.Step.{Step}
 use Rattle.qc_msg.specs.declared.step.Step.TheVariants as steps
-use Rattle.qc_msg.specs.Names.{Entry, envelope_at, envelope_of, mail}
-use Rattle.qc_fabric.specs.Names.{place_of, places_of}
+use Rattle.qc_msg.specs.Vocabulary.{Entry, envelope_at, envelope_of, mail}
+use Rattle.qc_fabric.specs.Vocabulary.{place_of, places_of}
 
 -- more entries
 

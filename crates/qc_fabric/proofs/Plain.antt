@@ -3,7 +3,7 @@ use Rattle.std.proofs.Common.{◌≡◌, ℕ, ◌+◌, ◌||◌, Bool, false, Li
 use Rattle.std.specs.Prelude.{fold}
 use Rattle.std.specs.List.{AllByRecursion as Every}
 use Rattle.qc_list.proofs.Members.{every-append}
-use Rattle.qc_msg.specs.Names.{Entry, HasRecord, MayEnd, by, fell, posted_as, sents, told, wrote}
+use Rattle.qc_msg.specs.Vocabulary.{Entry, HasRecord, MayEnd, by, fell, posted_as, sents, told, wrote}
 use Rattle.qc_msg.specs.declared.record.Record.{Record}
 use Rattle.qc_msg.specs.declared.reply.Reply.{Reply}
 use Rattle.qc_msg.specs.declared.step.Fall.{Fall}
@@ -13,9 +13,9 @@ use Rattle.qc_msg.specs.declared.turn.Appended.{Appended}
 use Rattle.qc_msg.specs.declared.turn.Appended.TheVariants.{Done, Failed, Stopped}
 use Rattle.qc_msg.specs.declared.turn.Posting.{Posting}
 use Rattle.qc_msg.specs.declared.turn.Turn.{Turn}
-use Rattle.qc_promise.specs.Names.{arms_disk}
-use Rattle.qc_script.specs.Names.{phase_at}
-use Rattle.qc_fabric.specs.Names.{ArmsNone, begins_event, has_event}
+use Rattle.qc_promise.specs.Vocabulary.{arms_disk}
+use Rattle.qc_script.specs.Vocabulary.{phase_at}
+use Rattle.qc_fabric.specs.Vocabulary.{ArmsNone, begins_event, has_event}
 
 pub record IsPlain (s : Step) : Type 0 where
   pub begins : begins_event s ≡ false

@@ -7,34 +7,33 @@ use Rattle.std.specs.List.{AllByRecursion as Every}
 use mathlib.Core.Logic.{dite}
 use native.Mathlib.Decide.{ℕ_discrete}
 use Rattle.atomic_table.specs.Seated.{TableId}
-use Rattle.qc_decl.specs.Names.{actors}
+use Rattle.qc_decl.specs.Vocabulary.{actors}
 use Rattle.qc_decl.specs.declared.declaration.Declaration.{Declaration}
-use Rattle.qc_inbox.specs.Names.{Inboxes, IsKept, MayPost, after_post_as}
-use Rattle.qc_inbox.proofs.FallLaws.{may_post}
-use Rattle.qc_inbox.proofs.FallTrays.{kept_post}
-use Rattle.qc_script.specs.Names.{RunsWithFalls, is_up, posts}
-use Rattle.qc_mailbox.specs.Names.{Roomy}
+use Rattle.qc_mailbox.specs.Vocabulary.{Inboxes, IsKept, MayPost, after_post_as, Roomy}
+use Rattle.qc_mailbox.proofs.FallLaws.{may_post}
+use Rattle.qc_mailbox.proofs.FallTrays.{kept_post}
+use Rattle.qc_script.specs.Vocabulary.{RunsWithFalls, is_up, posts}
 use Rattle.qc_msg.specs.declared.record.Record.{Record}
 use Rattle.qc_msg.specs.declared.step.Step.{Step}
 use Rattle.qc_msg.specs.declared.turn.Appended.{Appended}
 use Rattle.qc_msg.specs.declared.turn.Appended.TheVariants.{Done, Failed, Stopped}
 use Rattle.qc_msg.specs.declared.turn.Posting.{Posting}
 use Rattle.qc_msg.specs.declared.turn.Turn.{Turn}
-use Rattle.qc_msg.specs.Names.{Deed, Entry, by, deeds, deeds_as, mail, posted_as, sends_as}
+use Rattle.qc_msg.specs.Vocabulary.{Deed, Entry, by, deeds, deeds_as, mail, posted_as, sends_as}
 use Rattle.qc_msg.proofs.Growth.{deeds-posted_as}
 use Rattle.qc_pass.specs.declared.token.Pass.{Pass}
 use Rattle.qc_pass.specs.declared.token.Right.{Right}
-use Rattle.qc_pass.specs.Names.{Met, all, number, room, rooms, seen}
+use Rattle.qc_pass.specs.Vocabulary.{Met, all, number, room, rooms, seen}
 use Rattle.qc_script.specs.declared.script.Script.{Script}
-use Rattle.qc_fabric.specs.Names.{Fed, GoesToActors, HasGrown, IsFabricState, Logged, Posts, full_of, most_history}
-use Rattle.qc_fabric.specs.Names.{size_of}
+use Rattle.qc_fabric.specs.Vocabulary.{Fed, GoesToActors, HasGrown, IsFabricState, Logged, Posts, full_of, most_history}
+use Rattle.qc_fabric.specs.Vocabulary.{size_of}
 use Rattle.qc_fabric.proofs.Events.{before_more}
 use Rattle.qc_fabric.proofs.Fed.{get_else, length-posted, length_set, sends_few, sum-set}
 use Rattle.qc_fabric.proofs.Feeding.{before_is, deeds_then, fed_same, feeds_on, gained, mine_now, rooms_after, seen_now}
 use Rattle.qc_fabric.proofs.KeptParts.{no_room_at, rooms_of}
 use Rattle.qc_fabric.proofs.Phased.{phase_plain}
 use Rattle.qc_fabric.proofs.Plain.{IsPlain, plain_arms_none, plain_begins_none, posted_plain}
-use Rattle.qc_link.specs.Names.{most_actors}
+use Rattle.qc_link.specs.Vocabulary.{most_actors}
 
 -- who gets the messages of a post
 pub receivers_as : (end : Appended) (turn : Turn) → GoesToActors turn

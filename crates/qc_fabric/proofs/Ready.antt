@@ -1,19 +1,19 @@
 -- The input that the mailboxes show is what is ready.
 use Rattle.std.proofs.Common.{◌≡◌, ℕ, ◌<◌, Bool, List, Option, Some, None, option_map, refl, sym, ap, ◌∙◌, subst}
 use Rattle.qc_decl.specs.declared.declaration.Declaration.{Declaration}
-use Rattle.qc_inbox.specs.Names.{Inboxes, IsKept, input_in, input_of}
-use Rattle.qc_inbox.specs.declared.input.ReadyInput.{ReadyInput}
-use Rattle.qc_inbox.proofs.Among.{ready_found}
-use Rattle.qc_inbox.proofs.Seeing.{ready_kept}
+use Rattle.qc_mailbox.specs.Vocabulary.{Inboxes, IsKept, input_in, input_of}
+use Rattle.qc_mailbox.specs.declared.input.ReadyInput.{ReadyInput}
+use Rattle.qc_mailbox.proofs.Among.{ready_found}
+use Rattle.qc_mailbox.proofs.Seeing.{ready_kept}
 use Rattle.qc_msg.specs.declared.message.Envelope.{Envelope}
 use Rattle.qc_msg.specs.declared.step.Input.{Input}
 use Rattle.qc_msg.specs.declared.step.Input.TheVariants as inputs
-use Rattle.qc_msg.specs.Names.{Entry, WasSentTo, mail}
-use Rattle.qc_script.specs.Names.{ready}
+use Rattle.qc_msg.specs.Vocabulary.{Entry, WasSentTo, mail}
+use Rattle.qc_script.specs.Vocabulary.{ready}
 use Rattle.qc_script.specs.declared.script.Script.{Script}
-use Rattle.qc_fabric.specs.Names.{IsInputFor, IsThere, given_by}
+use Rattle.qc_fabric.specs.Vocabulary.{IsInputFor, IsThere, given_by}
 use Rattle.qc_fabric.proofs.Fed.{get_within}
-use Rattle.qc_link.specs.Names.{most_actors}
+use Rattle.qc_link.specs.Vocabulary.{most_actors}
 
 pub record Readies (decl : Declaration) (script : Script) (h : List Entry) (a : ℕ) (input : ReadyInput) : Type 0 where
   pub given : Input

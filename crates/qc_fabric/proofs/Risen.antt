@@ -2,13 +2,12 @@
 use Rattle.std.proofs.Common.{◌≡◌, ℕ, ◌+◌, ◌<◌, ◌≤◌, ◌==◌, cond, Bool, true, false, List, [], ◌∷◌, ◌++◌, length}
 use Rattle.std.proofs.Common.{append_assoc, Option, Some, None, refl, ap, sym, ◌∙◌, subst, arith, slice_get, sum}
 use Rattle.atomic_table.specs.Seated.{TableId}
-use Rattle.qc_decl.specs.Names.{actors}
+use Rattle.qc_decl.specs.Vocabulary.{actors}
 use Rattle.qc_decl.specs.declared.declaration.Declaration.{Declaration}
-use Rattle.qc_inbox.specs.Names.{Inboxes, IsKept}
-use Rattle.qc_inbox.proofs.Controlling.{kept_damage}
-use Rattle.qc_inbox.proofs.FallLaws.{restarts_down}
-use Rattle.qc_inbox.proofs.FallTrays.{kept_fall_by_line, kept_rise, up_kept}
-use Rattle.qc_mailbox.specs.Names.{Roomy}
+use Rattle.qc_mailbox.specs.Vocabulary.{Inboxes, IsKept, Roomy}
+use Rattle.qc_mailbox.proofs.Controlling.{kept_damage}
+use Rattle.qc_mailbox.proofs.FallLaws.{restarts_down}
+use Rattle.qc_mailbox.proofs.FallTrays.{kept_fall_by_line, kept_rise, up_kept}
 use Rattle.qc_msg.specs.declared.record.Record.{Record}
 use Rattle.qc_msg.specs.declared.step.Control.TheVariants as controls
 use Rattle.qc_msg.specs.declared.step.Fall.{Fall}
@@ -16,17 +15,18 @@ use Rattle.qc_msg.specs.declared.step.Fall.TheVariants as causes
 use Rattle.qc_msg.specs.declared.step.Step.{Step}
 use Rattle.qc_msg.specs.declared.step.Step.TheVariants as steps
 use Rattle.qc_msg.specs.declared.turn.Turn.{Turn}
-use Rattle.qc_msg.specs.Names.{Deed, Entry, IsByDisk, Rises, by, deeds, deeds_as, mail, marked, posted_as}
+use Rattle.qc_msg.specs.Vocabulary.{Deed, Entry, IsByDisk, Rises, by, deeds, deeds_as, mail, marked, posted_as}
 use Rattle.qc_msg.proofs.DeedsGrow.{deeds-append, deeds-fell, deeds-rose}
 use Rattle.qc_msg.proofs.Growth.{deeds-posted_as}
 use Rattle.qc_pass.specs.declared.token.Pass.{Pass}
 use Rattle.qc_pass.specs.declared.token.Right.{Right}
-use Rattle.qc_pass.specs.Names.{Met, all, number, room, rooms, seen}
-use Rattle.qc_script.specs.Names.{RunsWithFalls, controls_left, damaged, is_by_line, is_up, phase_of, rises, unopened}
+use Rattle.qc_pass.specs.Vocabulary.{Met, all, number, room, rooms, seen}
+use Rattle.qc_script.specs.Vocabulary.{RunsWithFalls, controls_left, damaged, is_by_line, is_up, phase_of, rises}
+use Rattle.qc_script.specs.Vocabulary.{unopened}
 use Rattle.qc_script.specs.declared.script.Script.{Script}
-use Rattle.qc_fabric.specs.Names.{ArmsNone, Fed, HasGrown, IsFabricState, IsRising, Logged, MayDo, RisesAs}
-use Rattle.qc_fabric.specs.Names.{RisesToActors, after_rising, before_last_event, deeds_of_rising, full_of}
-use Rattle.qc_fabric.specs.Names.{most_history, sends_of_rising, size_of_rising, steps_of_rising}
+use Rattle.qc_fabric.specs.Vocabulary.{ArmsNone, Fed, HasGrown, IsFabricState, IsRising, Logged, MayDo, RisesAs}
+use Rattle.qc_fabric.specs.Vocabulary.{RisesToActors, after_rising, before_last_event, deeds_of_rising, full_of}
+use Rattle.qc_fabric.specs.Vocabulary.{most_history, sends_of_rising, size_of_rising, steps_of_rising}
 use Rattle.qc_fabric.specs.declared.rising.Rising.{Rising}
 use Rattle.qc_fabric.specs.declared.rising.Rising.TheVariants.{Rose, Damaged, NotOpened}
 use Rattle.qc_fabric.proofs.Events.{before_event}

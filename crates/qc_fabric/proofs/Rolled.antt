@@ -1,13 +1,13 @@
 -- The roll goes on as a pass is called.
 use Rattle.std.proofs.Common.{◌≡◌, ℕ, List, [], Option, Some, refl, sym, ap, ◌∙◌, subst}
 use Rattle.atomic_table.specs.Seated.{TableId}
-use Rattle.qc_msg.specs.Names.{Entry}
+use Rattle.qc_msg.specs.Vocabulary.{Entry}
 use Rattle.qc_msg.specs.declared.step.Step.{Step}
 use Rattle.qc_pass.specs.declared.token.Pass.{Pass}
 use Rattle.qc_pass.specs.declared.token.Right.{Right}
-use Rattle.qc_pass.specs.Names.{Met, all, ends, right_table}
+use Rattle.qc_pass.specs.Vocabulary.{Met, all, ends, right_table}
 use Rattle.qc_script.specs.declared.script.Script.{Script}
-use Rattle.qc_fabric.specs.Names.{ArmsNoneBehind, IsRoll}
+use Rattle.qc_fabric.specs.Vocabulary.{ArmsNoneBehind, IsRoll}
 use Rattle.qc_fabric.proofs.Gains.{look_unarmed}
 
 module _ {script : Script} {z : TableId} {own : Script} {entries : List Entry} {table : TableId}

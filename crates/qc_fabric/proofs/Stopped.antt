@@ -2,19 +2,18 @@
 use Rattle.std.specs.Prelude.{is_some, not}
 use Rattle.std.proofs.Common.{◌≡◌, ℕ, zero, suc, ◌≤◌, Bool, true, false, ◌||◌, List, [], ◌∷◌, Option, Some, None, refl}
 use Rattle.std.proofs.Common.{sym, ap, ◌∙◌, slice_get}
-use Rattle.qc_decl.specs.Names.{actors}
+use Rattle.qc_decl.specs.Vocabulary.{actors}
 use Rattle.qc_decl.specs.declared.declaration.Declaration.{Declaration}
-use Rattle.qc_inbox.specs.Names.{Inboxes, IsKept, picked_in}
-use Rattle.qc_inbox.specs.Picks as inboxes
-use Rattle.qc_inbox.proofs.Bounds.{controls_shown}
-use Rattle.qc_inbox.proofs.Picking.{none_picked, none_ready, picked_kept}
-use Rattle.qc_mailbox.specs.Names.{either}
+use Rattle.qc_mailbox.specs.Vocabulary.{Inboxes, IsKept, picked_in, either}
+use Rattle.qc_mailbox.specs.Picks as inboxes
+use Rattle.qc_mailbox.proofs.Bounds.{controls_shown}
+use Rattle.qc_mailbox.proofs.Picking.{none_picked, none_ready, picked_kept}
 use Rattle.qc_mailbox.proofs.Passing.{held_either}
 use Rattle.qc_msg.specs.declared.step.Control.{Control}
-use Rattle.qc_msg.specs.Names.{Entry}
+use Rattle.qc_msg.specs.Vocabulary.{Entry}
 use Rattle.qc_script.specs.declared.script.Script.{Script}
-use Rattle.qc_fabric.specs.Names.{IsStopped, has_any}
-use Rattle.qc_link.specs.Names.{most_actors}
+use Rattle.qc_fabric.specs.Vocabulary.{IsStopped, has_any}
+use Rattle.qc_link.specs.Vocabulary.{most_actors}
 
 any_cons : (b : Bool) (bits : List Bool) → has_any (b ∷ bits) ≡ false → (b ≡ false) × (has_any bits ≡ false)
 any_cons true bits e = absurd (let no : ⊥ = cc in no)

@@ -6,35 +6,34 @@ use Rattle.std.specs.Prelude.{slice_get, slice_set}
 use mathlib.Core.Logic.{dite}
 use native.Mathlib.Decide.{ℕ_discrete}
 use Rattle.atomic_table.specs.Seated.{TableId}
-use Rattle.qc_decl.specs.Names.{actors}
+use Rattle.qc_decl.specs.Vocabulary.{actors}
 use Rattle.qc_decl.specs.declared.declaration.Declaration.{Declaration}
-use Rattle.qc_inbox.specs.Names.{Inboxes, IsKept, after_take}
-use Rattle.qc_inbox.specs.declared.input.ReadyInput.{ReadyInput}
-use Rattle.qc_inbox.proofs.Acting.{kept_take}
-use Rattle.qc_inbox.proofs.Among.{ready_found}
-use Rattle.qc_mailbox.specs.Names.{Roomy}
+use Rattle.qc_mailbox.specs.Vocabulary.{Inboxes, IsKept, after_take, Roomy}
+use Rattle.qc_mailbox.specs.declared.input.ReadyInput.{ReadyInput}
+use Rattle.qc_mailbox.proofs.Acting.{kept_take}
+use Rattle.qc_mailbox.proofs.Among.{ready_found}
 use Rattle.qc_msg.specs.declared.record.Record.{Record}
 use Rattle.qc_msg.specs.declared.step.Input.{Input}
 use Rattle.qc_msg.specs.declared.step.Input.TheVariants as inputs
 use Rattle.qc_msg.specs.declared.step.Step.{Step}
 use Rattle.qc_msg.specs.declared.turn.Turn.{Turn}
-use Rattle.qc_msg.specs.Names.{Deed, Entry, Takes as TakesInput, deeds, mail, marked, step_of}
+use Rattle.qc_msg.specs.Vocabulary.{Deed, Entry, Takes as TakesInput, deeds, mail, marked, step_of}
 use Rattle.qc_msg.proofs.Growth.{deeds-taken}
 use Rattle.qc_pass.specs.declared.token.Pass.{Pass}
 use Rattle.qc_pass.specs.declared.token.Right.{Right}
-use Rattle.qc_pass.specs.Names.{Met, all, number, room, seen}
-use Rattle.qc_promise.specs.Names.{arms_disk}
-use Rattle.qc_script.specs.Names.{RunsWithFalls, ready, takes}
+use Rattle.qc_pass.specs.Vocabulary.{Met, all, number, room, seen}
+use Rattle.qc_promise.specs.Vocabulary.{arms_disk}
+use Rattle.qc_script.specs.Vocabulary.{RunsWithFalls, ready, takes}
 use Rattle.qc_script.specs.declared.script.Script.{Script}
-use Rattle.qc_fabric.specs.Names.{HasGrown, HasNext, HasNone, IsFabricState, IsInputFor, Logged, Sees, Takes, Waits}
-use Rattle.qc_fabric.specs.Names.{full_of, given_by, most_history}
+use Rattle.qc_fabric.specs.Vocabulary.{HasGrown, HasNext, HasNone, IsFabricState, IsInputFor, Logged, Sees, Takes}
+use Rattle.qc_fabric.specs.Vocabulary.{Waits, full_of, given_by, most_history}
 use Rattle.qc_fabric.proofs.Events.{begins_input}
 use Rattle.qc_fabric.proofs.Fed.{bit_clear, bit_set, deeds_of_front, get_else, get_here, get_within, length_set}
 use Rattle.qc_fabric.proofs.Gains.{Gain, gain}
 use Rattle.qc_fabric.proofs.KeptParts.{all_of, steps_on, unarmed_of}
 use Rattle.qc_fabric.proofs.Phased.{phase_input}
 use Rattle.qc_fabric.proofs.Ready.{given_ready, none_ready}
-use Rattle.qc_link.specs.Names.{most_actors}
+use Rattle.qc_link.specs.Vocabulary.{most_actors}
 
 input_arms_none : (g : Input) (b : ℕ) → arms_disk b (step_of g) ≡ false
 input_arms_none (inputs.Called command) b = refl

@@ -1,8 +1,8 @@
 -- What the calls tell by which control lines of an actor's act: one arms its disk, one crashes it.
 use Rattle.std.specs.Prelude.{◌≡◌, ℕ, List, [], ◌∷◌, ◌++◌, None}
-use Rattle.qc_decl.specs.Names.{controller}
+use Rattle.qc_decl.specs.Vocabulary.{controller}
 use Rattle.qc_decl.specs.declared.declaration.Declaration.{Declaration}
-use Rattle.qc_msg.specs.Names.{Deed, Entry, Falls, deeds, marked}
+use Rattle.qc_msg.specs.Vocabulary.{Deed, Entry, Falls, deeds, marked}
 use Rattle.qc_msg.specs.declared.record.Record.{Record}
 use Rattle.qc_msg.specs.declared.step.Fall.TheVariants as causes
 use Rattle.qc_msg.specs.declared.step.Step.{Step}
@@ -10,9 +10,9 @@ use Rattle.qc_msg.specs.declared.step.Step.TheVariants.{Armed, Fell}
 use Rattle.qc_msg.specs.declared.turn.Turn.{Turn}
 use Rattle.qc_outside.specs.declared.disk.ArmKind.{ArmKind}
 use Rattle.qc_pass.specs.declared.token.Pass.{Pass}
-use Rattle.qc_pass.specs.Names.{mine, number, room, seen}
-use Rattle.qc_promise.specs.Names.{IsOfOthers}
-use Rattle.qc_script.specs.Names.{RunWithFalls}
+use Rattle.qc_pass.specs.Vocabulary.{mine, number, room, seen}
+use Rattle.qc_promise.specs.Vocabulary.{IsOfOthers}
+use Rattle.qc_script.specs.Vocabulary.{RunWithFalls}
 use Rattle.qc_script.specs.declared.script.Script.{Script}
 use Rattle.qc_fabric.specs.Tells.{IsSame}
 

@@ -1,14 +1,14 @@
 -- What the controller does next, if anything, in phases up to a last one.
 use Rattle.std.specs.Prelude.{◌≡◌, ◌⊎◌, ℕ, Bool, true, false, List, Some}
 use Rattle.qc_decl.specs.declared.declaration.Declaration.{Declaration}
-use Rattle.qc_msg.specs.Names.{Deed, Entry}
+use Rattle.qc_msg.specs.Vocabulary.{Deed, Entry}
 use Rattle.qc_msg.specs.declared.record.Record.{Record}
 use Rattle.qc_msg.specs.declared.step.Control.{Control}
 use Rattle.qc_msg.specs.declared.step.Step.{Step}
 use Rattle.qc_msg.specs.declared.turn.Turn.{Turn}
-use Rattle.qc_pass.specs.Names.{room, seen}
+use Rattle.qc_pass.specs.Vocabulary.{room, seen}
 use Rattle.qc_pass.specs.declared.token.Pass.{Pass}
-use Rattle.qc_script.specs.Names.{RunsWithFalls}
+use Rattle.qc_script.specs.Vocabulary.{RunsWithFalls}
 use Rattle.qc_script.specs.declared.script.Script.{Script}
 use Rattle.qc_fabric.specs.Controls.{IsControllers, IsUpTo, MayDo}
 use Rattle.qc_fabric.specs.Picks.{picked}

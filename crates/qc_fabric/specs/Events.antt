@@ -1,7 +1,7 @@
 -- The events of a history, and what stood before the last of them.
 use Rattle.std.specs.Prelude.{Bool, true, false, List, [], ◌∷◌, Option, Some, None, if◌then◌else◌}
 use Rattle.std.specs.List.{list_any}
-use Rattle.qc_msg.specs.Names.{Entry}
+use Rattle.qc_msg.specs.Vocabulary.{Entry}
 use Rattle.qc_msg.specs.declared.record.Record.{Record}
 use Rattle.qc_msg.specs.declared.step.Step.{Step}
 use Rattle.qc_msg.specs.declared.step.Step.TheVariants as steps

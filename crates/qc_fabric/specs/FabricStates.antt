@@ -1,22 +1,21 @@
 -- What the state under the lock keeps.
 use Rattle.std.specs.Prelude.{◌≡◌, ℕ, ◌+◌, ◌<◌, ◌≤◌, suc, Bool, true, List, Option, Some, None, length, slice_get, sum}
 use Rattle.atomic_table.specs.Seated.{TableId}
-use Rattle.qc_decl.specs.Names.{actors, controller}
+use Rattle.qc_decl.specs.Vocabulary.{actors, controller}
 use Rattle.qc_decl.specs.declared.declaration.Declaration.{Declaration}
-use Rattle.qc_inbox.specs.Names.{IsKept, TellsWhereDown}
-use Rattle.qc_mailbox.specs.Names.{Roomy}
-use Rattle.qc_msg.specs.Names.{Deed, Entry}
+use Rattle.qc_mailbox.specs.Vocabulary.{IsKept, TellsWhereDown, Roomy}
+use Rattle.qc_msg.specs.Vocabulary.{Deed, Entry}
 use Rattle.qc_msg.specs.declared.record.Record.{Record}
 use Rattle.qc_msg.specs.declared.step.Step.{Step}
 use Rattle.qc_msg.specs.declared.turn.Turn.{Turn}
 use Rattle.qc_pass.specs.declared.token.Right.{Right}
-use Rattle.qc_pass.specs.Names.{all, ends, right_table, rooms}
-use Rattle.qc_script.specs.Names.{IsScriptFor, RunsWithFalls, phase_of}
+use Rattle.qc_pass.specs.Vocabulary.{all, ends, right_table, rooms}
+use Rattle.qc_script.specs.Vocabulary.{IsScriptFor, RunsWithFalls, phase_of}
 use Rattle.qc_script.specs.declared.script.Script.{Script}
 use Rattle.qc_fabric.specs.Events.{before_last_event}
 use Rattle.qc_fabric.specs.Gains.{ArmsNoneBehind}
 use Rattle.qc_fabric.specs.Logs.{Logged, full_of}
-use Rattle.qc_link.specs.Names.{most_actors}
+use Rattle.qc_link.specs.Vocabulary.{most_actors}
 
 -- what callers see: the history, of each site and client whether its input is open, and whether it is held, and for how
 -- many steps there is room beyond those that are reserved

@@ -1,10 +1,10 @@
 -- A log that takes steps.
 use Rattle.std.specs.Prelude.{◌≡◌, ℕ, ◌+◌, ◌≤◌, List, ◌++◌, length}
-use Rattle.qc_msg.specs.Names.{Entry, by}
+use Rattle.qc_msg.specs.Vocabulary.{Entry, by}
 use Rattle.qc_msg.specs.declared.step.Step.{Step}
 use Rattle.qc_pass.specs.declared.token.Pass.{Pass}
 use Rattle.qc_pass.specs.declared.token.Right.{Right}
-use Rattle.qc_pass.specs.Names.{number}
+use Rattle.qc_pass.specs.Vocabulary.{number}
 use Rattle.qc_fabric.specs.Logs.{Logged}
 use Rattle.qc_fabric.specs.FabricStates.{most_history}
 use Rattle.qc_fabric.specs.Tells.{Fed}

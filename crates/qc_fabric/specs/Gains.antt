@@ -1,8 +1,8 @@
 -- What stands behind what passes have seen: nothing there arms a fault for the disk of a pass's actor.
 use Rattle.std.specs.Prelude.{◌≡◌, ℕ, false, List, Some, drop, slice_get}
 use Rattle.std.specs.List.{AllByRecursion as Every}
-use Rattle.qc_msg.specs.Names.{Entry}
-use Rattle.qc_promise.specs.Names.{arms_disk}
+use Rattle.qc_msg.specs.Vocabulary.{Entry}
+use Rattle.qc_promise.specs.Vocabulary.{arms_disk}
 
 -- no entry arms a fault for actor a's disk
 abbrev pub ArmsNone : ℕ → List Entry → Type 0

@@ -2,13 +2,13 @@
 use Rattle.std.specs.Prelude.{◌≡◌, ◌⊎◌, ◌<◌, ℕ, Bool, true, false, List, Option, Some, None, IsSome, length, option_map}
 use Rattle.std.specs.Prelude.{slice_get}
 use Rattle.qc_decl.specs.declared.declaration.Declaration.{Declaration}
-use Rattle.qc_inbox.specs.Names.{Inboxes, input_in, is_held}
-use Rattle.qc_inbox.specs.declared.input.ReadyInput.{ReadyInput}
-use Rattle.qc_inbox.specs.declared.input.ReadyInput.TheVariants as inputs
+use Rattle.qc_mailbox.specs.Vocabulary.{Inboxes, input_in, is_held}
+use Rattle.qc_mailbox.specs.declared.input.ReadyInput.{ReadyInput}
+use Rattle.qc_mailbox.specs.declared.input.ReadyInput.TheVariants as inputs
 use Rattle.qc_msg.specs.declared.message.Envelope.{Envelope}
 use Rattle.qc_msg.specs.declared.step.Input.{Input}
 use Rattle.qc_msg.specs.declared.step.Input.TheVariants as given
-use Rattle.qc_msg.specs.Names.{Entry}
+use Rattle.qc_msg.specs.Vocabulary.{Entry}
 use Rattle.qc_fabric.specs.Logs.{full_of}
 
 -- the input with its message in full, these being the messages so far

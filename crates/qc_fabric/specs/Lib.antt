@@ -14,4 +14,4 @@ pub mod Feeds
 pub mod ActorLines
 pub mod Risings
 pub mod Rolls
-pub mod Names
+pub mod Vocabulary

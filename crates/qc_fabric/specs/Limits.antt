@@ -1,7 +1,7 @@
 -- The limits of a run, quantity by quantity.
 use Rattle.std.specs.Prelude.{◌≡◌, ℕ, ◌<◌, ◌≤◌, List, length}
-use Rattle.qc_decl.specs.Names.{most_carried_lines, most_committed_operations, most_steps}
-use Rattle.qc_msg.specs.Names.{Entry, carried_of, operations_of}
+use Rattle.qc_decl.specs.Vocabulary.{most_carried_lines, most_committed_operations, most_steps}
+use Rattle.qc_msg.specs.Vocabulary.{Entry, carried_of, operations_of}
 use Rattle.qc_msg.specs.declared.step.Quantity.{Quantity}
 use Rattle.qc_msg.specs.declared.step.Quantity.TheVariants.{Steps, Operations, Carried}
 use Rattle.qc_fabric.specs.Logs.{counted}

@@ -1,8 +1,8 @@
 -- The log: a history, what is counted in it, where its messages stand, and room.
 use Rattle.std.specs.Prelude.{ℕ, ◌≡◌, ◌+◌, ◌-◌, ◌^◌, ◌<◌, ◌≤◌, min, nat_le, List, Option, Some, None, get_or, length}
 use Rattle.std.specs.Prelude.{if◌then◌else◌}
-use Rattle.qc_decl.specs.Names.{most_carried_lines, most_committed_operations, most_steps}
-use Rattle.qc_msg.specs.Names.{Entry, carried_of, operations_of, tally_of}
+use Rattle.qc_decl.specs.Vocabulary.{most_carried_lines, most_committed_operations, most_steps}
+use Rattle.qc_msg.specs.Vocabulary.{Entry, carried_of, operations_of, tally_of}
 use Rattle.qc_msg.specs.declared.step.Quantity.TheVariants.{Steps, Operations, Carried}
 use Rattle.qc_fabric.specs.Places.{places_of}
 use Rattle.qc_fabric.specs.declared.full.Full.{Full}

@@ -1,12 +1,12 @@
 -- What `pick` answers, as one function of the history, the open inputs and who is held.
 use Rattle.std.specs.Prelude.{◌≡◌, ℕ, ◌<◌, Bool, true, false, List, [], Option, Some, None, slice_get, slice_set}
 use Rattle.std.specs.List.{list_any}
-use Rattle.qc_decl.specs.Names.{actors}
+use Rattle.qc_decl.specs.Vocabulary.{actors}
 use Rattle.qc_decl.specs.declared.declaration.Declaration.{Declaration}
-use Rattle.qc_inbox.specs.Picks as inboxes
-use Rattle.qc_mailbox.specs.Names.{either}
-use Rattle.qc_msg.specs.Names.{Entry}
-use Rattle.qc_script.specs.Names.{controls_left, ready}
+use Rattle.qc_mailbox.specs.Picks as inboxes
+use Rattle.qc_mailbox.specs.Vocabulary.{either}
+use Rattle.qc_msg.specs.Vocabulary.{Entry}
+use Rattle.qc_script.specs.Vocabulary.{controls_left, ready}
 use Rattle.qc_script.specs.declared.script.Script.{Script}
 use Rattle.qc_fabric.specs.Logs.{full_of}
 use Rattle.qc_fabric.specs.declared.full.Full.{Full}

@@ -1,18 +1,18 @@
 -- What a restart of an actor makes of what was found: its steps, its deeds, what waits for whom, and the room for it.
 use Rattle.std.specs.Prelude.{◌≡◌, ℕ, ◌+◌, ◌≤◌, List, [], ◌∷◌, ◌++◌, None, length}
 use Rattle.qc_decl.specs.declared.declaration.Declaration.{Declaration}
-use Rattle.qc_inbox.specs.Names.{Inboxes, after_fall_by_line, after_rising_as, with_control_gone}
-use Rattle.qc_msg.specs.Names.{Deed, Entry, Falls, HasRecord, IsByDisk, Rises, by, deeds, deeds_as, mail, posted_as}
-use Rattle.qc_msg.specs.Names.{sends_as}
+use Rattle.qc_mailbox.specs.Vocabulary.{Inboxes, after_fall_by_line, after_rising_as, with_control_gone}
+use Rattle.qc_msg.specs.Vocabulary.{Deed, Entry, Falls, HasRecord, IsByDisk, Rises, by, deeds, deeds_as, mail}
+use Rattle.qc_msg.specs.Vocabulary.{posted_as, sends_as}
 use Rattle.qc_msg.specs.declared.record.Record.{Record}
 use Rattle.qc_msg.specs.declared.step.Step.{Step}
 use Rattle.qc_msg.specs.declared.step.Step.TheVariants as steps
 use Rattle.qc_msg.specs.declared.turn.Posting.{Posting}
 use Rattle.qc_msg.specs.declared.turn.Turn.{Turn}
 use Rattle.qc_pass.specs.declared.token.Pass.{Pass}
-use Rattle.qc_pass.specs.Names.{mine, number, room, seen}
-use Rattle.qc_promise.specs.Names.{IsOfOthers}
-use Rattle.qc_script.specs.Names.{RunWithFalls}
+use Rattle.qc_pass.specs.Vocabulary.{mine, number, room, seen}
+use Rattle.qc_promise.specs.Vocabulary.{IsOfOthers}
+use Rattle.qc_script.specs.Vocabulary.{RunWithFalls}
 use Rattle.qc_script.specs.declared.script.Script.{Script}
 use Rattle.qc_fabric.specs.FabricStates.{most_history}
 use Rattle.qc_fabric.specs.Tells.{GoesToActors, IsSame, size_of}

@@ -1,10 +1,10 @@
 -- What is kept of a history to which nobody adds any more, as the passes are called one after another.
 use Rattle.std.specs.Prelude.{◌≡◌, ℕ, List, [], Option, Some, None}
 use Rattle.atomic_table.specs.Seated.{TableId}
-use Rattle.qc_msg.specs.Names.{Entry}
+use Rattle.qc_msg.specs.Vocabulary.{Entry}
 use Rattle.qc_msg.specs.declared.step.Step.{Step}
 use Rattle.qc_pass.specs.declared.token.Right.{Right}
-use Rattle.qc_pass.specs.Names.{all, ends, right_table, rooms}
+use Rattle.qc_pass.specs.Vocabulary.{all, ends, right_table, rooms}
 use Rattle.qc_script.specs.declared.script.Script.{Script}
 use Rattle.qc_fabric.specs.Gains.{ArmsNoneBehind}
 

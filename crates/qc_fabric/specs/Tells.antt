@@ -3,10 +3,10 @@ use Rattle.std.specs.Prelude.{◌≡◌, ◌⊎◌, ◌+◌, ◌<◌, ◌≤◌,
 use Rattle.std.specs.Prelude.{length, max, slice_get}
 use Rattle.std.specs.List.{AllByRecursion as Every}
 use mathlib.Core.List.{IsPrefix}
-use Rattle.qc_decl.specs.Names.{controller}
+use Rattle.qc_decl.specs.Vocabulary.{controller}
 use Rattle.qc_decl.specs.declared.declaration.Declaration.{Declaration}
-use Rattle.qc_msg.specs.Names.{Deed, Entry, Takes as TakesInput, by, deeds, deeds_as, mail, marked, posted_as, step_of}
-use Rattle.qc_msg.specs.Names.{told, wrote}
+use Rattle.qc_msg.specs.Vocabulary.{Deed, Entry, Takes as TakesInput, by, deeds, deeds_as, mail, marked, posted_as}
+use Rattle.qc_msg.specs.Vocabulary.{step_of, told, wrote}
 use Rattle.qc_msg.specs.declared.record.Record.{Record}
 use Rattle.qc_msg.specs.declared.step.Control.{Control}
 use Rattle.qc_msg.specs.declared.step.Input.{Input}
@@ -15,14 +15,14 @@ use Rattle.qc_msg.specs.declared.turn.Posting.{Posting}
 use Rattle.qc_msg.specs.declared.turn.Turn.{Turn}
 use Rattle.qc_pass.specs.declared.token.Pass.{Pass}
 use Rattle.qc_pass.specs.declared.token.Right.{Right}
-use Rattle.qc_pass.specs.Names.{all, ends, mine, number, pass_table, right_table, room, rooms, seen}
-use Rattle.qc_promise.specs.Names.{IsOfOthers}
-use Rattle.qc_script.specs.Names.{RunWithFalls, ready}
+use Rattle.qc_pass.specs.Vocabulary.{all, ends, mine, number, pass_table, right_table, room, rooms, seen}
+use Rattle.qc_promise.specs.Vocabulary.{IsOfOthers}
+use Rattle.qc_script.specs.Vocabulary.{RunWithFalls, ready}
 use Rattle.qc_script.specs.declared.script.Script.{Script}
 use Rattle.qc_fabric.specs.Controls.{control_step}
 use Rattle.qc_fabric.specs.Logs.{full_of}
 use Rattle.qc_fabric.specs.FabricStates.{most_history}
-use Rattle.qc_link.specs.Names.{most_actors}
+use Rattle.qc_link.specs.Vocabulary.{most_actors}
 
 -- the same pass
 pub record IsSame (p q : Pass Step) : Type 0 where

@@ -9,9 +9,8 @@ ghost use Rattle.qc_link.specs.Limits.{most_actors};
 
 use crate::log::HistoryStore;
 use qc_decl::Declaration;
-use qc_inbox::ReadyInput;
 use qc_list::OutOfMemory;
-use qc_mailbox::{Mailboxes, is_set};
+use qc_mailbox::{Mailboxes, ReadyInput, is_set};
 use qc_msg::{Entry, Envelope, Input, Step};
 use std::alloc::Global;
 

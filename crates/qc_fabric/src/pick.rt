@@ -1,7 +1,7 @@
 //! Who takes the next input.
 
 ghost use Rattle.std.specs.Prelude.{◌≡◌, true};
-ghost use Rattle.qc_inbox.specs.Picks.{is_held};
+ghost use Rattle.qc_mailbox.specs.Picks.{is_held};
 ghost use Rattle.qc_fabric.specs.Logs.{full_of};
 ghost use Rattle.qc_fabric.specs.Picks.{IsNamed, IsStopped, has_any, held_after, next_actor, picked};
 ghost use Rattle.qc_fabric.specs.Picks.{where_none};

@@ -5,7 +5,7 @@ ghost use Rattle.qc_decl.specs.Actors.{actors};
 ghost use Rattle.qc_link.specs.Limits.{most_actors};
 ghost use Rattle.qc_msg.specs.declared.step.Control.TheVariants.{Restart};
 ghost use Rattle.qc_pass.specs.Tokens.{number, pass_table, seen};
-ghost use Rattle.qc_inbox.specs.Rooms.{after_rising_as};
+ghost use Rattle.qc_mailbox.specs.Rooms.{after_rising_as};
 ghost use Rattle.qc_msg.specs.Steps.{sends_as};
 ghost use Rattle.qc_fabric.specs.Controls.{MayDo};
 ghost use Rattle.qc_fabric.specs.Risings.{IsRising, RisesAs, RisesToActors, after_rising, sends_of_rising};

@@ -3,7 +3,7 @@
 
 ghost use Rattle.std.specs.Prelude.{◌≡◌, ◌<◌, ◌≤◌, ◌+◌, [], None, IfOk, false, length, replicate, slice_set};
 ghost use Rattle.qc_decl.specs.Actors.{actors, controller};
-ghost use Rattle.qc_inbox.specs.Downs.{TellsWhereDown};
+ghost use Rattle.qc_mailbox.specs.Downs.{TellsWhereDown};
 ghost use Rattle.qc_pass.specs.Made.{IsFirst};
 ghost use Rattle.qc_pass.specs.Tokens.{number, pass_table, room, seen, table_of};
 ghost use Rattle.qc_script.specs.RunsWithFalls.{RunsWithFalls};

@@ -5,7 +5,7 @@ use Rattle.std.specs.declared.alloc.Global.{Global}
 use Rattle.std.specs.declared.io.Error.{Error}
 use Rattle.std.specs.declared.io.ErrorKind.{ErrorKind}
 use Rattle.std.specs.declared.io.ErrorKind.TheVariants as kinds
-use Rattle.qc_outside.specs.Names.{Answer}
+use Rattle.qc_outside.specs.Vocabulary.{Answer}
 use Rattle.qc_outside.specs.declared.shelf.ShelfFault.{ShelfFault}
 use Rattle.qc_outside.specs.declared.shelf.ShelfFault.TheVariants as faults
 

@@ -5,11 +5,11 @@ use Rattle.std.specs.Prelude.{is_some}
 use Rattle.std.specs.List.{AllByRecursion as Every, list_all}
 use Rattle.std.specs.Option.{option_map_or}
 use Rattle.std.proofs.lemmas.Bool.Decides.{nat_tests}
-use Rattle.qc_decl.specs.Names.{administrator, client_actor, is_client, is_site, plan_in, table_at}
+use Rattle.qc_decl.specs.Vocabulary.{administrator, client_actor, is_client, is_site, plan_in, table_at}
 use Rattle.qc_decl.specs.declared.declaration.Declaration.{Declaration}
-use Rattle.qc_fit.specs.Names.{HasNumber, HasPlan, HasResponse, greatest_clock, has_client, has_epoch, has_response}
-use Rattle.qc_fit.specs.Names.{is_administrator, is_clock, is_this_client, most_records}
-use Rattle.qc_table.specs.Names.{Rules}
+use Rattle.qc_fit.specs.Vocabulary.{HasNumber, HasPlan, HasResponse, greatest_clock, has_client, has_epoch}
+use Rattle.qc_fit.specs.Vocabulary.{has_response, is_administrator, is_clock, is_this_client, most_records}
+use Rattle.qc_table.specs.Vocabulary.{Rules}
 
 pub both_true : (a b : Bool) → (a && b) ≡ true → (a ≡ true) × (b ≡ true)
 both_true true true e = (refl, refl)

@@ -6,15 +6,15 @@ use Rattle.qc_entry.specs.declared.line.Line.{Line}
 use Rattle.qc_entry.specs.declared.line.Op.{Op}
 use Rattle.qc_entry.specs.declared.line.OwnLine.{OwnLine}
 use Rattle.qc_entry.specs.declared.line.ReadLock.{ReadLock}
-use Rattle.qc_fit.specs.Names.{HasEvent, HasInvocation, HasPlan, IsFit, IsLineDeclared, IsOpDeclared, fits}
-use Rattle.qc_fit.specs.Names.{greatest_clock, is_line_fit, is_lock_fit, is_op_fit, is_own_fit, is_start_fit}
+use Rattle.qc_fit.specs.Vocabulary.{HasEvent, HasInvocation, HasPlan, IsFit, IsLineDeclared, IsOpDeclared, fits}
+use Rattle.qc_fit.specs.Vocabulary.{greatest_clock, is_line_fit, is_lock_fit, is_op_fit, is_own_fit, is_start_fit}
 use Rattle.qc_fit.proofs.Tests.{all_of, both_true, every_of, true_both, client_of, of_client, clock_of, of_clock}
 use Rattle.qc_fit.proofs.Tests.{few_of, of_few, plan_of, of_plan, number_of, of_number, response_of, of_response}
 use Rattle.qc_fit.proofs.Tests.{site_of, of_site, administrator_of, of_administrator, this_client_of, of_this_client}
 use Rattle.qc_fit.proofs.Tests.{rises_of, of_rises}
 use Rattle.qc_msg.specs.declared.record.Record.{Record}
 use Rattle.qc_msg.specs.declared.record.Record.TheVariants as records
-use Rattle.qc_table.specs.Names.{Rules, events_of}
+use Rattle.qc_table.specs.Vocabulary.{Rules, events_of}
 
 -- parts
 

@@ -3,4 +3,4 @@ pub mod Fits
 pub mod Parts
 pub mod Said
 pub mod Cases
-pub mod Names
+pub mod Vocabulary

@@ -3,9 +3,9 @@
 use Rattle.std.specs.Prelude.{ℕ, ◌^◌, Bool, true, false, ◌==◌, ◌&&◌, nat_le, nat_lt, length, Option, Some, None}
 use Rattle.std.specs.Prelude.{is_some}
 use Rattle.std.specs.Option.{option_map_or}
-use Rattle.qc_decl.specs.Names.{administrator, client_actor, is_client, plan_in, table_at}
+use Rattle.qc_decl.specs.Vocabulary.{administrator, client_actor, is_client, plan_in, table_at}
 use Rattle.qc_decl.specs.declared.declaration.Declaration.{Declaration}
-use Rattle.qc_table.specs.Names.{Rules, events_of}
+use Rattle.qc_table.specs.Vocabulary.{Rules, events_of}
 
 -- The number below which the records before a record stay, so that lives, which records count, stay below 2^32.
 abbrev pub most_records : ℕ

@@ -1,7 +1,7 @@
 -- When a record fits its actor, in words: a sentence for each of its parts.
 use Rattle.std.specs.Prelude.{◌≡◌, ℕ, ◌<◌, ◌≤◌, Option, Some, None, length}
 use Rattle.std.specs.List.{AllByRecursion as Every}
-use Rattle.qc_decl.specs.Names.{administrator, client_actor, plan_in, table_at}
+use Rattle.qc_decl.specs.Vocabulary.{administrator, client_actor, plan_in, table_at}
 use Rattle.qc_decl.specs.declared.declaration.Declaration.{Declaration}
 use Rattle.qc_entry.specs.declared.line.Line.{Line}
 use Rattle.qc_entry.specs.declared.line.Op.{Op}
@@ -12,7 +12,7 @@ use Rattle.qc_fit.specs.Parts.{clients_of, clocks_of, epochs_of, lines_of, locks
 use Rattle.qc_msg.specs.declared.record.Record.{Record}
 use Rattle.qc_msg.specs.declared.record.Record.TheVariants as records
 use Rattle.qc_plan.specs.declared.plan.Plan.{Plan}
-use Rattle.qc_table.specs.Names.{Rules, events_of}
+use Rattle.qc_table.specs.Vocabulary.{Rules, events_of}
 
 -- Who writes it. The administrator's number is the highest of those that rise.
 abbrev pub IsWriter : Declaration → ℕ → Record → Type 0

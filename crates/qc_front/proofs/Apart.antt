@@ -3,9 +3,9 @@ use Rattle.std.proofs.Common.{◌≡◌, ◌≢◌, ℕ, zero, suc, ◌+◌, ◌
 use Rattle.std.proofs.Common.{◌⊎◌, inl, inr, List, [], ◌∷◌, ◌++◌, map, filter, length, refl, sym, ap, ◌∙◌, subst}
 use Rattle.std.proofs.Common.{eq-eqb, eqb-true, arith}
 use Rattle.std.specs.List.{range_with_len}
-use Rattle.qc_list.specs.Names.{In}
+use Rattle.qc_list.specs.Vocabulary.{In}
 use Rattle.qc_list.proofs.Members.{In-first, In-second, In-unfiltered}
-use Rattle.qc_plan.specs.Names.{cyclic, weighing, weight_at}
+use Rattle.qc_plan.specs.Vocabulary.{cyclic, weighing, weight_at}
 
 -- no two are the same
 abbrev pub AreApart : List ℕ → Type 0

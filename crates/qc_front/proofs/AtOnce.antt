@@ -2,9 +2,9 @@
 use Rattle.std.proofs.Common.{◌≡◌, ℕ, ◌≤◌, ◌==◌, nat_le, Bool, true, false, cond, ◌⊎◌, inl, inr, List, [], ◌∷◌, ◌++◌}
 use Rattle.std.proofs.Common.{length, map, Option, Some, None, refl, sym, ap, ◌∙◌, subst}
 use Rattle.std.proofs.lemmas.List.{append-nil}
-use Rattle.qc_list.specs.Names.{In}
+use Rattle.qc_list.specs.Vocabulary.{In}
 use Rattle.qc_decl.specs.declared.declaration.Declaration.{Declaration}
-use Rattle.qc_decl.specs.Names.{append_need_of, most_transaction_operations, read_need_of}
+use Rattle.qc_decl.specs.Vocabulary.{append_need_of, most_transaction_operations, read_need_of}
 use Rattle.qc_msg.specs.declared.begun.Begun.{Begun}
 use Rattle.qc_msg.specs.declared.call.Call.{Call}
 use Rattle.qc_msg.specs.declared.message.Answer.{Answer}
@@ -18,21 +18,21 @@ use Rattle.qc_msg.specs.declared.reply.AbortCause.TheVariants as causes
 use Rattle.qc_msg.specs.declared.step.Command.{Command}
 use Rattle.qc_msg.specs.declared.step.Command.TheVariants as commands
 use Rattle.qc_msg.specs.declared.turn.Posting.{Posting}
-use Rattle.qc_msg.specs.Names.{decisions, quiet, site_called, telling, without_call}
+use Rattle.qc_msg.specs.Vocabulary.{decisions, quiet, site_called, telling, without_call}
 use Rattle.qc_plan.specs.declared.standing.Verdict.{Verdict}
 use Rattle.qc_plan.specs.declared.standing.Verdict.TheVariants as verdicts
-use Rattle.qc_plan.specs.Names.{RoundState, all_noted, asking_all, note, verdict, wanted}
+use Rattle.qc_plan.specs.Vocabulary.{RoundState, all_noted, asking_all, note, verdict, wanted}
 use Rattle.qc_front.specs.declared.doing.Doing.{Doing}
 use Rattle.qc_front.specs.declared.doing.Doing.TheVariants.{Idle, Reading, Appending}
 use Rattle.qc_front.specs.declared.front.Front.{Front}
 use Rattle.qc_front.specs.declared.transaction.Transaction.{Transaction}
-use Rattle.qc_front.specs.Names.{AppendingHolds, AreOpen, AsksAll, AsksAtOnce, AsksIn, AsksNobody, BegunHolds}
-use Rattle.qc_front.specs.Names.{FrontHolds, FrontMove, IsAwaiting, IsNumbered, IsRound, ReadingHolds, aborts}
-use Rattle.qc_front.specs.Names.{answer_of, answered, append_by, append_counts, append_want, appended_with}
-use Rattle.qc_front.specs.Names.{appending_takes, appends, awaited, begins, called, commits, fresh, gives_up}
-use Rattle.qc_front.specs.Names.{is_request, learns, moved, next_tx, performs, read_by, read_counts, read_want}
-use Rattle.qc_front.specs.Names.{read_with, reading_takes, reads, request_of, round_for, sites_called, sites_of}
-use Rattle.qc_front.specs.Names.{standing_of, takes, takes_in}
+use Rattle.qc_front.specs.Vocabulary.{AppendingHolds, AreOpen, AsksAll, AsksAtOnce, AsksIn, AsksNobody, BegunHolds}
+use Rattle.qc_front.specs.Vocabulary.{FrontHolds, FrontMove, IsAwaiting, IsNumbered, IsRound, ReadingHolds, aborts}
+use Rattle.qc_front.specs.Vocabulary.{answer_of, answered, append_by, append_counts, append_want, appended_with}
+use Rattle.qc_front.specs.Vocabulary.{appending_takes, appends, awaited, begins, called, commits, fresh, gives_up}
+use Rattle.qc_front.specs.Vocabulary.{is_request, learns, moved, next_tx, performs, read_by, read_counts, read_want}
+use Rattle.qc_front.specs.Vocabulary.{read_with, reading_takes, reads, request_of, round_for, sites_called, sites_of}
+use Rattle.qc_front.specs.Vocabulary.{standing_of, takes, takes_in}
 use Rattle.qc_front.proofs.Apart.{AreApart}
 use Rattle.qc_front.proofs.Awaited.{asking_awaits, unnoted}
 use Rattle.qc_front.proofs.CommandsKeep.{called_holds}

@@ -9,19 +9,19 @@ use Rattle.std.specs.Option.{option_or}
 use Rattle.std.proofs.lemmas.List.{append-nil, map-append}
 use Rattle.std.proofs.lemmas.List.Elements.{filter-append}
 use Rattle.std.proofs.lemmas.List.Folds.{list_all-append}
-use Rattle.qc_list.specs.Names.{In}
+use Rattle.qc_list.specs.Vocabulary.{In}
 use Rattle.qc_decl.specs.declared.declaration.Declaration.{Declaration}
-use Rattle.qc_decl.specs.Names.{first_site}
+use Rattle.qc_decl.specs.Vocabulary.{first_site}
 use Rattle.qc_plan.specs.declared.standing.Asked.{Asked}
 use Rattle.qc_plan.specs.declared.standing.Standing.{Standing}
 use Rattle.qc_plan.specs.declared.standing.Standing.TheVariants as standings
 use Rattle.qc_plan.specs.declared.standing.Verdict.{Verdict}
 use Rattle.qc_plan.specs.declared.standing.Verdict.TheVariants as verdicts
-use Rattle.qc_plan.specs.Names.{RoundState, all_noted, asking_all, asking_first, asking_in_turn, asking_next, asking_on}
-use Rattle.qc_plan.specs.Names.{clash_at, closed_at, first, first_clash, first_closed, has_granted, is_asked}
-use Rattle.qc_plan.specs.Names.{is_waiting, may_ask, next_site, note, note_in, prefix, refusal, settled, start, verdict}
-use Rattle.qc_plan.specs.Names.{wanted, weight}
-use Rattle.qc_front.specs.Names.{IsAwaiting, IsPrefix, IsRound, awaited, sites_of, weights_of}
+use Rattle.qc_plan.specs.Vocabulary.{RoundState, all_noted, asking_all, asking_first, asking_in_turn, asking_next}
+use Rattle.qc_plan.specs.Vocabulary.{asking_on, clash_at, closed_at, first, first_clash, first_closed, has_granted}
+use Rattle.qc_plan.specs.Vocabulary.{is_asked, is_waiting, may_ask, next_site, note, note_in, prefix, refusal, settled}
+use Rattle.qc_plan.specs.Vocabulary.{start, verdict, wanted, weight}
+use Rattle.qc_front.specs.Vocabulary.{IsAwaiting, IsPrefix, IsRound, awaited, sites_of, weights_of}
 use Rattle.qc_front.proofs.Apart.{AreApart, apart_filter, apart_first, apart_weighing}
 use Rattle.qc_front.proofs.OneByOne.{ends_asked}
 

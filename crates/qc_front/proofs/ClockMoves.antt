@@ -1,21 +1,21 @@
 -- A command's move never lets the clock, the known epoch and the count of transactions fall.
-use Rattle.std.proofs.Common.{◌≡◌, ℕ, ◌+◌, ◌≤◌, Bool, true, false, cond, nat_le, List, length, Option, Some, None, refl}
-use Rattle.std.proofs.Common.{arith}
+use Rattle.std.proofs.Common.{[], ◌≡◌, ℕ, ◌+◌, ◌≤◌, Bool, true, false, cond, nat_le, List, length, Option, Some, None}
+use Rattle.std.proofs.Common.{refl, arith}
 use Rattle.qc_decl.specs.declared.declaration.Declaration.{Declaration}
-use Rattle.qc_decl.specs.Names.{append_need_of, most_transaction_operations, read_need_of}
+use Rattle.qc_decl.specs.Vocabulary.{append_need_of, most_transaction_operations, read_need_of}
 use Rattle.qc_msg.specs.declared.call.Call.{Call}
 use Rattle.qc_msg.specs.declared.reply.Reply.TheVariants as replies
 use Rattle.qc_msg.specs.declared.reply.AbortCause.TheVariants as causes
 use Rattle.qc_msg.specs.declared.step.Command.{Command}
 use Rattle.qc_msg.specs.declared.step.Command.TheVariants as commands
-use Rattle.qc_msg.specs.Names.{quiet, telling}
+use Rattle.qc_msg.specs.Vocabulary.{quiet, telling}
 use Rattle.qc_plan.specs.declared.standing.Verdict.{Verdict}
 use Rattle.qc_plan.specs.declared.standing.Verdict.TheVariants as verdicts
-use Rattle.qc_plan.specs.Names.{RoundState, verdict}
+use Rattle.qc_plan.specs.Vocabulary.{RoundState, verdict}
 use Rattle.qc_front.specs.declared.front.Front.{Front}
 use Rattle.qc_front.specs.declared.transaction.Transaction.{Transaction}
-use Rattle.qc_front.specs.Names.{aborts, answer_of, answered, append_by, begins, called, commits, gives_up, moved}
-use Rattle.qc_front.specs.Names.{performs, read_by, reads, round_for}
+use Rattle.qc_front.specs.Vocabulary.{aborts, answer_of, answered, append_by, begins, called, commits, gives_up, moved}
+use Rattle.qc_front.specs.Vocabulary.{performs, read_by, reads, round_for}
 
 -- a move keeps both, and the count of transactions; a command raises that by one at most
 

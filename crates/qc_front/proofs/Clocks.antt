@@ -4,14 +4,14 @@ use Rattle.qc_stamp.specs.declared.clock.Clock.{Clock}
 use Rattle.qc_decl.specs.declared.declaration.Declaration.{Declaration}
 use Rattle.qc_msg.specs.declared.message.Answer.{Answer}
 use Rattle.qc_msg.specs.declared.message.Answer.TheVariants as answers
-use Rattle.qc_msg.specs.Names.{site_called, without_call}
-use Rattle.qc_plan.specs.Names.{note, verdict}
+use Rattle.qc_msg.specs.Vocabulary.{site_called, without_call}
+use Rattle.qc_plan.specs.Vocabulary.{note, verdict}
 use Rattle.qc_front.specs.declared.doing.Doing.{Doing}
 use Rattle.qc_front.specs.declared.doing.Doing.TheVariants.{Idle, Reading, Appending}
 use Rattle.qc_front.specs.declared.front.Front.{Front}
 use Rattle.qc_front.specs.declared.transaction.Transaction.{Transaction}
-use Rattle.qc_front.specs.Names.{Learns, appended_with, appending_takes, asked_at, asked_in, ended, learns, read_with}
-use Rattle.qc_front.specs.Names.{reading_takes, standing_of, takes, takes_in}
+use Rattle.qc_front.specs.Vocabulary.{Learns, appended_with, appending_takes, asked_at, asked_in, ended, learns}
+use Rattle.qc_front.specs.Vocabulary.{read_with, reading_takes, standing_of, takes, takes_in}
 use Rattle.qc_front.proofs.ClockMoves.{Keeps, append_by_keeps, read_by_keeps}
 
 -- what is learned of what counts

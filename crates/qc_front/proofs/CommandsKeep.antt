@@ -1,11 +1,11 @@
 -- What holds of a front end holds after each command.
-use Rattle.std.proofs.Common.{◌≡◌, ℕ, ◌+◌, ◌<◌, ◌≤◌, nat_le, Bool, true, false, cond, List, ◌∷◌, ◌++◌, length, Option}
-use Rattle.std.proofs.Common.{Some, None, refl, sym, ap, ◌∙◌, subst, arith, append_assoc}
+use Rattle.std.proofs.Common.{[], ◌≡◌, ℕ, ◌+◌, ◌<◌, ◌≤◌, nat_le, Bool, true, false, cond, List, ◌∷◌, ◌++◌, length}
+use Rattle.std.proofs.Common.{Option, Some, None, refl, sym, ap, ◌∙◌, subst, arith, append_assoc}
 use Rattle.std.specs.Prelude.{option_map, slice_get}
 use Rattle.std.proofs.lemmas.Bool.{leb-false}
 use Rattle.std.proofs.lemmas.List.{length-append}
 use Rattle.qc_decl.specs.declared.declaration.Declaration.{Declaration}
-use Rattle.qc_decl.specs.Names.{append_need_of, first_site, most_transaction_operations, read_need_of}
+use Rattle.qc_decl.specs.Vocabulary.{append_need_of, first_site, most_transaction_operations, read_need_of}
 use Rattle.qc_entry.specs.declared.line.Op.{Op}
 use Rattle.qc_msg.specs.declared.begun.Begun.{Begun}
 use Rattle.qc_msg.specs.declared.call.Call.{Call}
@@ -13,20 +13,20 @@ use Rattle.qc_msg.specs.declared.step.Command.{Command}
 use Rattle.qc_msg.specs.declared.step.Command.TheVariants as commands
 use Rattle.qc_msg.specs.declared.reply.Reply.TheVariants as replies
 use Rattle.qc_msg.specs.declared.reply.AbortCause.TheVariants as causes
-use Rattle.qc_msg.specs.Names.{quiet, telling}
+use Rattle.qc_msg.specs.Vocabulary.{quiet, telling}
 use Rattle.qc_plan.specs.declared.standing.Verdict.{Verdict}
 use Rattle.qc_plan.specs.declared.standing.Verdict.TheVariants as verdicts
-use Rattle.qc_plan.specs.Names.{RoundState, asking_all, start, verdict, wanted}
+use Rattle.qc_plan.specs.Vocabulary.{RoundState, asking_all, start, verdict, wanted}
 use Rattle.qc_view.specs.declared.view.View.{View}
-use Rattle.qc_view.specs.Names.{with_own}
+use Rattle.qc_view.specs.Vocabulary.{with_own}
 use Rattle.qc_front.specs.declared.doing.Doing.{Doing}
 use Rattle.qc_front.specs.declared.doing.Doing.TheVariants.{Idle, Reading, Appending}
 use Rattle.qc_front.specs.declared.front.Front.{Front}
 use Rattle.qc_front.specs.declared.transaction.Transaction.{Transaction}
-use Rattle.qc_front.specs.Names.{AreOpen, BegunHolds, DoingHolds, FrontHolds, FrontMove, IsRound, RecordsHold, aborts}
-use Rattle.qc_front.specs.Names.{answer_of, answered, append_by, appends, begins, called, commits, fresh, gives_up}
-use Rattle.qc_front.specs.Names.{moved, next_own, next_tx, op_of, performs, read_by, reads, resp_of, round_for}
-use Rattle.qc_front.specs.Names.{sites_called, weights_of, with_event, with_view}
+use Rattle.qc_front.specs.Vocabulary.{AreOpen, BegunHolds, DoingHolds, FrontHolds, FrontMove, IsRound, RecordsHold}
+use Rattle.qc_front.specs.Vocabulary.{aborts, answer_of, answered, append_by, appends, begins, called, commits, fresh}
+use Rattle.qc_front.specs.Vocabulary.{gives_up, moved, next_own, next_tx, op_of, performs, read_by, reads, resp_of}
+use Rattle.qc_front.specs.Vocabulary.{round_for, sites_called, weights_of, with_event, with_view}
 use Rattle.qc_front.proofs.Awaited.{asking_awaits, asking_round, asking_waits}
 use Rattle.qc_front.proofs.Recording.{event_recorded, fresh_recorded, op_recorded}
 

@@ -4,22 +4,22 @@ use Rattle.std.proofs.Common.{option_map, option_and_then, refl, sym, ap, ◌∙
 use Rattle.std.specs.Prelude.{slice_get, slice_set}
 use Rattle.std.specs.Option.{option_map_or}
 use Rattle.qc_decl.specs.declared.declaration.Declaration.{Declaration}
-use Rattle.qc_decl.specs.Names.{table_at}
+use Rattle.qc_decl.specs.Vocabulary.{table_at}
 use Rattle.qc_entry.specs.declared.line.Line.{Line}
 use Rattle.qc_entry.specs.declared.line.OwnLine.{OwnLine}
 use Rattle.qc_msg.specs.declared.begun.Begun.{Begun}
 use Rattle.qc_msg.specs.declared.message.Answer.{Answer}
 use Rattle.qc_msg.specs.declared.message.Answer.TheVariants as answers
 use Rattle.qc_msg.specs.declared.message.Want.TheVariants.{Append}
-use Rattle.qc_table.specs.Names.{Rules}
+use Rattle.qc_table.specs.Vocabulary.{Rules}
 use Rattle.qc_view.specs.declared.view.View.{View}
-use Rattle.qc_view.specs.Names.{answer_in, with_log, with_own}
+use Rattle.qc_view.specs.Vocabulary.{answer_in, with_log, with_own}
 use Rattle.qc_front.specs.declared.draft.Draft.{Draft}
 use Rattle.qc_front.specs.declared.transaction.Transaction.{Transaction}
-use Rattle.qc_front.specs.Names.{IsDraft, answer_in_draft, answer_of, append_want, append_want_of, appended_draft}
-use Rattle.qc_front.specs.Names.{appended_with, draft_of, drafted, event_draft, lived, lived_draft, next_own, op_of}
-use Rattle.qc_front.specs.Names.{own_appended, read_draft, read_with, views_with, with_event, with_granted, with_op}
-use Rattle.qc_front.specs.Names.{with_view}
+use Rattle.qc_front.specs.Vocabulary.{IsDraft, answer_in_draft, answer_of, append_want, append_want_of, appended_draft}
+use Rattle.qc_front.specs.Vocabulary.{appended_with, draft_of, drafted, event_draft, lived, lived_draft, next_own}
+use Rattle.qc_front.specs.Vocabulary.{op_of, own_appended, read_draft, read_with, views_with, with_event, with_granted}
+use Rattle.qc_front.specs.Vocabulary.{with_op, with_view}
 
 -- what was put at a place is found there, and the last counts
 

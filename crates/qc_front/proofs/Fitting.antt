@@ -8,17 +8,17 @@ use Rattle.std.specs.Option.{option_map_or}
 use Rattle.std.proofs.lemmas.List.{length-append, length-map}
 use Rattle.std.proofs.lemmas.List.FromFn.{length-range_with_len}
 use Rattle.qc_decl.specs.declared.declaration.Declaration.{Declaration}
-use Rattle.qc_decl.specs.Names.{IsAccepted, IsGood, append_need_of, first_site, most_sites, most_transaction_operations}
-use Rattle.qc_decl.specs.Names.{plan_in, read_need_of}
+use Rattle.qc_decl.specs.Vocabulary.{IsAccepted, IsGood, append_need_of, first_site, most_sites}
+use Rattle.qc_decl.specs.Vocabulary.{most_transaction_operations, plan_in, read_need_of}
 use Rattle.qc_plan.specs.declared.plan.Plan.{Plan}
 use Rattle.qc_plan.specs.declared.standing.Asked.{Asked}
-use Rattle.qc_plan.specs.Names.{RoundState, cyclic, start, weighing, weight_at}
+use Rattle.qc_plan.specs.Vocabulary.{RoundState, cyclic, start, weighing, weight_at}
 use Rattle.qc_front.specs.declared.doing.Doing.{Doing}
 use Rattle.qc_front.specs.declared.doing.Doing.TheVariants.{Idle, Reading, Appending}
 use Rattle.qc_front.specs.declared.front.Front.{Front}
 use Rattle.qc_front.specs.declared.transaction.Transaction.{Transaction}
-use Rattle.qc_front.specs.Names.{AppendingHolds, AsksFew, BegunHolds, FrontFits, FrontHolds, HasRoom, IsRound}
-use Rattle.qc_front.specs.Names.{ReadingHolds, sites_of, weights_of}
+use Rattle.qc_front.specs.Vocabulary.{AppendingHolds, AsksFew, BegunHolds, FrontFits, FrontHolds, HasRoom, IsRound}
+use Rattle.qc_front.specs.Vocabulary.{ReadingHolds, sites_of, weights_of}
 
 -- the weights of an epoch: one for each site, or none
 

@@ -2,22 +2,22 @@
 use Rattle.std.proofs.Common.{◌≡◌, ℕ, ◌+◌, ◌<◌, ◌≤◌, nat_le, Bool, true, false, cond, List, [], ◌∷◌, length, Option}
 use Rattle.std.proofs.Common.{Some, None, is_some, refl, sym, ap, ◌∙◌, subst, arith}
 use Rattle.qc_decl.specs.declared.declaration.Declaration.{Declaration}
-use Rattle.qc_decl.specs.Names.{append_need_of, most_transaction_operations, read_need_of}
+use Rattle.qc_decl.specs.Vocabulary.{append_need_of, most_transaction_operations, read_need_of}
 use Rattle.qc_msg.specs.declared.call.Call.{Call}
 use Rattle.qc_msg.specs.declared.message.Answer.{Answer}
 use Rattle.qc_msg.specs.declared.reply.Reply.TheVariants as replies
-use Rattle.qc_msg.specs.Names.{quiet, site_called, telling, without_call}
+use Rattle.qc_msg.specs.Vocabulary.{quiet, site_called, telling, without_call}
 use Rattle.qc_plan.specs.declared.standing.Verdict.{Verdict}
 use Rattle.qc_plan.specs.declared.standing.Verdict.TheVariants as verdicts
-use Rattle.qc_plan.specs.Names.{RoundState, note, verdict}
+use Rattle.qc_plan.specs.Vocabulary.{RoundState, note, verdict}
 use Rattle.qc_front.specs.declared.doing.Doing.{Doing}
 use Rattle.qc_front.specs.declared.doing.Doing.TheVariants.{Idle, Reading, Appending}
 use Rattle.qc_front.specs.declared.front.Front.{Front}
 use Rattle.qc_front.specs.declared.transaction.Transaction.{Transaction}
-use Rattle.qc_front.specs.Names.{AppendingHolds, BegunHolds, FrontHolds, GoesOn, IsAwaiting, IsNumbered, ReadingHolds}
-use Rattle.qc_front.specs.Names.{answer_of, answered, append_by, appended_with, appending_takes, awaited, calls_in}
-use Rattle.qc_front.specs.Names.{is_idle, learns, moved, performs, read_by, read_with, reading_takes, reads, round_for}
-use Rattle.qc_front.specs.Names.{sites_called, standing_of, takes, takes_in}
+use Rattle.qc_front.specs.Vocabulary.{AppendingHolds, BegunHolds, FrontHolds, GoesOn, IsAwaiting, IsNumbered}
+use Rattle.qc_front.specs.Vocabulary.{ReadingHolds, answer_of, answered, append_by, appended_with, appending_takes}
+use Rattle.qc_front.specs.Vocabulary.{awaited, calls_in, is_idle, learns, moved, performs, read_by, read_with}
+use Rattle.qc_front.specs.Vocabulary.{reading_takes, reads, round_for, sites_called, standing_of, takes, takes_in}
 use Rattle.qc_front.proofs.Noting.{awaits_some}
 
 append_by_goes : (decl : Declaration) (front : Front) (t : Transaction) (object inv event : ℕ) (calls : List Call)

@@ -2,25 +2,25 @@
 use Rattle.std.proofs.Common.{◌≡◌, ℕ, ◌<◌, List, length, Option, Some, None, refl, sym, ap, ◌∙◌, subst}
 use Rattle.std.specs.Prelude.{option_map, slice_get}
 use Rattle.qc_decl.specs.declared.declaration.Declaration.{Declaration}
-use Rattle.qc_decl.specs.Names.{append_need_of, most_transaction_operations, read_need_of}
+use Rattle.qc_decl.specs.Vocabulary.{append_need_of, most_transaction_operations, read_need_of}
 use Rattle.qc_entry.specs.declared.line.Op.{Op}
 use Rattle.qc_msg.specs.declared.begun.Begun.{Begun}
 use Rattle.qc_msg.specs.declared.begun.LifeAt.{LifeAt}
 use Rattle.qc_msg.specs.declared.call.Call.{Call}
 use Rattle.qc_msg.specs.declared.message.Answer.{Answer}
 use Rattle.qc_msg.specs.declared.message.Answer.TheVariants as answers
-use Rattle.qc_msg.specs.Names.{quiet, site_called, without_call}
-use Rattle.qc_plan.specs.Names.{RoundState, note, verdict}
+use Rattle.qc_msg.specs.Vocabulary.{quiet, site_called, without_call}
+use Rattle.qc_plan.specs.Vocabulary.{RoundState, note, verdict}
 use Rattle.qc_view.specs.declared.view.View.{View}
-use Rattle.qc_view.specs.Names.{with_log}
+use Rattle.qc_view.specs.Vocabulary.{with_log}
 use Rattle.qc_front.specs.declared.doing.Doing.{Doing}
 use Rattle.qc_front.specs.declared.doing.Doing.TheVariants.{Idle, Reading, Appending}
 use Rattle.qc_front.specs.declared.front.Front.{Front}
 use Rattle.qc_front.specs.declared.transaction.Transaction.{Transaction}
-use Rattle.qc_front.specs.Names.{AppendingHolds, BegunHolds, FrontHolds, FrontMove, IsRound, ReadingHolds, RecordsHold}
-use Rattle.qc_front.specs.Names.{append_counts, appended_with, appending_takes, appends, called, ended, learns, lived}
-use Rattle.qc_front.specs.Names.{moved, new_front, read_counts, read_with, reading_takes, reads, standing_of, takes}
-use Rattle.qc_front.specs.Names.{takes_in, with_granted}
+use Rattle.qc_front.specs.Vocabulary.{AppendingHolds, BegunHolds, FrontHolds, FrontMove, IsRound, ReadingHolds}
+use Rattle.qc_front.specs.Vocabulary.{RecordsHold, append_counts, appended_with, appending_takes, appends, called}
+use Rattle.qc_front.specs.Vocabulary.{ended, learns, lived, moved, new_front, read_counts, read_with, reading_takes}
+use Rattle.qc_front.specs.Vocabulary.{reads, standing_of, takes, takes_in, with_granted}
 use Rattle.qc_front.proofs.Learning.{append_learns, learned, read_learns}
 use Rattle.qc_front.proofs.NotedRounds.{note_round, round_apart}
 use Rattle.qc_front.proofs.Noting.{note_open}

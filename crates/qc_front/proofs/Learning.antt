@@ -1,19 +1,19 @@
 -- What a client learns of an answer decides nothing of its turn: it may learn it before or after.
 use Rattle.std.proofs.Common.{◌≡◌, ℕ, List, [], Option, Some, None, refl, ap, ◌∙◌}
 use Rattle.qc_decl.specs.declared.declaration.Declaration.{Declaration}
-use Rattle.qc_decl.specs.Names.{append_need_of, first_site}
+use Rattle.qc_decl.specs.Vocabulary.{append_need_of, first_site}
 use Rattle.qc_msg.specs.declared.call.Call.{Call}
 use Rattle.qc_msg.specs.declared.message.Answer.{Answer}
 use Rattle.qc_msg.specs.declared.message.Answer.TheVariants as answers
 use Rattle.qc_msg.specs.declared.turn.Turn.{Turn}
-use Rattle.qc_plan.specs.Names.{RoundState, start, verdict}
+use Rattle.qc_plan.specs.Vocabulary.{RoundState, start, verdict}
 use Rattle.qc_plan.specs.declared.standing.Verdict.{Verdict}
 use Rattle.qc_plan.specs.declared.standing.Verdict.TheVariants as verdicts
 use Rattle.qc_front.specs.declared.doing.Doing.{Doing}
 use Rattle.qc_front.specs.declared.front.Front.{Front}
 use Rattle.qc_front.specs.declared.transaction.Transaction.{Transaction}
-use Rattle.qc_front.specs.Names.{FrontMove, answer_of, answered, append_by, appends, learns, moved, read_by, reads}
-use Rattle.qc_front.specs.Names.{round_for, turned, weights_of}
+use Rattle.qc_front.specs.Vocabulary.{FrontMove, answer_of, answered, append_by, appends, learns, moved, read_by, reads}
+use Rattle.qc_front.specs.Vocabulary.{round_for, turned, weights_of}
 
 -- the move, and then the answer is learned
 abbrev pub learned : Option Answer → FrontMove → FrontMove

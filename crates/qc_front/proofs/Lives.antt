@@ -6,25 +6,25 @@ use Rattle.std.specs.List.{find, list_any}
 use Rattle.std.specs.Option.{option_map_or}
 use Rattle.std.proofs.lemmas.List.Folds.{list_any-append}
 use Rattle.qc_decl.specs.declared.declaration.Declaration.{Declaration}
-use Rattle.qc_decl.specs.Names.{append_need_of}
+use Rattle.qc_decl.specs.Vocabulary.{append_need_of}
 use Rattle.qc_msg.specs.declared.begun.Begun.{Begun}
 use Rattle.qc_msg.specs.declared.begun.LifeAt.{LifeAt}
 use Rattle.qc_msg.specs.declared.call.Call.{Call}
 use Rattle.qc_msg.specs.declared.message.Answer.{Answer}
 use Rattle.qc_msg.specs.declared.message.Answer.TheVariants as answers
-use Rattle.qc_msg.specs.Names.{has_granted, life_of, site_called, with_life, without_call}
+use Rattle.qc_msg.specs.Vocabulary.{has_granted, life_of, site_called, with_life, without_call}
 use Rattle.qc_plan.specs.declared.standing.Verdict.{Verdict}
 use Rattle.qc_plan.specs.declared.standing.Verdict.TheVariants as verdicts
-use Rattle.qc_plan.specs.Names.{RoundState, note, verdict}
+use Rattle.qc_plan.specs.Vocabulary.{RoundState, note, verdict}
 use Rattle.qc_view.specs.declared.view.View.{View}
-use Rattle.qc_view.specs.Names.{with_log, with_own}
+use Rattle.qc_view.specs.Vocabulary.{with_log, with_own}
 use Rattle.qc_front.specs.declared.doing.Doing.{Doing}
 use Rattle.qc_front.specs.declared.doing.Doing.TheVariants.{Idle, Reading, Appending}
 use Rattle.qc_front.specs.declared.front.Front.{Front}
 use Rattle.qc_front.specs.declared.transaction.Transaction.{Transaction}
-use Rattle.qc_front.specs.Names.{IsGrant, KeepsLives, answer_of, answered, append_by, appended_with, appending_takes}
-use Rattle.qc_front.specs.Names.{asked_at, asked_in, learns, lived, lives_of, next_own, read_by, read_with}
-use Rattle.qc_front.specs.Names.{reading_takes, round_for, standing_of, takes, takes_in}
+use Rattle.qc_front.specs.Vocabulary.{IsGrant, KeepsLives, answer_of, answered, append_by, appended_with}
+use Rattle.qc_front.specs.Vocabulary.{appending_takes, asked_at, asked_in, learns, lived, lives_of, next_own, read_by}
+use Rattle.qc_front.specs.Vocabulary.{read_with, reading_takes, round_for, standing_of, takes, takes_in}
 use Rattle.qc_front.proofs.CommandsKeep.{view_keeps}
 
 -- the lives after what came of a request

@@ -3,13 +3,13 @@ use Rattle.std.proofs.Common.{◌≡◌, ℕ, List, [], Option, Some, None, opti
 use Rattle.std.specs.Prelude.{Result, Ok, Err, IfOk}
 use Rattle.std.specs.declared.alloc.AllocError.{AllocError}
 use Rattle.qc_decl.specs.declared.declaration.Declaration.{Declaration}
-use Rattle.qc_decl.specs.Names.{first_site, read_need_of}
+use Rattle.qc_decl.specs.Vocabulary.{first_site, read_need_of}
 use Rattle.qc_msg.specs.declared.call.Call.{Call}
 use Rattle.qc_msg.specs.declared.message.Answer.{Answer}
 use Rattle.qc_msg.specs.declared.message.Want.{Want}
 use Rattle.qc_msg.specs.declared.reply.Reply.TheVariants as replies
-use Rattle.qc_msg.specs.Names.{site_called, telling, without_call}
-use Rattle.qc_plan.specs.Names.{RoundState, note, start, verdict}
+use Rattle.qc_msg.specs.Vocabulary.{site_called, telling, without_call}
+use Rattle.qc_plan.specs.Vocabulary.{RoundState, note, start, verdict}
 use Rattle.qc_plan.specs.declared.standing.Verdict.{Verdict}
 use Rattle.qc_plan.specs.declared.standing.Verdict.TheVariants as verdicts
 use Rattle.qc_front.specs.declared.counting.Noted.{Noted}
@@ -19,11 +19,11 @@ use Rattle.qc_front.specs.declared.draft.Draft.{Draft}
 use Rattle.qc_front.specs.declared.front.Front.{Front}
 use Rattle.qc_front.specs.declared.next.Next.{Next}
 use Rattle.qc_front.specs.declared.transaction.Transaction.{Transaction}
-use Rattle.qc_front.specs.Names.{IsDraft, answer_in_draft, answered, append_by, append_want_of, appended_draft}
-use Rattle.qc_front.specs.Names.{appended_with, appending_takes, appends, asking, becomes, draft_of, drafted}
-use Rattle.qc_front.specs.Names.{event_draft, goes_on, moved, noted, noted_at, read_by, read_draft, read_with}
-use Rattle.qc_front.specs.Names.{reading_takes, reads, resp_of, responds, round_for, standing_of, takes, takes_in}
-use Rattle.qc_front.specs.Names.{turned, views_of, weights_of, went}
+use Rattle.qc_front.specs.Vocabulary.{IsDraft, answer_in_draft, answered, append_by, append_want_of, appended_draft}
+use Rattle.qc_front.specs.Vocabulary.{appended_with, appending_takes, appends, asking, becomes, draft_of, drafted}
+use Rattle.qc_front.specs.Vocabulary.{event_draft, goes_on, moved, noted, noted_at, read_by, read_draft, read_with}
+use Rattle.qc_front.specs.Vocabulary.{reading_takes, reads, resp_of, responds, round_for, standing_of, takes, takes_in}
+use Rattle.qc_front.specs.Vocabulary.{turned, views_of, weights_of, went}
 use Rattle.qc_front.proofs.Drafts.{answer_drafted, appended_drafted, appended_is_draft, event_drafted, read_drafted}
 use Rattle.qc_front.proofs.Drafts.{read_is_draft, undone, want_drafted}
 use Rattle.qc_front.proofs.Learning.{append_learns, learned, read_learns}

@@ -1,15 +1,15 @@
 -- A round once what came of one request is noted: the sites that it asked, and those that it wants.
-use Rattle.std.proofs.Common.{◌≡◌, ◌≢◌, ℕ, ◌+◌, ◌==◌, ◌||◌, nat_lt, not, Bool, true, false, cond, inl, inr, List, ◌∷◌}
-use Rattle.std.proofs.Common.{◌++◌, filter, length, Option, Some, None, refl, sym, ap, ◌∙◌, subst, eqb-true}
+use Rattle.std.proofs.Common.{[], ◌≡◌, ◌≢◌, ℕ, ◌+◌, ◌==◌, ◌||◌, nat_lt, not, Bool, true, false, cond, inl, inr, List}
+use Rattle.std.proofs.Common.{◌∷◌, ◌++◌, filter, length, Option, Some, None, refl, sym, ap, ◌∙◌, subst, eqb-true}
 use Rattle.std.specs.Prelude.{is_none}
 use Rattle.std.specs.List.{list_any}
-use Rattle.qc_list.specs.Names.{In}
+use Rattle.qc_list.specs.Vocabulary.{In}
 use Rattle.qc_decl.specs.declared.declaration.Declaration.{Declaration}
-use Rattle.qc_decl.specs.Names.{first_site}
+use Rattle.qc_decl.specs.Vocabulary.{first_site}
 use Rattle.qc_plan.specs.declared.standing.Asked.{Asked}
 use Rattle.qc_plan.specs.declared.standing.Standing.{Standing}
-use Rattle.qc_plan.specs.Names.{RoundState, all_noted, is_asked, is_waiting, note, note_in, prefix, wanted, weight}
-use Rattle.qc_front.specs.Names.{IsAwaiting, IsRound, sites_of, weights_of}
+use Rattle.qc_plan.specs.Vocabulary.{RoundState, all_noted, is_asked, is_waiting, note, note_in, prefix, wanted, weight}
+use Rattle.qc_front.specs.Vocabulary.{IsAwaiting, IsRound, sites_of, weights_of}
 use Rattle.qc_front.proofs.Apart.{AreApart, apart_first, apart_weighing}
 use Rattle.qc_front.proofs.Awaited.{unnoted, settled_by, wanted_by}
 

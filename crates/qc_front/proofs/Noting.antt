@@ -1,6 +1,6 @@
 -- What a round waits for, and which requests are open, once what came of one of them is noted.
-use Rattle.std.proofs.Common.{◌≡◌, ◌≢◌, ℕ, ◌+◌, ◌<◌, ◌==◌, ◌&&◌, nat_lt, not, Bool, true, false, cond, inl, inr, List}
-use Rattle.std.proofs.Common.{◌∷◌, ◌++◌, map, filter, Option, Some, None, option_map, is_some, refl, sym, ap, ◌∙◌}
+use Rattle.std.proofs.Common.{[], ◌≡◌, ◌≢◌, ℕ, ◌+◌, ◌<◌, ◌==◌, ◌&&◌, nat_lt, not, Bool, true, false, cond, inl, inr}
+use Rattle.std.proofs.Common.{List, ◌∷◌, ◌++◌, map, filter, Option, Some, None, option_map, is_some, refl, sym, ap, ◌∙◌}
 use Rattle.std.proofs.Common.{subst, eq-eqb, eqb-true, arith}
 use Rattle.std.specs.Prelude.{is_none}
 use Rattle.std.specs.List.{find}
@@ -8,14 +8,14 @@ use Rattle.std.specs.Ordering.{nat_cmp}
 use Rattle.std.proofs.lemmas.List.Elements.{filter-append}
 use Rattle.std.specs.declared.cmp.Ordering.TheVariants.{Equal, Greater, Less}
 use Rattle.std.proofs.lemmas.Bool.{ltb-true}
-use Rattle.qc_list.specs.Names.{Ascends, In, IsBelowAll}
+use Rattle.qc_list.specs.Vocabulary.{Ascends, In, IsBelowAll}
 use Rattle.qc_list.proofs.Order.{ascends-filter}
 use Rattle.qc_msg.specs.declared.call.Call.{Call}
-use Rattle.qc_msg.specs.Names.{site_called, without_call}
+use Rattle.qc_msg.specs.Vocabulary.{site_called, without_call}
 use Rattle.qc_plan.specs.declared.standing.Asked.{Asked}
 use Rattle.qc_plan.specs.declared.standing.Standing.{Standing}
-use Rattle.qc_plan.specs.Names.{RoundState, all_noted, note}
-use Rattle.qc_front.specs.Names.{AreOpen, IsPrefix, awaited, sites_called, sites_of}
+use Rattle.qc_plan.specs.Vocabulary.{RoundState, all_noted, note}
+use Rattle.qc_front.specs.Vocabulary.{AreOpen, IsPrefix, awaited, sites_called, sites_of}
 use Rattle.qc_front.proofs.Apart.{AreApart, apart_first}
 use Rattle.qc_front.proofs.Awaited.{unnoted}
 use Rattle.qc_front.proofs.NotedRounds.{none_lost, unnoted_in, note_awaits}

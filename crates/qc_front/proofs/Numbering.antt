@@ -4,7 +4,7 @@ use Rattle.std.proofs.Common.{◌++◌, length, map, Option, Some, None, refl, s
 use Rattle.std.proofs.Common.{append_assoc}
 use Rattle.std.specs.Ordering.{nat_cmp}
 use Rattle.std.proofs.lemmas.List.{append-nil, map-append}
-use Rattle.qc_list.specs.Names.{Ascends, In}
+use Rattle.qc_list.specs.Vocabulary.{Ascends, In}
 use Rattle.qc_decl.specs.declared.declaration.Declaration.{Declaration}
 use Rattle.qc_msg.specs.declared.begun.Begun.{Begun}
 use Rattle.qc_msg.specs.declared.call.Call.{Call}
@@ -12,16 +12,16 @@ use Rattle.qc_msg.specs.declared.message.Message.{Message}
 use Rattle.qc_msg.specs.declared.message.Message.TheVariants as messages
 use Rattle.qc_msg.specs.declared.message.Want.{Want}
 use Rattle.qc_msg.specs.declared.turn.Posting.{Posting}
-use Rattle.qc_msg.specs.Names.{calls_from, numbered_from, with_call}
-use Rattle.qc_plan.specs.Names.{RoundState}
+use Rattle.qc_msg.specs.Vocabulary.{calls_from, numbered_from, with_call}
+use Rattle.qc_plan.specs.Vocabulary.{RoundState}
 use Rattle.qc_front.specs.declared.doing.Doing.{Doing}
 use Rattle.qc_front.specs.declared.doing.Doing.TheVariants.{Idle, Reading, Appending}
 use Rattle.qc_front.specs.declared.front.Front.{Front}
 use Rattle.qc_front.specs.declared.transaction.Transaction.{Transaction}
-use Rattle.qc_front.specs.Names.{AppendingHolds, AreOpen, AsksAll, AsksIn, AsksNobody, BegunHolds, FrontHolds}
-use Rattle.qc_front.specs.Names.{IsAwaiting, IsNextCall, IsNextOpen, IsNumbered, IsPrefix, ReadingHolds, append_want}
-use Rattle.qc_front.specs.Names.{awaited, is_request, numbered, numbered_all, numbered_one, read_want, request_of}
-use Rattle.qc_front.specs.Names.{requested, requested_in, sent, sites_called}
+use Rattle.qc_front.specs.Vocabulary.{AppendingHolds, AreOpen, AsksAll, AsksIn, AsksNobody, BegunHolds, FrontHolds}
+use Rattle.qc_front.specs.Vocabulary.{IsAwaiting, IsNextCall, IsNextOpen, IsNumbered, IsPrefix, ReadingHolds}
+use Rattle.qc_front.specs.Vocabulary.{append_want, awaited, is_request, numbered, numbered_all, numbered_one, read_want}
+use Rattle.qc_front.specs.Vocabulary.{request_of, requested, requested_in, sent, sites_called}
 use Rattle.qc_front.proofs.Noting.{awaits_some, below_all}
 use Rattle.qc_front.proofs.Recording.{ascends_last, below_one}
 

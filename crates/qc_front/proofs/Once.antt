@@ -3,20 +3,20 @@ use Rattle.std.proofs.Common.{◌≡◌, ℕ, ◌+◌, ◌<◌, ◌≤◌, ◌==
 use Rattle.std.proofs.Common.{Some, None, option_map, refl, sym, ap, ◌∙◌, subst, eqb-true, arith}
 use Rattle.std.specs.List.{find}
 use Rattle.qc_decl.specs.declared.declaration.Declaration.{Declaration}
-use Rattle.qc_decl.specs.Names.{append_need_of}
+use Rattle.qc_decl.specs.Vocabulary.{append_need_of}
 use Rattle.qc_msg.specs.declared.call.Call.{Call}
 use Rattle.qc_msg.specs.declared.message.Answer.{Answer}
-use Rattle.qc_msg.specs.Names.{calls_from, numbered_from, quiet, site_called, without_call}
+use Rattle.qc_msg.specs.Vocabulary.{calls_from, numbered_from, quiet, site_called, without_call}
 use Rattle.qc_plan.specs.declared.standing.Verdict.{Verdict}
 use Rattle.qc_plan.specs.declared.standing.Verdict.TheVariants as verdicts
-use Rattle.qc_plan.specs.Names.{RoundState, note, verdict}
+use Rattle.qc_plan.specs.Vocabulary.{RoundState, note, verdict}
 use Rattle.qc_front.specs.declared.doing.Doing.{Doing}
 use Rattle.qc_front.specs.declared.doing.Doing.TheVariants.{Idle, Reading, Appending}
 use Rattle.qc_front.specs.declared.front.Front.{Front}
 use Rattle.qc_front.specs.declared.transaction.Transaction.{Transaction}
-use Rattle.qc_front.specs.Names.{FrontMove, answer_of, answered, append_by, appended_with, appending_takes, asked_at}
-use Rattle.qc_front.specs.Names.{asked_in, awaited, learns, moved, numbered, read_by, read_with, reading_takes}
-use Rattle.qc_front.specs.Names.{round_for, sent, standing_of, takes, takes_in}
+use Rattle.qc_front.specs.Vocabulary.{FrontMove, answer_of, answered, append_by, appended_with, appending_takes}
+use Rattle.qc_front.specs.Vocabulary.{asked_at, asked_in, awaited, learns, moved, numbered, read_by, read_with}
+use Rattle.qc_front.specs.Vocabulary.{reading_takes, round_for, sent, standing_of, takes, takes_in}
 
 -- what comes of no open request changes nothing
 

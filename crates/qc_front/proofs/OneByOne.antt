@@ -2,8 +2,8 @@
 use Rattle.std.proofs.Common.{◌≡◌, ℕ, zero, suc, ◌++◌, ◌≤◌, Bool, true, false, cond, List, [], ◌∷◌, Option, Some, None}
 use Rattle.std.proofs.Common.{length, refl, sym, ap, ◌∙◌, subst, arith}
 use Rattle.std.proofs.lemmas.List.{append-nil}
-use Rattle.qc_plan.specs.Names.{RoundState, asking_all, asking_first, asking_in_turn, asking_next, asking_on, first}
-use Rattle.qc_plan.specs.Names.{may_ask, next_site, wanted}
+use Rattle.qc_plan.specs.Vocabulary.{RoundState, asking_all, asking_first, asking_in_turn, asking_next, asking_on}
+use Rattle.qc_plan.specs.Vocabulary.{first, may_ask, next_site, wanted}
 use Rattle.qc_plan.proofs.Rounds.{one_by_one}
 
 -- a round that asks no site stays as it is

@@ -8,7 +8,7 @@ use Rattle.std.specs.declared.cmp.Ordering.TheVariants.{Equal, Greater, Less}
 use Rattle.std.proofs.lemmas.Bool.{ltb-false}
 use Rattle.std.proofs.lemmas.List.{append-nil, length-append, length-replicate, length-set, map-append}
 use Rattle.std.proofs.lemmas.List.Elements.{filter-append}
-use Rattle.qc_list.specs.Names.{Ascends, In, IsBelowAll}
+use Rattle.qc_list.specs.Vocabulary.{Ascends, In, IsBelowAll}
 use Rattle.qc_list.proofs.Members.{In-more}
 use Rattle.qc_decl.specs.declared.declaration.Declaration.{Declaration}
 use Rattle.qc_entry.specs.declared.line.Line.{Line}
@@ -17,10 +17,10 @@ use Rattle.qc_entry.specs.declared.line.OwnLine.{OwnLine}
 use Rattle.qc_msg.specs.declared.message.Answer.{Answer}
 use Rattle.qc_msg.specs.declared.message.Answer.TheVariants as answers
 use Rattle.qc_view.specs.declared.view.View.{View}
-use Rattle.qc_view.specs.Names.{empty_view, with_log, with_own}
+use Rattle.qc_view.specs.Vocabulary.{empty_view, with_log, with_own}
 use Rattle.qc_front.specs.declared.transaction.Transaction.{Transaction}
-use Rattle.qc_front.specs.Names.{RecordsHold, appended_with, lived, next_own, own_on, read_with, with_event}
-use Rattle.qc_front.specs.Names.{with_granted, with_view}
+use Rattle.qc_front.specs.Vocabulary.{RecordsHold, appended_with, lived, next_own, own_on, read_with, with_event}
+use Rattle.qc_front.specs.Vocabulary.{with_granted, with_view}
 
 -- an item at a place, after a write
 

@@ -1,9 +1,9 @@
 -- What a front end sends: requests of the running `do`, and verdicts of the transaction that it gives up.
 use Rattle.std.proofs.Common.{◌≡◌, ℕ, ◌≤◌, nat_le, Bool, true, false, cond, ◌⊎◌, inl, inr, List, [], ◌∷◌, length, map}
 use Rattle.std.proofs.Common.{Option, Some, None, refl, sym, ap, ◌∙◌, subst}
-use Rattle.qc_list.specs.Names.{In}
+use Rattle.qc_list.specs.Vocabulary.{In}
 use Rattle.qc_decl.specs.declared.declaration.Declaration.{Declaration}
-use Rattle.qc_decl.specs.Names.{append_need_of, most_transaction_operations, read_need_of}
+use Rattle.qc_decl.specs.Vocabulary.{append_need_of, most_transaction_operations, read_need_of}
 use Rattle.qc_msg.specs.declared.begun.Begun.{Begun}
 use Rattle.qc_msg.specs.declared.call.Call.{Call}
 use Rattle.qc_msg.specs.declared.message.Answer.{Answer}
@@ -15,18 +15,19 @@ use Rattle.qc_msg.specs.declared.reply.AbortCause.TheVariants as causes
 use Rattle.qc_msg.specs.declared.step.Command.{Command}
 use Rattle.qc_msg.specs.declared.step.Command.TheVariants as commands
 use Rattle.qc_msg.specs.declared.turn.Posting.{Posting}
-use Rattle.qc_msg.specs.Names.{quiet, site_called, telling, without_call}
+use Rattle.qc_msg.specs.Vocabulary.{quiet, site_called, telling, without_call}
 use Rattle.qc_plan.specs.declared.standing.Verdict.{Verdict}
 use Rattle.qc_plan.specs.declared.standing.Verdict.TheVariants as verdicts
-use Rattle.qc_plan.specs.Names.{RoundState, note, verdict, wanted}
+use Rattle.qc_plan.specs.Vocabulary.{RoundState, note, verdict, wanted}
 use Rattle.qc_front.specs.declared.doing.Doing.{Doing}
 use Rattle.qc_front.specs.declared.doing.Doing.TheVariants.{Idle, Reading, Appending}
 use Rattle.qc_front.specs.declared.front.Front.{Front}
 use Rattle.qc_front.specs.declared.transaction.Transaction.{Transaction}
-use Rattle.qc_front.specs.Names.{AreSent, FrontMove, IsFor, IsRequestOf, IsSent, aborts, answer_of, answered, append_by}
-use Rattle.qc_front.specs.Names.{append_want, appended_with, appending_takes, appends, begins, called, commits}
-use Rattle.qc_front.specs.Names.{gives_up, goes_on, learns, moved, performs, read_by, read_want, read_with}
-use Rattle.qc_front.specs.Names.{reading_takes, reads, request_of, round_for, standing_of, takes, takes_in, with_asked}
+use Rattle.qc_front.specs.Vocabulary.{AreSent, FrontMove, IsFor, IsRequestOf, IsSent, aborts, answer_of, answered}
+use Rattle.qc_front.specs.Vocabulary.{append_by, append_want, appended_with, appending_takes, appends, begins, called}
+use Rattle.qc_front.specs.Vocabulary.{commits, gives_up, goes_on, learns, moved, performs, read_by, read_want}
+use Rattle.qc_front.specs.Vocabulary.{read_with, reading_takes, reads, request_of, round_for, standing_of, takes}
+use Rattle.qc_front.specs.Vocabulary.{takes_in, with_asked}
 
 module _ (decl : Declaration) (before : Front) where
   none_sent : (after : Front) (p : Posting) → In p [] → IsSent decl before after p.to p.message

@@ -3,22 +3,22 @@ use Rattle.std.proofs.Common.{◌≡◌, ℕ, ◌≤◌, ◌<◌, nat_le, Bool, 
 use Rattle.std.proofs.Common.{Option, Some, None, refl, sym, ap, ◌∙◌, subst}
 use Rattle.std.proofs.lemmas.Bool.{leb-true}
 use Rattle.qc_decl.specs.declared.declaration.Declaration.{Declaration}
-use Rattle.qc_decl.specs.Names.{append_need_of, most_transaction_operations, read_need_of}
+use Rattle.qc_decl.specs.Vocabulary.{append_need_of, most_transaction_operations, read_need_of}
 use Rattle.qc_msg.specs.declared.call.Call.{Call}
 use Rattle.qc_msg.specs.declared.message.Answer.{Answer}
 use Rattle.qc_msg.specs.declared.reply.Reply.TheVariants as replies
-use Rattle.qc_msg.specs.Names.{quiet, site_called, telling, without_call}
+use Rattle.qc_msg.specs.Vocabulary.{quiet, site_called, telling, without_call}
 use Rattle.qc_plan.specs.declared.standing.Verdict.{Verdict}
 use Rattle.qc_plan.specs.declared.standing.Verdict.TheVariants as verdicts
-use Rattle.qc_plan.specs.Names.{RoundState, note, verdict}
+use Rattle.qc_plan.specs.Vocabulary.{RoundState, note, verdict}
 use Rattle.qc_front.specs.declared.doing.Doing.{Doing}
 use Rattle.qc_front.specs.declared.doing.Doing.TheVariants.{Idle, Reading, Appending}
 use Rattle.qc_front.specs.declared.front.Front.{Front}
 use Rattle.qc_front.specs.declared.transaction.Transaction.{Transaction}
-use Rattle.qc_front.specs.Names.{AppendCame, AppendingHolds, BegunHolds, DoTold, FrontHolds, FrontMove, IsRound}
-use Rattle.qc_front.specs.Names.{ReadCame, ReadingHolds, answer_of, answered, append_by, appended_with, appending_takes}
-use Rattle.qc_front.specs.Names.{learns, moved, performs, read_by, read_with, reading_takes, reads, round_for}
-use Rattle.qc_front.specs.Names.{standing_of, takes, takes_in}
+use Rattle.qc_front.specs.Vocabulary.{AppendCame, AppendingHolds, BegunHolds, DoTold, FrontHolds, FrontMove, IsRound}
+use Rattle.qc_front.specs.Vocabulary.{ReadCame, ReadingHolds, answer_of, answered, append_by, appended_with}
+use Rattle.qc_front.specs.Vocabulary.{appending_takes, learns, moved, performs, read_by, read_with, reading_takes}
+use Rattle.qc_front.specs.Vocabulary.{reads, round_for, standing_of, takes, takes_in}
 use Rattle.qc_front.proofs.CommandsKeep.{started_round}
 use Rattle.qc_front.proofs.Keeping.{KeepsOps, appended_is, read_keeps}
 use Rattle.qc_front.proofs.Learning.{client_kept}

@@ -6,11 +6,11 @@ use Rattle.qc_entry.specs.declared.line.Line.{Line}
 use Rattle.qc_entry.specs.declared.line.Op.{Op}
 use Rattle.qc_entry.specs.declared.line.OwnLine.{OwnLine}
 use Rattle.qc_decl.specs.declared.declaration.Declaration.{Declaration}
-use Rattle.qc_decl.specs.Names.{table_at}
+use Rattle.qc_decl.specs.Vocabulary.{table_at}
 use Rattle.qc_table.specs.declared.row.Event.{Event}
-use Rattle.qc_table.specs.Names.{Rules, events_of}
+use Rattle.qc_table.specs.Vocabulary.{Rules, events_of}
 use Rattle.qc_view.specs.declared.view.View.{View}
-use Rattle.qc_view.specs.Names.{answer_in, with_log, with_own}
+use Rattle.qc_view.specs.Vocabulary.{answer_in, with_log, with_own}
 use Rattle.qc_front.specs.declared.transaction.Transaction.{Transaction}
 
 -- the event with the invocation's first response that is legal after the object's view

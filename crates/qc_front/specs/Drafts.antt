@@ -3,7 +3,7 @@ use Rattle.std.specs.Prelude.{◌≡◌, ℕ, true, List, [], ◌∷◌, ◌++�
 use Rattle.std.specs.Prelude.{None, option_and_then, option_map}
 use Rattle.std.specs.Option.{option_map_or}
 use Rattle.qc_decl.specs.declared.declaration.Declaration.{Declaration}
-use Rattle.qc_decl.specs.Names.{table_at}
+use Rattle.qc_decl.specs.Vocabulary.{table_at}
 use Rattle.qc_entry.specs.declared.line.Line.{Line}
 use Rattle.qc_entry.specs.declared.line.Op.{Op}
 use Rattle.qc_msg.specs.declared.call.Call.{Call}
@@ -11,11 +11,11 @@ use Rattle.qc_msg.specs.declared.message.Answer.{Answer}
 use Rattle.qc_msg.specs.declared.message.Answer.TheVariants as answers
 use Rattle.qc_msg.specs.declared.message.Want.{Want}
 use Rattle.qc_msg.specs.declared.message.Want.TheVariants.{Append}
-use Rattle.qc_msg.specs.Names.{quiet, sending, site_called, with_life, with_site, without_call}
+use Rattle.qc_msg.specs.Vocabulary.{quiet, sending, site_called, with_life, with_site, without_call}
 use Rattle.qc_view.specs.declared.view.View.{View}
-use Rattle.qc_table.specs.Names.{Rules}
-use Rattle.qc_view.specs.Names.{answer_in, with_log, with_own}
-use Rattle.qc_plan.specs.Names.{RoundState, asking_all, note, wanted}
+use Rattle.qc_table.specs.Vocabulary.{Rules}
+use Rattle.qc_view.specs.Vocabulary.{answer_in, with_log, with_own}
+use Rattle.qc_plan.specs.Vocabulary.{RoundState, asking_all, note, wanted}
 use Rattle.qc_front.specs.declared.counting.Noted.{Noted}
 use Rattle.qc_front.specs.declared.doing.Doing.{Doing}
 use Rattle.qc_front.specs.declared.draft.Draft.{Draft}

@@ -1,6 +1,6 @@
 -- What holds of a front end in every run, and its calls rely on.
 use Rattle.std.specs.Prelude.{◌-◌, ◌^◌, ◌<◌, ◌≤◌, Option, Some, None, length}
-use Rattle.qc_decl.specs.Names.{most_sites, most_transaction_operations}
+use Rattle.qc_decl.specs.Vocabulary.{most_sites, most_transaction_operations}
 use Rattle.qc_front.specs.declared.doing.Doing.{Doing}
 use Rattle.qc_front.specs.declared.doing.Doing.TheVariants.{Idle, Reading, Appending}
 use Rattle.qc_front.specs.declared.front.Front.{Front}

@@ -1,14 +1,14 @@
 -- A front end's moves: what it becomes, and what it does; how a transaction begins and is given up.
 use Rattle.std.specs.Prelude.{ℕ, ◌+◌, max, [], false, length, replicate, Option, Some, None}
 use Rattle.qc_stamp.specs.declared.stamp.TxId.{TxId}
-use Rattle.qc_stamp.specs.Names.{first_life}
+use Rattle.qc_stamp.specs.Vocabulary.{first_life}
 use Rattle.qc_decl.specs.declared.declaration.Declaration.{Declaration}
-use Rattle.qc_view.specs.Names.{empty_view}
+use Rattle.qc_view.specs.Vocabulary.{empty_view}
 use Rattle.qc_msg.specs.declared.message.Outcome.TheVariants.{Aborted}
 use Rattle.qc_msg.specs.declared.reply.Reply.{Reply}
 use Rattle.qc_msg.specs.declared.reply.Reply.TheVariants as replies
 use Rattle.qc_msg.specs.declared.turn.Turn.{Turn}
-use Rattle.qc_msg.specs.Names.{decisions, ending, first_epoch, telling}
+use Rattle.qc_msg.specs.Vocabulary.{decisions, ending, first_epoch, telling}
 use Rattle.qc_front.specs.declared.doing.Doing.{Doing}
 use Rattle.qc_front.specs.declared.doing.Doing.TheVariants.{Idle}
 use Rattle.qc_front.specs.declared.front.Front.{Front}

@@ -2,14 +2,14 @@
 use Rattle.std.specs.Prelude.{◌≡◌, ℕ, ◌<◌, ◌≤◌, false, List, [], ◌++◌, filter, length, map, slice_get, ◌==◌, Option}
 use Rattle.std.specs.Prelude.{Some, None}
 use Rattle.std.specs.Ordering.{nat_cmp}
-use Rattle.qc_list.specs.Names.{Ascends, In}
+use Rattle.qc_list.specs.Vocabulary.{Ascends, In}
 use Rattle.qc_decl.specs.declared.declaration.Declaration.{Declaration}
-use Rattle.qc_decl.specs.Names.{append_need_of, first_site, most_transaction_operations, read_need_of}
+use Rattle.qc_decl.specs.Vocabulary.{append_need_of, first_site, most_transaction_operations, read_need_of}
 use Rattle.qc_entry.specs.declared.line.Op.{Op}
 use Rattle.qc_entry.specs.declared.line.OwnLine.{OwnLine}
 use Rattle.qc_msg.specs.declared.call.Call.{Call}
 use Rattle.qc_plan.specs.declared.standing.Asked.{Asked}
-use Rattle.qc_plan.specs.Names.{RoundState, all_noted, start, wanted}
+use Rattle.qc_plan.specs.Vocabulary.{RoundState, all_noted, start, wanted}
 use Rattle.qc_view.specs.declared.view.View.{View}
 use Rattle.qc_front.specs.declared.doing.Doing.{Doing}
 use Rattle.qc_front.specs.declared.doing.Doing.TheVariants.{Idle, Reading, Appending}

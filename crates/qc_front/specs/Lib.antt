@@ -11,4 +11,4 @@ pub mod Holds
 pub mod Requests
 pub mod Replies
 pub mod Counted
-pub mod Names
+pub mod Vocabulary

@@ -1,8 +1,8 @@
 -- How a front end executes an invocation: a read round, the view's answer, an append round, the reply.
 use Rattle.std.specs.Prelude.{ℕ, nat_le, true, if◌then◌else◌, List, [], fold, length, map, Option, Some, None}
 use Rattle.qc_decl.specs.declared.declaration.Declaration.{Declaration}
-use Rattle.qc_decl.specs.Names.{append_need_of, most_transaction_operations, read_need_of}
-use Rattle.qc_plan.specs.Names.{RoundState, asking_all, verdict, wanted}
+use Rattle.qc_decl.specs.Vocabulary.{append_need_of, most_transaction_operations, read_need_of}
+use Rattle.qc_plan.specs.Vocabulary.{RoundState, asking_all, verdict, wanted}
 use Rattle.qc_plan.specs.declared.standing.Verdict.{Verdict}
 use Rattle.qc_plan.specs.declared.standing.Verdict.TheVariants as verdicts
 use Rattle.qc_msg.specs.declared.call.Call.{Call}
@@ -10,7 +10,7 @@ use Rattle.qc_msg.specs.declared.message.Want.{Want}
 use Rattle.qc_msg.specs.declared.reply.Half.TheVariants as halves
 use Rattle.qc_msg.specs.declared.reply.Reply.{Reply}
 use Rattle.qc_msg.specs.declared.reply.Reply.TheVariants as replies
-use Rattle.qc_msg.specs.Names.{sending, telling, with_site}
+use Rattle.qc_msg.specs.Vocabulary.{sending, telling, with_site}
 use Rattle.qc_front.specs.declared.doing.Doing.{Doing}
 use Rattle.qc_front.specs.declared.doing.Doing.TheVariants.{Idle, Reading, Appending}
 use Rattle.qc_front.specs.declared.front.Front.{Front}

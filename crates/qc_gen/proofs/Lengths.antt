@@ -4,8 +4,8 @@ use Rattle.std.proofs.Common.{◌∷◌, Bool, true, false, codes, length, lengt
 use Rattle.std.proofs.Math.Nat.{mod-lt}
 use Rattle.std.specs.Fmt.{digits}
 use Rattle.qc_gen.proofs.Texts.{texts_join}
-use Rattle.qc_gen.specs.Names.{client_of, lines_from, load_text, next_state, transaction_lines}
-use Rattle.qc_script.specs.Names.{text_of_lines}
+use Rattle.qc_gen.specs.Vocabulary.{client_of, lines_from, load_text, next_state, transaction_lines}
+use Rattle.qc_script.specs.Vocabulary.{text_of_lines}
 use Rattle.qc_script.specs.declared.line.ScriptLine.{ScriptLine}
 use Rattle.qc_script.specs.declared.line.ScriptLine.TheVariants.{Phase, Command as Asks}
 use Rattle.qc_script.specs.declared.line.Verb.TheVariants.{Begin, Do, Commit}

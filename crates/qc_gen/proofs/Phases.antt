@@ -1,6 +1,6 @@
 -- How many phases a load has, and which stands at each place.
 use Rattle.std.proofs.Common.{◌≡◌, ◌+◌, ◌<◌, ℕ, zero, suc, refl, ap, arith, Some, length, slice_get}
-use Rattle.qc_gen.specs.Names.{next_state, phase_of, phases_from, state_after}
+use Rattle.qc_gen.specs.Vocabulary.{next_state, phase_of, phases_from, state_after}
 
 pub phases_counted : (count number state : ℕ) → length (phases_from count number state) ≡ count
 phases_counted zero number state = refl

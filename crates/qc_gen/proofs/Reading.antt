@@ -3,13 +3,13 @@ use Rattle.std.proofs.Common.{◌≡◌, ◌∙◌, ◌+◌, ◌%◌, ◌++◌, 
 use Rattle.std.proofs.Common.{true, false, Some, Ok, codes, nat_lt, if◌then◌else◌, append-nil, lt-ltb}
 use Rattle.std.proofs.Math.Nat.{mod-lt}
 use Rattle.std.proofs.lemmas.List.{append_assoc}
-use Rattle.qc_decl.specs.Names.{three}
-use Rattle.qc_gen.specs.Names.{client_of, command_of, lines_from, next_state, phase_of, phases_from, transaction_lines}
-use Rattle.qc_gen.specs.Names.{write_number, write_of}
+use Rattle.qc_decl.specs.Vocabulary.{three}
+use Rattle.qc_gen.specs.Vocabulary.{client_of, command_of, lines_from, next_state, phase_of, phases_from}
+use Rattle.qc_gen.specs.Vocabulary.{transaction_lines, write_number, write_of}
 use Rattle.qc_msg.specs.declared.step.Command.{Command}
 use Rattle.qc_msg.specs.declared.step.Command.TheVariants as commands
 use Rattle.qc_script.specs.Items.{command_in}
-use Rattle.qc_script.specs.Names.{empty_phase, is_in_phase, on_last, with_command, with_written}
+use Rattle.qc_script.specs.Vocabulary.{empty_phase, is_in_phase, on_last, with_command, with_written}
 use Rattle.qc_script.specs.declared.line.ScriptLine.{ScriptLine}
 use Rattle.qc_script.specs.declared.line.ScriptLine.TheVariants.{Command as Asks}
 use Rattle.qc_script.specs.declared.line.Verb.{Verb}

@@ -1,8 +1,8 @@
 -- How the text of a load grows by a transaction.
 use Rattle.std.proofs.Common.{◌≡◌, ◌∙◌, ◌<◌, ◌+◌, ◌-◌, ◌++◌, ℕ, suc, refl, sym, ap, arith, List, [], ◌∷◌}
 use Rattle.std.proofs.lemmas.List.{append_assoc}
-use Rattle.qc_gen.specs.Names.{lines_from, next_state, transaction_lines}
-use Rattle.qc_script.specs.Names.{text_of_line, text_of_lines}
+use Rattle.qc_gen.specs.Vocabulary.{lines_from, next_state, transaction_lines}
+use Rattle.qc_script.specs.Vocabulary.{text_of_line, text_of_lines}
 use Rattle.qc_script.specs.declared.line.ScriptLine.{ScriptLine}
 
 pub texts_join : (a b : List ScriptLine) → text_of_lines (a ++ b) ≡ text_of_lines a ++ text_of_lines b

@@ -1,8 +1,8 @@
 -- Each line of a load can be written.
 use Rattle.std.proofs.Common.{◌<◌, ◌%◌, ◌==◌, ℕ, zero, suc, refl, arith, Bool, true, false, codes, if◌then◌else◌}
 use Rattle.std.proofs.Math.Nat.{mod-lt}
-use Rattle.qc_gen.specs.Names.{client_of, lines_from, next_state, write_of}
-use Rattle.qc_script.specs.Names.{AreWritable, HasFewDigits, IsWritableName, IsWritableVerb}
+use Rattle.qc_gen.specs.Vocabulary.{client_of, lines_from, next_state, write_of}
+use Rattle.qc_script.specs.Vocabulary.{AreWritable, HasFewDigits, IsWritableName, IsWritableVerb}
 use Rattle.qc_script.specs.declared.line.Verb.TheVariants.{Do}
 
 write_is_writable : (state : ℕ) → IsWritableName (write_of state)

@@ -4,10 +4,10 @@
 -- object `x`, reads `x` and commits. A generator of numbers gives one for each transaction, from a seed on, and the bit
 -- is the number's lowest one.
 use Rattle.std.specs.Prelude.{ℕ, zero, suc, ◌+◌, ◌*◌, ◌%◌, ◌==◌, if◌then◌else◌, List, [], ◌∷◌, ◌++◌, codes}
-use Rattle.qc_decl.specs.Names.{client_actor, three}
+use Rattle.qc_decl.specs.Vocabulary.{client_actor, three}
 use Rattle.qc_msg.specs.declared.step.Command.{Command}
 use Rattle.qc_msg.specs.declared.step.Command.TheVariants as commands
-use Rattle.qc_script.specs.Names.{text_of_lines}
+use Rattle.qc_script.specs.Vocabulary.{text_of_lines}
 use Rattle.qc_script.specs.declared.line.ScriptLine.{ScriptLine}
 use Rattle.qc_script.specs.declared.line.ScriptLine.TheVariants.{Phase, Command as Asks}
 use Rattle.qc_script.specs.declared.line.Verb.TheVariants.{Begin, Do, Commit}

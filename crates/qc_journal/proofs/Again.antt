@@ -1,8 +1,8 @@
 -- What is read after a fall.
 use Rattle.std.proofs.Common.{◌≡◌, ◌⊎◌, inl, inr, ℕ, List, [], ◌∷◌, ◌++◌, Option, Some, None}
-use Rattle.qc_outside.specs.Names.{IsImage, Since, Tells, Told, as_read}
+use Rattle.qc_outside.specs.Vocabulary.{IsImage, Since, Tells, Told, as_read}
 use Rattle.qc_outside.proofs.Kept.{read_is_image}
-use Rattle.qc_journal.specs.Names.{Holds, HoldsWithOrWithout, IsAtRest, IsNoJournal}
+use Rattle.qc_journal.specs.Vocabulary.{Holds, HoldsWithOrWithout, IsAtRest, IsNoJournal}
 use Rattle.qc_journal.proofs.Unique.{one_list, torn_or_not}
 
 tells_then : (P Q R : Told → Told → Type 0) (a b c : Option Told) → ((o m n : Told) → P o m → Q m n → R o n)

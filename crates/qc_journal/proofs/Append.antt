@@ -2,10 +2,10 @@
 use Rattle.std.proofs.Common.{◌≡◌, ℕ, ◌+◌, List, [], ◌∷◌, ◌++◌, length, Option, Some, None, IfSome, Result, OnOk, inl}
 use Rattle.std.proofs.Common.{sym, ◌∙◌, ap, subst, arith, append_assoc, length-append}
 use Rattle.std.proofs.lemmas.Result.{on_ok_weaker}
-use Rattle.qc_outside.specs.Names.{IsImage, Leaves, Since, Stored, Tells, Told, as_read, settled, wrote}
+use Rattle.qc_outside.specs.Vocabulary.{IsImage, Leaves, Since, Stored, Tells, Told, as_read, settled, wrote}
 use Rattle.qc_outside.specs.declared.disk.DiskFault.{DiskFault}
 use Rattle.qc_outside.proofs.Images.{since_weaker, since_then, tells_weaker}
-use Rattle.qc_journal.specs.Names.{Holds, HoldsWithOrWithout, IsBehind, IsBody, Rests, behind, counted, gate}
+use Rattle.qc_journal.specs.Vocabulary.{Holds, HoldsWithOrWithout, IsBehind, IsBody, Rests, behind, counted, gate}
 use Rattle.qc_journal.proofs.Lists.{written_behind, written_byte}
 use Rattle.qc_journal.proofs.Stages.{closed_stays, whole_stays, records_push, length-counted}
 

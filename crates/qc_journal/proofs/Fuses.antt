@@ -1,12 +1,12 @@
 -- One call of a journal after another: what is armed on its disk goes on.
 use Rattle.std.proofs.Common.{ℕ, ◌+◌, ◌≤◌, List, [], ◌∷◌, Result, Ok, Err, IfOk, IfErr, arith}
-use Rattle.qc_outside.specs.Names.{Fuse, HasPassed, IsRefused}
+use Rattle.qc_outside.specs.Vocabulary.{Fuse, HasPassed, IsRefused}
 use Rattle.qc_outside.specs.declared.disk.ArmKind.TheVariants.{Fail, Stop}
 use Rattle.qc_outside.specs.declared.disk.DiskFault.{DiskFault}
 use Rattle.qc_outside.specs.declared.disk.DiskFault.TheVariants.{Failed as DiskFails, Stopped as DiskStops}
 use Rattle.qc_outside.specs.declared.disk.DiskFault.TheVariants.{OutOfMemory as DiskWants}
 use Rattle.qc_outside.proofs.Fuses.{faulted_more, faulted_wider, passed_more, passed_wider}
-use Rattle.qc_journal.specs.Names.{JournalBurns, JournalIsRefused, most_of_opening, of_disk}
+use Rattle.qc_journal.specs.Vocabulary.{JournalBurns, JournalIsRefused, most_of_opening, of_disk}
 use Rattle.qc_journal.specs.declared.fault.JournalFault.{JournalFault}
 use Rattle.qc_journal.specs.declared.fault.JournalFault.TheVariants.{Failed, Stopped, Torn, OutOfMemory}
 

@@ -5,7 +5,7 @@ use Rattle.std.proofs.lemmas.List.{take_at, drop_at, map-append, drop-drop}
 use Rattle.std.proofs.lemmas.Nat.{from_be_bytes-to_be_bytes_4}
 use Rattle.std.specs.Int.{w32, to_be_bytes, from_be_bytes}
 use Rattle.std.specs.declared.alloc.Global.{Global}
-use Rattle.qc_journal.specs.Names.{IsBody, IsOpenHead, IsTorn, IsTornHead, Passed, Stands, counted, lists}
+use Rattle.qc_journal.specs.Vocabulary.{IsBody, IsOpenHead, IsTorn, IsTornHead, Passed, Stands, counted, lists}
 use Rattle.qc_journal.proofs.Stages.{records_push, length-counted}
 
 pub lists_push : (vs : List (Vec ℕ Global)) (v : Vec ℕ Global) → lists (vs ++ v ∷ []) ≡ lists vs ++ v.items ∷ []

@@ -1,7 +1,7 @@
 -- A journal at rest lasts, with its closed gate.
 use Rattle.std.proofs.Common.{inl, ℕ, List, ◌∷◌, ◌++◌, subst, arith, length-append}
-use Rattle.qc_outside.specs.Names.{IsImage, Leaves, Stored, Told, settled}
-use Rattle.qc_journal.specs.Names.{Holds, IsAtRest, IsJournal}
+use Rattle.qc_outside.specs.Vocabulary.{IsImage, Leaves, Stored, Told, settled}
+use Rattle.qc_journal.specs.Vocabulary.{Holds, IsAtRest, IsJournal}
 use Rattle.qc_journal.proofs.Lists.{same_front}
 
 pub rest_is_journal : (end : ℕ) (bodies : List (List ℕ)) (t : Told) → IsAtRest end bodies t

@@ -2,7 +2,7 @@
 use Rattle.std.proofs.Common.{◌≡◌, ◌≢◌, ℕ, suc, ◌+◌, ◌-◌, ◌<◌, ◌≤◌, List, [], ◌∷◌, ◌++◌, length, get_or, take, drop}
 use Rattle.std.proofs.Common.{replicate, sym, ◌∙◌, ap, arith, append_assoc, length-append}
 use Rattle.std.proofs.lemmas.List.{take_at, drop_at, ext_get_or}
-use Rattle.qc_outside.specs.Names.{overwritten}
+use Rattle.qc_outside.specs.Vocabulary.{overwritten}
 
 -- the same up to a byte and with it
 pub same_front : (front : List ℕ) (x : ℕ) (rest c : List ℕ) → length front < length c

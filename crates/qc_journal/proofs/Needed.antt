@@ -1,8 +1,8 @@
 -- What an append with fewer calls could leave.
 use Rattle.std.proofs.Common.{◌≡◌, ◌⊎◌, inl, inr, ℕ, ◌+◌, ◌<◌, ◌≤◌, List, [], ◌∷◌, ◌++◌, length, refl, ap, arith}
 use Rattle.std.proofs.Common.{length-append}
-use Rattle.qc_outside.specs.Names.{IsImage, Stored, settled, wrote}
-use Rattle.qc_journal.specs.Names.{Holds, HoldsWithOrWithout, IsNoJournal, at_once, behind, counted, gate}
+use Rattle.qc_outside.specs.Vocabulary.{IsImage, Stored, settled, wrote}
+use Rattle.qc_journal.specs.Vocabulary.{Holds, HoldsWithOrWithout, IsNoJournal, at_once, behind, counted, gate}
 use Rattle.qc_journal.proofs.Stages.{length-counted}
 use Rattle.qc_journal.proofs.Unique.{one_list, torn_or_not}
 

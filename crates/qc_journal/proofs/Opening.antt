@@ -1,9 +1,9 @@
 -- What opening tells.
 use Rattle.std.proofs.Common.{◌≡◌, inl, inr, ℕ, ◌≤◌, List, [], ◌∷◌, ◌++◌, length, Option, Some, None, refl, sym, ◌∙◌}
 use Rattle.std.proofs.Common.{ap, subst, arith}
-use Rattle.qc_outside.specs.Names.{IsImage, Since, Stored, Tells, Told, as_read, overwritten, settled, wrote}
+use Rattle.qc_outside.specs.Vocabulary.{IsImage, Since, Stored, Tells, Told, as_read, overwritten, settled, wrote}
 use Rattle.qc_outside.proofs.Images.{since_weaker}
-use Rattle.qc_journal.specs.Names.{Holds, IsAtRest, IsLeftAtOpen, IsNoJournal, IsTorn, Stands}
+use Rattle.qc_journal.specs.Vocabulary.{Holds, IsAtRest, IsLeftAtOpen, IsNoJournal, IsTorn, Stands}
 use Rattle.qc_journal.proofs.Append.{Writes, Syncs, Synced, Lasts}
 
 -- what was known before a sync is known after it

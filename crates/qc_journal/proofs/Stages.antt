@@ -3,8 +3,8 @@ use Rattle.std.proofs.Common.{◌≡◌, ◌≢◌, ◌⊎◌, inl, inr, ℕ, �
 use Rattle.std.proofs.Common.{ap, arith, append_assoc, length-append}
 use Rattle.std.proofs.lemmas.Bool.{cases_eq, cases_lt}
 use Rattle.std.proofs.lemmas.List.{append-nil}
-use Rattle.qc_outside.specs.Names.{IsImage, settled, wrote}
-use Rattle.qc_journal.specs.Names.{AreRecords, Holds, HoldsWithOrWithout, IsBody, counted, gate}
+use Rattle.qc_outside.specs.Vocabulary.{IsImage, settled, wrote}
+use Rattle.qc_journal.specs.Vocabulary.{AreRecords, Holds, HoldsWithOrWithout, IsBody, counted, gate}
 use Rattle.qc_journal.proofs.Lists.{same_front, same_but, written_byte}
 
 -- one record more

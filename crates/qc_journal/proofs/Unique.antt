@@ -4,7 +4,7 @@ use Rattle.std.proofs.Common.{arith, append_assoc, length-append}
 use Rattle.std.proofs.lemmas.List.{take_at, drop_at}
 use Rattle.std.proofs.lemmas.Nat.{from_be_bytes-to_be_bytes_4}
 use Rattle.std.specs.Int.{w32, to_be_bytes, from_be_bytes}
-use Rattle.qc_journal.specs.Names.{AreRecords, Holds, IsBody, IsJournal, IsNoJournal, counted}
+use Rattle.qc_journal.specs.Vocabulary.{AreRecords, Holds, IsBody, IsJournal, IsNoJournal, counted}
 
 split_counted : (a b p q : List ℕ) → IsBody a → IsBody b → counted a ++ p ≡ counted b ++ q → (a ≡ b) × (p ≡ q)
 split_counted a b p q is_a is_b same =

@@ -2,7 +2,7 @@
 use Rattle.std.specs.Prelude.{ℕ, ◌≤◌, List, [], ◌∷◌, Result, Ok, Err}
 use Rattle.qc_journal.specs.declared.fault.JournalFault.{JournalFault}
 use Rattle.qc_journal.specs.declared.fault.JournalFault.TheVariants.{Failed, Stopped, Torn, OutOfMemory}
-use Rattle.qc_outside.specs.Names.{Fuse, HasFaulted, HasPassed}
+use Rattle.qc_outside.specs.Vocabulary.{Fuse, HasFaulted, HasPassed}
 use Rattle.qc_outside.specs.declared.disk.ArmKind.TheVariants.{Fail, Stop}
 
 -- the most calls of an opening that gives these bodies: one to sync what is read, and one to write besides where the

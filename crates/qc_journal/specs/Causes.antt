@@ -1,6 +1,6 @@
 -- Which error comes when.
 use Rattle.std.specs.Prelude.{◌≡◌, ℕ, ◌≤◌, Result, Err}
-use Rattle.qc_outside.specs.Names.{Rose}
+use Rattle.qc_outside.specs.Vocabulary.{Rose}
 use Rattle.qc_journal.specs.declared.fault.JournalFault.{JournalFault}
 use Rattle.qc_journal.specs.declared.fault.JournalFault.TheVariants.{Failed, Stopped, OutOfMemory}
 use Rattle.qc_outside.specs.declared.disk.DiskFault.{DiskFault}

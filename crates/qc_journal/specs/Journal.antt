@@ -2,7 +2,7 @@
 use Rattle.std.specs.Prelude.{All, ◌≡◌, ◌⊎◌, ℕ, ◌+◌, ◌*◌, ◌≤◌, ◌<◌, ◌^◌, List, ◌∷◌, ◌++◌, length, Option, IfSome, map}
 use Rattle.std.specs.Prelude.{Vec}
 use Rattle.std.specs.declared.alloc.Global.{Global}
-use Rattle.qc_outside.specs.Names.{IsImage, Stored, Told, as_read, settled}
+use Rattle.qc_outside.specs.Vocabulary.{IsImage, Stored, Told, as_read, settled}
 use Rattle.qc_journal.specs.Grammar.{AreRecords, counted}
 
 -- Nothing is pending, and at the end of the records of these bodies stands the closed gate.

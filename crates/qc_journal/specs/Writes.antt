@@ -1,6 +1,6 @@
 -- The two writes of an append, and the one write that it must not make.
 use Rattle.std.specs.Prelude.{ℕ, ◌+◌, List, [], ◌∷◌, ◌++◌}
-use Rattle.qc_outside.specs.Names.{Write}
+use Rattle.qc_outside.specs.Vocabulary.{Write}
 use Rattle.qc_journal.specs.Grammar.{counted}
 
 -- length, body and the next closed gate, behind the closed gate at the end

@@ -4,7 +4,7 @@ use Rattle.std.proofs.Common.{get_or, Option, Some, None, refl, sym, ◌∙◌, 
 use Rattle.std.specs.Option.{option_eq, option_map}
 use Rattle.qc_link.specs.declared.plan.Link.{Link}
 use Rattle.qc_link.specs.declared.rule.Fate.TheVariants.{Pass}
-use Rattle.qc_link.specs.Names.{by_rules, fate_of, first, has_pattern, is_for, matches, place}
+use Rattle.qc_link.specs.Vocabulary.{by_rules, fate_of, first, has_pattern, is_for, matches, place}
 
 -- the first of either kind
 

@@ -8,7 +8,7 @@ use Rattle.std.specs.Ordering.{is_eq, nat_cmp, ordering_then}
 use Rattle.std.proofs.lemmas.Bool.{eq-eqb, eqb-true}
 use Rattle.std.proofs.lemmas.Grind.{common_steps}
 use Rattle.qc_link.specs.declared.plan.Link.{Link}
-use Rattle.qc_link.specs.Names.{IsIndex, Pattern, has_pattern, pattern_cmp, pattern_of, place, same_pattern}
+use Rattle.qc_link.specs.Vocabulary.{IsIndex, Pattern, has_pattern, pattern_cmp, pattern_of, place, same_pattern}
 
 -- patterns that are the same are equal
 

@@ -4,7 +4,7 @@ use Rattle.std.proofs.Common.{max, List, length, set, get_or, refl, sym, ◌∙�
 use Rattle.std.proofs.Common.{get_or-set_same}
 use Rattle.std.specs.Cmp.{both_ways}
 use Rattle.std.proofs.lemmas.Bool.{eq-eqb, eqb-true}
-use Rattle.qc_link.specs.Names.{is_cut, is_pair, most_actors, pair_place, with_cut, without_cut}
+use Rattle.qc_link.specs.Vocabulary.{is_cut, is_pair, most_actors, pair_place, with_cut, without_cut}
 
 and_true : (s t : Bool) → s ≡ true → t ≡ true → (s && t) ≡ true
 and_true true t p q = q

@@ -2,4 +2,4 @@ pub mod Cuts
 pub mod Fate
 pub mod Limits
 pub mod Places
-pub mod Names
+pub mod Vocabulary

@@ -5,7 +5,7 @@ use Rattle.std.specs.List.{filter}
 use Rattle.std.specs.Ordering.{is_lt, ordering_reverse}
 use Rattle.std.specs.declared.cmp.Ordering.{Ordering}
 use Rattle.std.specs.declared.cmp.Ordering.TheVariants.{Less, Equal, Greater}
-use Rattle.qc_list.specs.Names.{Ascends, IsBelowAll, by_order, inserted}
+use Rattle.qc_list.specs.Vocabulary.{Ascends, IsBelowAll, by_order, inserted}
 
 -- the test for Less tells that it is Less
 pub less_is : (order : Ordering) → IsTrue (is_lt order) → order ≡ Less

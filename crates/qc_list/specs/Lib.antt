@@ -2,4 +2,4 @@ pub mod Members
 pub mod Order
 pub mod Results
 pub mod Search
-pub mod Names
+pub mod Vocabulary

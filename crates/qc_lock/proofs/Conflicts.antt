@@ -1,16 +1,16 @@
 -- The smallest clash is the smallest conflict.
-use Rattle.std.proofs.Common.{◌≡◌, ℕ, ◌==◌, ◌&&◌, Bool, true, false, cond, List, filter, map, Option, Some, None, refl}
-use Rattle.std.proofs.Common.{sym, subst}
+use Rattle.std.proofs.Common.{[], ◌≡◌, ℕ, ◌==◌, ◌&&◌, Bool, true, false, cond, List, filter, map, Option, Some, None}
+use Rattle.std.proofs.Common.{refl, sym, subst}
 use Rattle.std.specs.List.{flat_map}
 use Rattle.std.proofs.lemmas.Bool.{eq-eqb, eqb-true}
 use Rattle.qc_stamp.specs.declared.stamp.TxId.{TxId}
 use Rattle.qc_entry.specs.declared.line.OwnLine.{OwnLine}
 use Rattle.qc_entry.specs.declared.line.ReadLock.{ReadLock}
-use Rattle.qc_table.specs.Names.{depends}
+use Rattle.qc_table.specs.Vocabulary.{depends}
 use Rattle.qc_lock.specs.declared.clash.Clash.{Clash}
 use Rattle.qc_lock.specs.declared.held.Held.{Held}
-use Rattle.qc_lock.specs.Names.{In, IsAppendConflict, IsReadConflict, IsSmallest, append_clash, append_clashes}
-use Rattle.qc_lock.specs.Names.{lines_in_way, locks_in_way, read_clash, read_clashes, same_tx}
+use Rattle.qc_lock.specs.Vocabulary.{In, IsAppendConflict, IsReadConflict, IsSmallest, append_clash, append_clashes}
+use Rattle.qc_lock.specs.Vocabulary.{lines_in_way, locks_in_way, read_clash, read_clashes, same_tx}
 use Rattle.qc_lock.proofs.Entries.{and_first, and_second}
 use Rattle.qc_lock.proofs.SmallestOf.{smallest_by, smallest_of, in-flat_map, flat_map-in, in-map, map-in, in-filter}
 use Rattle.qc_lock.proofs.SmallestOf.{filter-in}

@@ -11,9 +11,9 @@ use Rattle.std.specs.declared.cmp.Ordering.{Ordering}
 use Rattle.std.specs.declared.cmp.Ordering.TheVariants.{Less, Equal, Greater}
 use Rattle.qc_entry.specs.declared.line.OwnLine.{OwnLine}
 use Rattle.qc_entry.specs.declared.line.ReadLock.{ReadLock}
-use Rattle.qc_list.specs.Names.{by_order}
-use Rattle.qc_lock.specs.Names.{AreFull, entry_of, held_of, inserted, lock_cmp, own_cmp, same_tx, with_entry, with_held}
-use Rattle.qc_lock.specs.Names.{with_locks, with_owns, without_held}
+use Rattle.qc_list.specs.Vocabulary.{by_order}
+use Rattle.qc_lock.specs.Vocabulary.{AreFull, entry_of, held_of, inserted, lock_cmp, own_cmp, same_tx, with_entry}
+use Rattle.qc_lock.specs.Vocabulary.{with_held, with_locks, with_owns, without_held}
 
 -- the test of names
 

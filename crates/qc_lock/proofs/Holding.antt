@@ -12,10 +12,10 @@ use Rattle.std.proofs.lemmas.Bool.{and_parts, eq-eqb, eqb-true, false_from_ne_tr
 use Rattle.std.proofs.lemmas.Bool.Decides.{nat_tests}
 use Rattle.std.proofs.lemmas.Map.Keys.{le_from_not_gt}
 use Rattle.qc_stamp.specs.declared.stamp.TxId.{TxId}
-use Rattle.qc_stamp.specs.Names.{tx_cmp}
+use Rattle.qc_stamp.specs.Vocabulary.{tx_cmp}
 use Rattle.qc_stamp.proofs.Orders.{tx_order}
 use Rattle.qc_lock.specs.declared.places.Place.{Place}
-use Rattle.qc_lock.specs.Names.{IsFirst, holder_at, is_there, place_cmp, same_tx}
+use Rattle.qc_lock.specs.Vocabulary.{IsFirst, holder_at, is_there, place_cmp, same_tx}
 use Rattle.qc_lock.proofs.Entries.{same_self, tx_apart}
 use Rattle.qc_lock.proofs.NumberedEntries.{cmp_self, nat_self}
 

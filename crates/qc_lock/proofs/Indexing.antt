@@ -7,11 +7,11 @@ use Rattle.std.specs.declared.cmp.Ordering.{Ordering}
 use Rattle.std.specs.declared.cmp.Ordering.TheVariants.{Less, Equal, Greater}
 use Rattle.std.proofs.lemmas.Bool.{both_ways, or_cases, or_left, or_right}
 use Rattle.qc_stamp.specs.declared.stamp.TxId.{TxId}
-use Rattle.qc_list.specs.Names.{by_order, inserted}
+use Rattle.qc_list.specs.Vocabulary.{by_order, inserted}
 use Rattle.qc_lock.specs.declared.places.Place.{Place}
 use Rattle.qc_lock.specs.declared.held.Held.{Held}
-use Rattle.qc_lock.specs.Names.{AreSmall, IsIndex, Narrows, Widens, entry_of, has_line, has_read, held_of, is_there}
-use Rattle.qc_lock.specs.Names.{same_tx, with_entry, without_held}
+use Rattle.qc_lock.specs.Vocabulary.{AreSmall, IsIndex, Narrows, Widens, entry_of, has_line, has_read, held_of}
+use Rattle.qc_lock.specs.Vocabulary.{is_there, same_tx, with_entry, without_held}
 use Rattle.qc_lock.proofs.Entries.{apart_sym, entry-without, held-put, held-put_other, held-without_other, same_self}
 use Rattle.qc_lock.proofs.Entries.{tx_apart}
 

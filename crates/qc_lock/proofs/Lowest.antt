@@ -8,10 +8,10 @@ use Rattle.std.proofs.lemmas.Nat.{and_le_l}
 use Rattle.std.proofs.lemmas.Nat.Bits.{bit_at-zero, bit_at_above, bit_at_clear_same, bit_at_clear_other}
 use Rattle.std.proofs.lemmas.Nat.Bits.{bit_at-trailing_zeros}
 use Rattle.qc_lock.specs.declared.clash.Clash.{Clash}
-use Rattle.qc_lock.specs.Names.{IsSmallest, smaller_of}
+use Rattle.qc_lock.specs.Vocabulary.{IsSmallest, smaller_of}
 use Rattle.qc_lock.proofs.SmallestOf.{smallest_by}
 use Rattle.qc_lock.proofs.Smallest.{smallest_both}
-use Rattle.qc_table.specs.Names.{has}
+use Rattle.qc_table.specs.Vocabulary.{has}
 
 -- a number below 2 ^ 64 has events below 64
 pub below_64 : (set k : ℕ) → set < 2 ^ 64 → has set k ≡ true → k < 64

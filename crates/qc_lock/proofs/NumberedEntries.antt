@@ -1,5 +1,5 @@
 -- Entries under numbers: each is found by its number, and put under it.
-use Rattle.std.proofs.Common.{◌≡◌, ℕ, ◌<◌, arith, Bool, true, false, cond, List, ◌∷◌, Option, Some, None, refl, sym}
+use Rattle.std.proofs.Common.{[], ◌≡◌, ℕ, ◌<◌, arith, Bool, true, false, cond, List, ◌∷◌, Option, Some, None, refl, sym}
 use Rattle.std.proofs.Common.{◌∙◌, ap, subst}
 use Rattle.std.specs.BTreeMap.{insert_entry, is_at}
 use Rattle.std.specs.Cmp.{IsTotalOrder}
@@ -14,9 +14,9 @@ use Rattle.std.proofs.lemmas.Bool.Decides.{nat_tests}
 use Rattle.std.proofs.lemmas.Cmp.{nat_cmp_total}
 use Rattle.std.proofs.lemmas.Map.Keys.{sorted_head, sorted_tail}
 use Rattle.qc_stamp.specs.declared.stamp.TxId.{TxId}
-use Rattle.qc_stamp.specs.Names.{tx_cmp}
+use Rattle.qc_stamp.specs.Vocabulary.{tx_cmp}
 use Rattle.qc_stamp.proofs.Orders.{tx_order}
-use Rattle.qc_lock.specs.Names.{AreBelow, number_of, one_of, put_one}
+use Rattle.qc_lock.specs.Vocabulary.{AreBelow, number_of, one_of, put_one}
 use Rattle.qc_lock.specs.Numbered.{same_tx}
 use Rattle.qc_lock.proofs.Entries.{same_self, tx_apart}
 

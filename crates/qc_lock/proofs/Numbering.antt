@@ -5,8 +5,8 @@ use Rattle.std.specs.BTreeMap.{BTreeMap, get, insert_entry, is_at, values, IsOrd
 use Rattle.std.specs.Map.{lookup, remove_entry, values_of}
 use Rattle.std.specs.Ordering.{nat_cmp}
 use Rattle.qc_stamp.specs.declared.stamp.TxId.{TxId}
-use Rattle.qc_stamp.specs.Names.{tx_cmp}
-use Rattle.qc_lock.specs.Names.{AreBelow, AreNumbered, IsOneForEach, number_of}
+use Rattle.qc_stamp.specs.Vocabulary.{tx_cmp}
+use Rattle.qc_lock.specs.Vocabulary.{AreBelow, AreNumbered, IsOneForEach, number_of}
 use Rattle.qc_lock.specs.Numbered.{same_tx}
 use Rattle.qc_lock.proofs.Entries.{tx_apart}
 use Rattle.qc_lock.proofs.Ones.{once-put, once-filter}

@@ -1,6 +1,6 @@
 -- Entries under numbers are the list of them: what is put, found and taken by number is so by transaction.
-use Rattle.std.proofs.Common.{◌≡◌, ℕ, ◌<◌, ◌+◌, arith, Bool, true, false, cond, not, List, ◌∷◌, Option, Some, None, Bor}
-use Rattle.std.proofs.Common.{refl, sym, ◌∙◌, ap, subst}
+use Rattle.std.proofs.Common.{[], ◌≡◌, ℕ, ◌<◌, ◌+◌, arith, Bool, true, false, cond, not, List, ◌∷◌, Option, Some, None}
+use Rattle.std.proofs.Common.{Bor, refl, sym, ◌∙◌, ap, subst}
 use Rattle.std.specs.BTreeMap.{insert_entry, is_at}
 use Rattle.std.specs.Map.{keys_of, lookup, remove_entry, values_of}
 use Rattle.std.specs.Option.{MatchOption, option_copied}
@@ -9,7 +9,7 @@ use Rattle.std.specs.declared.cmp.Ordering.{Ordering}
 use Rattle.std.specs.declared.cmp.Ordering.TheVariants.{Less, Equal, Greater}
 use Rattle.std.proofs.lemmas.Map.Keys.{sorted_tail}
 use Rattle.qc_stamp.specs.declared.stamp.TxId.{TxId}
-use Rattle.qc_lock.specs.Names.{AreBelow, AreOfOthers, IsOneForEach, number_of, one_of, put_one, without_one}
+use Rattle.qc_lock.specs.Vocabulary.{AreBelow, AreOfOthers, IsOneForEach, number_of, one_of, put_one, without_one}
 use Rattle.qc_lock.specs.Numbered.{same_tx}
 use Rattle.qc_lock.proofs.Entries.{tx_apart}
 use Rattle.qc_lock.proofs.NumberedEntries.{nat_self, below_greater, some_is, none_some, Rises, later, number_below}

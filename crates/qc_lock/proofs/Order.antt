@@ -11,11 +11,12 @@ use Rattle.std.proofs.lemmas.Cmp.{then_total, on_total, nat_cmp_total}
 use Rattle.qc_stamp.specs.declared.stamp.TxId.{TxId}
 use Rattle.qc_entry.specs.declared.line.OwnLine.{OwnLine}
 use Rattle.qc_entry.specs.declared.line.ReadLock.{ReadLock}
-use Rattle.qc_list.specs.Names.{Ascends, IsBelowAll, by_order, inserted}
+use Rattle.qc_list.specs.Vocabulary.{Ascends, IsBelowAll, by_order, inserted}
 use Rattle.qc_list.proofs.Order.{ascends-inserted}
 use Rattle.qc_lock.specs.declared.held.Held.{Held}
-use Rattle.qc_lock.specs.Names.{AreSorted, IsSingle, IsSound, entry_of, has_lock, held_of, lock_cmp, own_cmp, same_lock}
-use Rattle.qc_lock.specs.Names.{same_tx, with_entry, with_held, with_lock, with_locks, with_owns, without_held}
+use Rattle.qc_lock.specs.Vocabulary.{AreSorted, IsSingle, IsSound, entry_of, has_lock, held_of, lock_cmp, own_cmp}
+use Rattle.qc_lock.specs.Vocabulary.{same_lock, same_tx, with_entry, with_held, with_lock, with_locks, with_owns}
+use Rattle.qc_lock.specs.Vocabulary.{without_held}
 use Rattle.qc_lock.proofs.Entries.{and_first, and_second, tx_apart, full-put, full-filter}
 use Rattle.qc_lock.proofs.Ones.{holder, once-put, once-filter, put_entry}
 

@@ -9,16 +9,17 @@ use Rattle.std.specs.declared.cmp.Ordering.TheVariants.{Less, Equal, Greater}
 use Rattle.std.proofs.lemmas.Bool.{and_parts, and_from, both_ways, eq-eqb, eqb-true, or_cases, or_left, or_right}
 use Rattle.std.proofs.lemmas.Bool.{not-true}
 use Rattle.qc_stamp.specs.declared.stamp.TxId.{TxId}
-use Rattle.qc_stamp.specs.Names.{tx_cmp}
+use Rattle.qc_stamp.specs.Vocabulary.{tx_cmp}
 use Rattle.qc_entry.specs.declared.line.OwnLine.{OwnLine}
 use Rattle.qc_entry.specs.declared.line.ReadLock.{ReadLock}
-use Rattle.qc_table.specs.Names.{depends}
+use Rattle.qc_table.specs.Vocabulary.{depends}
 use Rattle.qc_lock.specs.declared.clash.Clash.{Clash}
 use Rattle.qc_lock.specs.declared.held.Held.{Held}
 use Rattle.qc_lock.specs.declared.places.Place.{Place}
-use Rattle.qc_lock.specs.Names.{AreOfOthers, In, IsAppendConflict, IsAppendPlaced, IsFirst, IsIndex, IsPlaced}
-use Rattle.qc_lock.specs.Names.{IsReadConflict, IsReadPlaced, IsSingle, IsSmallest, append_clash, clash_cmp, entry_of}
-use Rattle.qc_lock.specs.Names.{has_line, has_read, held_of, is_there, lines_held, read_clash, reads_held, same_tx}
+use Rattle.qc_lock.specs.Vocabulary.{AreOfOthers, In, IsAppendConflict, IsAppendPlaced, IsFirst, IsIndex, IsPlaced}
+use Rattle.qc_lock.specs.Vocabulary.{IsReadConflict, IsReadPlaced, IsSingle, IsSmallest, append_clash, clash_cmp}
+use Rattle.qc_lock.specs.Vocabulary.{entry_of, has_line, has_read, held_of, is_there, lines_held, read_clash}
+use Rattle.qc_lock.specs.Vocabulary.{reads_held, same_tx}
 use Rattle.qc_lock.proofs.SmallestOf.{smallest_by}
 use Rattle.qc_lock.proofs.Conflicts.{append_smallest, read_smallest}
 use Rattle.qc_lock.proofs.Entries.{same_self, tx_apart}

@@ -6,12 +6,12 @@ use Rattle.std.specs.declared.cmp.Ordering.{Ordering}
 use Rattle.std.specs.declared.cmp.Ordering.TheVariants.{Less, Equal, Greater}
 use Rattle.std.proofs.Math.Seq.{take-suc}
 use Rattle.std.proofs.lemmas.Bool.{cases_lt}
-use Rattle.qc_stamp.specs.Names.{tx_cmp}
+use Rattle.qc_stamp.specs.Vocabulary.{tx_cmp}
 use Rattle.qc_stamp.proofs.Orders.{first_Equal, nat_apart, second_Equal, tx_order}
 use Rattle.qc_entry.specs.declared.line.OwnLine.{OwnLine}
-use Rattle.qc_list.specs.Names.{by_order}
+use Rattle.qc_list.specs.Vocabulary.{by_order}
 use Rattle.qc_lock.specs.declared.clash.Clash.{Clash}
-use Rattle.qc_lock.specs.Names.{In, IsSmallest, clash_cmp, smaller_of}
+use Rattle.qc_lock.specs.Vocabulary.{In, IsSmallest, clash_cmp, smaller_of}
 use Rattle.qc_lock.proofs.SmallestOf.{clash_total, in-append, in-append_left, in-append_right, smallest_by, turned}
 
 -- the smallest of two, and of one kind alone

@@ -1,6 +1,6 @@
 -- The smallest of those of which a predicate holds; members of lists that are joined, mapped and filtered.
-use Rattle.std.proofs.Common.{◌≡◌, ◌⊎◌, inl, inr, Bool, true, false, cond, List, ◌∷◌, ◌++◌, fold, filter, map, Option}
-use Rattle.std.proofs.Common.{Some, None, refl, sym, ◌∙◌, ap, subst}
+use Rattle.std.proofs.Common.{[], ◌≡◌, ◌⊎◌, inl, inr, Bool, true, false, cond, List, ◌∷◌, ◌++◌, fold, filter, map}
+use Rattle.std.proofs.Common.{Option, Some, None, refl, sym, ◌∙◌, ap, subst}
 use Rattle.std.specs.Cmp.{IsTotalOrder}
 use Rattle.std.specs.List.{flat_map}
 use Rattle.std.specs.Ordering.{ordering_reverse}
@@ -8,9 +8,9 @@ use Rattle.std.specs.declared.cmp.Ordering.{Ordering}
 use Rattle.std.specs.declared.cmp.Ordering.TheVariants.{Less, Equal, Greater}
 use Rattle.std.proofs.lemmas.Cmp.{then_total, on_total, nat_cmp_total}
 use Rattle.qc_stamp.proofs.Orders.{tx_order}
-use Rattle.qc_list.specs.Names.{by_order}
+use Rattle.qc_list.specs.Vocabulary.{by_order}
 use Rattle.qc_lock.specs.declared.clash.Clash.{Clash}
-use Rattle.qc_lock.specs.Names.{In, IsSmallest, clash_cmp, smaller, smallest}
+use Rattle.qc_lock.specs.Vocabulary.{In, IsSmallest, clash_cmp, smaller, smallest}
 
 pub clash_total : IsTotalOrder clash_cmp
 clash_total =

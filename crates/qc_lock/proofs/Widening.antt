@@ -12,9 +12,9 @@ use Rattle.std.proofs.lemmas.Bool.Decides.{nat_tests}
 use Rattle.std.proofs.lemmas.List.{take-append-drop}
 use Rattle.std.proofs.lemmas.List.Folds.{list_any-append}
 use Rattle.qc_stamp.specs.declared.stamp.TxId.{TxId}
-use Rattle.qc_stamp.specs.Names.{tx_cmp}
+use Rattle.qc_stamp.specs.Vocabulary.{tx_cmp}
 use Rattle.qc_lock.specs.declared.places.Place.{Place}
-use Rattle.qc_lock.specs.Names.{Narrows, Sets, Widens, is_there, place_cmp, same_tx}
+use Rattle.qc_lock.specs.Vocabulary.{Narrows, Sets, Widens, is_there, place_cmp, same_tx}
 use Rattle.qc_lock.proofs.Entries.{apart_sym, same_self, tx_apart}
 use Rattle.qc_lock.proofs.Holding.{place}
 use Rattle.qc_lock.proofs.NumberedEntries.{tx_same}

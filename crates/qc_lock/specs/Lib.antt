@@ -4,4 +4,4 @@ pub mod Held
 pub mod Numbered
 pub mod Places
 pub mod Sound
-pub mod Names
+pub mod Vocabulary

@@ -9,10 +9,10 @@ use Rattle.std.specs.Ordering.{nat_cmp, on, then_cmp}
 use Rattle.std.specs.declared.cmp.Ordering.{Ordering}
 use Rattle.std.specs.declared.cmp.Ordering.TheVariants.{Greater}
 use Rattle.qc_stamp.specs.declared.stamp.TxId.{TxId}
-use Rattle.qc_stamp.specs.Names.{tx_cmp}
+use Rattle.qc_stamp.specs.Vocabulary.{tx_cmp}
 use Rattle.qc_entry.specs.declared.line.OwnLine.{OwnLine}
 use Rattle.qc_entry.specs.declared.line.ReadLock.{ReadLock}
-use Rattle.qc_table.specs.Names.{depends}
+use Rattle.qc_table.specs.Vocabulary.{depends}
 use Rattle.qc_lock.specs.declared.clash.Clash.{Clash}
 use Rattle.qc_lock.specs.declared.held.Held.{Held}
 use Rattle.qc_lock.specs.declared.places.Place.{Place}

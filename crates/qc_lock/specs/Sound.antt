@@ -1,6 +1,6 @@
 -- What holds of all that is held: each transaction has one entry, which holds something, each thing once.
 use Rattle.std.specs.Prelude.{◌+◌, ◌<◌, List, [], ◌∷◌, length}
-use Rattle.qc_list.specs.Names.{Ascends}
+use Rattle.qc_list.specs.Vocabulary.{Ascends}
 use Rattle.qc_lock.specs.declared.held.Held.{Held}
 use Rattle.qc_lock.specs.Held.{lock_cmp, own_cmp}
 use Rattle.qc_lock.specs.Numbered.{IsOneForEach}

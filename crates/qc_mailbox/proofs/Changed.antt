@@ -1,8 +1,8 @@
 -- Trays that are changed one after another, each by whether its actor is up.
 use Rattle.std.proofs.Common.{◌≡◌, ℕ, zero, suc, ◌+◌, ◌<◌, Bool, List, [], ◌∷◌, ◌++◌, length, get_or, map, set, take}
 use Rattle.std.proofs.Common.{drop, ap, subst, ◌∙◌, arith}
-use Rattle.qc_inbox.specs.Names.{Tray, each_by_up}
-use Rattle.qc_script.specs.Names.{is_up}
+use Rattle.qc_mailbox.specs.Vocabulary.{Tray, each_by_up}
+use Rattle.qc_script.specs.Vocabulary.{is_up}
 
 -- the first ones are, and one more is
 each_next : {A : Type 0} (f : A → Tray) (g : Bool → Tray → Tray) (up : List Bool) (olds xs : List A) (a : ℕ) (x d : A)

@@ -1,7 +1,6 @@
 -- Who is passed over.
 use Rattle.std.proofs.Common.{◌≡◌, ℕ, zero, suc, Bool, true, false, ◌||◌, List, [], ◌∷◌, refl}
-use Rattle.qc_inbox.specs.Names.{is_held}
-use Rattle.qc_mailbox.specs.Names.{either}
+use Rattle.qc_mailbox.specs.Vocabulary.{is_held, either}
 
 pub held_either : (xs ys : List Bool) (a : ℕ) → is_held (either xs ys) a ≡ (is_held xs a || is_held ys a)
 held_either [] ys a = refl

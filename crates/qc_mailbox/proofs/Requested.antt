@@ -3,8 +3,9 @@ use Rattle.std.proofs.Common.{◌≡◌, ℕ, ◌+◌, ◌≤◌, ◌==◌, Bool
 use Rattle.std.proofs.Common.{arith}
 use Rattle.std.specs.Prelude.{drop, filter}
 use Rattle.qc_msg.specs.declared.step.Control.{Control}
-use Rattle.qc_script.specs.Names.{SentRequest, acting, does_nothing, requests_to, requests_to_others, without_request}
-use Rattle.qc_mailbox.specs.Names.{asked, first_does_nothing}
+use Rattle.qc_script.specs.Vocabulary.{SentRequest, acting, does_nothing, requests_to, requests_to_others}
+use Rattle.qc_script.specs.Vocabulary.{without_request}
+use Rattle.qc_mailbox.specs.Vocabulary.{asked, first_does_nothing}
 use Rattle.qc_mailbox.specs.declared.asked.Asked.{Asked}
 
 pub asked-without : (rs : List Asked) (n : ℕ)

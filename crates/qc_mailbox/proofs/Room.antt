@@ -1,8 +1,7 @@
 -- How the room of mailboxes goes on, where one of them is changed.
 use Rattle.std.proofs.Common.{◌≡◌, ℕ, ◌+◌, ◌<◌, ◌≤◌, List, ap, sym, ◌∙◌, arith, length, get_or, map, set, subst}
 use Rattle.std.specs.List.{AllByRecursion as Every}
-use Rattle.qc_inbox.specs.Names.{Tray, empty_tray, tray_at}
-use Rattle.qc_mailbox.specs.Names.{HasOthers, HasRoom, HasUsed, IsPrepared, spare, tray}
+use Rattle.qc_mailbox.specs.Vocabulary.{Tray, empty_tray, tray_at, HasOthers, HasRoom, HasUsed, IsPrepared, spare, tray}
 use Rattle.qc_mailbox.specs.declared.mailbox.Mailbox.{Mailbox}
 use Rattle.qc_mailbox.proofs.Each.{every_get, every_less, every_set, every_weaker, map_changed, map_same}
 

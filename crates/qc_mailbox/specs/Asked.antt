@@ -1,6 +1,6 @@
 -- Requests that were sent, as they are in a queue.
 use Rattle.std.specs.Prelude.{List, map}
-use Rattle.qc_script.specs.Names.{SentRequest}
+use Rattle.qc_script.specs.Vocabulary.{SentRequest}
 use Rattle.qc_mailbox.specs.declared.asked.Asked.{Asked}
 
 abbrev pub request_of : Asked → SentRequest

@@ -1,6 +1,6 @@
 -- One actor's mailbox: the tray that it shows, and the room in it.
 use Rattle.std.specs.Prelude.{ℕ, ◌+◌, ◌≤◌, length}
-use Rattle.qc_inbox.specs.Names.{Tray}
+use Rattle.qc_mailbox.specs.Inboxes.{Tray}
 use Rattle.qc_mailbox.specs.Asked.{asked}
 use Rattle.qc_mailbox.specs.Queues.{items, spare}
 use Rattle.qc_mailbox.specs.declared.mailbox.Mailbox.{Mailbox}

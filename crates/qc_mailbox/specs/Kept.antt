@@ -1,14 +1,15 @@
 -- What is kept in mailboxes: the inboxes that they show, and room.
 use Rattle.std.specs.Prelude.{ℕ, ◌≡◌, ◌*◌, List, Bool, length, map}
 use Rattle.std.specs.List.{AllByRecursion as Every}
-use Rattle.qc_inbox.specs.Names.{Inboxes, Tally}
+use Rattle.qc_mailbox.specs.Inboxes.{Inboxes}
+use Rattle.qc_mailbox.specs.Tallies.{Tally}
 use Rattle.qc_link.specs.declared.plan.Link.{Link}
 use Rattle.qc_msg.specs.declared.step.Control.{Control}
 use Rattle.qc_mailbox.specs.Boxes.{HasRoom, tray}
 use Rattle.qc_mailbox.specs.Queues.{items}
 use Rattle.qc_mailbox.specs.declared.mailbox.Mailbox.{Mailbox}
 use Rattle.qc_mailbox.specs.declared.queue.Queue.{Queue}
-use Rattle.qc_link.specs.Names.{most_actors}
+use Rattle.qc_link.specs.Vocabulary.{most_actors}
 
 -- the inboxes, and for how many messages there is room
 pub record Roomy : Type 0 where

@@ -1,3 +1,14 @@
+pub mod Few
+pub mod Tallies
+pub mod Inboxes
+pub mod Trays
+pub mod Rooms
+pub mod Inputs
+pub mod KeptInboxes
+pub mod Picks
+pub mod PicksKept
+pub mod Downs
+pub mod Owned
 pub mod Asked
 pub mod Passing
 pub mod Queues
@@ -5,4 +16,4 @@ pub mod Boxes
 pub mod Phases
 pub mod Kept
 pub mod Passed
-pub mod Names
+pub mod Vocabulary

@@ -2,9 +2,9 @@
 
 ghost use Rattle.std.specs.Prelude.{◌≡◌, ℕ, ◌+◌, ◌^◌, ◌<◌, length, map, replicate, set, IfOk, OnOk};
 ghost use Rattle.std.specs.List.{AllByRecursion as Every};
-ghost use Rattle.qc_inbox.specs.Rooms.{each_by_up, tray_at, with_coming, with_command, with_commands, with_fall};
-ghost use Rattle.qc_inbox.specs.Rooms.{with_going};
-ghost use Rattle.qc_inbox.specs.Trays.{empty_tray, tray_begun, tray_losing, tray_opened, tray_taken, tray_told};
+ghost use Rattle.qc_mailbox.specs.Rooms.{each_by_up, tray_at, with_coming, with_command, with_commands, with_fall};
+ghost use Rattle.qc_mailbox.specs.Rooms.{with_going};
+ghost use Rattle.qc_mailbox.specs.Trays.{empty_tray, tray_begun, tray_losing, tray_opened, tray_taken, tray_told};
 ghost use Rattle.qc_mailbox.specs.Boxes.{HasRoom, tray};
 ghost use Rattle.qc_mailbox.specs.Phases.{IsPrepared};
 ghost use Rattle.qc_link.specs.Limits.{most_actors};

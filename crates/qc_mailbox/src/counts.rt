@@ -1,7 +1,7 @@
 //! How many messages there were from each actor to each.
 
 ghost use Rattle.std.specs.Prelude.{◌≡◌, ◌+◌, ◌*◌, ◌^◌, ◌<◌};
-ghost use Rattle.qc_inbox.specs.Tallies.{count, no_messages, one_message_more, place};
+ghost use Rattle.qc_mailbox.specs.Tallies.{count, no_messages, one_message_more, place};
 ghost use Rattle.qc_link.specs.Limits.{most_actors};
 
 use qc_link::{ACTOR_PAIRS, MOST_ACTORS};
@@ -19,8 +19,8 @@ pub struct Counts {
 impl Model for Counts {
     ghost use Rattle.std.specs.Prelude.{◌≡◌, ◌*◌, length};
     ghost use Rattle.qc_link.specs.Limits.{most_actors};
-    ghost use Rattle.qc_inbox.specs.Few.{AreFew};
-    ghost use Rattle.qc_inbox.specs.Tallies.{Tally};
+    ghost use Rattle.qc_mailbox.specs.Few.{AreFew};
+    ghost use Rattle.qc_mailbox.specs.Tallies.{Tally};
 
     ghost Value = { Tally };
 

@@ -3,8 +3,8 @@
 
 ghost use Rattle.std.specs.Prelude.{◌≡◌, ◌+◌, ◌^◌, ◌≤◌, ◌<◌, length};
 ghost use Rattle.std.specs.List.{AllByRecursion as Every};
-ghost use Rattle.qc_inbox.specs.Rooms.{after_fall, after_post_as, after_rise, with_control_gone};
-ghost use Rattle.qc_inbox.specs.Trays.{tray_emptied, tray_losing};
+ghost use Rattle.qc_mailbox.specs.Rooms.{after_fall, after_post_as, after_rise, with_control_gone};
+ghost use Rattle.qc_mailbox.specs.Trays.{tray_emptied, tray_losing};
 ghost use Rattle.qc_link.specs.Limits.{most_actors};
 ghost use Rattle.qc_mailbox.specs.Boxes.{HasRoom, HasUsed, tray};
 ghost use Rattle.qc_msg.specs.Steps.{sends_as};

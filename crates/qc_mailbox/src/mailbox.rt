@@ -2,15 +2,15 @@
 
 ghost use Rattle.std.specs.Prelude.{◌≡◌, ◌+◌, ◌^◌, ◌<◌, true, false, OnOk};
 ghost use Rattle.qc_script.specs.Inbox.{comes_at_once, is_request};
-ghost use Rattle.qc_inbox.specs.Inputs.{first_command, next_in};
-ghost use Rattle.qc_inbox.specs.Trays.{empty_tray, tray_answered, tray_answered_by, tray_asks};
-ghost use Rattle.qc_inbox.specs.Trays.{tray_called, tray_comes, tray_goes, tray_lost_unless};
-ghost use Rattle.qc_inbox.specs.Trays.{tray_taken, tray_told, tray_with_copies};
+ghost use Rattle.qc_mailbox.specs.Inputs.{first_command, next_in};
+ghost use Rattle.qc_mailbox.specs.Trays.{empty_tray, tray_answered, tray_answered_by, tray_asks};
+ghost use Rattle.qc_mailbox.specs.Trays.{tray_called, tray_comes, tray_goes, tray_lost_unless};
+ghost use Rattle.qc_mailbox.specs.Trays.{tray_taken, tray_told, tray_with_copies};
 ghost use Rattle.qc_mailbox.specs.Boxes.{HasRoom, HasUsed, tray};
 
+use crate::ReadyInput;
 use crate::asked::Asked;
 use crate::queue::Queue;
-use qc_inbox::ReadyInput;
 use qc_link::Fate;
 use qc_list::OutOfMemory;
 use qc_msg::{Command, Message};

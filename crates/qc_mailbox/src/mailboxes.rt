@@ -5,21 +5,20 @@ ghost use Rattle.std.specs.Prelude.{◌≡◌, ◌+◌, ◌^◌, ◌≤◌, ◌<
 ghost use Rattle.std.specs.Prelude.{length, slice_get};
 ghost use Rattle.std.specs.List.{AllByRecursion as Every};
 ghost use Rattle.qc_msg.specs.declared.turn.Posting.{Posting};
-ghost use Rattle.qc_inbox.specs.Inputs.{IsWithin, next_in};
-ghost use Rattle.qc_inbox.specs.Rooms.{after_first, after_phase, after_reply};
-ghost use Rattle.qc_inbox.specs.Rooms.{after_send, after_sends, after_take, after_turn, empty_inboxes};
-ghost use Rattle.qc_inbox.specs.Rooms.{tray_at};
+ghost use Rattle.qc_mailbox.specs.Inputs.{IsWithin, next_in};
+ghost use Rattle.qc_mailbox.specs.Rooms.{after_first, after_phase, after_reply};
+ghost use Rattle.qc_mailbox.specs.Rooms.{after_send, after_sends, after_take, after_turn, empty_inboxes};
+ghost use Rattle.qc_mailbox.specs.Rooms.{tray_at};
 ghost use Rattle.qc_msg.specs.declared.reply.Reply.{Reply};
 ghost use Rattle.qc_mailbox.specs.Queues.{items};
 ghost use Rattle.qc_link.specs.Limits.{most_actors};
 
-use crate::boxes;
 use crate::counts::Counts;
 use crate::lines::pass_idle;
 use crate::mailbox::Mailbox;
 use crate::queue::Queue;
 use crate::ups::Ups;
-use qc_inbox::ReadyInput;
+use crate::{ReadyInput, boxes};
 use qc_link::{Cuts, Link, LinkPlan, fate};
 use qc_list::OutOfMemory;
 use qc_msg::{Control, Posting, Reply, Turn};

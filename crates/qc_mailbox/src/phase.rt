@@ -2,7 +2,7 @@
 //! taken before anything changes, and copies find their places.
 
 ghost use Rattle.std.specs.Prelude.{◌≡◌, ◌+◌, ◌≤◌, ◌<◌, ℕ, OnOk};
-ghost use Rattle.qc_inbox.specs.Trays.{tray_asked, tray_begun, tray_opened};
+ghost use Rattle.qc_mailbox.specs.Trays.{tray_asked, tray_begun, tray_opened};
 ghost use Rattle.qc_mailbox.specs.Boxes.{HasRoom, HasUsed, tray};
 ghost use Rattle.qc_mailbox.specs.Phases.{HasOthers, IsPrepared};
 ghost use Rattle.qc_mailbox.specs.Queues.{spare};

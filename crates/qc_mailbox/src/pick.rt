@@ -3,15 +3,15 @@
 ghost use Rattle.std.specs.Prelude.{◌≡◌, ◌≤◌, ◌<◌};
 ghost use Rattle.qc_decl.specs.Actors.{actors};
 ghost use Rattle.qc_script.specs.Ready.{takes_commands};
-ghost use Rattle.qc_inbox.specs.Inputs.{input_in};
-ghost use Rattle.qc_inbox.specs.Picks.{comes_before, is_held, sooner};
-ghost use Rattle.qc_inbox.specs.PicksKept.{input_rank, picked_in, rank_in};
+ghost use Rattle.qc_mailbox.specs.Inputs.{input_in};
+ghost use Rattle.qc_mailbox.specs.Picks.{comes_before, is_held, sooner};
+ghost use Rattle.qc_mailbox.specs.PicksKept.{input_rank, picked_in, rank_in};
 ghost use Rattle.qc_mailbox.specs.Passed.{either};
 ghost use Rattle.qc_link.specs.Limits.{most_actors};
 
 use crate::mailboxes::Mailboxes;
+use crate::{Candidate, Rank, ReadyInput};
 use qc_decl::Declaration;
-use qc_inbox::{Candidate, Rank, ReadyInput};
 
 /// Whether an actor is a client or the administrator.
 fn takes_commands(decl: &Declaration, actor: u8) -> bool

@@ -1,6 +1,6 @@
 -- How an actor's own steps and deeds grow, as the history does.
-use Rattle.std.proofs.Common.{◌≡◌, ℕ, ◌+◌, ◌==◌, Bool, true, false, cond, List, ◌∷◌, ◌++◌, map, filter, Option, Some}
-use Rattle.std.proofs.Common.{None, option_to_list, refl, ap, sym, ◌∙◌, append_assoc}
+use Rattle.std.proofs.Common.{[], ◌≡◌, ℕ, ◌+◌, ◌==◌, Bool, true, false, cond, List, ◌∷◌, ◌++◌, map, filter, Option}
+use Rattle.std.proofs.Common.{Some, None, option_to_list, refl, ap, sym, ◌∙◌, append_assoc}
 use Rattle.std.specs.List.{cons_option}
 use Rattle.std.proofs.lemmas.Bool.{eq-eqb}
 use Rattle.std.proofs.lemmas.List.{append-nil, map-append}
@@ -16,9 +16,9 @@ use Rattle.qc_msg.specs.declared.turn.Appended.{Appended}
 use Rattle.qc_msg.specs.declared.turn.Appended.TheVariants.{Done, Failed, Stopped}
 use Rattle.qc_msg.specs.declared.turn.Posting.{Posting}
 use Rattle.qc_msg.specs.declared.turn.Turn.{Turn}
-use Rattle.qc_msg.specs.Names.{Deed, Entry, Falls, Rises, Sends, by, deed_at, deeds, deeds_as, envelope_of, fell, mail}
-use Rattle.qc_msg.specs.Names.{marked, own, posted, posted_as, sends_of, sents, tells_of, told, turn_deeds, writes_of}
-use Rattle.qc_msg.specs.Names.{written, wrote}
+use Rattle.qc_msg.specs.Vocabulary.{Deed, Entry, Falls, Rises, Sends, by, deed_at, deeds, deeds_as, envelope_of, fell}
+use Rattle.qc_msg.specs.Vocabulary.{mail, marked, own, posted, posted_as, sends_of, sents, tells_of, told, turn_deeds}
+use Rattle.qc_msg.specs.Vocabulary.{writes_of, written, wrote}
 use Rattle.qc_msg.proofs.GrownMail.{by-append, by-posted}
 
 -- an actor's own steps

@@ -22,11 +22,11 @@ use Rattle.qc_msg.specs.declared.turn.Appended.{Appended}
 use Rattle.qc_msg.specs.declared.turn.Appended.TheVariants.{Done, Failed, Stopped}
 use Rattle.qc_msg.specs.declared.turn.Posting.{Posting}
 use Rattle.qc_msg.specs.declared.turn.Turn.{Turn}
-use Rattle.qc_msg.specs.Names.{Deed, Entry, Falls, IsNoRise, Rises, Sends, Takes, Tally, WasSentTo, answered}
-use Rattle.qc_msg.specs.Names.{answered_at, answered_in, by, commit_in, deed_at, deeds, deeds_as, envelope_of}
-use Rattle.qc_msg.specs.Names.{envelopes, fell, heard, mail, marked, no_tally, operations_of, own, posted, posted_as}
-use Rattle.qc_msg.specs.Names.{sends_as, sends_of, sents, standing_after, step_of, tally_of, tally_with, tells_of, told}
-use Rattle.qc_msg.specs.Names.{turn_deeds, writes_of, written, wrote}
+use Rattle.qc_msg.specs.Vocabulary.{Deed, Entry, Falls, IsNoRise, Rises, Sends, Takes, Tally, WasSentTo, answered}
+use Rattle.qc_msg.specs.Vocabulary.{answered_at, answered_in, by, commit_in, deed_at, deeds, deeds_as, envelope_of}
+use Rattle.qc_msg.specs.Vocabulary.{envelopes, fell, heard, mail, marked, no_tally, operations_of, own, posted}
+use Rattle.qc_msg.specs.Vocabulary.{posted_as, sends_as, sends_of, sents, standing_after, step_of, tally_of, tally_with}
+use Rattle.qc_msg.specs.Vocabulary.{tells_of, told, turn_deeds, writes_of, written, wrote}
 use Rattle.qc_entry.specs.declared.record.Commit.{Commit}
 
 -- an actor's steps, as entries

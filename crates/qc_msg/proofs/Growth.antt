@@ -1,5 +1,5 @@
 -- How what is read off a history grows, as the history does.
-use Rattle.std.proofs.Common.{◌≡◌, ℕ, ◌+◌, ◌==◌, ◌≤◌, Bool, true, false, cond, List, ◌∷◌, ◌++◌, map, filter, sum_by}
+use Rattle.std.proofs.Common.{[], ◌≡◌, ℕ, ◌+◌, ◌==◌, ◌≤◌, Bool, true, false, cond, List, ◌∷◌, ◌++◌, map, filter, sum_by}
 use Rattle.std.proofs.Common.{Option, Some, None, option_to_list, refl, ap, subst, sym, ◌∙◌, arith}
 use Rattle.std.specs.List.{AllByRecursion as Every, cons_option}
 use Rattle.std.specs.Prelude.{fold}
@@ -15,10 +15,10 @@ use Rattle.qc_msg.specs.declared.step.Step.TheVariants.{Fell, Rose, Wrote, Sent,
 use Rattle.qc_msg.specs.declared.turn.Appended.{Appended}
 use Rattle.qc_msg.specs.declared.turn.Appended.TheVariants.{Done, Failed, Stopped}
 use Rattle.qc_msg.specs.declared.turn.Turn.{Turn}
-use Rattle.qc_msg.specs.Names.{Deed, Entry, IsNoRise, Takes, Tally, WasSentTo, answered, answered_at, answered_in, by}
-use Rattle.qc_msg.specs.Names.{commit_in, deed_at, deeds, deeds_as, envelope_of, envelopes, fell, heard, mail, marked}
-use Rattle.qc_msg.specs.Names.{no_tally, operations_of, own, posted, posted_as, sends_as, sents, standing_after}
-use Rattle.qc_msg.specs.Names.{step_of, tally_of, tally_with, told, turn_deeds, written}
+use Rattle.qc_msg.specs.Vocabulary.{Deed, Entry, IsNoRise, Takes, Tally, WasSentTo, answered, answered_at, answered_in}
+use Rattle.qc_msg.specs.Vocabulary.{by, commit_in, deed_at, deeds, deeds_as, envelope_of, envelopes, fell, heard, mail}
+use Rattle.qc_msg.specs.Vocabulary.{marked, no_tally, operations_of, own, posted, posted_as, sends_as, sents}
+use Rattle.qc_msg.specs.Vocabulary.{standing_after, step_of, tally_of, tally_with, told, turn_deeds, written}
 use Rattle.qc_entry.specs.declared.record.Commit.{Commit}
 use Rattle.qc_msg.proofs.GrownMail.{by-append, mail-append, mail-sents, mail-told, mail-posted}
 use Rattle.qc_msg.proofs.DeedsGrow.{same_actor, own-append, deeds-append, deeds-by_same, deeds-as_same}

@@ -8,4 +8,4 @@ pub mod Calls
 pub mod Begun
 pub mod Readings
 pub mod InputReadings
-pub mod Names
+pub mod Vocabulary

@@ -1,19 +1,19 @@
 -- What is known in a cell, while others act, and once its actor took an input or its process was given up.
 use Rattle.std.proofs.Common.{◌≡◌, ℕ, ◌<◌, Bool, true, false, [], refl, sym, ap, ◌∙◌, subst, inl, inr}
 use Rattle.atomic_table.specs.Seated.{TableId}
-use Rattle.qc_core.specs.Names.{IsLawfulWithFalls}
-use Rattle.qc_decl.specs.Names.{actors}
+use Rattle.qc_core.specs.Vocabulary.{IsLawfulWithFalls}
+use Rattle.qc_decl.specs.Vocabulary.{actors}
 use Rattle.qc_decl.specs.declared.declaration.Declaration.{Declaration}
-use Rattle.qc_msg.specs.Names.{deeds}
+use Rattle.qc_msg.specs.Vocabulary.{deeds}
 use Rattle.qc_msg.specs.declared.step.Input.{Input}
 use Rattle.qc_msg.specs.declared.step.Step.{Step}
 use Rattle.qc_pass.specs.declared.token.Pass.{Pass}
-use Rattle.qc_pass.specs.Names.{number, room, seen}
-use Rattle.qc_process.specs.Names.{IsStored, ProcessView, StoreView}
+use Rattle.qc_pass.specs.Vocabulary.{number, room, seen}
+use Rattle.qc_process.specs.Vocabulary.{IsStored, ProcessView, StoreView}
 use Rattle.qc_process.proofs.GivenUp.{on_disk_past_input, on_disk_past_others, stored_past_input, stored_past_others}
 use Rattle.qc_script.specs.declared.script.Script.{Script}
-use Rattle.qc_fabric.specs.Names.{HasNone, Sees, Takes, Waits}
-use Rattle.qc_node.specs.Names.{IsCell, IsIdle, IsKnown, IsLeft, fits_of}
+use Rattle.qc_fabric.specs.Vocabulary.{HasNone, Sees, Takes, Waits}
+use Rattle.qc_node.specs.Vocabulary.{IsCell, IsIdle, IsKnown, IsLeft, fits_of}
 use Rattle.qc_node.proofs.Rises.{process_over_others}
 use Rattle.qc_node.proofs.ServedStores.{saw_goes, took_goes}
 

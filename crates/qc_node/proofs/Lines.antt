@@ -2,24 +2,24 @@
 -- fall, and down where it is to rise.
 use Rattle.std.proofs.Common.{◌≡◌, ℕ, ◌<◌, ◌≤◌, not, Bool, true, false, List, [], ◌∷◌, Some, slice_get, fold, refl, sym}
 use Rattle.std.proofs.Common.{ap, ◌∙◌, arith, subst}
-use Rattle.qc_core.specs.Names.{IsLawfulWithFalls, actor_after, is_up, up_at}
+use Rattle.qc_core.specs.Vocabulary.{IsLawfulWithFalls, actor_after, is_up, up_at}
 use Rattle.qc_core.specs.declared.actor.Actor.TheVariants.{Down}
 use Rattle.qc_core.proofs.LivesOfActors.{down, up}
-use Rattle.qc_decl.specs.Names.{actors, administrator}
+use Rattle.qc_decl.specs.Vocabulary.{actors, administrator}
 use Rattle.qc_decl.specs.declared.declaration.Declaration.{Declaration}
-use Rattle.qc_inbox.specs.Names.{down_at}
-use Rattle.qc_inbox.proofs.FallLaws.{crashes_up, restarts_down, up_by_deeds}
-use Rattle.qc_link.specs.Names.{most_actors}
+use Rattle.qc_mailbox.specs.Vocabulary.{down_at}
+use Rattle.qc_mailbox.proofs.FallLaws.{crashes_up, restarts_down, up_by_deeds}
+use Rattle.qc_link.specs.Vocabulary.{most_actors}
 use Rattle.laws_turns.proofs.Downs.{tells}
-use Rattle.qc_msg.specs.Names.{Deed, Entry, Falls, Rises, Sends, Takes, Tells, Writes, deeds}
+use Rattle.qc_msg.specs.Vocabulary.{Deed, Entry, Falls, Rises, Sends, Takes, Tells, Writes, deeds}
 use Rattle.qc_msg.specs.declared.step.Control.{Control}
 use Rattle.qc_msg.specs.declared.step.Control.TheVariants as controls
 use Rattle.qc_outside.specs.declared.disk.ArmKind.{ArmKind}
-use Rattle.qc_script.specs.Names.{IsControlFor, RunsWithFalls, controls_left, inbox, is_up as is_up_in}
+use Rattle.qc_script.specs.Vocabulary.{IsControlFor, RunsWithFalls, controls_left, inbox, is_up as is_up_in}
 use Rattle.qc_script.specs.declared.script.Script.{Script}
 use Rattle.laws_bounds.proofs.SettledLines.{next_sound}
-use Rattle.qc_fabric.specs.Names.{MayDo, WasNext}
-use Rattle.qc_node.specs.Names.{IsRunnable, fits_of}
+use Rattle.qc_fabric.specs.Vocabulary.{MayDo, WasNext}
+use Rattle.qc_node.specs.Vocabulary.{IsRunnable, fits_of}
 
 module _ (decl : Declaration) (script : Script) (runs : IsRunnable decl script) (h : List Entry)
     (inputs : List Bool) where

@@ -1,13 +1,13 @@
 -- Damage that is found where not all records fit is a misfit.
 use Rattle.std.proofs.Common.{◌≡◌, ℕ, ◌+◌, true, false, List, [], ◌∷◌, ◌++◌, length, refl, sym, ◌∙◌, subst, arith}
 use Rattle.std.specs.Prelude.{option_to_list}
-use Rattle.laws_bounds.specs.Names.{AllFit, AreKeptOrMisfits, IsKeptOrMisfit, JournalFits}
+use Rattle.laws_bounds.specs.Vocabulary.{AllFit, AreKeptOrMisfits, IsKeptOrMisfit, JournalFits}
 use Rattle.qc_decl.specs.declared.declaration.Declaration.{Declaration}
 use Rattle.qc_msg.specs.declared.record.Record.{Record}
 use Rattle.qc_msg.specs.declared.step.Step.{Step}
 use Rattle.qc_msg.specs.declared.step.Step.TheVariants as steps
-use Rattle.qc_process.specs.Names.{AreKeptOrUnfit, all_fit, journal_fits}
-use Rattle.qc_promise.specs.Names.{IsKeptOrUnfit, Journal, journal_of}
+use Rattle.qc_process.specs.Vocabulary.{AreKeptOrUnfit, all_fit, journal_fits}
+use Rattle.qc_promise.specs.Vocabulary.{IsKeptOrUnfit, Journal, journal_of}
 
 module _ (decl : Declaration) (a : ℕ) where
   all_fits : (n : ℕ) (rs : List Record) → AllFit decl a n rs → all_fit decl a n rs ≡ true

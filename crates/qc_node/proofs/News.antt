@@ -5,7 +5,7 @@ use Rattle.atomic_table.specs.Seated.{TableId}
 use Rattle.laws_turns.proofs.Places.{slice_get-last, slice_get-more}
 use Rattle.qc_msg.specs.declared.step.Step.{Step}
 use Rattle.qc_pass.specs.declared.token.Pass.{Pass}
-use Rattle.qc_pass.specs.Names.{AreNew, IsNew, number}
+use Rattle.qc_pass.specs.Vocabulary.{AreNew, IsNew, number}
 
 pub at_place : {A : Type 0} (xs ys : List A) (p : A) → slice_get (xs ++ p ∷ ys) (length xs) ≡ Some p
 at_place [] ys p = refl

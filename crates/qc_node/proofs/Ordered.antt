@@ -4,12 +4,12 @@ use Rattle.std.proofs.Common.{subst, inr, arith}
 use Rattle.std.proofs.lemmas.Bool.{ne_eqb}
 use Rattle.atomic_table.specs.Seated.{TableId}
 use Rattle.qc_core.specs.declared.actor.Actor.TheVariants.{Down}
-use Rattle.qc_core.specs.Names.{ActorMove, IsLawfulWithFalls, actor_after}
+use Rattle.qc_core.specs.Vocabulary.{ActorMove, IsLawfulWithFalls, actor_after}
 use Rattle.qc_core.proofs.LivesOfActors.{falls}
-use Rattle.qc_decl.specs.Names.{IsAccepted, actors, controller}
+use Rattle.qc_decl.specs.Vocabulary.{IsAccepted, actors, controller}
 use Rattle.qc_decl.specs.declared.declaration.Declaration.{Declaration}
-use Rattle.qc_link.specs.Names.{most_actors}
-use Rattle.qc_msg.specs.Names.{Deed, Entry, deeds, marked}
+use Rattle.qc_link.specs.Vocabulary.{most_actors}
+use Rattle.qc_msg.specs.Vocabulary.{Deed, Entry, deeds, marked}
 use Rattle.qc_msg.specs.declared.step.Control.{Control}
 use Rattle.qc_msg.specs.declared.step.Control.TheVariants as controls
 use Rattle.qc_msg.specs.declared.step.Fall.TheVariants as causes
@@ -17,13 +17,13 @@ use Rattle.qc_msg.specs.declared.step.Step.{Step}
 use Rattle.qc_msg.specs.declared.step.Step.TheVariants as steps
 use Rattle.qc_outside.specs.declared.disk.ArmKind.{ArmKind}
 use Rattle.qc_pass.specs.declared.token.Pass.{Pass}
-use Rattle.qc_pass.specs.Names.{number, room, seen}
-use Rattle.qc_process.specs.Names.{GoesArmed, GoesOn, IsProcess, IsStored, ProcessView, StaysOnDisk}
-use Rattle.qc_script.specs.Names.{RunsWithFalls}
+use Rattle.qc_pass.specs.Vocabulary.{number, room, seen}
+use Rattle.qc_process.specs.Vocabulary.{GoesArmed, GoesOn, IsProcess, IsStored, ProcessView, StaysOnDisk}
+use Rattle.qc_script.specs.Vocabulary.{RunsWithFalls}
 use Rattle.qc_script.specs.declared.script.Script.{Script}
-use Rattle.qc_fabric.specs.Names.{Arms, FallsByLine, IsSame, IsUpTo, MayDo, RisesAs}
+use Rattle.qc_fabric.specs.Vocabulary.{Arms, FallsByLine, IsSame, IsUpTo, MayDo, RisesAs}
 use Rattle.qc_fabric.specs.declared.rising.Rising.{Rising}
-use Rattle.qc_node.specs.Names.{IsCell, IsLeft, IsRunnable, fits_of}
+use Rattle.qc_node.specs.Vocabulary.{IsCell, IsLeft, IsRunnable, fits_of}
 use Rattle.qc_node.proofs.Lines.{armed_counted, crashed_up, restarted_down}
 
 pub few_actors : (decl : Declaration) → IsAccepted decl → actors decl ≤ most_actors

@@ -4,10 +4,10 @@ use Rattle.std.specs.Prelude.{option_map}
 use Rattle.atomic_table.specs.Seated.{TableId}
 use Rattle.qc_core.specs.declared.actor.Actor.{Actor}
 use Rattle.qc_core.specs.declared.actor.Actor.TheVariants as actors_of
-use Rattle.qc_core.specs.Names.{AsksFew, IsLawfulWithFalls, actor_sent, actor_takes, moved}
-use Rattle.qc_decl.specs.Names.{actors}
+use Rattle.qc_core.specs.Vocabulary.{AsksFew, IsLawfulWithFalls, actor_sent, actor_takes, moved}
+use Rattle.qc_decl.specs.Vocabulary.{actors}
 use Rattle.qc_decl.specs.declared.declaration.Declaration.{Declaration}
-use Rattle.qc_msg.specs.Names.{Entry, HasRecord, MayEnd, posted_as}
+use Rattle.qc_msg.specs.Vocabulary.{Entry, HasRecord, MayEnd, posted_as}
 use Rattle.qc_msg.specs.declared.record.Record.{Record}
 use Rattle.qc_msg.specs.declared.step.Input.{Input}
 use Rattle.qc_msg.specs.declared.step.Step.{Step}
@@ -15,13 +15,13 @@ use Rattle.qc_msg.specs.declared.turn.Appended.{Appended}
 use Rattle.qc_msg.specs.declared.turn.Appended.TheVariants.{Done, Failed, Stopped}
 use Rattle.qc_msg.specs.declared.turn.Turn.{Turn}
 use Rattle.qc_pass.specs.declared.token.Pass.{Pass}
-use Rattle.qc_pass.specs.Names.{number, seen}
-use Rattle.qc_process.specs.Names.{Goes, HasFewRecords, IsLegalPending, IsProcess, IsStored, IsUp, MayWrite}
-use Rattle.qc_process.specs.Names.{ProcessView, Spells, StoreView}
-use Rattle.qc_record.specs.Names.{spelled}
+use Rattle.qc_pass.specs.Vocabulary.{number, seen}
+use Rattle.qc_process.specs.Vocabulary.{Goes, HasFewRecords, IsLegalPending, IsProcess, IsStored, IsUp, MayWrite}
+use Rattle.qc_process.specs.Vocabulary.{ProcessView, Spells, StoreView}
+use Rattle.qc_record.specs.Vocabulary.{spelled}
 use Rattle.qc_script.specs.declared.script.Script.{Script}
-use Rattle.qc_fabric.specs.Names.{Posts, Sees, Takes}
-use Rattle.qc_node.specs.Names.{IsCell, IsRunnable, fits_of}
+use Rattle.qc_fabric.specs.Vocabulary.{Posts, Sees, Takes}
+use Rattle.qc_node.specs.Vocabulary.{IsCell, IsRunnable, fits_of}
 use Rattle.qc_node.proofs.Kept.{cell_stored}
 use Rattle.qc_node.proofs.ServedStores.{few_open}
 use Rattle.qc_node.proofs.Served.{few_asked, may_write, posts_go, process_last, short_after, stored_now, stored_then}

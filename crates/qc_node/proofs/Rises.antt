@@ -5,21 +5,22 @@ use Rattle.std.specs.Prelude.{IfSome}
 use Rattle.std.specs.List.{AllByRecursion as Every}
 use Rattle.std.proofs.lemmas.Bool.{and_parts}
 use Rattle.std.proofs.lemmas.List.{append-nil}
-use Rattle.laws_bounds.specs.Names.{AllFit, IsRisingShort}
+use Rattle.laws_bounds.specs.Vocabulary.{AllFit, IsRisingShort}
 use Rattle.laws_bounds.proofs.AtOnce.{risen_sent}
 use Rattle.laws_bounds.proofs.Rising.{risen_asks_few, risen_turn_short}
 use Rattle.qc_core.specs.declared.actor.Actor.{Actor}
 use Rattle.qc_core.specs.declared.actor.Actor.TheVariants as actors_of
-use Rattle.qc_core.specs.Names.{ActorMove, AsksFew, IsLawfulWithFalls, actor_after, actor_rises, actor_sent, moved}
+use Rattle.qc_core.specs.Vocabulary.{ActorMove, AsksFew, IsLawfulWithFalls, actor_after, actor_rises, actor_sent, moved}
 use Rattle.qc_core.proofs.LivesOfActors.{falls, rises}
 use Rattle.qc_core.proofs.Written.{after_written}
-use Rattle.qc_epoch.specs.Names.{most_asks}
-use Rattle.qc_decl.specs.Names.{actors}
+use Rattle.qc_epoch.specs.Vocabulary.{most_asks}
+use Rattle.qc_decl.specs.Vocabulary.{actors}
 use Rattle.qc_decl.specs.declared.declaration.Declaration.{Declaration}
-use Rattle.qc_fit.specs.Names.{fits}
-use Rattle.qc_link.specs.Names.{most_actors}
+use Rattle.qc_fit.specs.Vocabulary.{fits}
+use Rattle.qc_link.specs.Vocabulary.{most_actors}
 use Rattle.qc_list.proofs.Members.{every-weaker}
-use Rattle.qc_msg.specs.Names.{Deed, Entry, HasRecord, MayEnd, Rises as RisesDeed, by, deeds, deeds_as, mail, posted_as}
+use Rattle.qc_msg.specs.Vocabulary.{Deed, Entry, HasRecord, MayEnd, Rises as RisesDeed, by, deeds, deeds_as, mail}
+use Rattle.qc_msg.specs.Vocabulary.{posted_as}
 use Rattle.qc_msg.proofs.GrownMail.{length-mail}
 use Rattle.qc_msg.specs.declared.record.Record.{Record}
 use Rattle.qc_msg.specs.declared.step.Step.{Step}
@@ -29,15 +30,15 @@ use Rattle.qc_msg.specs.declared.turn.Appended.TheVariants.{Done, Failed, Stoppe
 use Rattle.qc_msg.specs.declared.turn.Posting.{Posting}
 use Rattle.qc_msg.specs.declared.turn.Turn.{Turn}
 use Rattle.qc_pass.specs.declared.token.Pass.{Pass}
-use Rattle.qc_pass.specs.Names.{number, seen}
-use Rattle.qc_process.specs.Names.{Goes, HasFewRecords, HasRisen, IsLegalPending, IsProcess, IsStored, OpenJournal}
-use Rattle.qc_process.specs.Names.{OpensAs, ProcessView, Spells, StaysDown, StoreView, all_fit}
-use Rattle.qc_promise.specs.Names.{IsOfOthers}
+use Rattle.qc_pass.specs.Vocabulary.{number, seen}
+use Rattle.qc_process.specs.Vocabulary.{Goes, HasFewRecords, HasRisen, IsLegalPending, IsProcess, IsStored, OpenJournal}
+use Rattle.qc_process.specs.Vocabulary.{OpensAs, ProcessView, Spells, StaysDown, StoreView, all_fit}
+use Rattle.qc_promise.specs.Vocabulary.{IsOfOthers}
 use Rattle.qc_script.specs.declared.script.Script.{Script}
-use Rattle.qc_fabric.specs.Names.{GoesToActors, IsRising, RisesAs, Sees, size_of_rising}
+use Rattle.qc_fabric.specs.Vocabulary.{GoesToActors, IsRising, RisesAs, Sees, size_of_rising}
 use Rattle.qc_fabric.specs.declared.rising.Rising.{Rising}
 use Rattle.qc_fabric.specs.declared.rising.Rising.TheVariants as risings
-use Rattle.qc_node.specs.Names.{Appends, IsAppended, IsRecorded, fits_of, opened_of, with_end}
+use Rattle.qc_node.specs.Vocabulary.{Appends, IsAppended, IsRecorded, fits_of, opened_of, with_end}
 use Rattle.qc_node.proofs.ServedStores.{saw_goes, stored_over_others}
 use Rattle.qc_node.proofs.Turned.{same_deeds, same_record, turned}
 use Rattle.qc_node.proofs.Turns.{turn_is_lawful}

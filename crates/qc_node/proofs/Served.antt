@@ -1,14 +1,14 @@
 -- A turn in a cell: what its calls ask, and what is known of the process once the turn was posted.
-use Rattle.std.proofs.Common.{◌≡◌, ℕ, ◌+◌, ◌^◌, ◌<◌, ◌≤◌, Bool, false, List, ◌∷◌, ◌++◌, length, Option, Some, None}
+use Rattle.std.proofs.Common.{[], ◌≡◌, ℕ, ◌+◌, ◌^◌, ◌<◌, ◌≤◌, Bool, false, List, ◌∷◌, ◌++◌, length, Option, Some, None}
 use Rattle.std.proofs.Common.{refl, sym, ap, ◌∙◌, subst, arith, append_assoc, length-append}
 use Rattle.qc_core.specs.declared.actor.Actor.{Actor}
 use Rattle.qc_core.specs.declared.actor.Actor.TheVariants as actors_of
-use Rattle.qc_core.specs.Names.{ActorFits, ActorMove, AsksFew, IsLawfulWithFalls, actor_after, actor_sent, actor_takes}
-use Rattle.qc_core.specs.Names.{moved}
+use Rattle.qc_core.specs.Vocabulary.{ActorFits, ActorMove, AsksFew, IsLawfulWithFalls, actor_after, actor_sent}
+use Rattle.qc_core.specs.Vocabulary.{actor_takes, moved}
 use Rattle.qc_core.proofs.PostsByTurns.{after_takes}
 use Rattle.qc_core.proofs.Written.{after_written}
-use Rattle.qc_epoch.specs.Names.{most_asks}
-use Rattle.qc_decl.specs.Names.{IsAccepted, actors, most_steps}
+use Rattle.qc_epoch.specs.Vocabulary.{most_asks}
+use Rattle.qc_decl.specs.Vocabulary.{IsAccepted, actors, most_steps}
 use Rattle.qc_decl.specs.declared.declaration.Declaration.{Declaration}
 use Rattle.qc_msg.specs.declared.record.Record.{Record}
 use Rattle.qc_msg.specs.declared.step.Input.{Input}
@@ -16,19 +16,19 @@ use Rattle.qc_msg.specs.declared.step.Step.{Step}
 use Rattle.qc_msg.specs.declared.turn.Appended.{Appended}
 use Rattle.qc_msg.specs.declared.turn.Appended.TheVariants.{Done}
 use Rattle.qc_msg.specs.declared.turn.Turn.{Turn}
-use Rattle.qc_msg.specs.Names.{Deed, Entry, HasRecord, MayEnd, Takes as TakesInput, by, deeds, deeds_as, mail, marked}
-use Rattle.qc_msg.specs.Names.{posted_as, step_of}
+use Rattle.qc_msg.specs.Vocabulary.{Deed, Entry, HasRecord, MayEnd, Takes as TakesInput, by, deeds, deeds_as, mail}
+use Rattle.qc_msg.specs.Vocabulary.{marked, posted_as, step_of}
 use Rattle.qc_msg.proofs.GrownMail.{length-mail}
 use Rattle.qc_pass.specs.declared.token.Pass.{Pass}
-use Rattle.qc_pass.specs.Names.{number, seen}
-use Rattle.qc_process.specs.Names.{Goes, HasFewRecords, IsProcess, IsReadable, IsStored, IsUp, IsWritable, MayWrite}
-use Rattle.qc_process.specs.Names.{ProcessView, StoreView}
-use Rattle.qc_script.specs.Names.{IsScriptFor}
+use Rattle.qc_pass.specs.Vocabulary.{number, seen}
+use Rattle.qc_process.specs.Vocabulary.{Goes, HasFewRecords, IsProcess, IsReadable, IsStored, IsUp, IsWritable}
+use Rattle.qc_process.specs.Vocabulary.{MayWrite, ProcessView, StoreView}
+use Rattle.qc_script.specs.Vocabulary.{IsScriptFor}
 use Rattle.qc_script.specs.declared.script.Script.{Script}
 use Rattle.laws_bounds.proofs.TurnsSpelled.{turn_spelled}
-use Rattle.qc_fabric.specs.Names.{GoesToActors, Posts, Sees, Takes, most_history}
+use Rattle.qc_fabric.specs.Vocabulary.{GoesToActors, Posts, Sees, Takes, most_history}
 use Rattle.qc_fabric.proofs.Limits.{none_reached}
-use Rattle.qc_node.specs.Names.{IsServed, fits_of}
+use Rattle.qc_node.specs.Vocabulary.{IsServed, fits_of}
 use Rattle.qc_node.proofs.Turned.{same_deeds, same_record, turned}
 use Rattle.qc_node.proofs.Turns.{asks_few, fits, numbered, readable, short_failed, short_turn, turn_is_lawful}
 use Rattle.qc_node.proofs.ServedStores.{took_goes, saw_goes, stored_over_input, stored_over_others, few_open}

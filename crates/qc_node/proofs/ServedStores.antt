@@ -1,22 +1,22 @@
 -- A cell's store, over the input that it took and over what others did.
-use Rattle.std.proofs.Common.{◌≡◌, ℕ, ◌+◌, ◌^◌, ◌<◌, ◌≤◌, Bool, List, ◌∷◌, ◌++◌, length, Option, Some, None, refl, sym}
-use Rattle.std.proofs.Common.{◌∙◌, subst, arith}
+use Rattle.std.proofs.Common.{[], ◌≡◌, ℕ, ◌+◌, ◌^◌, ◌<◌, ◌≤◌, Bool, List, ◌∷◌, ◌++◌, length, Option, Some, None, refl}
+use Rattle.std.proofs.Common.{sym, ◌∙◌, subst, arith}
 use Rattle.std.specs.Prelude.{IfSome}
 use Rattle.std.proofs.lemmas.List.{append-nil}
-use Rattle.qc_core.specs.Names.{IsLawfulWithFalls}
+use Rattle.qc_core.specs.Vocabulary.{IsLawfulWithFalls}
 use Rattle.qc_decl.specs.declared.declaration.Declaration.{Declaration}
 use Rattle.qc_msg.specs.declared.step.Input.{Input}
 use Rattle.qc_msg.specs.declared.step.Input.TheVariants as inputs
 use Rattle.qc_msg.specs.declared.step.Step.{Step}
-use Rattle.qc_msg.specs.Names.{Entry, by, step_of}
+use Rattle.qc_msg.specs.Vocabulary.{Entry, by, step_of}
 use Rattle.qc_pass.specs.declared.token.Pass.{Pass}
-use Rattle.qc_pass.specs.Names.{number, seen}
-use Rattle.qc_process.specs.Names.{Goes, HasFewRecords, IsPlaced, IsStored, OpenJournal, StoreView}
+use Rattle.qc_pass.specs.Vocabulary.{number, seen}
+use Rattle.qc_process.specs.Vocabulary.{Goes, HasFewRecords, IsPlaced, IsStored, OpenJournal, StoreView}
 use Rattle.qc_process.proofs.Going.{plain_on}
 use Rattle.qc_process.proofs.Plain.{ArePlain}
 use Rattle.qc_script.specs.declared.script.Script.{Script}
-use Rattle.qc_fabric.specs.Names.{Sees, Takes, most_history}
-use Rattle.qc_node.specs.Names.{fits_of}
+use Rattle.qc_fabric.specs.Vocabulary.{Sees, Takes, most_history}
+use Rattle.qc_node.specs.Vocabulary.{fits_of}
 
 -- what others did, and then the input
 

@@ -1,24 +1,24 @@
 -- What the disks that all went back tell of a run: its falls are spent, its records kept, and the places hold its
 -- journals.
 use Rattle.std.proofs.Common.{◌≡◌, ℕ, ◌-◌, ◌^◌, ◌<◌, ◌≤◌, Bool, true, List, Option, None, refl, arith}
-use Rattle.qc_core.specs.Names.{IsLawfulWithFalls}
-use Rattle.qc_decl.specs.Names.{actors, controller, most_steps}
+use Rattle.qc_core.specs.Vocabulary.{IsLawfulWithFalls}
+use Rattle.qc_decl.specs.Vocabulary.{actors, controller, most_steps}
 use Rattle.qc_decl.specs.declared.declaration.Declaration.{Declaration}
-use Rattle.qc_msg.specs.Names.{Entry}
-use Rattle.qc_outside.specs.Names.{Places}
-use Rattle.qc_promise.specs.Names.{Kept, Spent}
-use Rattle.qc_script.specs.Names.{RunsWithFalls}
+use Rattle.qc_msg.specs.Vocabulary.{Entry}
+use Rattle.qc_outside.specs.Vocabulary.{Places}
+use Rattle.qc_promise.specs.Vocabulary.{Kept, Spent}
+use Rattle.qc_script.specs.Vocabulary.{RunsWithFalls}
 use Rattle.qc_script.specs.declared.script.Script.{Script}
-use Rattle.qc_fabric.specs.Names.{before_last_event, begins_event, full_of}
+use Rattle.qc_fabric.specs.Vocabulary.{before_last_event, begins_event, full_of}
 use Rattle.qc_fabric.proofs.Limits.{none_reached}
-use Rattle.laws_bounds.specs.Names.{AreControlsBelow, AreFaultsBelow, HoldJournals, IsDamagedWithin}
+use Rattle.laws_bounds.specs.Vocabulary.{AreControlsBelow, AreFaultsBelow, HoldJournals, IsDamagedWithin}
 use Rattle.laws_bounds.proofs.BackPlaces.{all_back}
 use Rattle.laws_bounds.proofs.Counted.{all_visited}
 use Rattle.laws_bounds.proofs.Falls.{all_below_spent}
 use Rattle.laws_bounds.proofs.Kept.{run_kept}
 use Rattle.laws_bounds.proofs.Limits.{damage_is_found_within_the_limit}
 use Rattle.laws_bounds.proofs.RunFaults.{run_faults, script_sound}
-use Rattle.qc_node.specs.Names.{IsRunnable, IsSettling, fits_of}
+use Rattle.qc_node.specs.Vocabulary.{IsRunnable, IsSettling, fits_of}
 
 more_spent : (h : List Entry) (n m : ℕ) → n ≤ m → Spent h n → Spent h m
 more_spent h n m less spent = record { falls = omega (arith, spent.falls, less); in_time = spent.in_time }

@@ -3,24 +3,24 @@ use Rattle.std.proofs.Common.{◌≡◌, ℕ, ◌+◌, ◌==◌, Bool, true, fal
 use Rattle.std.proofs.Common.{subst, arith, inl, inr}
 use Rattle.std.specs.Prelude.{◌<◌, IfSome, is_some, slice_get, slice_set}
 use Rattle.std.proofs.lemmas.Bool.{eqb-false, eqb-true}
-use Rattle.qc_decl.specs.Names.{controller}
+use Rattle.qc_decl.specs.Vocabulary.{controller}
 use Rattle.qc_decl.specs.declared.declaration.Declaration.{Declaration}
-use Rattle.qc_fabric.specs.Names.{Sees}
+use Rattle.qc_fabric.specs.Vocabulary.{Sees}
 use Rattle.qc_fabric.proofs.Fed.{get_else, get_here, get_within}
-use Rattle.qc_msg.specs.Names.{Entry, own}
+use Rattle.qc_msg.specs.Vocabulary.{Entry, own}
 use Rattle.qc_msg.specs.declared.step.Step.{Step}
-use Rattle.qc_outside.specs.Names.{IsKept, IsPutBack, Places, Told}
+use Rattle.qc_outside.specs.Vocabulary.{IsKept, IsPutBack, Places, Told}
 use Rattle.qc_pass.specs.declared.token.Pass.{Pass}
-use Rattle.qc_pass.specs.Names.{number, seen}
-use Rattle.qc_process.specs.Names.{Goes, IsOnDisk, IsStored, ProcessView}
+use Rattle.qc_pass.specs.Vocabulary.{number, seen}
+use Rattle.qc_process.specs.Vocabulary.{Goes, IsOnDisk, IsStored, ProcessView}
 use Rattle.qc_process.proofs.GivenUp.{on_disk_past_others, stored_past_others}
-use Rattle.qc_promise.specs.Names.{DiskAccount, IsEverInTime, Journal, disk_account, journal_of}
-use Rattle.laws_bounds.specs.Names.{AreHandedOut, AreKeptOrMisfits, JournalIsOn, nobody, place_of, with_visit}
+use Rattle.qc_promise.specs.Vocabulary.{DiskAccount, IsEverInTime, Journal, disk_account, journal_of}
+use Rattle.laws_bounds.specs.Vocabulary.{AreHandedOut, AreKeptOrMisfits, JournalIsOn, nobody, place_of, with_visit}
 use Rattle.laws_bounds.proofs.BackPlaces.{none_back, one_back}
 use Rattle.laws_bounds.proofs.Counted.{each_visited, none_visited, one_visited, visit_other}
 use Rattle.laws_bounds.proofs.Falls.{none_spent, one_spent}
-use Rattle.qc_store.specs.Names.{IsCounted}
-use Rattle.qc_node.specs.Names.{IsKnown, IsLeft, IsSettling}
+use Rattle.qc_store.specs.Vocabulary.{IsCounted}
+use Rattle.qc_node.specs.Vocabulary.{IsKnown, IsLeft, IsSettling}
 use Rattle.qc_node.proofs.Misfits.{misfits_of}
 use Rattle.qc_node.proofs.ServedStores.{saw_goes}
 use Rattle.qc_node.proofs.Starts.{put_tells}

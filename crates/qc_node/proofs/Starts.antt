@@ -4,17 +4,17 @@ use Rattle.std.proofs.Common.{Option, Some, None, Ok, Err, refl, sym, ap, ◌∙
 use Rattle.std.specs.Prelude.{IfSome, IsSome, is_some, slice_get}
 use Rattle.std.proofs.lemmas.Bool.{eqb-false, eqb-true}
 use Rattle.std.proofs.lemmas.List.Elements.{All-head, All-push, All-rest, All-same}
-use Rattle.qc_decl.specs.Names.{controller}
+use Rattle.qc_decl.specs.Vocabulary.{controller}
 use Rattle.qc_decl.specs.declared.declaration.Declaration.{Declaration}
-use Rattle.qc_outside.specs.Names.{HoldsNoByte, IsHandedOut, IsPutBack, IsSameAtAll, NamesActor, Place, Places}
-use Rattle.qc_outside.specs.Names.{RackRose, Told, settled}
+use Rattle.qc_outside.specs.Vocabulary.{HoldsNoByte, IsHandedOut, IsPutBack, IsSameAtAll, NamesActor, Place, Places}
+use Rattle.qc_outside.specs.Vocabulary.{RackRose, Told, settled}
 use Rattle.qc_outside.specs.declared.rack.RackFault.{RackFault}
 use Rattle.qc_outside.specs.declared.rack.RackFault.TheVariants.{Failed, NotEmpty, OutOfMemory}
-use Rattle.qc_process.specs.Names.{IsProcess, IsUp, ProcessView}
-use Rattle.laws_bounds.specs.Names.{AreHandedOut, place_of}
+use Rattle.qc_process.specs.Vocabulary.{IsProcess, IsUp, ProcessView}
+use Rattle.laws_bounds.specs.Vocabulary.{AreHandedOut, place_of}
 use Rattle.laws_bounds.proofs.BackPlaces.{handed_more}
-use Rattle.qc_node.specs.Names.{AreEmpty, AreHandedBelow, AreProcesses, AreStarted, AreUnwritten, AreUp, BothTell}
-use Rattle.qc_node.specs.Names.{IsHandedBelow, IsRefused, IsStarted, IsUnstarted, IsUnwritten}
+use Rattle.qc_node.specs.Vocabulary.{AreEmpty, AreHandedBelow, AreProcesses, AreStarted, AreUnwritten, AreUp, BothTell}
+use Rattle.qc_node.specs.Vocabulary.{IsHandedBelow, IsRefused, IsStarted, IsUnstarted, IsUnwritten}
 
 -- who tells its places still does
 

@@ -2,10 +2,10 @@
 use Rattle.std.proofs.Common.{◌≡◌, ℕ, List, [], ◌∷◌, ◌++◌, Option, refl, sym, ap, ◌∙◌, append_assoc}
 use Rattle.qc_core.specs.declared.actor.Actor.{Actor}
 use Rattle.qc_core.specs.declared.actor.Actor.TheVariants as actors_of
-use Rattle.qc_core.specs.Names.{ActorMove, actor_after, actor_sent, with_record}
+use Rattle.qc_core.specs.Vocabulary.{ActorMove, actor_after, actor_sent, with_record}
 use Rattle.qc_core.proofs.LivesOfActors.{falls}
 use Rattle.qc_decl.specs.declared.declaration.Declaration.{Declaration}
-use Rattle.qc_msg.specs.Names.{Deed, Falls, deeds_as, sends_of, tells_of, turn_deeds}
+use Rattle.qc_msg.specs.Vocabulary.{Deed, Falls, deeds_as, sends_of, tells_of, turn_deeds}
 use Rattle.qc_msg.specs.declared.record.Record.{Record}
 use Rattle.qc_msg.specs.declared.step.Fall.{Fall}
 use Rattle.qc_msg.specs.declared.step.Fall.TheVariants as causes

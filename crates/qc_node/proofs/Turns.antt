@@ -2,27 +2,28 @@
 use Rattle.std.proofs.Common.{◌≡◌, ℕ, ◌<◌, ◌≤◌, zero, suc, Bool, true, false, List, [], ◌∷◌, ◌++◌, length, Some, None}
 use Rattle.std.proofs.Common.{refl, sym, ap, ◌∙◌, subst, cond, inl, inr, slice_get, arith, eq-eqb}
 use Rattle.std.proofs.lemmas.Bool.{cases_lt}
-use Rattle.laws_bounds.specs.Names.{AllRiseFit, IsFailedShort, IsTurnShort}
+use Rattle.laws_bounds.specs.Vocabulary.{AllRiseFit, IsFailedShort, IsTurnShort}
 use Rattle.laws_bounds.proofs.AtOnce.{run_sent}
 use Rattle.laws_bounds.proofs.Calling.{actor_asks_few, actor_fits, promises, turn_failed, turn_short}
 use Rattle.laws_bounds.proofs.Rising.{run_rises_fit}
 use Rattle.laws_bounds.proofs.RunsFit.{messages_fit}
-use Rattle.qc_core.specs.Names.{ActorFits, AsksFew, IsLawfulWithFalls, actor_after, actor_sent, turn_with_falls}
-use Rattle.qc_core.specs.Names.{with_record}
+use Rattle.qc_core.specs.Vocabulary.{ActorFits, AsksFew, IsLawfulWithFalls, actor_after, actor_sent, turn_with_falls}
+use Rattle.qc_core.specs.Vocabulary.{with_record}
 use Rattle.qc_core.proofs.ActorLaws.{other_client}
-use Rattle.qc_decl.specs.Names.{IsAccepted, actors, administrator, is_administrator, is_client, is_site, most_steps}
+use Rattle.qc_decl.specs.Vocabulary.{IsAccepted, actors, administrator, is_administrator, is_client, is_site}
+use Rattle.qc_decl.specs.Vocabulary.{most_steps}
 use Rattle.qc_decl.specs.declared.declaration.Declaration.{Declaration}
-use Rattle.qc_inbox.proofs.FallMail.{ready_sent}
-use Rattle.qc_list.specs.Names.{In}
+use Rattle.qc_mailbox.proofs.FallMail.{ready_sent}
+use Rattle.qc_list.specs.Vocabulary.{In}
 use Rattle.qc_msg.specs.declared.message.Envelope.{Envelope}
 use Rattle.qc_msg.specs.declared.step.Input.{Input}
 use Rattle.qc_msg.specs.declared.step.Input.TheVariants as given
 use Rattle.qc_msg.specs.declared.turn.Turn.{Turn}
-use Rattle.qc_msg.specs.Names.{Deed, Entry, MayEnd, WasSentTo, deeds, mail, turn_deeds}
-use Rattle.qc_script.specs.Names.{RunsWithFalls, ready}
+use Rattle.qc_msg.specs.Vocabulary.{Deed, Entry, MayEnd, WasSentTo, deeds, mail, turn_deeds}
+use Rattle.qc_script.specs.Vocabulary.{RunsWithFalls, ready}
 use Rattle.qc_script.specs.declared.script.Script.{Script}
-use Rattle.qc_process.specs.Names.{IsReadable}
-use Rattle.qc_node.specs.Names.{fits_of}
+use Rattle.qc_process.specs.Vocabulary.{IsReadable}
+use Rattle.qc_node.specs.Vocabulary.{fits_of}
 
 in_mail : (ms : List Envelope) (n : ℕ) (e : Envelope) → slice_get ms n ≡ Some e → In e ms
 in_mail [] n e is = absurd (let no : ⊥ = cc in no)

@@ -3,15 +3,15 @@ use Rattle.std.proofs.Common.{◌≡◌, ◌⊎◌, ℕ, ◌+◌, ◌<◌, ◌�
 use Rattle.std.proofs.Common.{inl, inr}
 use Rattle.std.specs.Prelude.{IsSome, is_some}
 use Rattle.std.proofs.lemmas.Bool.{cases_lt, cases_order}
-use Rattle.qc_outside.specs.Names.{HoldsNoByte, IsKept, IsPutBack, NamesActor, Places, Told, settled}
+use Rattle.qc_outside.specs.Vocabulary.{HoldsNoByte, IsKept, IsPutBack, NamesActor, Places, Told, settled}
 use Rattle.qc_outside.specs.declared.rack.RackFault.{RackFault}
 use Rattle.qc_outside.specs.declared.rack.RackFault.TheVariants.{Failed, NotEmpty, OutOfMemory}
-use Rattle.qc_process.specs.Names.{IsStartRefused}
-use Rattle.laws_bounds.specs.Names.{place_of}
+use Rattle.qc_process.specs.Vocabulary.{IsStartRefused}
+use Rattle.laws_bounds.specs.Vocabulary.{place_of}
 use Rattle.laws_bounds.proofs.BackPlaces.{elsewhere}
-use Rattle.qc_node.specs.Names.{AreBackBelow, AreBackBut, AreBackFrom, AreGivenBack, AreHandedBelow, AreStarted}
-use Rattle.qc_node.specs.Names.{AreUnbegun, AreUnstarted, BothTell, HasBegun, IsBackFrom, IsGivenBack, IsHandedBelow}
-use Rattle.qc_node.specs.Names.{IsNotEmpty, IsRefused, IsUnbegun, IsUnwritten}
+use Rattle.qc_node.specs.Vocabulary.{AreBackBelow, AreBackBut, AreBackFrom, AreGivenBack, AreHandedBelow, AreStarted}
+use Rattle.qc_node.specs.Vocabulary.{AreUnbegun, AreUnstarted, BothTell, HasBegun, IsBackFrom, IsGivenBack}
+use Rattle.qc_node.specs.Vocabulary.{IsHandedBelow, IsNotEmpty, IsRefused, IsUnbegun, IsUnwritten}
 use Rattle.qc_node.proofs.Starts.{other_place}
 use Rattle.qc_node.proofs.Unstarted.{told_alike}
 

@@ -3,18 +3,18 @@ use Rattle.std.proofs.Common.{◌≡◌, ◌⊎◌, ℕ, ◌+◌, ◌<◌, ◌�
 use Rattle.std.proofs.Common.{None, refl, sym, ◌∙◌, subst, arith, inl, inr}
 use Rattle.std.specs.Prelude.{IfSome, IsSome, is_some}
 use Rattle.std.proofs.lemmas.Bool.{cases_lt, eqb-false, eqb-true}
-use Rattle.qc_journal.specs.Names.{IsJournal}
-use Rattle.qc_outside.specs.Names.{HoldsNoByte, IsKept, IsPutBack, IsSameAtAll, NamesActor, Place, Places, Told}
-use Rattle.qc_outside.specs.Names.{as_read, held_after}
+use Rattle.qc_journal.specs.Vocabulary.{IsJournal}
+use Rattle.qc_outside.specs.Vocabulary.{HoldsNoByte, IsKept, IsPutBack, IsSameAtAll, NamesActor, Place, Places, Told}
+use Rattle.qc_outside.specs.Vocabulary.{as_read, held_after}
 use Rattle.qc_outside.specs.declared.rack.RackFault.{RackFault}
 use Rattle.qc_outside.specs.declared.rack.RackFault.TheVariants.{Failed, NotEmpty, OutOfMemory}
 use Rattle.qc_outside.proofs.Kept.{read_is_image}
-use Rattle.qc_promise.specs.Names.{no_journal}
-use Rattle.laws_bounds.specs.Names.{AreHandedOut, HoldsJournal, place_of}
+use Rattle.qc_promise.specs.Vocabulary.{no_journal}
+use Rattle.laws_bounds.specs.Vocabulary.{AreHandedOut, HoldsJournal, place_of}
 use Rattle.laws_bounds.proofs.BackPlaces.{elsewhere}
-use Rattle.qc_store.specs.Names.{DiskHasJournal}
-use Rattle.qc_node.specs.Names.{AreBackBelow, AreBackFrom, AreGivenBack, AreHandedBelow, AreStarted, AreUnstarted}
-use Rattle.qc_node.specs.Names.{BothTell, HasBegun, IsBackFrom, IsGivenBack, IsHandedBelow, IsRefused, IsUnstarted}
+use Rattle.qc_store.specs.Vocabulary.{DiskHasJournal}
+use Rattle.qc_node.specs.Vocabulary.{AreBackBelow, AreBackFrom, AreGivenBack, AreHandedBelow, AreStarted, AreUnstarted}
+use Rattle.qc_node.specs.Vocabulary.{BothTell, HasBegun, IsBackFrom, IsGivenBack, IsHandedBelow, IsRefused, IsUnstarted}
 use Rattle.qc_node.proofs.Starts.{other_place}
 
 -- who tells its places still does

@@ -3,10 +3,11 @@ use Rattle.std.proofs.Common.{◌≡◌, ℕ, ◌+◌, ◌<◌, ◌≤◌, ◌==
 use Rattle.std.proofs.Common.{ap, ◌∙◌, subst, arith}
 use Rattle.std.specs.Prelude.{IsSome, is_some}
 use Rattle.std.proofs.lemmas.Bool.{eqb-false, eqb-true}
-use Rattle.qc_outside.specs.Names.{HoldsNoByte, IsKept, IsPutBack, Place, Places, Told, as_read, held_after, settled}
-use Rattle.laws_bounds.specs.Names.{place_of}
+use Rattle.qc_outside.specs.Vocabulary.{HoldsNoByte, IsKept, IsPutBack, Place, Places, Told, as_read, held_after}
+use Rattle.qc_outside.specs.Vocabulary.{settled}
+use Rattle.laws_bounds.specs.Vocabulary.{place_of}
 use Rattle.laws_bounds.proofs.BackPlaces.{elsewhere}
-use Rattle.qc_node.specs.Names.{AreBackFrom, BothTell, IsBackFrom, IsUnwritten}
+use Rattle.qc_node.specs.Vocabulary.{AreBackFrom, BothTell, IsBackFrom, IsUnwritten}
 use Rattle.qc_node.proofs.Starts.{other_place}
 
 -- what a place holds after an unwritten disk came back to it

@@ -2,19 +2,19 @@
 use Rattle.std.specs.Prelude.{◌≡◌, ◌⊎◌, ℕ, ◌<◌, Bool, true, false, List, [], ◌∷◌, ◌++◌, None}
 use mathlib.Core.List.{IsPrefix}
 use Rattle.atomic_table.specs.Seated.{TableId}
-use Rattle.qc_core.specs.Names.{IsLawfulWithFalls, actor_after, actor_takes}
-use Rattle.qc_decl.specs.Names.{actors}
+use Rattle.qc_core.specs.Vocabulary.{IsLawfulWithFalls, actor_after, actor_takes}
+use Rattle.qc_decl.specs.Vocabulary.{actors}
 use Rattle.qc_decl.specs.declared.declaration.Declaration.{Declaration}
-use Rattle.qc_msg.specs.Names.{Entry, Takes, deeds, deeds_as}
+use Rattle.qc_msg.specs.Vocabulary.{Entry, Takes, deeds, deeds_as}
 use Rattle.qc_msg.specs.declared.step.Input.{Input}
 use Rattle.qc_msg.specs.declared.step.Step.{Step}
 use Rattle.qc_msg.specs.declared.turn.Appended.{Appended}
 use Rattle.qc_pass.specs.declared.token.Pass.{Pass}
-use Rattle.qc_pass.specs.Names.{number, pass_table, room, seen}
-use Rattle.qc_process.specs.Names.{IsOnDisk, IsProcess, IsStored, ProcessView, StoreView}
-use Rattle.qc_script.specs.Names.{RunWithFalls}
+use Rattle.qc_pass.specs.Vocabulary.{number, pass_table, room, seen}
+use Rattle.qc_process.specs.Vocabulary.{IsOnDisk, IsProcess, IsStored, ProcessView, StoreView}
+use Rattle.qc_script.specs.Vocabulary.{RunWithFalls}
 use Rattle.qc_script.specs.declared.script.Script.{Script}
-use Rattle.qc_fabric.specs.Names.{HasNone}
+use Rattle.qc_fabric.specs.Vocabulary.{HasNone}
 use Rattle.qc_node.specs.Rules.{fits_of}
 use Rattle.qc_node.specs.declared.ends.TurnEnd.{TurnEnd}
 use Rattle.qc_node.specs.declared.ends.TurnEnd.TheVariants as ends

@@ -1,12 +1,12 @@
 -- How a phase ends, and a script, and what its run comes to.
 use Rattle.std.specs.Prelude.{◌≡◌, ◌≤◌, ℕ, Bool, List, Some, None, length}
-use Rattle.qc_core.specs.Names.{IsLawfulWithFalls}
-use Rattle.qc_decl.specs.Names.{actors}
+use Rattle.qc_core.specs.Vocabulary.{IsLawfulWithFalls}
+use Rattle.qc_decl.specs.Vocabulary.{actors}
 use Rattle.qc_decl.specs.declared.declaration.Declaration.{Declaration}
-use Rattle.qc_msg.specs.Names.{Entry}
-use Rattle.qc_script.specs.Names.{RunsWithFalls, phase_of}
+use Rattle.qc_msg.specs.Vocabulary.{Entry}
+use Rattle.qc_script.specs.Vocabulary.{RunsWithFalls, phase_of}
 use Rattle.qc_script.specs.declared.script.Script.{Script}
-use Rattle.qc_fabric.specs.Names.{IsStopped, before_last_event, full_of}
+use Rattle.qc_fabric.specs.Vocabulary.{IsStopped, before_last_event, full_of}
 use Rattle.qc_node.specs.Rules.{fits_of}
 use Rattle.qc_node.specs.declared.ends.DriveEnd.{DriveEnd}
 use Rattle.qc_node.specs.declared.ends.DriveEnd.TheVariants as ends

@@ -6,4 +6,4 @@ pub mod Ends
 pub mod Places
 pub mod Settling
 pub mod Starts
-pub mod Names
+pub mod Vocabulary

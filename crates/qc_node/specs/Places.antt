@@ -1,10 +1,10 @@
 -- What the places of a rack, in one folder or in none, hold before a run and after it; why no run began, and what they
 -- hold then.
 use Rattle.std.specs.Prelude.{◌≡◌, ◌⊎◌, ℕ, ◌<◌, List, [], Option, Some, None, IfSome}
-use Rattle.qc_decl.specs.Names.{controller}
+use Rattle.qc_decl.specs.Vocabulary.{controller}
 use Rattle.qc_decl.specs.declared.declaration.Declaration.{Declaration}
-use Rattle.qc_journal.specs.Names.{IsJournal}
-use Rattle.qc_outside.specs.Names.{HoldsNoByte, NamesActor, Places, Rose}
+use Rattle.qc_journal.specs.Vocabulary.{IsJournal}
+use Rattle.qc_outside.specs.Vocabulary.{HoldsNoByte, NamesActor, Places, Rose}
 use Rattle.qc_outside.specs.declared.rack.RackFault.{RackFault}
 use Rattle.qc_outside.specs.declared.rack.RackFault.TheVariants as racks
 pub use Rattle.laws_bounds.specs.Places.{HoldJournals, HoldsJournal, place_of}

@@ -2,11 +2,11 @@
 use Rattle.std.specs.Prelude.{◌≡◌, ℕ, Bool, List, None}
 use Rattle.qc_core.specs.declared.actor.Actor.TheVariants.{Down}
 use Rattle.qc_decl.specs.declared.declaration.Declaration.{Declaration}
-use Rattle.qc_msg.specs.Names.{Entry, posted_as}
+use Rattle.qc_msg.specs.Vocabulary.{Entry, posted_as}
 use Rattle.qc_msg.specs.declared.turn.Appended.{Appended}
 use Rattle.qc_msg.specs.declared.turn.Appended.TheVariants.{Done}
 use Rattle.qc_msg.specs.declared.turn.Turn.{Turn}
-use Rattle.qc_process.specs.Names.{Goes, IsOnDisk, IsOpened, IsStored, ProcessView, Spells}
+use Rattle.qc_process.specs.Vocabulary.{Goes, IsOnDisk, IsOpened, IsStored, ProcessView, Spells}
 use Rattle.qc_process.specs.declared.opened.Opened.{Opened}
 use Rattle.qc_process.specs.declared.opened.Opened.TheVariants as opens
 use Rattle.qc_fabric.specs.declared.rising.Rising.{Rising}

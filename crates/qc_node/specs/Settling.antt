@@ -1,11 +1,11 @@
 -- What is known while disks go back to the rack, one by one, once every cell has seen the whole history.
 use Rattle.std.specs.Prelude.{◌≡◌, ◌≤◌, ℕ, Bool, true, List, Option, Some, IfSome, is_some, slice_get}
-use Rattle.qc_decl.specs.Names.{controller}
+use Rattle.qc_decl.specs.Vocabulary.{controller}
 use Rattle.qc_decl.specs.declared.declaration.Declaration.{Declaration}
-use Rattle.qc_msg.specs.Names.{Entry, own}
-use Rattle.qc_outside.specs.Names.{Places}
-use Rattle.qc_promise.specs.Names.{IsEverInTime}
-use Rattle.laws_bounds.specs.Names.{AreBackSoFar, AreKeptOrMisfits, IsSpentSoFar, visits_below}
+use Rattle.qc_msg.specs.Vocabulary.{Entry, own}
+use Rattle.qc_outside.specs.Vocabulary.{Places}
+use Rattle.qc_promise.specs.Vocabulary.{IsEverInTime}
+use Rattle.laws_bounds.specs.Vocabulary.{AreBackSoFar, AreKeptOrMisfits, IsSpentSoFar, visits_below}
 
 -- So many disks went back, of the actors that were visited, and so these passes have rooms: in their accounts no fault
 -- ever waited past its call, and the rack's count rose by their falls from what it was before. The rack tells where the

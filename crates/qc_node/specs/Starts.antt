@@ -3,11 +3,11 @@
 use Rattle.std.specs.Prelude.{◌≡◌, ℕ, ◌+◌, ◌<◌, ◌≤◌, Bool, true, List, [], Option, Some, Ok, All, IsSome, is_some}
 use Rattle.std.specs.Prelude.{slice_get}
 use Rattle.qc_decl.specs.declared.declaration.Declaration.{Declaration}
-use Rattle.qc_outside.specs.Names.{HoldsNoByte, IsHandedOut, IsSameAtAll, NamesActor, Places, Rose, Told, settled}
+use Rattle.qc_outside.specs.Vocabulary.{HoldsNoByte, IsHandedOut, IsSameAtAll, NamesActor, Places, Rose, Told, settled}
 use Rattle.qc_outside.specs.declared.rack.RackFault.{RackFault}
 use Rattle.qc_outside.specs.declared.rack.RackFault.TheVariants as racks
-use Rattle.qc_process.specs.Names.{IsProcess, IsUp, ProcessView}
-use Rattle.laws_bounds.specs.Names.{AreHandedOut, place_of}
+use Rattle.qc_process.specs.Vocabulary.{IsProcess, IsUp, ProcessView}
+use Rattle.laws_bounds.specs.Vocabulary.{AreHandedOut, place_of}
 use Rattle.qc_node.specs.Places.{AreGivenBack, BothTell, HasBegun, IsRefused}
 
 -- the processes of the actors from 0 on, before these do anything

@@ -11,7 +11,7 @@ use Rattle.std.proofs.lemmas.Fmt.{decimal_is_IsNumeral, decimal_nonempty, length
 use Rattle.std.proofs.lemmas.Int.Digits.{digits_value_more}
 use Rattle.std.proofs.lemmas.Str.Parse.{IsNumeralModel, numerals_by_value, digits_value-take-le, digits_value_short}
 use Rattle.std.proofs.lemmas.Str.Parse.{digit_at}
-use Rattle.qc_number.specs.Names.{greatest, most_digits, number_of}
+use Rattle.qc_number.specs.Vocabulary.{greatest, most_digits, number_of}
 
 -- what the test says of digits, in the words of std
 pub digits : IsNumeralModel (λ ds. list_all is_ascii_digit ds ≡ true) (digits_value 10)

@@ -1,6 +1,6 @@
 -- What an armed fault counts.
 use Rattle.std.proofs.Common.{◌≡◌, ℕ, ◌+◌, ◌-◌, ◌^◌, ◌≤◌, min, Err, arith}
-use Rattle.qc_outside.specs.Names.{DiskRose, Rose}
+use Rattle.qc_outside.specs.Vocabulary.{DiskRose, Rose}
 use Rattle.qc_outside.specs.declared.disk.DiskFault.TheVariants.{Failed, Stopped}
 
 pub counted_fail : (i a b : ℕ) → a ≤ b → b ≡ min (a + 1) (2 ^ 64 - 1)

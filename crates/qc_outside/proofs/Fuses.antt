@@ -2,9 +2,9 @@
 use Rattle.std.proofs.Common.{◌≡◌, ℕ, ◌+◌, ◌-◌, ◌≤◌, Option, Some, None, Result, Ok, Err, inl, inr, refl, sym, ◌∙◌, ap}
 use Rattle.std.proofs.Common.{subst, arith, nat_le, true, false, Bool, if◌then◌else◌}
 use Rattle.std.proofs.lemmas.Bool.{leb-true, leb-false}
-use Rattle.qc_outside.specs.Names.{Armed, Burns, BurnsMany, BurnsNothing, DiskRose, Fuse, HasActed, HasFailed}
-use Rattle.qc_outside.specs.Names.{HasFaulted, HasPassed, IsArmedAfter, IsBlamed, IsRefused, Rose, acting, armed_after}
-use Rattle.qc_outside.specs.Names.{fault_of}
+use Rattle.qc_outside.specs.Vocabulary.{Armed, Burns, BurnsMany, BurnsNothing, DiskRose, Fuse, HasActed, HasFailed}
+use Rattle.qc_outside.specs.Vocabulary.{HasFaulted, HasPassed, IsArmedAfter, IsBlamed, IsRefused, Rose, acting}
+use Rattle.qc_outside.specs.Vocabulary.{armed_after, fault_of}
 use Rattle.qc_outside.specs.declared.disk.ArmKind.{ArmKind}
 use Rattle.qc_outside.specs.declared.disk.ArmKind.TheVariants.{Fail, Stop}
 use Rattle.qc_outside.specs.declared.disk.DiskFault.{DiskFault}

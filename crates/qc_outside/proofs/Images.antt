@@ -4,7 +4,7 @@ use Rattle.std.proofs.Common.{None, refl, sym, ◌∙◌, ap, subst, arith, appe
 use Rattle.std.proofs.Common.{length-drop}
 use Rattle.std.specs.List.{AllByRecursion}
 use Rattle.std.proofs.lemmas.List.{length-replicate}
-use Rattle.qc_outside.specs.Names.{IsImage, Leaves, Since, Stored, Tells, Told, Write, as_read, overwritten, wrote}
+use Rattle.qc_outside.specs.Vocabulary.{IsImage, Leaves, Since, Stored, Tells, Told, Write, as_read, overwritten, wrote}
 
 pub length-overwritten : (old : List ℕ) (w : Write)
     → length (overwritten old w) ≡ max (length old) (w.at + length w.bytes)

@@ -3,8 +3,8 @@ use Rattle.std.proofs.Common.{◌≡◌, ◌⊎◌, inl, inr, ℕ, ◌+◌, ◌-
 use Rattle.std.proofs.Common.{zero, replicate, get_or, refl, sym, ◌∙◌, ap, arith, length-append, length-take}
 use Rattle.std.proofs.lemmas.List.{length-replicate, get_or_append_left, get_or-append_right, get_or-take, get_or-drop}
 use Rattle.std.proofs.lemmas.List.{take-append-le}
-use Rattle.qc_outside.specs.Names.{IsImage, IsOutside, Leaves, Stored, Write, all_torn, all_written, as_read, blotted}
-use Rattle.qc_outside.specs.Names.{left_by, overwritten, settled, torn_by}
+use Rattle.qc_outside.specs.Vocabulary.{IsImage, IsOutside, Leaves, Stored, Write, all_torn, all_written, as_read}
+use Rattle.qc_outside.specs.Vocabulary.{blotted, left_by, overwritten, settled, torn_by}
 use Rattle.qc_outside.specs.declared.tear.Tear.{Tear}
 use Rattle.qc_outside.specs.declared.tear.Tear.TheVariants.{Nothing, All, Fill}
 use Rattle.qc_outside.proofs.Images.{length-overwritten}

@@ -2,8 +2,8 @@
 use Rattle.std.proofs.Common.{◌≡◌, ℕ, ◌+◌, List, [], ◌∷◌, ◌++◌, length, take, drop, refl, sym, ◌∙◌, ap, subst, arith}
 use Rattle.std.proofs.Common.{length-drop}
 use Rattle.std.proofs.lemmas.List.{append-nil, take_all, take-append-le, drop-append-le}
-use Rattle.qc_outside.specs.Names.{IsImage, Leaves, Since, Stored, Told, Write, count_of, counts, told_after}
-use Rattle.qc_outside.specs.Names.{told_at_first, told_by, told_next, wrote}
+use Rattle.qc_outside.specs.Vocabulary.{IsImage, Leaves, Since, Stored, Told, Write, count_of, counts, told_after}
+use Rattle.qc_outside.specs.Vocabulary.{told_at_first, told_by, told_next, wrote}
 use Rattle.qc_outside.specs.declared.tear.Tear.{Tear}
 use Rattle.qc_outside.specs.declared.mem_disk.Change.{Change}
 use Rattle.qc_outside.specs.declared.mem_disk.Change.TheVariants.{Wrote, Synced, Fell}

@@ -9,8 +9,8 @@ use Rattle.std.proofs.lemmas.Bool.{eqb-true, eq-eqb}
 use Rattle.std.specs.Cmp.Derive.{both_true}
 use Rattle.std.proofs.lemmas.List.Folds.{find-append}
 use Rattle.std.proofs.lemmas.Slice.Eq.{bytes_eq-Decides}
-use Rattle.qc_outside.specs.Names.{HoldsNoByte, IsAdded, IsFirstAt, IsSameElsewhere, Place, held, held_after, is_at}
-use Rattle.qc_outside.specs.Names.{is_folder, name_of}
+use Rattle.qc_outside.specs.Vocabulary.{HoldsNoByte, IsAdded, IsFirstAt, IsSameElsewhere, Place, held, held_after}
+use Rattle.qc_outside.specs.Vocabulary.{is_at, is_folder, name_of}
 use Rattle.qc_outside.specs.declared.mem_rack.Kept.{Kept}
 
 both : (a b : Bool) → (a && b) ≡ true → (a ≡ true) × (b ≡ true)

@@ -10,4 +10,4 @@ pub mod Memory
 pub mod Places
 pub mod Shelf
 pub mod Sink
-pub mod Names
+pub mod Vocabulary

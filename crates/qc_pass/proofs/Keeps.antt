@@ -1,6 +1,6 @@
 -- Each kind of step keeps the pass rule.
-use Rattle.std.proofs.Common.{◌≡◌, ℕ, ◌+◌, ◌%◌, ◌^◌, ◌≢◌, true, List, ◌∷◌, ◌++◌, length, set, refl, ap, sym, ◌∙◌, arith}
-use Rattle.std.proofs.Common.{length-append, length-set, Option, Some, slice_get}
+use Rattle.std.proofs.Common.{[], ◌≡◌, ℕ, ◌+◌, ◌%◌, ◌^◌, ◌≢◌, true, List, ◌∷◌, ◌++◌, length, set, refl, ap, sym, ◌∙◌}
+use Rattle.std.proofs.Common.{arith, length-append, length-set, Option, Some, slice_get}
 use Rattle.std.specs.Prelude.{slice_index}
 use mathlib.Core.Option.{none}
 use lib.Seq.{set-get_or}
@@ -8,12 +8,12 @@ use Rattle.atomic_table.specs.Table.{State, Me, step, keeps, Allows, Splits}
 use Rattle.atomic_table.proofs.Lists.{set_again}
 use Rattle.qc_list.specs.declared.marked.Marked.{Marked}
 use Rattle.qc_pass.specs.declared.view.View.{View}
-use Rattle.qc_pass.specs.Names.{Adds, IsJoined, IsOneHistory, IsPassOf, IsRightTo, Knows, Loads, joined, marked}
-use Rattle.qc_pass.specs.Names.{pass_apart, right_apart, with_entry}
+use Rattle.qc_pass.specs.Vocabulary.{Adds, IsJoined, IsOneHistory, IsPassOf, IsRightTo, Knows, Loads, joined, marked}
+use Rattle.qc_pass.specs.Vocabulary.{pass_apart, right_apart, with_entry}
 use Rattle.qc_pass.proofs.Places.{got, at_inside, set_here, set_else, at_last, set_fact, end_fact, prefix_more}
 use Rattle.qc_pass.proofs.Places.{prefix_all}
 use Rattle.qc_pass.proofs.Owns.{own_mine, own_other}
-use Rattle.qc_pass.proofs.Passes.{counted}
+use Rattle.qc_pass.proofs.PassSteps.{counted}
 
 module _ {E : Type 0} where
   -- what a pass that has the right knows

@@ -1,6 +1,6 @@
 pub mod Places
 pub mod Owns
-pub mod Passes
+pub mod PassSteps
 pub mod Keeps
 pub mod Making
 pub mod RuleLaws

@@ -5,7 +5,7 @@ use Rattle.std.proofs.lemmas.List.{length-replicate}
 use Rattle.atomic_table.specs.Seated.{TableId}
 use Rattle.qc_pass.specs.declared.token.Pass.{Pass}
 use Rattle.qc_pass.specs.declared.token.Right.{Right}
-use Rattle.qc_pass.specs.Names.{AreNew, IsNew, IsSetUp, all, ends, right_table, rooms}
+use Rattle.qc_pass.specs.Vocabulary.{AreNew, IsNew, IsSetUp, all, ends, right_table, rooms}
 use Rattle.qc_pass.proofs.Places.{end_fact}
 
 replicate_more : (n : ℕ) → ◌++◌ {A = ℕ} (replicate n 0) (0 ∷ []) ≡ replicate (suc n) 0

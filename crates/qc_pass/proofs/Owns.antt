@@ -5,7 +5,7 @@ use Rattle.std.specs.Prelude.{filter}
 use Rattle.std.proofs.lemmas.List.{append-nil}
 use mathlib.Core.List.{IsPrefix}
 use Rattle.qc_list.specs.declared.marked.Marked.{Marked}
-use Rattle.qc_pass.specs.Names.{marked, own}
+use Rattle.qc_pass.specs.Vocabulary.{marked, own}
 
 module _ {E : Type 0} where
   more_one : (b : Bool) (x : Marked E) (js ks : List (Marked E)) (es : List E)

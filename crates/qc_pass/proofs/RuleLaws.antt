@@ -3,7 +3,7 @@ use Rattle.std.proofs.Common.{◌≡◌, ℕ, ◌⊎◌, ap, sym, ◌∙◌}
 use mathlib.Core.List.{IsPrefix}
 use Rattle.atomic_table.specs.Table.{State}
 use Rattle.qc_pass.specs.declared.view.View.{View}
-use Rattle.qc_pass.specs.Names.{IsOneHistory, IsPassAt, IsPassOf, IsRightAt, IsRightTo, Knows, joined, own}
+use Rattle.qc_pass.specs.Vocabulary.{IsOneHistory, IsPassAt, IsPassOf, IsRightAt, IsRightTo, Knows, joined, own}
 use Rattle.qc_pass.proofs.Places.{prefixes}
 use Rattle.qc_pass.proofs.Owns.{own_begins}
 

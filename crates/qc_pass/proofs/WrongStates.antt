@@ -4,7 +4,7 @@ use Rattle.std.proofs.Common.{◌∙◌, subst, arith}
 use Rattle.std.specs.Prelude.{slice_get, slice_index, Option, Some}
 use Rattle.qc_list.specs.declared.marked.Marked.{Marked}
 use Rattle.qc_pass.specs.declared.view.View.{View}
-use Rattle.qc_pass.specs.Names.{IsOneHistory, IsPassOf, IsRightTo, marked, own, pass_view, right_view, word_of}
+use Rattle.qc_pass.specs.Vocabulary.{IsOneHistory, IsPassOf, IsRightTo, marked, own, pass_view, right_view, word_of}
 use Rattle.qc_pass.proofs.Owns.{own_other}
 
 module _ {E : Type 0} where

@@ -3,4 +3,4 @@ pub mod Seats
 pub mod Rule
 pub mod Tokens
 pub mod Made
-pub mod Names
+pub mod Vocabulary

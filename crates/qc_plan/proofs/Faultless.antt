@@ -6,12 +6,12 @@ use Rattle.std.specs.List.{list_any}
 use Rattle.std.specs.Option.{option_or}
 use Rattle.std.proofs.lemmas.Bool.{eqb-false, leb-false, lt-leb, ne_eqb, or_from, or_parts}
 use Rattle.std.proofs.lemmas.Option.{slice_get_within}
-use Rattle.qc_plan.specs.Names.{IsAdmitted, can_miss, fault_of, heavy_fault, is_heavy, kind_fault, need_of}
-use Rattle.qc_plan.specs.Names.{object_fault, pair_fault, total}
+use Rattle.qc_plan.specs.Vocabulary.{IsAdmitted, can_miss, fault_of, heavy_fault, is_heavy, kind_fault, need_of}
+use Rattle.qc_plan.specs.Vocabulary.{object_fault, pair_fault, total}
 use Rattle.qc_plan.specs.declared.fault.PlanFault.TheVariants.{NoWeight, TooHeavy, CanMiss}
 use Rattle.qc_plan.specs.declared.plan.Plan.{Plan}
-use Rattle.qc_table.specs.Names.{depends, events_of}
-use Rattle.qc_list.specs.Names.{first_below}
+use Rattle.qc_table.specs.Vocabulary.{depends, events_of}
+use Rattle.qc_list.specs.Vocabulary.{first_below}
 use Rattle.qc_list.proofs.Search.{below_none, none_from, none_below, none_parts}
 use Rattle.qc_table.specs.declared.kind.Kind.{Kind}
 use Rattle.qc_plan.proofs.Heaviness.{all_light, none_heavy}

@@ -5,7 +5,7 @@ use Rattle.std.specs.Prelude.{nat_lt, slice_get, unwrap_or}
 use Rattle.std.specs.List.{list_any}
 use Rattle.std.proofs.lemmas.Bool.{cases_lt, ltb-false, le-ltb, or_from, or_parts}
 use Rattle.std.proofs.lemmas.Option.{slice_get_past, unwrap_or-slice_get}
-use Rattle.qc_plan.specs.Names.{need_of}
+use Rattle.qc_plan.specs.Vocabulary.{need_of}
 
 -- the threshold at a place of a list, and 0 where there is none
 abbrev pub need_in : List ℕ → ℕ → ℕ

@@ -3,7 +3,7 @@ use Rattle.std.proofs.Common.{◌≡◌, ℕ, zero, suc, ◌+◌, ◌-◌, ◌<�
 use Rattle.std.proofs.Common.{Option, Some, None, refl, ap, subst, arith}
 use Rattle.std.specs.Prelude.{◌==◌, fold, slice_get, unwrap_or}
 use Rattle.std.proofs.lemmas.Bool.{eqb-true, eqb-false}
-use Rattle.qc_plan.specs.Names.{IsCloseWeight, closing, closing_list, closing_needs, need_of, total}
+use Rattle.qc_plan.specs.Vocabulary.{IsCloseWeight, closing, closing_list, closing_needs, need_of, total}
 use Rattle.qc_plan.specs.declared.plan.Plan.{Plan}
 use Rattle.qc_plan.proofs.Heaviness.{need_in}
 

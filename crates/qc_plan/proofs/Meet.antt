@@ -1,7 +1,7 @@
 -- Two sets whose weights add to more than the weight of all sites share a site.
 use Rattle.std.proofs.Common.{ℕ, suc, ◌+◌, ◌<◌, ◌≡◌, Bool, true, false, cond, List, [], ◌∷◌, length, refl, arith}
 use Rattle.std.proofs.Common.{suc-le-suc, zero-lt-suc}
-use Rattle.qc_plan.specs.Names.{IsShared, total, weight}
+use Rattle.qc_plan.specs.Vocabulary.{IsShared, total, weight}
 
 -- a site in common behind the first one
 later : (w : ℕ) (ws : List ℕ) (a b : ℕ → Bool) → IsShared ws (λ k. a (suc k)) (λ k. b (suc k)) → IsShared (w ∷ ws) a b

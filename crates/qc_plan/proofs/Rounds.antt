@@ -1,13 +1,14 @@
 -- Met rounds weigh what is needed, and to ask one by one is to ask all that is wanted.
-use Rattle.std.proofs.Common.{◌≡◌, ℕ, zero, suc, ◌+◌, ◌-◌, map, slice_index, append_assoc, length-take, ◌<◌, ◌≤◌}
+use Rattle.std.proofs.Common.{[], ◌≡◌, ℕ, zero, suc, ◌+◌, ◌-◌, map, slice_index, append_assoc, length-take, ◌<◌, ◌≤◌}
 use Rattle.std.proofs.Common.{nat_lt, Bool, true, false, cond, List, ◌∷◌, ◌++◌, Some, unwrap_or, length, take, drop}
 use Rattle.std.proofs.Common.{set, refl, sym, ◌∙◌, ap, subst, arith}
 use Rattle.std.specs.List.{range_with_len}
 use Rattle.std.proofs.lemmas.List.{drop-set-lt, set_past, map-append}
 use Rattle.std.proofs.Math.Seq.{take-set-lt}
 use Rattle.std.proofs.lemmas.Bool.Decides.{nat_tests}
-use Rattle.qc_plan.specs.Names.{RoundState, all_noted, asking_all, asking_in_turn, cyclic, has_granted, is_waiting}
-use Rattle.qc_plan.specs.Names.{note_in, place_in, prefix, refusal, settled, start, verdict, wanted, weighing, weight}
+use Rattle.qc_plan.specs.Vocabulary.{RoundState, all_noted, asking_all, asking_in_turn, cyclic, has_granted, is_waiting}
+use Rattle.qc_plan.specs.Vocabulary.{note_in, place_in, prefix, refusal, settled, start, verdict, wanted, weighing}
+use Rattle.qc_plan.specs.Vocabulary.{weight}
 use Rattle.qc_plan.specs.declared.standing.Asked.{Asked}
 use Rattle.qc_plan.specs.declared.standing.Standing.{Standing}
 use Rattle.qc_plan.specs.declared.standing.Verdict.TheVariants as verdicts

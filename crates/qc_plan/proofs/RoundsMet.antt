@@ -1,12 +1,12 @@
 -- A met round weighs what is needed; one site more weighs no less.
-use Rattle.std.proofs.Common.{◌≡◌, ℕ, suc, ◌+◌, ◌-◌, ◌≤◌, ◌==◌, ◌||◌, ◌&&◌, nat_lt, nat_le, Bool, true, false, cond}
+use Rattle.std.proofs.Common.{[], ◌≡◌, ℕ, suc, ◌+◌, ◌-◌, ◌≤◌, ◌==◌, ◌||◌, ◌&&◌, nat_lt, nat_le, Bool, true, false, cond}
 use Rattle.std.proofs.Common.{List, ◌∷◌, ◌++◌, Option, Some, None, unwrap_or, length, take, set, refl, ◌∙◌, ap, arith}
 use Rattle.std.specs.Option.{option_or}
 use Rattle.std.proofs.lemmas.Bool.Decides.{nat_tests}
 use Rattle.std.proofs.lemmas.List.Folds.{list_any-append, list_all-append}
-use Rattle.qc_plan.specs.Names.{RoundState, all_noted, asking_all, asking_first, asking_in_turn, asking_on, clash_at}
-use Rattle.qc_plan.specs.Names.{closed_at, first, first_clash, first_closed, has_granted, is_asked, note_in, place_in}
-use Rattle.qc_plan.specs.Names.{prefix, refusal, verdict, wanted, weight}
+use Rattle.qc_plan.specs.Vocabulary.{RoundState, all_noted, asking_all, asking_first, asking_in_turn, asking_on}
+use Rattle.qc_plan.specs.Vocabulary.{clash_at, closed_at, first, first_clash, first_closed, has_granted, is_asked}
+use Rattle.qc_plan.specs.Vocabulary.{note_in, place_in, prefix, refusal, verdict, wanted, weight}
 use Rattle.qc_plan.specs.declared.standing.Asked.{Asked}
 use Rattle.qc_plan.specs.declared.standing.Standing.{Standing}
 use Rattle.qc_plan.specs.declared.standing.Standing.TheVariants as standings

@@ -2,7 +2,7 @@
 use Rattle.std.proofs.Common.{◌≡◌, ℕ, suc, ◌+◌, ◌<◌, Bool, cond, List, [], ◌∷◌, ◌++◌, length, take, get_or, ap, ◌∙◌}
 use Rattle.std.proofs.Common.{arith, length-take}
 use Rattle.std.proofs.lemmas.List.{take_more}
-use Rattle.qc_plan.specs.Names.{total, weight}
+use Rattle.qc_plan.specs.Vocabulary.{total, weight}
 
 -- one more site at the end
 weight_push : (ws : List ℕ) (w : ℕ) (sites : ℕ → Bool)

@@ -3,7 +3,7 @@ use Rattle.std.specs.Prelude.{◌≡◌, ℕ, ◌+◌, ◌<◌, ◌≤◌, IsTru
 use Rattle.qc_plan.specs.Need.{need_of}
 use Rattle.qc_plan.specs.Weights.{total}
 use Rattle.qc_plan.specs.declared.plan.Plan.{Plan}
-use Rattle.qc_table.specs.Names.{depends, events_of}
+use Rattle.qc_table.specs.Vocabulary.{depends, events_of}
 use Rattle.qc_table.specs.declared.kind.Kind.{Kind}
 
 -- the sites have weight, no threshold is above it, and each initial quorum of an invocation and each final quorum of an

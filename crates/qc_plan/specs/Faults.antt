@@ -9,8 +9,8 @@ use Rattle.qc_plan.specs.Weights.{total}
 use Rattle.qc_plan.specs.declared.fault.PlanFault.{PlanFault}
 use Rattle.qc_plan.specs.declared.fault.PlanFault.TheVariants.{NoWeight, TooHeavy, CanMiss}
 use Rattle.qc_plan.specs.declared.plan.Plan.{Plan}
-use Rattle.qc_table.specs.Names.{depends, events_of}
-use Rattle.qc_list.specs.Names.{first_below}
+use Rattle.qc_table.specs.Vocabulary.{depends, events_of}
+use Rattle.qc_list.specs.Vocabulary.{first_below}
 use Rattle.qc_table.specs.declared.kind.Kind.{Kind}
 
 -- whether an object has a threshold above the weight of all sites

@@ -5,4 +5,4 @@ pub mod Limits
 pub mod Need
 pub mod Round
 pub mod Weights
-pub mod Names
+pub mod Vocabulary

@@ -2,20 +2,21 @@
 use Rattle.std.proofs.Common.{◌≡◌, ℕ, ◌+◌, Bool, true, List, [], ◌∷◌, ◌++◌, Option, Some, None, refl, sym, ◌∙◌, ap}
 use Rattle.std.proofs.Common.{subst, append_assoc, option_map}
 use Rattle.qc_decl.specs.declared.declaration.Declaration.{Declaration}
-use Rattle.qc_journal.specs.Names.{Rests}
-use Rattle.qc_msg.specs.Names.{Entry, fell, posted, posted_as, sents, told, wrote}
+use Rattle.qc_journal.specs.Vocabulary.{Rests}
+use Rattle.qc_msg.specs.Vocabulary.{Entry, fell, posted, posted_as, sents, told, wrote}
 use Rattle.qc_msg.specs.declared.record.Record.{Record}
 use Rattle.qc_msg.specs.declared.step.Fall.TheVariants as falls
 use Rattle.qc_msg.specs.declared.step.Step.{Step}
 use Rattle.qc_msg.specs.declared.step.Step.TheVariants as steps
 use Rattle.qc_msg.specs.declared.turn.Turn.{Turn}
-use Rattle.qc_outside.specs.Names.{Fuse, Told}
+use Rattle.qc_outside.specs.Vocabulary.{Fuse, Told}
 use Rattle.qc_outside.specs.declared.disk.ArmKind.{ArmKind}
 use Rattle.qc_outside.specs.declared.disk.ArmKind.TheVariants as kinds
-use Rattle.qc_promise.specs.Names.{DiskAccount, disk_called, disk_fell, disk_fell_by, of_fall, of_record}
-use Rattle.qc_record.specs.Names.{is_legal, spelled}
-use Rattle.qc_store.specs.Names.{DiskHolds, IsAccountOf, StillTells, of_broken_record}
-use Rattle.qc_process.specs.Names.{Goes, IsLegalPending, IsStored, OpenJournal, Spells, StoreView, appended_by, fall_by}
+use Rattle.qc_promise.specs.Vocabulary.{DiskAccount, disk_called, disk_fell, disk_fell_by, of_fall, of_record}
+use Rattle.qc_record.specs.Vocabulary.{is_legal, spelled}
+use Rattle.qc_store.specs.Vocabulary.{DiskHolds, IsAccountOf, StillTells, of_broken_record}
+use Rattle.qc_process.specs.Vocabulary.{Goes, IsLegalPending, IsStored, OpenJournal, Spells, StoreView, appended_by}
+use Rattle.qc_process.specs.Vocabulary.{fall_by}
 use Rattle.qc_process.proofs.Going.{broken_on, plain_on, written_on}
 use Rattle.qc_process.proofs.Plain.{is_plain, plain_said, plain_told}
 use Rattle.std.specs.List.{AllByRecursion as Every}

@@ -2,17 +2,17 @@
 use Rattle.std.proofs.Common.{◌≡◌, ℕ, ◌≤◌, Bool, true, List, [], ◌∷◌, Option, Some, None, IsSome, length, refl, sym}
 use Rattle.std.proofs.Common.{◌∙◌, ap, arith, subst, Err}
 use Rattle.qc_decl.specs.declared.declaration.Declaration.{Declaration}
-use Rattle.qc_journal.specs.Names.{IsNoJournal, JournalRose, Rests}
+use Rattle.qc_journal.specs.Vocabulary.{IsNoJournal, JournalRose, Rests}
 use Rattle.qc_journal.specs.declared.fault.JournalFault.{JournalFault}
 use Rattle.qc_journal.specs.declared.fault.JournalFault.TheVariants as faults
-use Rattle.qc_msg.specs.Names.{Entry, own}
-use Rattle.qc_outside.specs.Names.{Fuse, Rose, Tells, Told, as_read, settled}
+use Rattle.qc_msg.specs.Vocabulary.{Entry, own}
+use Rattle.qc_outside.specs.Vocabulary.{Fuse, Rose, Tells, Told, as_read, settled}
 use Rattle.qc_outside.specs.declared.rack.RackFault.{RackFault}
 use Rattle.qc_outside.specs.declared.rack.RackFault.TheVariants as racks
-use Rattle.qc_promise.specs.Names.{IsEverInTime, IsInTime, Journal, journal_of, no_disk_account, no_journal}
-use Rattle.qc_store.specs.Names.{DiskHasJournal, IsAccountOf}
-use Rattle.qc_process.specs.Names.{IsPlaced, IsStartRefused, IsStored, IsTold, OpenJournal, StoreView, bodies_of}
-use Rattle.qc_process.specs.Names.{not_begun}
+use Rattle.qc_promise.specs.Vocabulary.{IsEverInTime, IsInTime, Journal, journal_of, no_disk_account, no_journal}
+use Rattle.qc_store.specs.Vocabulary.{DiskHasJournal, IsAccountOf}
+use Rattle.qc_process.specs.Vocabulary.{IsPlaced, IsStartRefused, IsStored, IsTold, OpenJournal, StoreView, bodies_of}
+use Rattle.qc_process.specs.Vocabulary.{not_begun}
 use Rattle.qc_process.proofs.Appending.{Shows}
 use Rattle.qc_process.proofs.Own.{none_kept}
 

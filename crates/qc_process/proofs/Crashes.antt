@@ -1,16 +1,16 @@
 -- A store whose journal is given up, by the parts of its views.
 use Rattle.std.proofs.Common.{◌≡◌, ℕ, Bool, List, [], ◌∷◌, Option, Some, None, sym, ◌∙◌, subst}
 use Rattle.qc_decl.specs.declared.declaration.Declaration.{Declaration}
-use Rattle.qc_journal.specs.Names.{Rests}
-use Rattle.qc_msg.specs.Names.{Entry}
+use Rattle.qc_journal.specs.Vocabulary.{Rests}
+use Rattle.qc_msg.specs.Vocabulary.{Entry}
 use Rattle.qc_msg.specs.declared.step.Fall.TheVariants as falls
 use Rattle.qc_msg.specs.declared.step.Step.TheVariants as steps
-use Rattle.qc_outside.specs.Names.{Fuse, Told}
+use Rattle.qc_outside.specs.Vocabulary.{Fuse, Told}
 use Rattle.qc_outside.specs.declared.disk.ArmKind.{ArmKind}
-use Rattle.qc_promise.specs.Names.{DiskAccount, disk_armed}
-use Rattle.qc_store.specs.Names.{DiskHolds, IsAccountOf, StillTells}
+use Rattle.qc_promise.specs.Vocabulary.{DiskAccount, disk_armed}
+use Rattle.qc_store.specs.Vocabulary.{DiskHolds, IsAccountOf, StillTells}
 use Rattle.qc_store.proofs.Accounts.{counted, is_armed}
-use Rattle.qc_process.specs.Names.{AreUnfit, Goes, GoesArmed, IsOnDisk, IsOpened, IsStored, OpenJournal, StoreView}
+use Rattle.qc_process.specs.Vocabulary.{AreUnfit, Goes, GoesArmed, IsOnDisk, IsOpened, IsStored, OpenJournal, StoreView}
 use Rattle.qc_process.proofs.Appending.{Shows}
 use Rattle.qc_process.proofs.Going.{crashed_on}
 use Rattle.qc_process.proofs.Openings.{given_up, unfit_on}

@@ -3,17 +3,17 @@ use Rattle.std.proofs.Common.{◌≡◌, inl, inr, ℕ, zero, suc, ◌+◌, ◌<
 use Rattle.std.proofs.Common.{◌∷◌, ◌++◌, Vec, length, drop, get_or, refl, sym, ◌∙◌, ap, subst, arith, ltb-true}
 use Rattle.std.proofs.Common.{append_assoc, length-append}
 use Rattle.std.specs.declared.alloc.Global.{Global}
-use Rattle.qc_decl.specs.Names.{IsAccepted, is_site, most_clients}
+use Rattle.qc_decl.specs.Vocabulary.{IsAccepted, is_site, most_clients}
 use Rattle.qc_decl.specs.declared.declaration.Declaration.{Declaration}
 use Rattle.qc_entry.specs.declared.record.Prepared.{Prepared}
-use Rattle.qc_fit.specs.Names.{fits, has_client, is_of, is_prepared_fit, most_records}
-use Rattle.qc_journal.specs.Names.{lists}
-use Rattle.qc_list.specs.Names.{In}
+use Rattle.qc_fit.specs.Vocabulary.{fits, has_client, is_of, is_prepared_fit, most_records}
+use Rattle.qc_journal.specs.Vocabulary.{lists}
+use Rattle.qc_list.specs.Vocabulary.{In}
 use Rattle.qc_list.proofs.Members.{every-append}
 use Rattle.qc_msg.specs.declared.record.Record.{Record}
 use Rattle.qc_msg.specs.declared.record.Record.TheVariants as records
-use Rattle.qc_record.specs.Names.{is_legal, spelled}
-use Rattle.qc_process.specs.Names.{AreLegal, AreUnfit, IsFirstUnfit, all_fit, bodies_of, bytes_of}
+use Rattle.qc_record.specs.Vocabulary.{is_legal, spelled}
+use Rattle.qc_process.specs.Vocabulary.{AreLegal, AreUnfit, IsFirstUnfit, all_fit, bodies_of, bytes_of}
 use Rattle.qc_process.proofs.Going.{bodies_more}
 
 both : (b c : Bool) → (b && c) ≡ true → (b ≡ true) × (c ≡ true)

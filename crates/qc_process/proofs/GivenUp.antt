@@ -2,12 +2,12 @@
 -- given up.
 use Rattle.std.proofs.Common.{ℕ, Bool, List, [], ◌∷◌, Option, refl}
 use Rattle.qc_decl.specs.declared.declaration.Declaration.{Declaration}
-use Rattle.qc_msg.specs.Names.{Entry, step_of}
+use Rattle.qc_msg.specs.Vocabulary.{Entry, step_of}
 use Rattle.qc_msg.specs.declared.step.Input.{Input}
 use Rattle.qc_msg.specs.declared.step.Input.TheVariants as inputs
 use Rattle.qc_msg.specs.declared.step.Step.{Step}
-use Rattle.qc_outside.specs.Names.{Told}
-use Rattle.qc_process.specs.Names.{Goes, IsOnDisk, IsStored, StoreView}
+use Rattle.qc_outside.specs.Vocabulary.{Told}
+use Rattle.qc_process.specs.Vocabulary.{Goes, IsOnDisk, IsStored, StoreView}
 use Rattle.qc_process.proofs.Going.{plain_on}
 use Rattle.qc_process.proofs.Plain.{ArePlain}
 use Rattle.qc_process.proofs.Told.{told_plain}

@@ -3,22 +3,22 @@ use Rattle.std.proofs.Common.{◌≡◌, ℕ, ◌+◌, ◌==◌, Bool, true, Lis
 use Rattle.std.proofs.Common.{refl, sym, ◌∙◌, ap, subst, arith, length-append, if◌then◌else◌}
 use Rattle.std.proofs.lemmas.Bool.{eq-eqb}
 use Rattle.qc_decl.specs.declared.declaration.Declaration.{Declaration}
-use Rattle.qc_journal.specs.Names.{Rests}
+use Rattle.qc_journal.specs.Vocabulary.{Rests}
 use Rattle.qc_list.proofs.Members.{every-append}
-use Rattle.qc_msg.specs.Names.{Entry}
+use Rattle.qc_msg.specs.Vocabulary.{Entry}
 use Rattle.qc_msg.specs.declared.record.Record.{Record}
 use Rattle.qc_msg.specs.declared.step.Fall.{Fall}
 use Rattle.qc_msg.specs.declared.step.Fall.TheVariants as falls
 use Rattle.qc_msg.specs.declared.step.Step.{Step}
 use Rattle.qc_msg.specs.declared.step.Step.TheVariants as steps
-use Rattle.qc_outside.specs.Names.{Told}
+use Rattle.qc_outside.specs.Vocabulary.{Told}
 use Rattle.qc_outside.specs.declared.disk.ArmKind.{ArmKind}
-use Rattle.qc_promise.specs.Names.{DiskAccount, IsInTime, Journal, disk_account_with, disk_called, disk_fell}
-use Rattle.qc_promise.specs.Names.{disk_fell_by, journal_with, of_fall, of_record}
-use Rattle.qc_record.specs.Names.{is_legal, spelled}
-use Rattle.qc_store.specs.Names.{DiskHolds, IsAccountOf, StillTells, of_broken_record}
+use Rattle.qc_promise.specs.Vocabulary.{DiskAccount, IsInTime, Journal, disk_account_with, disk_called, disk_fell}
+use Rattle.qc_promise.specs.Vocabulary.{disk_fell_by, journal_with, of_fall, of_record}
+use Rattle.qc_record.specs.Vocabulary.{is_legal, spelled}
+use Rattle.qc_store.specs.Vocabulary.{DiskHolds, IsAccountOf, StillTells, of_broken_record}
 use Rattle.qc_store.proofs.Accounts.{in_time as counted_in_time}
-use Rattle.qc_process.specs.Names.{Goes, IsPlaced, IsStored, IsTold, OpenJournal, StoreView, bodies_of, body_of}
+use Rattle.qc_process.specs.Vocabulary.{Goes, IsPlaced, IsStored, IsTold, OpenJournal, StoreView, bodies_of, body_of}
 use Rattle.qc_process.proofs.Plain.{ArePlain}
 use Rattle.qc_process.proofs.Told.{told_around, told_plain}
 

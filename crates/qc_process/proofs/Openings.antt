@@ -2,23 +2,25 @@
 use Rattle.std.proofs.Common.{◌≡◌, ℕ, ◌+◌, ◌≤◌, Bool, true, false, ◌&&◌, List, [], ◌∷◌, ◌++◌, Option, Some, None}
 use Rattle.std.proofs.Common.{IsSome, inl, inr, length, option_to_list, refl, sym, ◌∙◌, subst, arith}
 use Rattle.qc_decl.specs.declared.declaration.Declaration.{Declaration}
-use Rattle.qc_fit.specs.Names.{fits}
-use Rattle.qc_journal.specs.Names.{Holds, Rests}
+use Rattle.qc_fit.specs.Vocabulary.{fits}
+use Rattle.qc_journal.specs.Vocabulary.{Holds, Rests}
 use Rattle.qc_list.proofs.Members.{every-append}
-use Rattle.qc_msg.specs.Names.{Entry}
+use Rattle.qc_msg.specs.Vocabulary.{Entry}
 use Rattle.qc_msg.specs.declared.record.Record.{Record}
 use Rattle.qc_msg.specs.declared.step.Step.{Step}
 use Rattle.qc_msg.specs.declared.step.Step.TheVariants as steps
-use Rattle.qc_outside.specs.Names.{Tells, Told}
+use Rattle.qc_outside.specs.Vocabulary.{Tells, Told}
 use Rattle.qc_outside.specs.declared.disk.ArmKind.{ArmKind}
 use Rattle.qc_outside.specs.declared.disk.ArmKind.TheVariants as kinds
-use Rattle.qc_promise.specs.Names.{Calls, DiskAccount, IsInTime, Journal, disk_account_with, disk_called, disk_fell}
-use Rattle.qc_promise.specs.Names.{disk_fell_by, of_fall, of_reading}
-use Rattle.qc_record.specs.Names.{is_legal}
-use Rattle.qc_store.specs.Names.{AreGiven, DiskHolds, IsAccountOf, IsCounted, StillTells, of_bodies, of_broken_opening}
+use Rattle.qc_promise.specs.Vocabulary.{Calls, DiskAccount, IsInTime, Journal, disk_account_with, disk_called}
+use Rattle.qc_promise.specs.Vocabulary.{disk_fell, disk_fell_by, of_fall, of_reading}
+use Rattle.qc_record.specs.Vocabulary.{is_legal}
+use Rattle.qc_store.specs.Vocabulary.{AreGiven, DiskHolds, IsAccountOf, IsCounted, StillTells, of_bodies}
+use Rattle.qc_store.specs.Vocabulary.{of_broken_opening}
 use Rattle.qc_store.proofs.Accounts.{counted as account_counted}
-use Rattle.qc_process.specs.Names.{AreLegal, AreUnfit, Goes, IsLegalPending, IsOnDisk, IsOpened, IsPlaced, IsStored}
-use Rattle.qc_process.specs.Names.{IsTold, OpenJournal, StoreView, all_fit, bodies_of, body_of, fall_by, journal_fits}
+use Rattle.qc_process.specs.Vocabulary.{AreLegal, AreUnfit, Goes, IsLegalPending, IsOnDisk, IsOpened, IsPlaced}
+use Rattle.qc_process.specs.Vocabulary.{IsStored, IsTold, OpenJournal, StoreView, all_fit, bodies_of, body_of, fall_by}
+use Rattle.qc_process.specs.Vocabulary.{journal_fits}
 use Rattle.qc_process.proofs.Going.{bodies_more, own_account, soon_by}
 use Rattle.qc_process.proofs.Told.{told_around}
 

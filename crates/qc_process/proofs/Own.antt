@@ -3,11 +3,11 @@ use Rattle.std.proofs.Common.{◌≡◌, ℕ, ◌+◌, ◌≤◌, ◌==◌, fals
 use Rattle.std.proofs.Common.{append-nil, append_assoc, arith, length-append}
 use Rattle.std.proofs.lemmas.Bool.{eq-eqb}
 use Rattle.qc_decl.specs.declared.declaration.Declaration.{Declaration}
-use Rattle.qc_msg.specs.Names.{Entry, by, own}
+use Rattle.qc_msg.specs.Vocabulary.{Entry, by, own}
 use Rattle.qc_msg.specs.declared.step.Step.{Step}
 use Rattle.qc_msg.proofs.DeedsGrow.{own-append}
-use Rattle.qc_promise.specs.Names.{IsKeptOrUnfit, IsOfOthers, journal_of}
-use Rattle.qc_process.specs.Names.{AreKeptOrUnfit, Goes, journal_fits}
+use Rattle.qc_promise.specs.Vocabulary.{IsKeptOrUnfit, IsOfOthers, journal_of}
+use Rattle.qc_process.specs.Vocabulary.{AreKeptOrUnfit, Goes, journal_fits}
 
 -- where a list with one more at its end is cut: at that one, or before it
 

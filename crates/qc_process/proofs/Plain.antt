@@ -5,14 +5,15 @@ use Rattle.std.proofs.lemmas.List.Sums.{fold-append}
 use Rattle.std.specs.List.{AllByRecursion as Every}
 use Rattle.qc_decl.specs.declared.declaration.Declaration.{Declaration}
 use Rattle.qc_list.proofs.Members.{every-append}
-use Rattle.qc_msg.specs.Names.{sents, told}
+use Rattle.qc_msg.specs.Vocabulary.{sents, told}
 use Rattle.qc_msg.specs.declared.reply.Reply.{Reply}
 use Rattle.qc_msg.specs.declared.step.Step.{Step}
 use Rattle.qc_msg.specs.declared.step.Step.TheVariants as steps
 use Rattle.qc_msg.specs.declared.turn.Posting.{Posting}
-use Rattle.qc_promise.specs.Names.{AreStoreSteps, DiskAccount, IsInTime, IsKeptOrUnfit, Journal, disk_account_after}
-use Rattle.qc_promise.specs.Names.{disk_account_with, journal_after, journal_of, journal_with, no_journal}
-use Rattle.qc_process.specs.Names.{journal_fits}
+use Rattle.qc_promise.specs.Vocabulary.{AreStoreSteps, DiskAccount, IsInTime, IsKeptOrUnfit, Journal}
+use Rattle.qc_promise.specs.Vocabulary.{disk_account_after, disk_account_with, journal_after, journal_of, journal_with}
+use Rattle.qc_promise.specs.Vocabulary.{no_journal}
+use Rattle.qc_process.specs.Vocabulary.{journal_fits}
 use Rattle.qc_process.proofs.Own.{AreFine}
 
 abbrev pub is_plain : Step → Bool

@@ -1,12 +1,12 @@
 -- A process goes on with its history.
 use Rattle.std.proofs.Common.{◌≡◌, ◌≢◌, ℕ, ◌==◌, Bool, List, [], ◌∷◌, ◌++◌, Option, None, refl, sym, ◌∙◌, ap}
 use Rattle.std.proofs.Common.{append_assoc, cond, true, false, append-nil}
-use Rattle.qc_core.specs.Names.{ActorMove, actor_after}
+use Rattle.qc_core.specs.Vocabulary.{ActorMove, actor_after}
 use Rattle.qc_core.specs.declared.actor.Actor.TheVariants.{Down}
 use Rattle.qc_core.proofs.LivesOfActors.{falls as after_fall}
 use Rattle.qc_decl.specs.declared.declaration.Declaration.{Declaration}
-use Rattle.qc_msg.specs.Names.{Deed, Entry, Falls, by, deeds, deeds_as, fell, mail, marked, posted_as, sends_of}
-use Rattle.qc_msg.specs.Names.{tells_of}
+use Rattle.qc_msg.specs.Vocabulary.{Deed, Entry, Falls, by, deeds, deeds_as, fell, mail, marked, posted_as, sends_of}
+use Rattle.qc_msg.specs.Vocabulary.{tells_of}
 use Rattle.qc_msg.specs.declared.record.Record.{Record}
 use Rattle.qc_msg.specs.declared.step.Fall.{Fall}
 use Rattle.qc_msg.specs.declared.step.Fall.TheVariants as causes
@@ -17,8 +17,8 @@ use Rattle.qc_msg.specs.declared.turn.Turn.{Turn}
 use Rattle.qc_msg.proofs.DeedsGrow.{deeds-append, deeds-fell}
 use Rattle.qc_msg.proofs.Growth.{deeds-posted_as, same_deeds}
 use Rattle.qc_outside.specs.declared.disk.ArmKind.{ArmKind}
-use Rattle.qc_promise.specs.Names.{IsOfOthers}
-use Rattle.qc_process.specs.Names.{Goes, GoesArmed, IsProcess, IsStored, ProcessView}
+use Rattle.qc_promise.specs.Vocabulary.{IsOfOthers}
+use Rattle.qc_process.specs.Vocabulary.{Goes, GoesArmed, IsProcess, IsStored, ProcessView}
 use Rattle.qc_process.proofs.Own.{own_other, own_others}
 use Rattle.qc_process.proofs.GivenUp.{stored_past_others}
 

@@ -3,14 +3,14 @@ use Rattle.std.proofs.Common.{◌≡◌, ℕ, Bool, List, [], ◌∷◌, Option,
 use Rattle.std.proofs.Common.{arith}
 use Rattle.std.specs.declared.alloc.Global.{Global}
 use Rattle.qc_decl.specs.declared.declaration.Declaration.{Declaration}
-use Rattle.qc_journal.specs.Names.{Rests, lists}
-use Rattle.qc_msg.specs.Names.{Entry}
+use Rattle.qc_journal.specs.Vocabulary.{Rests, lists}
+use Rattle.qc_msg.specs.Vocabulary.{Entry}
 use Rattle.qc_msg.specs.declared.step.Step.TheVariants as steps
-use Rattle.qc_outside.specs.Names.{Fuse, Tells, Told}
+use Rattle.qc_outside.specs.Vocabulary.{Fuse, Tells, Told}
 use Rattle.qc_outside.specs.declared.disk.ArmKind.{ArmKind}
-use Rattle.qc_promise.specs.Names.{DiskAccount, disk_called, disk_fell, of_reading}
-use Rattle.qc_store.specs.Names.{AreGiven, DiskHolds, IsAccountOf, StillTells, of_bodies, of_broken_opening}
-use Rattle.qc_process.specs.Names.{Goes, IsOpened, IsStored, OpenJournal, StoreView, fall_by}
+use Rattle.qc_promise.specs.Vocabulary.{DiskAccount, disk_called, disk_fell, of_reading}
+use Rattle.qc_store.specs.Vocabulary.{AreGiven, DiskHolds, IsAccountOf, StillTells, of_bodies, of_broken_opening}
+use Rattle.qc_process.specs.Vocabulary.{Goes, IsOpened, IsStored, OpenJournal, StoreView, fall_by}
 use Rattle.qc_process.proofs.Appending.{Shows}
 use Rattle.qc_process.proofs.Openings.{opened_on, torn_on, unopened_on}
 

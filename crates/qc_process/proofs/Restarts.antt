@@ -5,33 +5,33 @@ use Rattle.std.proofs.Common.{refl, sym, ◌∙◌, ap, subst, arith, if◌then�
 use Rattle.std.specs.declared.alloc.AllocError.{AllocError}
 use Rattle.std.specs.declared.alloc.Global.{Global}
 use Rattle.qc_core.proofs.ByNumber.{rises_by}
-use Rattle.qc_core.specs.Names.{ActorMove, actor_rises, moved}
+use Rattle.qc_core.specs.Vocabulary.{ActorMove, actor_rises, moved}
 use Rattle.qc_core.specs.declared.actor.Actor.{Actor}
 use Rattle.qc_core.specs.declared.actor.Actor.TheVariants.{Down}
-use Rattle.qc_decl.specs.Names.{is_client, is_site}
+use Rattle.qc_decl.specs.Vocabulary.{is_client, is_site}
 use Rattle.qc_decl.specs.declared.declaration.Declaration.{Declaration}
-use Rattle.qc_fit.specs.Names.{most_records}
-use Rattle.qc_journal.specs.Names.{Holds, IsNoJournal, Rests, lists}
+use Rattle.qc_fit.specs.Vocabulary.{most_records}
+use Rattle.qc_journal.specs.Vocabulary.{Holds, IsNoJournal, Rests, lists}
 use Rattle.qc_list.proofs.Members.{every-append}
-use Rattle.qc_msg.specs.Names.{Entry, IsByDisk}
+use Rattle.qc_msg.specs.Vocabulary.{Entry, IsByDisk}
 use Rattle.qc_msg.specs.declared.record.Record.{Record}
 use Rattle.qc_msg.specs.declared.record.Record.TheVariants.{Life}
 use Rattle.qc_msg.specs.declared.step.Step.TheVariants as steps
 use Rattle.qc_msg.specs.declared.turn.Turn.{Turn}
-use Rattle.qc_outside.specs.Names.{Told, as_read}
+use Rattle.qc_outside.specs.Vocabulary.{Told, as_read}
 use Rattle.qc_outside.specs.declared.disk.ArmKind.{ArmKind}
 use Rattle.qc_outside.specs.declared.disk.ArmKind.TheVariants as kinds
-use Rattle.qc_promise.specs.Names.{Calls, DiskAccount, IsGivenBack, IsInTime, Journal, disk_account_with, disk_called}
-use Rattle.qc_promise.specs.Names.{of_opening}
-use Rattle.qc_record.specs.Names.{is_legal}
+use Rattle.qc_promise.specs.Vocabulary.{Calls, DiskAccount, IsGivenBack, IsInTime, Journal, disk_account_with}
+use Rattle.qc_promise.specs.Vocabulary.{disk_called, of_opening}
+use Rattle.qc_record.specs.Vocabulary.{is_legal}
 use Rattle.qc_record.proofs.Frames.{apart}
-use Rattle.qc_store.specs.Names.{AreGiven, IsAccountOf, of_bodies}
+use Rattle.qc_store.specs.Vocabulary.{AreGiven, IsAccountOf, of_bodies}
 use Rattle.qc_store.specs.declared.store.RiseFault.{RiseFault}
 use Rattle.qc_store.specs.declared.store.RiseFault.TheVariants as faults
-use Rattle.qc_process.specs.Names.{AreLegal, FoundAs, Goes, GoesOn, HasFewRecords, HasRisen, IsGivenUp, IsLegalPending}
-use Rattle.qc_process.specs.Names.{IsNotOpened, IsOpened, IsPlaced, IsRiseOrFall, IsSameStore, IsStored, IsTold, IsUp}
-use Rattle.qc_process.specs.Names.{MayWrite, OpenJournal, OpensAs, ReadsFit, StaysOnDisk, StoreView, bodies_of, body_of}
-use Rattle.qc_process.specs.Names.{fall_by, process_of}
+use Rattle.qc_process.specs.Vocabulary.{AreLegal, FoundAs, Goes, GoesOn, HasFewRecords, HasRisen, IsGivenUp}
+use Rattle.qc_process.specs.Vocabulary.{IsLegalPending, IsNotOpened, IsOpened, IsPlaced, IsRiseOrFall, IsSameStore}
+use Rattle.qc_process.specs.Vocabulary.{IsStored, IsTold, IsUp, MayWrite, OpenJournal, OpensAs, ReadsFit, StaysOnDisk}
+use Rattle.qc_process.specs.Vocabulary.{StoreView, bodies_of, body_of, fall_by, process_of}
 use Rattle.qc_process.specs.declared.opened.Opened.{Opened}
 use Rattle.qc_process.specs.declared.opened.Opened.TheVariants as opens
 use Rattle.qc_process.specs.declared.restart.Found.{Found}

@@ -3,13 +3,13 @@ use Rattle.std.proofs.Common.{◌≡◌, ℕ, ◌+◌, ◌^◌, ◌<◌, ◌≤�
 use Rattle.std.proofs.Common.{IfSome, length, refl, sym, ◌∙◌, ap, arith, append_assoc, append-nil}
 use Rattle.std.proofs.lemmas.Bool.{eq-eqb}
 use Rattle.qc_decl.specs.declared.declaration.Declaration.{Declaration}
-use Rattle.qc_msg.specs.Names.{Entry, by, own}
+use Rattle.qc_msg.specs.Vocabulary.{Entry, by, own}
 use Rattle.qc_msg.specs.declared.step.Step.{Step}
 use Rattle.qc_msg.proofs.GrownMail.{by-append}
 use Rattle.qc_msg.proofs.DeedsGrow.{own-append}
-use Rattle.qc_promise.specs.Names.{IsKeptOrUnfit, Journal, journal_of}
-use Rattle.qc_process.specs.Names.{AreKeptOrUnfit, Goes, HasFewRecords, IsPlaced, IsStored, OpenJournal, StoreView}
-use Rattle.qc_process.specs.Names.{journal_fits}
+use Rattle.qc_promise.specs.Vocabulary.{IsKeptOrUnfit, Journal, journal_of}
+use Rattle.qc_process.specs.Vocabulary.{AreKeptOrUnfit, Goes, HasFewRecords, IsPlaced, IsStored, OpenJournal, StoreView}
+use Rattle.qc_process.specs.Vocabulary.{journal_fits}
 
 pub in_parts : (a : ℕ) (h now : List Entry) (xs ys : List Step) → Goes a h (xs ++ ys) now
     → (mid : List Entry) × Goes a h xs mid × Goes a mid ys now

@@ -2,15 +2,15 @@
 use Rattle.std.proofs.Common.{◌≡◌, ℕ, ◌+◌, ◌^◌, ◌≤◌, Bool, true, false, List, [], ◌∷◌, ◌++◌, length, sym, ◌∙◌, ap}
 use Rattle.std.proofs.Common.{append-nil, arith, length-append, subst}
 use Rattle.qc_decl.specs.declared.declaration.Declaration.{Declaration}
-use Rattle.qc_msg.specs.Names.{Entry, marked, own}
+use Rattle.qc_msg.specs.Vocabulary.{Entry, marked, own}
 use Rattle.qc_msg.specs.declared.step.Step.{Step}
 use Rattle.qc_msg.specs.declared.step.Step.TheVariants as steps
 use Rattle.qc_outside.specs.declared.disk.ArmKind.{ArmKind}
-use Rattle.qc_promise.specs.Names.{AreStoreSteps, DiskAccount, IsGivenBack, IsInTime, IsKeptOrUnfit, IsStoreOf, Journal}
-use Rattle.qc_promise.specs.Names.{disk_account_after, disk_account_with, disk_armed, journal_after, journal_of}
-use Rattle.qc_promise.specs.Names.{journal_with}
+use Rattle.qc_promise.specs.Vocabulary.{AreStoreSteps, DiskAccount, IsGivenBack, IsInTime, IsKeptOrUnfit, IsStoreOf}
+use Rattle.qc_promise.specs.Vocabulary.{Journal, disk_account_after, disk_account_with, disk_armed, journal_after}
+use Rattle.qc_promise.specs.Vocabulary.{journal_of, journal_with}
 use Rattle.qc_spent.proofs.Stores.{arm_on, others_on, steps_on}
-use Rattle.qc_process.specs.Names.{AreKeptOrUnfit, AreLegal, Goes, GoesArmed, IsLegalPending, IsTold, journal_fits}
+use Rattle.qc_process.specs.Vocabulary.{AreKeptOrUnfit, AreLegal, Goes, GoesArmed, IsLegalPending, IsTold, journal_fits}
 use Rattle.qc_process.proofs.Own.{AreFine, kept_on, longer, own_goes, own_other, own_others}
 use Rattle.qc_process.proofs.Plain.{ArePlain, account_past, fine_past, journal_of_more, journal_past, plain_then}
 

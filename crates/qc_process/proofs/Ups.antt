@@ -3,13 +3,13 @@ use Rattle.std.proofs.Common.{◌≡◌, Option, Some, None, IsSome, refl, sym, 
 use Rattle.std.specs.Prelude.{MatchOption, Result, Ok, Err, IfOk}
 use Rattle.qc_core.specs.declared.actor.Actor.{Actor}
 use Rattle.qc_core.specs.declared.actor.Actor.TheVariants.{Down}
-use Rattle.qc_core.specs.Names.{ActorMove, actor_takes, moved}
+use Rattle.qc_core.specs.Vocabulary.{ActorMove, actor_takes, moved}
 use Rattle.qc_decl.specs.declared.declaration.Declaration.{Declaration}
 use Rattle.qc_msg.specs.declared.step.Input.{Input}
 use Rattle.qc_msg.specs.declared.step.Input.TheVariants as inputs
 use Rattle.qc_msg.specs.declared.turn.Turn.{Turn}
-use Rattle.qc_msg.specs.Names.{HasRecord}
-use Rattle.qc_process.specs.Names.{IsOpenWhileUp, IsUp, OpenJournal, StoreView}
+use Rattle.qc_msg.specs.Vocabulary.{HasRecord}
+use Rattle.qc_process.specs.Vocabulary.{IsOpenWhileUp, IsUp, OpenJournal, StoreView}
 
 pub open_of_up : (actor : Actor) (s : StoreView) → IsOpenWhileUp actor s → (actor ≡ Down → ⊥) → IsUp s
 open_of_up actor s is up = by s.journal is

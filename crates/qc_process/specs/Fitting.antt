@@ -3,12 +3,12 @@ use Rattle.std.specs.Prelude.{◌≡◌, ◌⊎◌, ℕ, ◌+◌, Bool, true, fa
 use Rattle.std.specs.Prelude.{option_to_list}
 use Rattle.std.specs.List.{AllByRecursion as Every}
 use Rattle.qc_decl.specs.declared.declaration.Declaration.{Declaration}
-use Rattle.qc_fit.specs.Names.{fits}
-use Rattle.qc_journal.specs.Names.{Holds, IsNoJournal}
+use Rattle.qc_fit.specs.Vocabulary.{fits}
+use Rattle.qc_journal.specs.Vocabulary.{Holds, IsNoJournal}
 use Rattle.qc_msg.specs.declared.record.Record.{Record}
 use Rattle.qc_msg.specs.declared.step.Step.{Step}
-use Rattle.qc_promise.specs.Names.{IsKeptOrUnfit, Journal, journal_of}
-use Rattle.qc_record.specs.Names.{is_legal, spelled}
+use Rattle.qc_promise.specs.Vocabulary.{IsKeptOrUnfit, Journal, journal_of}
+use Rattle.qc_record.specs.Vocabulary.{is_legal, spelled}
 
 -- each has a spelling
 abbrev pub AreLegal : List Record → Type 0

@@ -1,15 +1,15 @@
 -- What the bodies of a journal that was opened give, and what becomes of it.
 use Rattle.std.specs.Prelude.{◌≡◌, ℕ, Bool, List, [], ◌∷◌, Some, None, Result, Ok, Err, option_map}
-use Rattle.qc_core.specs.Names.{actor_rises, moved}
+use Rattle.qc_core.specs.Vocabulary.{actor_rises, moved}
 use Rattle.qc_core.specs.declared.actor.Actor.{Actor}
 use Rattle.qc_core.specs.declared.actor.Actor.TheVariants.{Down}
 use Rattle.qc_decl.specs.declared.declaration.Declaration.{Declaration}
-use Rattle.qc_msg.specs.Names.{Entry}
+use Rattle.qc_msg.specs.Vocabulary.{Entry}
 use Rattle.qc_msg.specs.declared.record.Record.{Record}
 use Rattle.qc_msg.specs.declared.record.Record.TheVariants.{Life}
 use Rattle.qc_msg.specs.declared.step.Step.TheVariants.{Damaged}
 use Rattle.qc_msg.specs.declared.turn.Turn.{Turn}
-use Rattle.qc_record.specs.Names.{spelled}
+use Rattle.qc_record.specs.Vocabulary.{spelled}
 use Rattle.qc_store.specs.declared.store.RiseFault.{RiseFault}
 use Rattle.qc_store.specs.declared.store.RiseFault.TheVariants as faults
 use Rattle.std.specs.declared.alloc.AllocError.{AllocError}

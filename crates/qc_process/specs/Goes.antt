@@ -1,10 +1,10 @@
 -- How a history goes on as an actor sees it.
 use Rattle.std.specs.Prelude.{◌≡◌, ◌≤◌, ℕ, ◌==◌, false, List, [], ◌∷◌, ◌++◌}
-use Rattle.qc_msg.specs.Names.{Entry, by, marked}
+use Rattle.qc_msg.specs.Vocabulary.{Entry, by, marked}
 use Rattle.qc_msg.specs.declared.step.Step.{Step}
 use Rattle.qc_msg.specs.declared.step.Step.TheVariants.{Armed}
 use Rattle.qc_outside.specs.declared.disk.ArmKind.{ArmKind}
-use Rattle.qc_promise.specs.Names.{IsOfOthers}
+use Rattle.qc_promise.specs.Vocabulary.{IsOfOthers}
 
 -- others did something, and then the actor took these steps
 pub record Goes (a : ℕ) (h : List Entry) (own : List Step) (now : List Entry) : Type 0 where

@@ -1,7 +1,7 @@
 -- What an actor's calls ask of an input.
 use Rattle.std.specs.Prelude.{◌^◌, ◌<◌}
-use Rattle.qc_admin.specs.Names.{MessageFits}
-use Rattle.qc_client.specs.Names.{promise_in}
+use Rattle.qc_admin.specs.Vocabulary.{MessageFits}
+use Rattle.qc_client.specs.Vocabulary.{promise_in}
 use Rattle.qc_msg.specs.declared.step.Input.{Input}
 use Rattle.qc_msg.specs.declared.step.Input.TheVariants as inputs
 

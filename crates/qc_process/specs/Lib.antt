@@ -6,4 +6,4 @@ pub mod Opens
 pub mod Reading
 pub mod Inputs
 pub mod Found
-pub mod Names
+pub mod Vocabulary

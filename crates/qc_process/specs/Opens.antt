@@ -1,20 +1,20 @@
 -- What a restart finds, and what it makes of a process.
 use Rattle.std.specs.Prelude.{◌≡◌, ℕ, Bool, true, List, [], ◌∷◌, Option, Some, None, option_map}
-use Rattle.qc_core.specs.Names.{actor_rises, moved}
+use Rattle.qc_core.specs.Vocabulary.{actor_rises, moved}
 use Rattle.qc_core.specs.declared.actor.Actor.TheVariants.{Down}
 use Rattle.qc_decl.specs.declared.declaration.Declaration.{Declaration}
 use Rattle.qc_journal.specs.declared.fault.JournalFault.{JournalFault}
 use Rattle.qc_journal.specs.declared.fault.JournalFault.TheVariants as journal_faults
-use Rattle.qc_msg.specs.Names.{Entry, IsByDisk}
+use Rattle.qc_msg.specs.Vocabulary.{Entry, IsByDisk}
 use Rattle.qc_msg.specs.declared.record.Record.{Record}
 use Rattle.qc_msg.specs.declared.record.Record.TheVariants.{Life}
 use Rattle.qc_msg.specs.declared.step.Step.{Step}
 use Rattle.qc_msg.specs.declared.step.Step.TheVariants.{Damaged, Fell, Rose}
 use Rattle.qc_msg.specs.declared.turn.Turn.{Turn}
-use Rattle.qc_outside.specs.Names.{Rose as CountRose, Told, as_read, settled}
+use Rattle.qc_outside.specs.Vocabulary.{Rose as CountRose, Told, as_read, settled}
 use Rattle.qc_outside.specs.declared.rack.RackFault.{RackFault}
 use Rattle.qc_outside.specs.declared.rack.RackFault.TheVariants.{Failed, NotEmpty, OutOfMemory}
-use Rattle.qc_record.specs.Names.{spelled}
+use Rattle.qc_record.specs.Vocabulary.{spelled}
 use Rattle.qc_process.specs.Fitting.{AreLegal, IsDamaged, all_fit}
 use Rattle.qc_process.specs.Goes.{Goes}
 use Rattle.qc_process.specs.Stored.{IsOnDisk, IsOpened, IsStored, bodies_of}

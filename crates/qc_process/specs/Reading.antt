@@ -2,10 +2,10 @@
 use Rattle.std.specs.Prelude.{◌≡◌, ℕ, true, false, List, Option, Some, None, Vec}
 use Rattle.std.specs.declared.alloc.Global.{Global}
 use Rattle.qc_decl.specs.declared.declaration.Declaration.{Declaration}
-use Rattle.qc_fit.specs.Names.{fits}
-use Rattle.qc_journal.specs.Names.{lists}
+use Rattle.qc_fit.specs.Vocabulary.{fits}
+use Rattle.qc_journal.specs.Vocabulary.{lists}
 use Rattle.qc_msg.specs.declared.record.Record.{Record}
-use Rattle.qc_record.specs.Names.{is_legal, spelled}
+use Rattle.qc_record.specs.Vocabulary.{is_legal, spelled}
 use Rattle.qc_process.specs.Fitting.{AreLegal, AreUnfit, IsFirstUnfit, all_fit}
 use Rattle.qc_process.specs.Stored.{bodies_of}
 use Rattle.qc_process.specs.declared.reading.Reading.{Reading}

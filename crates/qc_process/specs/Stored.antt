@@ -1,16 +1,16 @@
 -- What is known of an actor's store and of its process after a history. `tells` is true only where the disk tells.
 use Rattle.std.specs.Prelude.{◌≡◌, ℕ, ◌+◌, ◌^◌, ◌≤◌, Bool, true, false, List, [], Option, Some, None, IsSome, length}
 use Rattle.std.specs.Prelude.{map, option_map}
-use Rattle.qc_core.specs.Names.{actor_after}
+use Rattle.qc_core.specs.Vocabulary.{actor_after}
 use Rattle.qc_decl.specs.declared.declaration.Declaration.{Declaration}
-use Rattle.qc_journal.specs.Names.{Rests}
-use Rattle.qc_msg.specs.Names.{Entry, deeds, own}
+use Rattle.qc_journal.specs.Vocabulary.{Rests}
+use Rattle.qc_msg.specs.Vocabulary.{Entry, deeds, own}
 use Rattle.qc_msg.specs.declared.record.Record.{Record}
 use Rattle.qc_msg.specs.declared.turn.Turn.{Turn}
-use Rattle.qc_outside.specs.Names.{Told}
-use Rattle.qc_promise.specs.Names.{DiskAccount, IsStoreOf, Journal, disk_called}
-use Rattle.qc_record.specs.Names.{is_legal, spelled}
-use Rattle.qc_store.specs.Names.{AreGiven, DiskHolds, IsAccountOf, IsCounted, of_bodies}
+use Rattle.qc_outside.specs.Vocabulary.{Told}
+use Rattle.qc_promise.specs.Vocabulary.{DiskAccount, IsStoreOf, Journal, disk_called}
+use Rattle.qc_record.specs.Vocabulary.{is_legal, spelled}
+use Rattle.qc_store.specs.Vocabulary.{AreGiven, DiskHolds, IsAccountOf, IsCounted, of_bodies}
 use Rattle.qc_process.specs.Fitting.{AreKeptOrUnfit, AreLegal}
 use Rattle.qc_process.specs.Views.{OpenJournal, ProcessView, StoreView}
 

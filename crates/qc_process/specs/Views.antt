@@ -8,10 +8,10 @@ use Rattle.qc_msg.specs.declared.step.Fall.{Fall}
 use Rattle.qc_msg.specs.declared.step.Fall.TheVariants as falls
 use Rattle.qc_msg.specs.declared.turn.Appended.{Appended}
 use Rattle.qc_msg.specs.declared.turn.Appended.TheVariants.{Failed, Stopped}
-use Rattle.qc_outside.specs.Names.{Fuse, Told}
+use Rattle.qc_outside.specs.Vocabulary.{Fuse, Told}
 use Rattle.qc_outside.specs.declared.disk.ArmKind.{ArmKind}
 use Rattle.qc_outside.specs.declared.disk.ArmKind.TheVariants.{Fail, Stop}
-use Rattle.qc_record.specs.Names.{is_legal, most_bytes, spelled}
+use Rattle.qc_record.specs.Vocabulary.{is_legal, most_bytes, spelled}
 
 -- an open journal: where its closed gate stands, and how many records stand before it
 pub record OpenJournal : Type 0 where

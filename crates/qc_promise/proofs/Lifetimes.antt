@@ -7,8 +7,8 @@ use Rattle.std.proofs.lemmas.List.{append-nil}
 use Rattle.std.proofs.lemmas.List.Elements.{filter_map-append}
 use Rattle.std.proofs.lemmas.List.Sums.{fold-append}
 use Rattle.qc_msg.specs.declared.record.Record.{Record}
-use Rattle.qc_msg.specs.Names.{Deed, Rises, risen_in, written_in}
-use Rattle.qc_promise.specs.Names.{Lifetime, begun_with, lifetime, records_in, with_deed}
+use Rattle.qc_msg.specs.Vocabulary.{Deed, Rises, risen_in, written_in}
+use Rattle.qc_promise.specs.Vocabulary.{Lifetime, begun_with, lifetime, records_in, with_deed}
 
 -- deeds none of which is a rise
 abbrev pub AreNoRises : List Deed → Type 0

@@ -3,9 +3,9 @@ use Rattle.std.proofs.Common.{◌≡◌, ℕ, ◌+◌, List, [], ◌∷◌, ◌+
 use Rattle.std.specs.Prelude.{map}
 use Rattle.std.specs.List.{filter_map}
 use Rattle.qc_msg.specs.declared.turn.Posting.{Posting}
-use Rattle.qc_msg.specs.Names.{Deed, Falls, Rises, Sends, Takes, Tells, Writes, sends_of}
-use Rattle.qc_promise.specs.Names.{Act, IsPostOf, Sent, Told, TurnDue, Wrote, fallen_in, posted_due, posted_next}
-use Rattle.qc_promise.specs.Names.{sent_by}
+use Rattle.qc_msg.specs.Vocabulary.{Deed, Falls, Rises, Sends, Takes, Tells, Writes, sends_of}
+use Rattle.qc_promise.specs.Vocabulary.{Act, IsPostOf, Sent, Told, TurnDue, Wrote, fallen_in, posted_due, posted_next}
+use Rattle.qc_promise.specs.Vocabulary.{sent_by}
 
 -- what comes after the post doesn't change it
 pub posted-more : (ys : List Deed) → posted_next ys ≡ [] → (xs : List Deed) → posted_next (xs ++ ys) ≡ posted_next xs

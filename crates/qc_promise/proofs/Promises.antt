@@ -5,12 +5,12 @@ use Rattle.std.proofs.Common.{subst, ◌∙◌, append_assoc}
 use Rattle.std.specs.List.{list_any}
 use Rattle.std.proofs.lemmas.List.{append-nil}
 use Rattle.qc_stamp.specs.declared.stamp.TxId.{TxId}
-use Rattle.qc_stamp.specs.Names.{same_tx}
+use Rattle.qc_stamp.specs.Vocabulary.{same_tx}
 use Rattle.qc_stamp.proofs.Orders.{other_tx_sym, same_tx_is, same_tx_itself}
 use Rattle.qc_entry.specs.declared.record.Prepared.{Prepared}
 use Rattle.qc_msg.specs.declared.record.Record.{Record}
 use Rattle.qc_msg.specs.declared.record.Record.TheVariants as journals
-use Rattle.qc_promise.specs.Names.{promises_of, redeems, unless_redeemed}
+use Rattle.qc_promise.specs.Vocabulary.{promises_of, redeems, unless_redeemed}
 
 abbrev pub other_promises : List Prepared → TxId → List Prepared
 other_promises ps tx = filter (λ (p : Prepared). not (same_tx p.tx tx)) ps

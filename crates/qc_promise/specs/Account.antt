@@ -1,20 +1,20 @@
 -- What has happened at a client so far, as far as its replies are due to it.
 use Rattle.std.specs.Prelude.{ℕ, ◌+◌, ◌==◌, max, Bool, true, false, cond, List, [], filter, fold, Option, None}
 use Rattle.std.specs.Option.{option_map_or}
-use Rattle.qc_stamp.specs.Names.{first_life}
+use Rattle.qc_stamp.specs.Vocabulary.{first_life}
 use Rattle.qc_stamp.specs.declared.stamp.TxId.{TxId}
 use Rattle.qc_entry.specs.declared.line.Line.{Line}
 use Rattle.qc_entry.specs.declared.line.Op.{Op}
 use Rattle.qc_entry.specs.declared.line.OwnLine.{OwnLine}
 use Rattle.qc_entry.specs.declared.record.Commit.{Commit}
-use Rattle.qc_entry.specs.Names.{union}
+use Rattle.qc_entry.specs.Vocabulary.{union}
 use Rattle.qc_msg.specs.declared.begun.LifeAt.{LifeAt}
 use Rattle.qc_msg.specs.declared.message.Answer.{Answer}
 use Rattle.qc_msg.specs.declared.message.Want.{Want}
 use Rattle.qc_msg.specs.declared.message.Want.TheVariants.{Read, Append, Prepare}
 use Rattle.qc_msg.specs.declared.record.Record.{Record}
 use Rattle.qc_msg.specs.declared.step.Command.{Command}
-use Rattle.qc_msg.specs.Names.{commit_of, first_epoch, is_life}
+use Rattle.qc_msg.specs.Vocabulary.{commit_of, first_epoch, is_life}
 
 -- a request of the running command
 pub record ClientRequest : Type 0 where

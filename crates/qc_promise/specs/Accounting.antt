@@ -21,7 +21,7 @@ use Rattle.qc_msg.specs.declared.step.Command.{Command}
 use Rattle.qc_msg.specs.declared.step.Command.TheVariants as commands
 use Rattle.qc_msg.specs.declared.step.Input.{Input}
 use Rattle.qc_msg.specs.declared.step.Input.TheVariants as inputs
-use Rattle.qc_msg.specs.Names.{Deed, Entry, Falls, Rises, Sends, Takes, Tells, Writes, deeds, with_life}
+use Rattle.qc_msg.specs.Vocabulary.{Deed, Entry, Falls, Rises, Sends, Takes, Tells, Writes, deeds, with_life}
 use Rattle.qc_promise.specs.Account.{Account, Current, ClientRequest, account_with, is_append, new_account, new_current}
 use Rattle.qc_promise.specs.Account.{requests_for}
 use Rattle.qc_promise.specs.Asked.{is_asked_for}

@@ -5,10 +5,10 @@ use Rattle.std.specs.Prelude.{is_some, option_and_then, option_map}
 use Rattle.std.specs.List.{filter_map, find}
 use Rattle.std.specs.Option.{option_map_or}
 use Rattle.qc_stamp.specs.declared.stamp.TxId.{TxId}
-use Rattle.qc_stamp.specs.Names.{same_tx}
+use Rattle.qc_stamp.specs.Vocabulary.{same_tx}
 use Rattle.qc_msg.specs.declared.message.Answer.{Answer}
 use Rattle.qc_msg.specs.declared.step.Command.{Command}
-use Rattle.qc_msg.specs.Names.{Installing, first_epoch}
+use Rattle.qc_msg.specs.Vocabulary.{Installing, first_epoch}
 
 -- what a request is: a Close, an Ask about a transaction, an Install
 pub data AdminWant : Type 0 where

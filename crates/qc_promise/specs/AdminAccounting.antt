@@ -4,18 +4,18 @@ use Rattle.std.specs.Prelude.{length, map, slice_get, Option, Some, None, is_non
 use Rattle.std.specs.Option.{option_map_or, option_or}
 use Rattle.std.specs.Cmp.Lexicographic.{pointwise}
 use Rattle.qc_stamp.specs.declared.stamp.TxId.{TxId}
-use Rattle.qc_stamp.specs.Names.{same_tx}
-use Rattle.qc_plan.specs.Names.{next_site, verdict}
+use Rattle.qc_stamp.specs.Vocabulary.{same_tx}
+use Rattle.qc_plan.specs.Vocabulary.{next_site, verdict}
 use Rattle.qc_decl.specs.declared.declaration.Declaration.{Declaration}
-use Rattle.qc_decl.specs.Names.{client_actor}
+use Rattle.qc_decl.specs.Vocabulary.{client_actor}
 use Rattle.qc_msg.specs.declared.message.Answer.{Answer}
 use Rattle.qc_msg.specs.declared.message.Envelope.{Envelope}
 use Rattle.qc_msg.specs.declared.message.Message.{Message}
 use Rattle.qc_msg.specs.declared.record.Record.{Record}
 use Rattle.qc_msg.specs.declared.step.Input.{Input}
 use Rattle.qc_msg.specs.declared.step.Input.TheVariants as inputs
-use Rattle.qc_msg.specs.Names.{Answered, Deed, Falls, Installing, Rises, Sends, Takes, Tells, Writes, answer_in}
-use Rattle.qc_msg.specs.Names.{asking_in, closing_in, decide_in, epoch_in, installing_in}
+use Rattle.qc_msg.specs.Vocabulary.{Answered, Deed, Falls, Installing, Rises, Sends, Takes, Tells, Writes, answer_in}
+use Rattle.qc_msg.specs.Vocabulary.{asking_in, closing_in, decide_in, epoch_in, installing_in}
 use Rattle.qc_promise.specs.AdminAccount.{AdminAccount, AdminRequest, AdminWant, Ask, Close, Install, asks}
 use Rattle.qc_promise.specs.AdminAccount.{decided_epoch, installs, new_admin_account}
 use Rattle.qc_promise.specs.AdminRounds.{Promised, close_round, most_questions, promised_once}

@@ -10,8 +10,8 @@ use Rattle.qc_msg.specs.declared.record.Record.TheVariants as records
 use Rattle.qc_msg.specs.declared.reply.Reply.{Reply}
 use Rattle.qc_msg.specs.declared.step.Input.{Input}
 use Rattle.qc_msg.specs.declared.step.Input.TheVariants as inputs
-use Rattle.qc_msg.specs.Names.{Deed, Falls, Installing, Rises, Sends, Takes, Tells, Writes, asking_in, closing_in}
-use Rattle.qc_msg.specs.Names.{installing_in}
+use Rattle.qc_msg.specs.Vocabulary.{Deed, Falls, Installing, Rises, Sends, Takes, Tells, Writes, asking_in, closing_in}
+use Rattle.qc_msg.specs.Vocabulary.{installing_in}
 use Rattle.qc_promise.specs.AdminAccount.{AdminAccount, new_admin_account}
 use Rattle.qc_promise.specs.AdminAccounting.{admin_account_at, calls_ask, calls_close, calls_install}
 use Rattle.qc_promise.specs.AdminRows.{admin_due, decide_due}

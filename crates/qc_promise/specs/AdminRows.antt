@@ -4,16 +4,16 @@ use Rattle.std.specs.Prelude.{ℕ, ◌+◌, ◌==◌, ◌&&◌, ◌^◌, nat_le,
 use Rattle.std.specs.Prelude.{length, map, sum_by, Option, Some, None, is_some, option_and_then}
 use Rattle.std.specs.List.{list_all}
 use Rattle.std.specs.Option.{option_map_or}
-use Rattle.qc_plan.specs.Names.{verdict}
+use Rattle.qc_plan.specs.Vocabulary.{verdict}
 use Rattle.qc_plan.specs.declared.standing.Verdict.{Verdict}
 use Rattle.qc_plan.specs.declared.standing.Verdict.TheVariants as verdicts
 use Rattle.qc_decl.specs.declared.declaration.Declaration.{Declaration}
-use Rattle.qc_decl.specs.Names.{most_record_bytes}
+use Rattle.qc_decl.specs.Vocabulary.{most_record_bytes}
 use Rattle.qc_msg.specs.declared.reply.Half.TheVariants as halves
 use Rattle.qc_msg.specs.declared.reply.Reply.{Reply}
 use Rattle.qc_msg.specs.declared.reply.Reply.TheVariants as replies
 use Rattle.qc_msg.specs.declared.step.Command.{Command}
-use Rattle.qc_msg.specs.Names.{Installing, epoch_in, epoch_length, has_installed}
+use Rattle.qc_msg.specs.Vocabulary.{Installing, epoch_in, epoch_length, has_installed}
 use Rattle.qc_promise.specs.AdminAccount.{AdminAccount, AdminRequest, answer_to, decided_epoch, installs}
 use Rattle.qc_promise.specs.AdminRounds.{Promised, ToldShut, all_answered, close_round, decision_due, first_doubt}
 use Rattle.qc_promise.specs.AdminRounds.{shuts_told}

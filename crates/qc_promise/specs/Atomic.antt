@@ -4,13 +4,13 @@ use Rattle.std.specs.Prelude.{◌≡◌, ◌≢◌, List}
 use Rattle.std.specs.declared.cmp.Ordering.TheVariants.{Less}
 use Rattle.qc_decl.specs.declared.declaration.Declaration.{Declaration}
 use Rattle.qc_entry.specs.declared.record.Commit.{Commit}
-use Rattle.qc_list.specs.Names.{In}
-use Rattle.qc_msg.specs.Names.{Entry}
-use Rattle.theory_onecopy.specs.Names.{AreApart, OneCopy}
+use Rattle.qc_list.specs.Vocabulary.{In}
+use Rattle.qc_msg.specs.Vocabulary.{Entry}
+use Rattle.theory_onecopy.specs.Vocabulary.{AreApart, OneCopy}
 use Rattle.qc_promise.specs.Committed.{committed}
 use Rattle.qc_promise.specs.Seen.{seen}
 use Rattle.qc_promise.specs.Told.{AreDealt, AreTold}
-use Rattle.qc_stamp.specs.Names.{stamp_cmp}
+use Rattle.qc_stamp.specs.Vocabulary.{stamp_cmp}
 use Rattle.qc_stamp.specs.declared.stamp.Stamp.{Stamp}
 use Rattle.qc_stamp.specs.declared.stamp.TxId.{TxId}
 

@@ -2,13 +2,13 @@
 -- (presumed abort).
 use Rattle.std.specs.Prelude.{if◌then◌else◌, List, [], option_to_list}
 use Rattle.std.specs.List.{filter_map, flat_map}
-use Rattle.qc_decl.specs.Names.{is_client}
+use Rattle.qc_decl.specs.Vocabulary.{is_client}
 use Rattle.qc_decl.specs.declared.declaration.Declaration.{Declaration}
 use Rattle.qc_entry.specs.declared.record.Commit.{Commit}
 use Rattle.qc_msg.specs.declared.step.Step.{Step}
 use Rattle.qc_msg.specs.declared.step.Step.TheVariants as steps
-use Rattle.qc_msg.specs.Names.{Entry, commit_of}
-use Rattle.theory_onecopy.specs.Names.{sorted}
+use Rattle.qc_msg.specs.Vocabulary.{Entry, commit_of}
+use Rattle.theory_onecopy.specs.Vocabulary.{sorted}
 
 -- the commit records that a step writes, or that a rise gives
 abbrev pub commits_in : Step → List Commit

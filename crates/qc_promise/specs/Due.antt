@@ -1,9 +1,9 @@
 -- All that is due in a history: each actor acts by turns, messages reach those whom they were sent to, each deed of a
 -- client is due, and so is all that a site posts, and each deed of the administrator.
 use Rattle.std.specs.Prelude.{ℕ, ◌<◌, List, []}
-use Rattle.qc_decl.specs.Names.{actors, administrator, client_actor, is_site}
+use Rattle.qc_decl.specs.Vocabulary.{actors, administrator, client_actor, is_site}
 use Rattle.qc_decl.specs.declared.declaration.Declaration.{Declaration}
-use Rattle.qc_msg.specs.Names.{Entry, deeds}
+use Rattle.qc_msg.specs.Vocabulary.{Entry, deeds}
 use Rattle.qc_promise.specs.AdminDue.{IsAdminDue}
 use Rattle.qc_promise.specs.Mail.{IsMailed}
 use Rattle.qc_promise.specs.Replies.{AreRepliesDue}

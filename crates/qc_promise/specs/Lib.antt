@@ -31,4 +31,4 @@ pub mod AdminRounds
 pub mod AdminRows
 pub mod AdminAccounting
 pub mod AdminDue
-pub mod Names
+pub mod Vocabulary

@@ -3,7 +3,7 @@ use Rattle.std.specs.Prelude.{List, [], ◌∷◌, ◌++◌, fold}
 use Rattle.std.specs.Option.{option_map_or}
 use Rattle.std.specs.List.{filter_map}
 use Rattle.qc_msg.specs.declared.record.Record.{Record}
-use Rattle.qc_msg.specs.Names.{Deed, risen_in, written_in}
+use Rattle.qc_msg.specs.Vocabulary.{Deed, risen_in, written_in}
 
 pub record Lifetime : Type 0 where
   -- what its last rise gave it, or nothing

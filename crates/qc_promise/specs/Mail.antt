@@ -7,7 +7,7 @@ use Rattle.qc_msg.specs.declared.message.Message.{Message}
 use Rattle.qc_msg.specs.declared.message.Message.TheVariants as messages
 use Rattle.qc_msg.specs.declared.step.Step.{Step}
 use Rattle.qc_msg.specs.declared.step.Step.TheVariants as steps
-use Rattle.qc_msg.specs.Names.{Answered, Entry, answer_in, envelope_of}
+use Rattle.qc_msg.specs.Vocabulary.{Answered, Entry, answer_in, envelope_of}
 
 -- the messages that wait for an answer
 abbrev pub asks_answer : Message → Bool

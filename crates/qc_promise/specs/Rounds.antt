@@ -7,20 +7,20 @@ use Rattle.std.specs.Option.{option_map_or, option_or}
 use Rattle.qc_entry.specs.declared.line.Line.{Line}
 use Rattle.qc_entry.specs.declared.line.OwnLine.{OwnLine}
 use Rattle.qc_table.specs.declared.row.Event.{Event}
-use Rattle.qc_table.specs.Names.{Rules, after, events_of, first_of, step_of}
+use Rattle.qc_table.specs.Vocabulary.{Rules, after, events_of, first_of, step_of}
 use Rattle.qc_plan.specs.declared.plan.Plan.{Plan}
 use Rattle.qc_plan.specs.declared.standing.Asked.{Asked}
 use Rattle.qc_plan.specs.declared.standing.Standing.{Standing}
 use Rattle.qc_plan.specs.declared.standing.Standing.TheVariants as standings
-use Rattle.qc_plan.specs.Names.{RoundState, cyclic, start}
-use Rattle.qc_decl.specs.Names.{first_site, plan_in, table_at}
+use Rattle.qc_plan.specs.Vocabulary.{RoundState, cyclic, start}
+use Rattle.qc_decl.specs.Vocabulary.{first_site, plan_in, table_at}
 use Rattle.qc_decl.specs.declared.declaration.Declaration.{Declaration}
 use Rattle.qc_msg.specs.declared.message.Answer.{Answer}
 use Rattle.qc_msg.specs.declared.message.Answer.TheVariants as answers
 use Rattle.qc_msg.specs.declared.message.Want.{Want}
 use Rattle.qc_msg.specs.declared.reply.AbortCause.{AbortCause}
 use Rattle.qc_msg.specs.declared.reply.AbortCause.TheVariants as causes
-use Rattle.qc_msg.specs.Names.{has_granted}
+use Rattle.qc_msg.specs.Vocabulary.{has_granted}
 use Rattle.qc_promise.specs.Account.{Account, Current, ClientRequest, is_prepare, requests_for, view_of}
 
 -- what came of a request, for a round: a site that neither grants, nor clashes, nor is closed, is missing

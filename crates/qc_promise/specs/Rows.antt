@@ -6,8 +6,8 @@ use Rattle.qc_stamp.specs.declared.stamp.Stamp.{Stamp}
 use Rattle.qc_entry.specs.declared.record.Commit.{Commit}
 use Rattle.qc_plan.specs.declared.standing.Verdict.{Verdict}
 use Rattle.qc_plan.specs.declared.standing.Verdict.TheVariants as verdicts
-use Rattle.qc_plan.specs.Names.{verdict}
-use Rattle.qc_decl.specs.Names.{append_need_of, most_transaction_operations, plan_in, read_need_of, table_at}
+use Rattle.qc_plan.specs.Vocabulary.{verdict}
+use Rattle.qc_decl.specs.Vocabulary.{append_need_of, most_transaction_operations, plan_in, read_need_of, table_at}
 use Rattle.qc_decl.specs.declared.declaration.Declaration.{Declaration}
 use Rattle.qc_msg.specs.declared.record.Record.{Record}
 use Rattle.qc_msg.specs.declared.record.Record.TheVariants as records

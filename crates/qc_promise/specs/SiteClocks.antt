@@ -13,8 +13,8 @@ use Rattle.qc_msg.specs.declared.message.Outcome.TheVariants.{Committed, Aborted
 use Rattle.qc_msg.specs.declared.message.Want.{Want}
 use Rattle.qc_msg.specs.declared.message.Want.TheVariants.{Read, Append, Prepare}
 use Rattle.qc_msg.specs.declared.record.Record.{Record}
-use Rattle.qc_msg.specs.Names.{Decided, Deed, Finished, Installing, Requested, decision_in, done_in, got_in, install_in}
-use Rattle.qc_msg.specs.Names.{installing_in, prepare_in, request_in, written_in}
+use Rattle.qc_msg.specs.Vocabulary.{Decided, Deed, Finished, Installing, Requested, decision_in, done_in, got_in}
+use Rattle.qc_msg.specs.Vocabulary.{install_in, installing_in, prepare_in, request_in, written_in}
 use Rattle.qc_promise.specs.Lifetimes.{lifetime}
 
 abbrev pub clocks_of : List Line → List ℕ

@@ -5,17 +5,17 @@ use Rattle.std.specs.Prelude.{[], ◌∷◌, ◌++◌, map, take, fold, Option, 
 use Rattle.std.specs.Option.{option_map_or, option_or}
 use Rattle.std.specs.Ordering.{on}
 use Rattle.std.specs.declared.cmp.Ordering.{Ordering}
-use Rattle.qc_list.specs.Names.{inserted}
+use Rattle.qc_list.specs.Vocabulary.{inserted}
 use Rattle.qc_stamp.specs.declared.stamp.TxId.{TxId}
-use Rattle.qc_stamp.specs.Names.{tx_cmp}
+use Rattle.qc_stamp.specs.Vocabulary.{tx_cmp}
 use Rattle.qc_entry.specs.declared.record.Prepared.{Prepared}
-use Rattle.qc_entry.specs.Names.{of_object, without}
+use Rattle.qc_entry.specs.Vocabulary.{of_object, without}
 use Rattle.qc_table.specs.declared.kind.Kind.{Kind}
 use Rattle.qc_decl.specs.declared.declaration.Declaration.{Declaration}
-use Rattle.qc_decl.specs.Names.{client_actor, kind_at, most_record_bytes}
+use Rattle.qc_decl.specs.Vocabulary.{client_actor, kind_at, most_record_bytes}
 use Rattle.qc_lock.specs.declared.clash.Clash.{Clash as Conflict}
 use Rattle.qc_lock.specs.declared.held.Held.{Held}
-use Rattle.qc_lock.specs.Names.{append_clash, held_of, is_held, read_clash}
+use Rattle.qc_lock.specs.Vocabulary.{append_clash, held_of, is_held, read_clash}
 use Rattle.qc_msg.specs.declared.message.Answer.{Answer}
 use Rattle.qc_msg.specs.declared.message.Answer.TheVariants as answers
 use Rattle.qc_msg.specs.declared.message.Message.TheVariants as messages
@@ -28,9 +28,9 @@ use Rattle.qc_msg.specs.declared.record.Record.TheVariants as records
 use Rattle.qc_msg.specs.declared.message.Envelope.{Envelope}
 use Rattle.qc_msg.specs.declared.step.Input.{Input}
 use Rattle.qc_msg.specs.declared.turn.Posting.{Posting}
-use Rattle.qc_msg.specs.Names.{Decided, Deed, Falls, Installing, Requested, Rises, Sends, Takes, Tells, Writes}
-use Rattle.qc_msg.specs.Names.{closing_in, decision_in, epoch_length, heard_in, installing_in, prepare_length}
-use Rattle.qc_msg.specs.Names.{request_in}
+use Rattle.qc_msg.specs.Vocabulary.{Decided, Deed, Falls, Installing, Requested, Rises, Sends, Takes, Tells, Writes}
+use Rattle.qc_msg.specs.Vocabulary.{closing_in, decision_in, epoch_length, heard_in, installing_in, prepare_length}
+use Rattle.qc_msg.specs.Vocabulary.{request_in}
 use Rattle.qc_promise.specs.Posts.{IsPostOf, TurnDue, quiet_turn, sending}
 use Rattle.qc_promise.specs.SiteClocks.{clock_shown}
 use Rattle.qc_promise.specs.SiteHeld.{held_shown}

@@ -3,12 +3,12 @@ use Rattle.std.specs.Prelude.{◌&&◌, Bool, true, false, is_some, List}
 use Rattle.std.specs.List.{list_any}
 use Rattle.std.specs.Option.{option_map_or}
 use Rattle.qc_stamp.specs.declared.stamp.TxId.{TxId}
-use Rattle.qc_stamp.specs.Names.{same_tx}
+use Rattle.qc_stamp.specs.Vocabulary.{same_tx}
 use Rattle.qc_entry.specs.declared.record.Prepared.{Prepared}
 use Rattle.qc_msg.specs.declared.message.Outcome.{Outcome}
 use Rattle.qc_msg.specs.declared.message.Outcome.TheVariants.{Committed, Aborted, Active}
 use Rattle.qc_msg.specs.declared.record.Record.{Record}
-use Rattle.qc_msg.specs.Names.{Decided, Deed, Finished, decided_in, done_in, install_in, prepare_in, written_in}
+use Rattle.qc_msg.specs.Vocabulary.{Decided, Deed, Finished, decided_in, done_in, install_in, prepare_in, written_in}
 
 -- a Decision on the transaction of which the test holds
 abbrev pub is_decision : (Outcome → Bool) → TxId → Deed → Bool

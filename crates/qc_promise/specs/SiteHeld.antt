@@ -7,15 +7,15 @@ use Rattle.std.specs.Option.{option_map_or}
 use Rattle.qc_stamp.specs.declared.stamp.TxId.{TxId}
 use Rattle.qc_entry.specs.declared.record.Prepared.{Prepared}
 use Rattle.qc_lock.specs.declared.held.Held.{Held}
-use Rattle.qc_lock.specs.Names.{with_held}
+use Rattle.qc_lock.specs.Vocabulary.{with_held}
 use Rattle.qc_msg.specs.declared.message.Envelope.{Envelope}
 use Rattle.qc_msg.specs.declared.message.Message.{Message}
 use Rattle.qc_msg.specs.declared.message.Want.{Want}
 use Rattle.qc_msg.specs.declared.message.Want.TheVariants.{Read, Append, Prepare}
 use Rattle.qc_msg.specs.declared.record.Record.{Record}
 use Rattle.qc_msg.specs.declared.turn.Posting.{Posting}
-use Rattle.qc_msg.specs.Names.{Answered, Deed, Requested, answer_in, close_in, got_in, granted_in, install_in}
-use Rattle.qc_msg.specs.Names.{request_in, risen_in, written_in}
+use Rattle.qc_msg.specs.Vocabulary.{Answered, Deed, Requested, answer_in, close_in, got_in, granted_in, install_in}
+use Rattle.qc_msg.specs.Vocabulary.{request_in, risen_in, written_in}
 use Rattle.qc_promise.specs.Posts.{sent_next}
 use Rattle.qc_promise.specs.SiteEnds.{is_ended}
 use Rattle.qc_promise.specs.SitePromises.{prepared_shown}

@@ -7,13 +7,13 @@ use Rattle.qc_stamp.specs.declared.stamp.TxId.{TxId}
 use Rattle.qc_entry.specs.declared.line.Line.{Line}
 use Rattle.qc_entry.specs.declared.line.OwnLine.{OwnLine}
 use Rattle.qc_entry.specs.declared.record.Prepared.{Prepared}
-use Rattle.qc_entry.specs.Names.{union, without}
+use Rattle.qc_entry.specs.Vocabulary.{union, without}
 use Rattle.qc_msg.specs.declared.message.Envelope.{Envelope}
 use Rattle.qc_msg.specs.declared.message.Want.{Want}
 use Rattle.qc_msg.specs.declared.message.Want.TheVariants.{Read, Append, Prepare}
 use Rattle.qc_msg.specs.declared.record.Record.{Record}
-use Rattle.qc_msg.specs.Names.{Deed, Finished, Installing, Requested, done_in, got_in, install_in, prepare_in}
-use Rattle.qc_msg.specs.Names.{request_in, written_in}
+use Rattle.qc_msg.specs.Vocabulary.{Deed, Finished, Installing, Requested, done_in, got_in, install_in, prepare_in}
+use Rattle.qc_msg.specs.Vocabulary.{request_in, written_in}
 use Rattle.qc_promise.specs.Lifetimes.{lifetime, records_in}
 use Rattle.qc_promise.specs.SiteHeld.{is_granted}
 use Rattle.qc_promise.specs.SiteRecords.{last_prepare}

@@ -4,10 +4,10 @@ use Rattle.std.specs.Prelude.{cond, Bool, List, [], ◌∷◌, ◌++◌, is_some
 use Rattle.std.specs.List.{find, list_any}
 use Rattle.std.specs.Option.{option_map_or}
 use Rattle.qc_stamp.specs.declared.stamp.TxId.{TxId}
-use Rattle.qc_stamp.specs.Names.{same_tx}
+use Rattle.qc_stamp.specs.Vocabulary.{same_tx}
 use Rattle.qc_entry.specs.declared.record.Prepared.{Prepared}
 use Rattle.qc_msg.specs.declared.record.Record.{Record}
-use Rattle.qc_msg.specs.Names.{Deed, prepare_in, written_in}
+use Rattle.qc_msg.specs.Vocabulary.{Deed, prepare_in, written_in}
 use Rattle.qc_promise.specs.Lifetimes.{lifetime}
 use Rattle.qc_promise.specs.SiteEnds.{is_over, redeems}
 

@@ -3,10 +3,10 @@
 use Rattle.std.specs.Prelude.{ℕ, ◌+◌, ◌||◌, cond, List, fold, is_some, Option, None, option_and_then, Some}
 use Rattle.std.specs.Option.{option_map_or, option_or}
 use Rattle.qc_stamp.specs.declared.stamp.TxId.{TxId}
-use Rattle.qc_stamp.specs.Names.{first_life, same_tx}
+use Rattle.qc_stamp.specs.Vocabulary.{first_life, same_tx}
 use Rattle.qc_entry.specs.declared.record.Prepared.{Prepared}
 use Rattle.qc_msg.specs.declared.record.Record.{Record}
-use Rattle.qc_msg.specs.Names.{Deed, Installing, close_in, first_epoch, install_in, is_life, prepare_in}
+use Rattle.qc_msg.specs.Vocabulary.{Deed, Installing, close_in, first_epoch, install_in, is_life, prepare_in}
 use Rattle.qc_promise.specs.Lifetimes.{records_in}
 
 -- Life: 1, and 1 more for each record of a rise and of a closed epoch.

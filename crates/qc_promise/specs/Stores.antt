@@ -2,7 +2,7 @@
 -- account, whatever others do meanwhile.
 use Rattle.std.specs.Prelude.{◌≡◌, ℕ, ◌==◌, Bool, true, false, List, [], ◌∷◌, ◌++◌, fold}
 use Rattle.std.specs.List.{AllByRecursion as Every}
-use Rattle.qc_msg.specs.Names.{Entry, own}
+use Rattle.qc_msg.specs.Vocabulary.{Entry, own}
 use Rattle.qc_msg.specs.declared.step.Step.{Step}
 use Rattle.qc_msg.specs.declared.step.Step.TheVariants as steps
 use Rattle.qc_promise.specs.DiskAccount.{DiskAccount, IsEverInTime, IsInTime, disk_account, disk_account_with}

@@ -6,8 +6,8 @@ use Rattle.std.proofs.lemmas.List.{take-append-le, length-append, length-take-le
 use Rattle.std.proofs.lemmas.Bool.Decides.{nat_tests}
 use Rattle.byteorder.specs.Endian.{big_bytes}
 use Rattle.byteorder.specs.Numbers.{length-bytes_high_first}
-use Rattle.qc_record.specs.Names.{Form, both, counted, field, items_are_legal, items_at, items_spelled, number_at}
-use Rattle.qc_record.specs.Names.{shaped, ◌>>=◌}
+use Rattle.qc_record.specs.Vocabulary.{Form, both, counted, field, items_are_legal, items_at, items_spelled, number_at}
+use Rattle.qc_record.specs.Vocabulary.{shaped, ◌>>=◌}
 
 pub both_true : (a b : Bool) → (a && b) ≡ true → (a ≡ true) × (b ≡ true)
 both_true true true e = (refl, refl)

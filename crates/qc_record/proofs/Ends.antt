@@ -8,9 +8,9 @@ use Rattle.qc_msg.specs.declared.record.Record.{Record}
 use Rattle.qc_msg.specs.declared.record.Record.TheVariants as records
 use Rattle.qc_record.specs.declared.fault.RecordFault.{RecordFault}
 use Rattle.qc_record.specs.declared.fault.RecordFault.TheVariants as faults
-use Rattle.qc_record.specs.Names.{Form, all_of, body_at, commit_form, decide_of, done_form, done_of, epoch_form}
-use Rattle.qc_record.specs.Names.{install_of, is_legal, nothing, placed, prepared_form, record_at, spelled, start_form}
-use Rattle.qc_record.specs.Names.{whole_at, ◌>>=◌}
+use Rattle.qc_record.specs.Vocabulary.{Form, all_of, body_at, commit_form, decide_of, done_form, done_of, epoch_form}
+use Rattle.qc_record.specs.Vocabulary.{install_of, is_legal, nothing, placed, prepared_form, record_at, spelled}
+use Rattle.qc_record.specs.Vocabulary.{start_form, whole_at, ◌>>=◌}
 use Rattle.qc_record.proofs.Cuts.{ends_first}
 use Rattle.qc_record.proofs.Exact.{epoch_exact, prepared_exact, done_exact, start_exact, commit_exact}
 use Rattle.qc_record.proofs.Exactness.{IsExact, nothing_exact}

@@ -7,15 +7,16 @@ use Rattle.qc_entry.specs.declared.line.Op.{Op}
 use Rattle.qc_entry.specs.declared.line.OwnLine.{OwnLine}
 use Rattle.qc_entry.specs.declared.line.ReadLock.{ReadLock}
 use Rattle.qc_entry.specs.declared.record.Commit.{Commit}
-use Rattle.qc_record.specs.Names.{Form, always, client_form, climb, climbs, commit_form, commit_of, commit_parts}
-use Rattle.qc_record.specs.Names.{done_form, epoch_form, event_form, field, from_client, from_event, from_life}
-use Rattle.qc_record.specs.Names.{from_number, from_object, from_op, greatest_clock, has_own_stamp, has_response_number}
-use Rattle.qc_record.specs.Names.{invocation_form, is_own_stamp, is_response, line_floor, line_form, line_numbers}
-use Rattle.qc_record.specs.Names.{line_of, line_parts, lines_form, lock_floor, lock_form, lock_of, lock_parts}
-use Rattle.qc_record.specs.Names.{locks_form, object_form, op_form, op_of, op_parts, ops_form, ordinal_form, own_floor}
-use Rattle.qc_record.specs.Names.{own_form, own_of, own_parts, owns_form, prepared_form, prepared_of, prepared_parts}
-use Rattle.qc_record.specs.Names.{response_form, response_number, response_of, stamp_clock_form, start_clock_form}
-use Rattle.qc_record.specs.Names.{start_form, tied, top, tops, tx_form, tx_of, tx_parts, within}
+use Rattle.qc_record.specs.Vocabulary.{Form, always, client_form, climb, climbs, commit_form, commit_of, commit_parts}
+use Rattle.qc_record.specs.Vocabulary.{done_form, epoch_form, event_form, field, from_client, from_event, from_life}
+use Rattle.qc_record.specs.Vocabulary.{from_number, from_object, from_op, greatest_clock, has_own_stamp}
+use Rattle.qc_record.specs.Vocabulary.{has_response_number, invocation_form, is_own_stamp, is_response, line_floor}
+use Rattle.qc_record.specs.Vocabulary.{line_form, line_numbers, line_of, line_parts, lines_form, lock_floor, lock_form}
+use Rattle.qc_record.specs.Vocabulary.{lock_of, lock_parts, locks_form, object_form, op_form, op_of, op_parts, ops_form}
+use Rattle.qc_record.specs.Vocabulary.{ordinal_form, own_floor, own_form, own_of, own_parts, owns_form, prepared_form}
+use Rattle.qc_record.specs.Vocabulary.{prepared_of, prepared_parts, response_form, response_number, response_of}
+use Rattle.qc_record.specs.Vocabulary.{stamp_clock_form, start_clock_form, start_form, tied, top, tops, tx_form, tx_of}
+use Rattle.qc_record.specs.Vocabulary.{tx_parts, within}
 use Rattle.qc_record.proofs.Numbers.{IsWidth}
 use Rattle.qc_record.proofs.Cuts.{both_true}
 use Rattle.qc_record.proofs.Exactness.{IsExact, IsShape, field_exact, both_exact, shaped_exact, counted_exact}

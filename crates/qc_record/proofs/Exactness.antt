@@ -7,8 +7,8 @@ use Rattle.std.proofs.lemmas.Bool.Decides.{nat_tests}
 use Rattle.std.proofs.Math.Nat.{mod-eq_of_lt}
 use Rattle.byteorder.specs.Endian.{big_number, big_bytes}
 use Rattle.byteorder.specs.Numbers.{big_from-bytes, length-bytes_high_first}
-use Rattle.qc_record.specs.Names.{Form, IsBytes, all_of, both, counted, field, items_are_legal, items_at, items_spelled}
-use Rattle.qc_record.specs.Names.{nothing, number_at, shaped, ◌>>=◌}
+use Rattle.qc_record.specs.Vocabulary.{Form, IsBytes, all_of, both, counted, field, items_are_legal, items_at}
+use Rattle.qc_record.specs.Vocabulary.{items_spelled, nothing, number_at, shaped, ◌>>=◌}
 use Rattle.qc_record.proofs.Cuts.{both_cut, both_true, counted_cut, field_cut, shaped_cut}
 use Rattle.qc_record.proofs.Numbers.{IsWidth, back}
 

@@ -5,7 +5,7 @@ use Rattle.std.proofs.lemmas.List.{take_at, drop_at, append-nil}
 use Rattle.byteorder.specs.Endian.{big_number, big_bytes}
 use Rattle.byteorder.specs.Numbers.{big_number-reads_back, length-bytes_high_first}
 use Rattle.qc_msg.specs.declared.record.Record.{Record}
-use Rattle.qc_record.specs.Names.{framed, is_legal, most_bytes, record_at, spelled}
+use Rattle.qc_record.specs.Vocabulary.{framed, is_legal, most_bytes, record_at, spelled}
 use Rattle.qc_record.proofs.Whole.{again, found_is}
 
 pub apart : (a b : Record) → is_legal a ≡ true → is_legal b ≡ true → spelled a ≡ spelled b → a ≡ b

@@ -1,6 +1,6 @@
 -- A record has a spelling exactly where its numbers are in their ranges and its lists in their orders.
-use Rattle.std.proofs.Common.{◌≡◌, ◌↔◌, inl, inr, ℕ, ◌-◌, ◌^◌, ◌<◌, Bool, true, false, ◌==◌, nat_eq, nat_lt, List, ◌∷◌}
-use Rattle.std.proofs.Common.{length, Some, None, refl, sym, ap, ◌∙◌, arith}
+use Rattle.std.proofs.Common.{[], ◌≡◌, ◌↔◌, inl, inr, ℕ, ◌-◌, ◌^◌, ◌<◌, Bool, true, false, ◌==◌, nat_eq, nat_lt, List}
+use Rattle.std.proofs.Common.{◌∷◌, length, Some, None, refl, sym, ap, ◌∙◌, arith}
 use Rattle.std.proofs.lemmas.Bool.Decides.{nat_tests}
 use Rattle.std.specs.Cmp.{nat_cmp_is}
 use Rattle.std.specs.Ordering.{nat_cmp, ordering_then}
@@ -10,15 +10,15 @@ use Rattle.qc_entry.specs.declared.line.Line.{Line}
 use Rattle.qc_entry.specs.declared.line.Op.{Op}
 use Rattle.qc_entry.specs.declared.line.OwnLine.{OwnLine}
 use Rattle.qc_entry.specs.declared.line.ReadLock.{ReadLock}
-use Rattle.qc_entry.specs.Names.{IsAscending, line_cmp}
-use Rattle.qc_list.specs.Names.{IsBelowAll}
+use Rattle.qc_entry.specs.Vocabulary.{IsAscending, line_cmp}
+use Rattle.qc_list.specs.Vocabulary.{IsBelowAll}
 use Rattle.qc_msg.specs.declared.record.Record.{Record}
 use Rattle.qc_msg.specs.declared.record.Record.TheVariants as records
-use Rattle.qc_record.specs.Names.{AreLines, AreLocks, AreOps, AreOwns, IsInForm, IsLine, IsLock, IsLockBelow, IsOp}
-use Rattle.qc_record.specs.Names.{IsOwn, IsOwnBelow, IsStart, Rises, from_client, from_event, from_life, from_number}
-use Rattle.qc_record.specs.Names.{from_object, from_op, greatest_clock, is_legal, items_are_legal, line_form}
-use Rattle.qc_record.specs.Names.{lines_form, lock_form, locks_form, op_form, ops_form, own_form, owns_form, start_form}
-use Rattle.qc_record.specs.Names.{within}
+use Rattle.qc_record.specs.Vocabulary.{AreLines, AreLocks, AreOps, AreOwns, IsInForm, IsLine, IsLock, IsLockBelow, IsOp}
+use Rattle.qc_record.specs.Vocabulary.{IsOwn, IsOwnBelow, IsStart, Rises, from_client, from_event, from_life}
+use Rattle.qc_record.specs.Vocabulary.{from_number, from_object, from_op, greatest_clock, is_legal, items_are_legal}
+use Rattle.qc_record.specs.Vocabulary.{line_form, lines_form, lock_form, locks_form, op_form, ops_form, own_form}
+use Rattle.qc_record.specs.Vocabulary.{owns_form, start_form, within}
 use Rattle.qc_record.proofs.Cuts.{both_true}
 use Rattle.qc_record.proofs.Exact.{same_number}
 use Rattle.qc_record.proofs.Exactness.{true_both}

@@ -7,10 +7,10 @@ use Rattle.qc_entry.specs.declared.line.Line.{Line}
 use Rattle.qc_entry.specs.declared.line.OwnLine.{OwnLine}
 use Rattle.qc_entry.specs.declared.line.ReadLock.{ReadLock}
 use Rattle.qc_entry.specs.declared.record.Prepared.{Prepared}
-use Rattle.qc_msg.specs.Names.{prepare_length}
+use Rattle.qc_msg.specs.Vocabulary.{prepare_length}
 use Rattle.qc_msg.specs.declared.record.Record.TheVariants as records
-use Rattle.qc_record.specs.Names.{Form, items_spelled, line_form, lines_form, lock_form, locks_form, own_form}
-use Rattle.qc_record.specs.Names.{owns_form, spelled}
+use Rattle.qc_record.specs.Vocabulary.{Form, items_spelled, line_form, lines_form, lock_form, locks_form, own_form}
+use Rattle.qc_record.specs.Vocabulary.{owns_form, spelled}
 
 -- items that are each so many bytes long
 items_long : {A : Type 0} (item : Option A → Form A) (n : ℕ)

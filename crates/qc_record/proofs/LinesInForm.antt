@@ -1,15 +1,17 @@
 -- Locks, own lines, operations and lines have a spelling exactly where their numbers are in their ranges.
-use Rattle.std.proofs.Common.{◌≡◌, ℕ, ◌-◌, ◌^◌, true, not, ◌==◌, ◌&&◌, ◌||◌, List, ◌∷◌, Option, Some, None, refl, arith}
+use Rattle.std.proofs.Common.{[], ◌≡◌, ℕ, ◌-◌, ◌^◌, true, not, ◌==◌, ◌&&◌, ◌||◌, List, ◌∷◌, Option, Some, None, refl}
+use Rattle.std.proofs.Common.{arith}
 use Rattle.std.proofs.lemmas.Bool.Decides.{nat_tests}
 use Rattle.std.specs.List.{AllByRecursion as Every}
 use Rattle.qc_entry.specs.declared.line.Line.{Line}
 use Rattle.qc_entry.specs.declared.line.Op.{Op}
 use Rattle.qc_entry.specs.declared.line.OwnLine.{OwnLine}
 use Rattle.qc_entry.specs.declared.line.ReadLock.{ReadLock}
-use Rattle.qc_record.specs.Names.{IsLine, IsLock, IsLockBelow, IsOp, IsOwn, IsOwnBelow, IsResponse, IsTx, climbs}
-use Rattle.qc_record.specs.Names.{from_client, from_event, from_life, from_number, from_object, from_op, greatest_clock}
-use Rattle.qc_record.specs.Names.{is_legal, is_own_stamp, is_response, items_are_legal, line_form, lock_floor}
-use Rattle.qc_record.specs.Names.{lock_form, op_form, own_floor, own_form, response_form, tied, tops, tx_form, within}
+use Rattle.qc_record.specs.Vocabulary.{IsLine, IsLock, IsLockBelow, IsOp, IsOwn, IsOwnBelow, IsResponse, IsTx, climbs}
+use Rattle.qc_record.specs.Vocabulary.{from_client, from_event, from_life, from_number, from_object, from_op}
+use Rattle.qc_record.specs.Vocabulary.{greatest_clock, is_legal, is_own_stamp, is_response, items_are_legal, line_form}
+use Rattle.qc_record.specs.Vocabulary.{lock_floor, lock_form, op_form, own_floor, own_form, response_form, tied, tops}
+use Rattle.qc_record.specs.Vocabulary.{tx_form, within}
 use Rattle.qc_record.proofs.Cuts.{both_true}
 use Rattle.qc_record.proofs.Exact.{same_number}
 use Rattle.qc_record.proofs.Exactness.{true_both}

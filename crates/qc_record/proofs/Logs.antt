@@ -10,14 +10,14 @@ use Rattle.std.specs.Ordering.{nat_cmp, ordering_then}
 use Rattle.std.specs.declared.cmp.Ordering.{Ordering}
 use Rattle.std.specs.declared.cmp.Ordering.TheVariants.{Less, Equal, Greater}
 use Rattle.qc_entry.specs.declared.line.Line.{Line}
-use Rattle.qc_entry.specs.Names.{IsAscending, line_cmp, union}
+use Rattle.qc_entry.specs.Vocabulary.{IsAscending, line_cmp, union}
 use Rattle.qc_entry.proofs.Orders.{line_order}
 use Rattle.qc_entry.proofs.Union.{union-after}
-use Rattle.qc_list.specs.Names.{IsBelowAll}
+use Rattle.qc_list.specs.Vocabulary.{IsBelowAll}
 use Rattle.qc_list.proofs.Order.{below_trans}
-use Rattle.qc_record.specs.Names.{IsBytes, climbs, from_client, from_event, from_life, from_number, from_object}
-use Rattle.qc_record.specs.Names.{from_op, is_own_stamp, items_are_legal, line_floor, line_form, line_numbers}
-use Rattle.qc_record.specs.Names.{line_parts, lines_form, tied, within}
+use Rattle.qc_record.specs.Vocabulary.{IsBytes, climbs, from_client, from_event, from_life, from_number, from_object}
+use Rattle.qc_record.specs.Vocabulary.{from_op, is_own_stamp, items_are_legal, line_floor, line_form, line_numbers}
+use Rattle.qc_record.specs.Vocabulary.{line_parts, lines_form, tied, within}
 use Rattle.qc_record.proofs.Cuts.{both_true}
 use Rattle.qc_record.proofs.Exact.{same_number, lines_exact}
 

@@ -4,7 +4,7 @@ use Rattle.std.proofs.Common.{Some, Result, Ok, Err, refl, sym, ap, ◌∙◌, a
 use Rattle.std.proofs.lemmas.List.{append-nil, take_more}
 use Rattle.qc_record.specs.declared.fault.Halt.{Halt}
 use Rattle.qc_record.specs.declared.fault.Halt.TheVariants as halts
-use Rattle.qc_record.specs.Names.{Form, Halts, items_at, items_spelled, ◌>>=◌}
+use Rattle.qc_record.specs.Vocabulary.{Form, Halts, items_at, items_spelled, ◌>>=◌}
 
 -- what was read before, and what is still read
 abbrev pub with_front : {A : Type 0} → List A → Result (List A × List ℕ) ℕ → Result (List A × List ℕ) ℕ

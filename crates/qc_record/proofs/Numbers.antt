@@ -3,7 +3,7 @@ use Rattle.std.proofs.Common.{◌≡◌, ◌⊎◌, inl, inr, ℕ, zero, suc, �
 use Rattle.std.proofs.Common.{sym, ap, subst, ◌∙◌, arith}
 use Rattle.std.proofs.lemmas.Nat.{be_bytes_4, be_bytes_8}
 use Rattle.byteorder.specs.Endian.{big_number, big_bytes}
-use Rattle.qc_record.specs.Names.{IsBytes}
+use Rattle.qc_record.specs.Vocabulary.{IsBytes}
 
 -- each number has 1, 2, 4 or 8 bytes
 abbrev pub IsWidth : ℕ → Type 0

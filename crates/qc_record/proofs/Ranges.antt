@@ -3,8 +3,8 @@ use Rattle.std.proofs.Common.{◌≡◌, inl, inr, ℕ, ◌<◌, ◌≤◌, Bool
 use Rattle.std.proofs.Common.{[], ◌∷◌, Option, Some, None, refl, ap, ◌∙◌, arith}
 use Rattle.std.proofs.lemmas.Bool.Decides.{nat_tests}
 use Rattle.std.specs.List.{AllByRecursion as Every}
-use Rattle.qc_record.specs.Names.{Form, IsWithin, Rises, climbs, is_above, is_at_least, items_are_legal, tied, tops}
-use Rattle.qc_record.specs.Names.{within}
+use Rattle.qc_record.specs.Vocabulary.{Form, IsWithin, Rises, climbs, is_above, is_at_least, items_are_legal, tied}
+use Rattle.qc_record.specs.Vocabulary.{tops, within}
 use Rattle.qc_record.proofs.Cuts.{both_true}
 use Rattle.qc_record.proofs.Exactness.{true_both}
 use Rattle.qc_record.proofs.Logs.{Rise}

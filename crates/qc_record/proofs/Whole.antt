@@ -7,9 +7,9 @@ use Rattle.qc_msg.specs.declared.record.Record.{Record}
 use Rattle.qc_msg.specs.declared.record.Record.TheVariants as records
 use Rattle.qc_record.specs.declared.fault.RecordFault.{RecordFault}
 use Rattle.qc_record.specs.declared.fault.RecordFault.TheVariants as faults
-use Rattle.qc_record.specs.Names.{Answers, Form, IsBytes, all_of, commit_form, decide_of, done_form, done_of}
-use Rattle.qc_record.specs.Names.{epoch_form, install_of, is_legal, nothing, placed, prepared_form, record_at, spelled}
-use Rattle.qc_record.specs.Names.{start_form, whole_at, ◌>>=◌}
+use Rattle.qc_record.specs.Vocabulary.{Answers, Form, IsBytes, all_of, commit_form, decide_of, done_form, done_of}
+use Rattle.qc_record.specs.Vocabulary.{epoch_form, install_of, is_legal, nothing, placed, prepared_form, record_at}
+use Rattle.qc_record.specs.Vocabulary.{spelled, start_form, whole_at, ◌>>=◌}
 use Rattle.qc_record.proofs.Exactness.{IsExact, bind_ok, all_taken, all_again, nothing_exact}
 use Rattle.qc_record.proofs.Exact.{epoch_exact, prepared_exact, done_exact, start_exact, commit_exact}
 

@@ -3,4 +3,4 @@ pub mod Records
 pub mod Legal
 pub mod Answers
 pub mod Spellings
-pub mod Names
+pub mod Vocabulary

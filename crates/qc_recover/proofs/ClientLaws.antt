@@ -4,15 +4,15 @@ use Rattle.std.proofs.Common.{◌∷◌, ◌++◌, filter, fold, None, Some, ref
 use Rattle.std.specs.Prelude.{count_by}
 use Rattle.std.proofs.lemmas.Bool.{cases_lt}
 use Rattle.std.proofs.lemmas.List.Sums.{fold-append, sum_by-cons}
-use Rattle.qc_commit.specs.Names.{record_of}
+use Rattle.qc_commit.specs.Vocabulary.{record_of}
 use Rattle.qc_entry.specs.declared.record.Commit.{Commit}
-use Rattle.qc_list.specs.Names.{In}
-use Rattle.qc_lock.specs.Names.{same_tx}
+use Rattle.qc_list.specs.Vocabulary.{In}
+use Rattle.qc_lock.specs.Vocabulary.{same_tx}
 use Rattle.qc_lock.proofs.Entries.{find-none, same_self, tx_apart}
 use Rattle.qc_msg.specs.declared.record.Record.{Record}
 use Rattle.qc_msg.specs.declared.record.Record.TheVariants as records
 use Rattle.qc_stamp.specs.declared.stamp.TxId.{TxId}
-use Rattle.qc_recover.specs.Names.{is_rise, with_commit}
+use Rattle.qc_recover.specs.Vocabulary.{is_rise, with_commit}
 use Rattle.qc_recover.specs.Clients.{Kept, keeps, kept_by, nothing_kept}
 
 pub kept_more : (rs more : List Record) → kept_by (rs ++ more) ≡ fold keeps (kept_by rs) more

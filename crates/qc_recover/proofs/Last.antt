@@ -5,9 +5,9 @@ use Rattle.std.proofs.lemmas.List.Elements.{filter-append}
 use Rattle.std.proofs.lemmas.List.Sums.{fold-append}
 use Rattle.qc_entry.specs.declared.record.Commit.{Commit}
 use Rattle.qc_stamp.specs.declared.stamp.TxId.{TxId}
-use Rattle.qc_stamp.specs.Names.{same_tx}
+use Rattle.qc_stamp.specs.Vocabulary.{same_tx}
 use Rattle.qc_stamp.proofs.Orders.{same_tx_is, same_tx_itself}
-use Rattle.qc_recover.specs.Names.{last_of, with_commit}
+use Rattle.qc_recover.specs.Vocabulary.{last_of, with_commit}
 
 -- the records of transactions that weren't seen
 abbrev pub unseen : (TxId → Bool) → List Commit → List Commit

@@ -6,12 +6,12 @@ use Rattle.std.proofs.lemmas.List.Elements.{All-from_recursion, recursion_from_A
 use Rattle.std.proofs.lemmas.List.Sorted.{All-permutation, IsPermutation-sym}
 use Rattle.std.proofs.lemmas.List.Sums.{fold-append}
 use Rattle.qc_entry.specs.declared.line.Line.{Line}
-use Rattle.qc_entry.specs.Names.{IsAscending, IsUnion, union}
+use Rattle.qc_entry.specs.Vocabulary.{IsAscending, IsUnion, union}
 use Rattle.qc_entry.proofs.Orders.{line_order}
 use Rattle.qc_entry.proofs.Union.{union_lem}
-use Rattle.qc_list.specs.Names.{In}
+use Rattle.qc_list.specs.Vocabulary.{In}
 use Rattle.qc_list.proofs.Members.{every-In, every-from_In}
-use Rattle.qc_recover.specs.Names.{log_of, with_line}
+use Rattle.qc_recover.specs.Vocabulary.{log_of, with_line}
 use Rattle.qc_site.proofs.Ascending.{same_ascending}
 
 pub one_more : (log : List Line) (line : Line) → IsAscending log → IsUnion log (line ∷ []) (with_line log line)

@@ -2,14 +2,14 @@
 use Rattle.std.proofs.Common.{◌≡◌, ◌⊎◌, inl, inr, not, List, [], ◌∷◌, fold, sym, ap}
 use Rattle.std.specs.List.{AllByRecursion as Every}
 use Rattle.qc_entry.specs.declared.record.Prepared.{Prepared}
-use Rattle.qc_list.specs.Names.{In}
+use Rattle.qc_list.specs.Vocabulary.{In}
 use Rattle.qc_list.proofs.Members.{every-from_In, In-more, In-unfiltered}
 use Rattle.qc_msg.specs.declared.record.Record.{Record}
 use Rattle.qc_msg.specs.declared.record.Record.TheVariants as records
-use Rattle.qc_site.specs.Names.{without_prepared}
+use Rattle.qc_site.specs.Vocabulary.{without_prepared}
 use Rattle.qc_stamp.specs.declared.stamp.TxId.{TxId}
-use Rattle.qc_stamp.specs.Names.{same_tx}
-use Rattle.qc_recover.specs.Names.{Kept, keeps, kept_by, nothing_kept}
+use Rattle.qc_stamp.specs.Vocabulary.{same_tx}
+use Rattle.qc_recover.specs.Vocabulary.{Kept, keeps, kept_by, nothing_kept}
 
 still : (ps : List Prepared) (tx : TxId) (p : Prepared) → In p (without_prepared ps tx) → In p ps
 still ps tx p member = In-unfiltered (λ (q : Prepared). not (same_tx q.tx tx)) p ps member

@@ -5,18 +5,19 @@ use Rattle.std.specs.Prelude.{count_by, is_some, unwrap_or}
 use Rattle.std.proofs.lemmas.List.Sums.{fold-append, sum_by-cons}
 use Rattle.qc_entry.specs.declared.line.Line.{Line}
 use Rattle.qc_entry.specs.declared.record.Prepared.{Prepared}
-use Rattle.qc_list.specs.Names.{In}
+use Rattle.qc_list.specs.Vocabulary.{In}
 use Rattle.qc_lock.specs.declared.held.Held.{Held}
-use Rattle.qc_lock.specs.Names.{AreOfOthers, IsOneForEach, entry_of, held_of, is_held, same_tx, with_locks, with_owns}
+use Rattle.qc_lock.specs.Vocabulary.{AreOfOthers, IsOneForEach, entry_of, held_of, is_held, same_tx, with_locks}
+use Rattle.qc_lock.specs.Vocabulary.{with_owns}
 use Rattle.qc_lock.proofs.Entries.{apart_sym, locks_given, others_stay, own_given, same_self}
 use Rattle.qc_lock.proofs.Ones.{once-filter, once-put, put_last}
 use Rattle.qc_msg.specs.declared.record.Record.{Record}
 use Rattle.qc_msg.specs.declared.record.Record.TheVariants as records
-use Rattle.qc_site.specs.Names.{SiteState, held_by, holds, is_prepared, latest, prepared_of, without_prepared}
+use Rattle.qc_site.specs.Vocabulary.{SiteState, held_by, holds, is_prepared, latest, prepared_of, without_prepared}
 use Rattle.qc_site.proofs.Votes.{prepared-without, prepared-without_other}
 use Rattle.qc_stamp.specs.declared.stamp.TxId.{TxId}
-use Rattle.qc_recover.specs.Names.{Kept, begins_life, clocks_in, clocks_of, keeps, kept_by, nothing_kept, site_by}
-use Rattle.qc_recover.specs.Names.{site_of, with_promise}
+use Rattle.qc_recover.specs.Vocabulary.{Kept, begins_life, clocks_in, clocks_of, keeps, kept_by, nothing_kept, site_by}
+use Rattle.qc_recover.specs.Vocabulary.{site_of, with_promise}
 use Rattle.qc_site.proofs.Promised.{promiser}
 
 pub kept_more : (rs more : List Record) → kept_by (rs ++ more) ≡ fold keeps (kept_by rs) more

@@ -3,17 +3,18 @@ use Rattle.std.proofs.Common.{◌≡◌, ◌⊎◌, inl, inr, ℕ, not, List, []
 use Rattle.std.proofs.Common.{subst}
 use Rattle.std.specs.Option.{option_map_or}
 use Rattle.qc_entry.specs.declared.record.Prepared.{Prepared}
-use Rattle.qc_entry.specs.Names.{IsAscending, without}
+use Rattle.qc_entry.specs.Vocabulary.{IsAscending, without}
 use Rattle.qc_entry.proofs.Union.{ascending-union}
-use Rattle.qc_list.specs.Names.{In}
+use Rattle.qc_list.specs.Vocabulary.{In}
 use Rattle.qc_list.proofs.Members.{In-more}
 use Rattle.qc_msg.specs.declared.record.Record.{Record}
 use Rattle.qc_msg.specs.declared.record.Record.TheVariants as records
-use Rattle.qc_site.specs.Names.{ArePromisesSorted, IsSiteSorted, lines_of, prepared_of, without_prepared}
+use Rattle.qc_site.specs.Vocabulary.{ArePromisesSorted, IsSiteSorted, lines_of, prepared_of, without_prepared}
 use Rattle.qc_site.proofs.Sorted.{ascending-stamped, ascending-without, held-sound, promises-filter, promises-push}
 use Rattle.qc_stamp.specs.declared.stamp.TxId.{TxId}
-use Rattle.qc_stamp.specs.Names.{same_tx}
-use Rattle.qc_recover.specs.Names.{IsRecordSorted, Kept, done_lines, done_stamp, keeps, kept_by, nothing_kept, site_of}
+use Rattle.qc_stamp.specs.Vocabulary.{same_tx}
+use Rattle.qc_recover.specs.Vocabulary.{IsRecordSorted, Kept, done_lines, done_stamp, keeps, kept_by, nothing_kept}
+use Rattle.qc_recover.specs.Vocabulary.{site_of}
 
 record IsKeptSorted (k : Kept) : Type 0 where
   pub began : IsAscending k.began

@@ -1,9 +1,9 @@
 -- Words for what records tell: the lives that they begin, their clocks, and what is in order in them.
 use Rattle.std.specs.Prelude.{ℕ, Bool, true, false, List, [], ◌∷◌, map}
 use Rattle.qc_entry.specs.declared.line.Line.{Line}
-use Rattle.qc_entry.specs.Names.{IsAscending}
-use Rattle.qc_list.specs.Names.{Ascends}
-use Rattle.qc_lock.specs.Names.{lock_cmp, own_cmp}
+use Rattle.qc_entry.specs.Vocabulary.{IsAscending}
+use Rattle.qc_list.specs.Vocabulary.{Ascends}
+use Rattle.qc_lock.specs.Vocabulary.{lock_cmp, own_cmp}
 use Rattle.qc_msg.specs.declared.record.Record.{Record}
 use Rattle.qc_msg.specs.declared.record.Record.TheVariants as records
 

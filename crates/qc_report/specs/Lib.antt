@@ -3,3 +3,4 @@ pub mod Declarations
 pub mod Names
 pub mod Pieces
 pub mod Scripts
+pub mod Vocabulary

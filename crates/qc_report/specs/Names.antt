@@ -1,4 +1,6 @@
--- What proofs, and other crates, name of this crate's definitions.
-pub use Rattle.qc_report.specs.Causes.{status_of}
-pub use Rattle.qc_report.specs.Declarations.{accepted_text_of}
-pub use Rattle.qc_report.specs.Pieces.{joined}
+-- Names as they are written.
+use Rattle.std.specs.Prelude.{ℕ, List, [], slice_get, unwrap_or}
+
+-- the name with this number; no byte where there is none
+abbrev pub name_at : List (List ℕ) → ℕ → List ℕ
+name_at names k = unwrap_or (slice_get names k) []

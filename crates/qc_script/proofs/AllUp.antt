@@ -4,9 +4,9 @@ use Rattle.std.proofs.Common.{length, Option, Some, None, refl, ap, sym, subst, 
 use Rattle.std.specs.Prelude.{get_or, replicate, set, slice_get}
 use Rattle.std.specs.List.{AllByRecursion as Every, fold}
 use Rattle.std.specs.Option.{option_map_or}
-use Rattle.qc_decl.specs.Names.{controller}
+use Rattle.qc_decl.specs.Vocabulary.{controller}
 use Rattle.qc_decl.specs.declared.declaration.Declaration.{Declaration}
-use Rattle.qc_link.specs.Names.{most_actors}
+use Rattle.qc_link.specs.Vocabulary.{most_actors}
 use Rattle.qc_msg.specs.declared.record.Record.{Record}
 use Rattle.qc_msg.specs.declared.reply.Reply.{Reply}
 use Rattle.qc_msg.specs.declared.step.Control.{Control}
@@ -17,11 +17,11 @@ use Rattle.qc_msg.specs.declared.step.Step.{Step}
 use Rattle.qc_msg.specs.declared.step.Step.TheVariants as steps
 use Rattle.qc_msg.specs.declared.turn.Posting.{Posting}
 use Rattle.qc_msg.specs.declared.turn.Turn.{Turn}
-use Rattle.qc_msg.specs.Names.{Deed, Entry, by, mail, marked, posted, sents, step_of, told, wrote}
+use Rattle.qc_msg.specs.Vocabulary.{Deed, Entry, by, mail, marked, posted, sents, step_of, told, wrote}
 use Rattle.qc_msg.proofs.GrownMail.{by-posted}
-use Rattle.qc_script.specs.Names.{Inbox, LeavesUp, Runs, acting, command_called, control_acted, copy_taken, everybody}
-use Rattle.qc_script.specs.Names.{inbox, inbox_at, is_up, loss_taken, opened, phase_begun, reply_told, step_of_control}
-use Rattle.qc_script.specs.Names.{wrote_record}
+use Rattle.qc_script.specs.Vocabulary.{Inbox, LeavesUp, Runs, acting, command_called, control_acted, copy_taken}
+use Rattle.qc_script.specs.Vocabulary.{everybody, inbox, inbox_at, is_up, loss_taken, opened, phase_begun, reply_told}
+use Rattle.qc_script.specs.Vocabulary.{step_of_control, wrote_record}
 use Rattle.qc_script.specs.Runs.{begins, takes, posts, phase, control}
 use Rattle.qc_script.specs.declared.script.PhaseLines.{PhaseLines}
 use Rattle.qc_script.specs.declared.script.Script.{Script}

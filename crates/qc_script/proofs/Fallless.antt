@@ -9,8 +9,8 @@ use Rattle.qc_msg.specs.declared.step.Step.{Step}
 use Rattle.qc_msg.specs.declared.turn.Appended.{Appended}
 use Rattle.qc_msg.specs.declared.turn.Appended.TheVariants.{Done}
 use Rattle.qc_msg.specs.declared.turn.Turn.{Turn}
-use Rattle.qc_msg.specs.Names.{Deed, Entry, by, mail, posted_as}
-use Rattle.qc_script.specs.Names.{Runs, RunsWithFalls, controller_step, step_of_control}
+use Rattle.qc_msg.specs.Vocabulary.{Deed, Entry, by, mail, posted_as}
+use Rattle.qc_script.specs.Vocabulary.{Runs, RunsWithFalls, controller_step, step_of_control}
 use Rattle.qc_script.specs.Runs.{begins, takes, posts, phase, control}
 use Rattle.qc_script.specs.RunsWithFalls as falling
 use Rattle.qc_script.specs.declared.script.Script.{Script}

@@ -1,9 +1,9 @@
 -- A script that is refused has a first line that is.
 use Rattle.std.proofs.Common.{◌≡◌, ℕ, suc, ◌+◌, List, [], ◌∷◌, ◌++◌, Result, Ok, Err, length, refl, sym, ap, ◌∙◌, arith}
-use Rattle.qc_list.specs.Names.{◌>>=◌}
+use Rattle.qc_list.specs.Vocabulary.{◌>>=◌}
 use Rattle.qc_decl.specs.declared.declaration.Declaration.{Declaration}
-use Rattle.qc_script.specs.Names.{IsFirstRefused, Refusal, empty_script, lines_of, numbered, script_of, with_line}
-use Rattle.qc_script.specs.Names.{with_lines, without_cr}
+use Rattle.qc_script.specs.Vocabulary.{IsFirstRefused, Refusal, empty_script, lines_of, numbered, script_of, with_line}
+use Rattle.qc_script.specs.Vocabulary.{with_lines, without_cr}
 use Rattle.qc_script.specs.declared.script.LineKind.{LineKind}
 use Rattle.qc_script.specs.declared.script.Script.{Script}
 

@@ -1,22 +1,22 @@
 -- What the inboxes of two actors have in common: cuts, who is up, control lines, and the number of messages from the one
 -- to the other. So a message has one fate, for its sender and for its receiver.
-use Rattle.std.proofs.Common.{◌≡◌, ℕ, ◌+◌, ◌-◌, ◌<◌, ◌==◌, Bool, true, false, if◌then◌else◌, List, ◌∷◌, length, refl}
-use Rattle.std.proofs.Common.{ap, sym, ◌∙◌}
+use Rattle.std.proofs.Common.{[], ◌≡◌, ℕ, ◌+◌, ◌-◌, ◌<◌, ◌==◌, Bool, true, false, if◌then◌else◌, List, ◌∷◌, length}
+use Rattle.std.proofs.Common.{refl, ap, sym, ◌∙◌}
 use Rattle.std.specs.Prelude.{drop, set, slice_get}
 use Rattle.std.specs.List.{fold}
 use Rattle.std.proofs.lemmas.List.{get_or-replicate}
-use Rattle.qc_link.specs.Names.{fate, most_actors, with_cut, without_cut}
+use Rattle.qc_link.specs.Vocabulary.{fate, most_actors, with_cut, without_cut}
 use Rattle.qc_link.specs.declared.plan.Link.{Link}
 use Rattle.qc_msg.specs.declared.message.Envelope.{Envelope}
 use Rattle.qc_msg.specs.declared.step.Control.{Control}
 use Rattle.qc_msg.specs.declared.step.Fall.{Fall}
 use Rattle.qc_msg.specs.declared.step.Step.{Step}
 use Rattle.qc_msg.specs.declared.step.Step.TheVariants as steps
-use Rattle.qc_msg.specs.Names.{Entry}
+use Rattle.qc_msg.specs.Vocabulary.{Entry}
 use Rattle.qc_script.specs.declared.script.Script.{Script}
-use Rattle.qc_script.specs.Names.{Inbox, actor_fell, comes, command_called, control_acted, copy_taken, count_of}
-use Rattle.qc_script.specs.Names.{empty_inbox, fell_by, goes, inbox, inbox_at, is_by_line, is_up, loss_taken, one_more}
-use Rattle.qc_script.specs.Names.{reply_told, requests_to, requests_to_others, with_lost, wrote_record}
+use Rattle.qc_script.specs.Vocabulary.{Inbox, actor_fell, comes, command_called, control_acted, copy_taken, count_of}
+use Rattle.qc_script.specs.Vocabulary.{empty_inbox, fell_by, goes, inbox, inbox_at, is_by_line, is_up, loss_taken}
+use Rattle.qc_script.specs.Vocabulary.{one_more, reply_told, requests_to, requests_to_others, with_lost, wrote_record}
 use Rattle.qc_script.proofs.InboxesSend.{Keeps, same, by_test, emptied_keeps, InCommon, kept, Sends, sends_does}
 use Rattle.qc_script.proofs.InboxesSend.{length_more, one_count, opened_both, phases_both}
 

@@ -1,10 +1,10 @@
 -- What the inboxes of two actors have in common, as messages are sent.
-use Rattle.std.proofs.Common.{◌≡◌, ℕ, ◌+◌, ◌-◌, ◌<◌, ◌==◌, ◌&&◌, Bool, true, false, if◌then◌else◌, List, ◌∷◌, length}
-use Rattle.std.proofs.Common.{Option, Some, None, refl, ap, sym, subst, ◌∙◌}
+use Rattle.std.proofs.Common.{[], ◌≡◌, ℕ, ◌+◌, ◌-◌, ◌<◌, ◌==◌, ◌&&◌, Bool, true, false, if◌then◌else◌, List, ◌∷◌}
+use Rattle.std.proofs.Common.{length, Option, Some, None, refl, ap, sym, subst, ◌∙◌}
 use Rattle.std.specs.Option.{option_map_or}
 use Rattle.std.proofs.lemmas.Bool.{eqb-false, eqb-true}
 use Rattle.std.proofs.lemmas.List.{get_or-set_other, get_or-set_same, length-set}
-use Rattle.qc_link.specs.Names.{fate, most_actors}
+use Rattle.qc_link.specs.Vocabulary.{fate, most_actors}
 use Rattle.qc_link.specs.declared.plan.Link.{Link}
 use Rattle.qc_link.specs.declared.rule.Fate.{Fate}
 use Rattle.qc_msg.specs.declared.message.Envelope.{Envelope}
@@ -12,9 +12,9 @@ use Rattle.qc_msg.specs.declared.message.Message.{Message}
 use Rattle.qc_msg.specs.declared.message.Message.TheVariants as messages
 use Rattle.qc_msg.specs.declared.step.Control.{Control}
 use Rattle.qc_script.specs.declared.script.PhaseLines.{PhaseLines}
-use Rattle.qc_script.specs.Names.{Inbox, acting, answers_by, comes, comes_at_once, comes_with, count_of, emptied, goes}
-use Rattle.qc_script.specs.Names.{goes_with, has_request, is_request, is_up, one_more, opened, opened_by, phase_begun}
-use Rattle.qc_script.specs.Names.{request_answered, request_sent, with_copies}
+use Rattle.qc_script.specs.Vocabulary.{Inbox, acting, answers_by, comes, comes_at_once, comes_with, count_of, emptied}
+use Rattle.qc_script.specs.Vocabulary.{goes, goes_with, has_request, is_request, is_up, one_more, opened, opened_by}
+use Rattle.qc_script.specs.Vocabulary.{phase_begun, request_answered, request_sent, with_copies}
 
 -- another inbox with the same cuts, control lines and counts
 pub record Keeps (i j : Inbox) : Type 0 where

@@ -2,7 +2,7 @@
 use Rattle.std.proofs.Common.{◌≡◌, ℕ, ◌-◌, ◌<◌, ◌==◌, List, [], ◌∷◌, length, get_or, set, refl, ap, sym, ◌∙◌, arith}
 use Rattle.std.proofs.Common.{rules}
 use native.Mathlib.Numerals.{unary_clauses}
-use Rattle.qc_script.specs.Names.{is_at_controls, is_before_commands, on_last}
+use Rattle.qc_script.specs.Vocabulary.{is_at_controls, is_before_commands, on_last}
 use Rattle.qc_script.specs.declared.script.CommandLine.{CommandLine}
 use Rattle.qc_link.specs.declared.plan.Link.{Link}
 use Rattle.qc_script.specs.declared.script.PhaseLines.{PhaseLines}

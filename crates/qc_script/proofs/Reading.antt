@@ -1,9 +1,9 @@
 -- Reading a script line by line gives what the grammar does.
 use Rattle.std.proofs.Common.{◌≡◌, ℕ, ◌+◌, ◌<◌, List, Result, Ok, length, get_or, drop, ap, sym, ◌∙◌, arith}
 use Rattle.std.proofs.lemmas.List.{at_drop_more, at_drop_all}
-use Rattle.qc_list.specs.Names.{◌>>=◌}
+use Rattle.qc_list.specs.Vocabulary.{◌>>=◌}
 use Rattle.qc_decl.specs.declared.declaration.Declaration.{Declaration}
-use Rattle.qc_script.specs.Names.{IsTold, Refusal, numbered, with_line, with_lines, without_cr}
+use Rattle.qc_script.specs.Vocabulary.{IsTold, Refusal, numbered, with_line, with_lines, without_cr}
 use Rattle.qc_script.specs.declared.script.Script.{Script}
 use Rattle.qc_script.specs.declared.script.ScriptFault.{ScriptFault}
 use Rattle.qc_script.specs.declared.script.ScriptFault.TheVariants.{Line, OutOfMemory}

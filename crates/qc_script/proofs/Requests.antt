@@ -1,8 +1,8 @@
 -- Requests by their numbers.
 use Rattle.std.proofs.Common.{◌≡◌, ℕ, ◌==◌, ◌||◌, Bool, true, false, cond, not, List, [], ◌∷◌, ◌++◌, refl, ap}
 use Rattle.std.proofs.lemmas.List.{map-append}
-use Rattle.qc_script.specs.Names.{SentRequest, has_number, has_request, request_numbers, without_number}
-use Rattle.qc_script.specs.Names.{without_request}
+use Rattle.qc_script.specs.Vocabulary.{SentRequest, has_number, has_request, request_numbers, without_number}
+use Rattle.qc_script.specs.Vocabulary.{without_request}
 
 pub has-numbers : (rs : List SentRequest) (n : ℕ) → has_request rs n ≡ has_number (request_numbers rs) n
 has-numbers [] n = refl

@@ -3,16 +3,16 @@ use Rattle.std.proofs.Common.{◌≡◌, ◌≢◌, ℕ, ◌+◌, ◌<◌, ◌�
 use Rattle.std.proofs.Common.{arith}
 use Rattle.std.specs.Prelude.{◌==◌, IsTrue, length, nat_le, nat_lt, option_map}
 use Rattle.std.proofs.lemmas.Bool.{and_from, and_parts, eq-eqb, le-leb, leb-true, lt-ltb, ltb-true}
-use Rattle.qc_decl.specs.Names.{administrator, client_actor, inv_named, is_between, is_client, object_named}
+use Rattle.qc_decl.specs.Vocabulary.{administrator, client_actor, inv_named, is_between, is_client, object_named}
 use Rattle.qc_decl.specs.declared.declaration.Declaration.{Declaration}
 use Rattle.qc_link.specs.declared.plan.Link.{Link}
 use Rattle.qc_msg.specs.declared.step.Command.{Command}
 use Rattle.qc_msg.specs.declared.step.Command.TheVariants as commands
 use Rattle.qc_msg.specs.declared.step.Control.{Control}
 use Rattle.qc_msg.specs.declared.step.Control.TheVariants as controls
-use Rattle.qc_script.specs.Names.{IsActor, IsAskedFor, IsCommandFor, IsControlFor, IsEnd, IsLinkFor, IsOrdinal}
-use Rattle.qc_script.specs.Names.{actor_in, end_in, is_control_in_range, is_in_range, is_ordinal, item_of, most_number}
-use Rattle.qc_script.specs.Names.{◌>>=◌}
+use Rattle.qc_script.specs.Vocabulary.{IsActor, IsAskedFor, IsCommandFor, IsControlFor, IsEnd, IsLinkFor, IsOrdinal}
+use Rattle.qc_script.specs.Vocabulary.{actor_in, end_in, is_control_in_range, is_in_range, is_ordinal, item_of}
+use Rattle.qc_script.specs.Vocabulary.{most_number, ◌>>=◌}
 use Rattle.qc_script.specs.Items.{client_in, command_in}
 use Rattle.qc_script.specs.declared.actor.ActorName.{ActorName}
 use Rattle.qc_script.specs.declared.actor.ActorName.TheVariants.{Site, Client, Administrator}

@@ -3,14 +3,14 @@ use Rattle.std.proofs.Common.{◌≡◌, ℕ, ◌+◌, Bool, true, false, cond, 
 use Rattle.std.proofs.Common.{Err, refl, subst}
 use Rattle.std.specs.Prelude.{ok_or}
 use Rattle.std.specs.List.{AllByRecursion as Every}
-use Rattle.qc_list.specs.Names.{◌>>=◌}
+use Rattle.qc_list.specs.Vocabulary.{◌>>=◌}
 use Rattle.qc_decl.specs.declared.declaration.Declaration.{Declaration}
 use Rattle.qc_msg.specs.declared.step.Command.TheVariants as commands
 use Rattle.qc_script.proofs.SoundItems.{IsItemFor, item_named, item_ranged}
-use Rattle.qc_script.specs.Names.{IsCommandFor, IsControlFor, IsLinkFor, IsPhaseFor, IsScriptFor, empty_phase}
-use Rattle.qc_script.specs.Names.{empty_script, has_place, is_in_range, is_skipped, item_in, item_of, line_of, lines_of}
-use Rattle.qc_script.specs.Names.{numbered, on_last, placed, read_words, script_of, tested, with_command, with_control}
-use Rattle.qc_script.specs.Names.{with_item, with_line, with_lines, with_words, without_cr, words_of}
+use Rattle.qc_script.specs.Vocabulary.{IsCommandFor, IsControlFor, IsLinkFor, IsPhaseFor, IsScriptFor, empty_phase}
+use Rattle.qc_script.specs.Vocabulary.{empty_script, has_place, is_in_range, is_skipped, item_in, item_of, line_of}
+use Rattle.qc_script.specs.Vocabulary.{lines_of, numbered, on_last, placed, read_words, script_of, tested, with_command}
+use Rattle.qc_script.specs.Vocabulary.{with_control, with_item, with_line, with_lines, with_words, without_cr, words_of}
 use Rattle.qc_script.specs.declared.item.Item.{Item}
 use Rattle.qc_script.specs.declared.item.Item.TheVariants as items
 use Rattle.qc_script.specs.declared.line.ScriptLine.{ScriptLine}

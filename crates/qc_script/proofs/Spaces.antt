@@ -7,7 +7,7 @@ use Rattle.std.proofs.lemmas.List.{take_all, length-drop}
 use Rattle.std.proofs.lemmas.List.Splits.{slice_split_first, slice_split-cons_no}
 use Rattle.qc_table.proofs.Places.{position_none}
 use Rattle.std.specs.Borrow.{Bor}
-use Rattle.qc_script.specs.Names.{cut_off, words_behind, words_of}
+use Rattle.qc_script.specs.Vocabulary.{cut_off, words_behind, words_of}
 
 -- a line that is cut at its first space
 pub cut_at : (line : List ℕ) (place : ℕ) → place < length line → position (λ b. b == 32) line ≡ Some place

@@ -6,11 +6,11 @@ use Rattle.qc_outside.specs.declared.disk.ArmKind.{ArmKind}
 use Rattle.qc_outside.specs.declared.disk.ArmKind.TheVariants.{Stop, Fail}
 use Rattle.qc_script.proofs.WrittenWords.{actor_read, apart, client_read, end_read, name_read, ordinal_read, rule_read}
 use Rattle.qc_number.proofs.Numbers.{number_read}
-use Rattle.qc_script.specs.Names.{HasFewDigits, IsWritable, IsWritableActor, IsWritableEnd, IsWritableOrdinal}
-use Rattle.qc_script.specs.Names.{IsWritableVerb, actor_of, actor_word, client_of, command_line, end_of, end_word}
-use Rattle.qc_script.specs.Names.{line_of, link_of, name_of, ordinal_of, ordinal_word, other_line, pair_of, rule_of}
-use Rattle.qc_script.specs.Names.{rule_word, verb_of, verb_words, words_in, ◌>>=◌}
-use Rattle.qc_number.specs.Names.{number_of}
+use Rattle.qc_script.specs.Vocabulary.{HasFewDigits, IsWritable, IsWritableActor, IsWritableEnd, IsWritableOrdinal}
+use Rattle.qc_script.specs.Vocabulary.{IsWritableVerb, actor_of, actor_word, client_of, command_line, end_of, end_word}
+use Rattle.qc_script.specs.Vocabulary.{line_of, link_of, name_of, ordinal_of, ordinal_word, other_line, pair_of}
+use Rattle.qc_script.specs.Vocabulary.{rule_of, rule_word, verb_of, verb_words, words_in, ◌>>=◌}
+use Rattle.qc_number.specs.Vocabulary.{number_of}
 use Rattle.qc_script.specs.declared.actor.ActorName.{ActorName}
 use Rattle.qc_script.specs.declared.actor.ActorName.TheVariants.{Client}
 use Rattle.qc_script.specs.declared.line.ScriptLine.{ScriptLine}

@@ -1,13 +1,13 @@
 -- A text of lines that can be written is read as these lines.
 use Rattle.std.proofs.Common.{◌≡◌, ℕ, ◌+◌, cond, List, [], ◌∷◌, ◌++◌, Result, Ok, Err, Some, refl, ap, ◌∙◌}
 use Rattle.std.specs.Prelude.{ok_or}
-use Rattle.qc_list.specs.Names.{◌>>=◌}
+use Rattle.qc_list.specs.Vocabulary.{◌>>=◌}
 use Rattle.qc_decl.specs.declared.declaration.Declaration.{Declaration}
 use Rattle.qc_script.proofs.WrittenLines.{line_read}
 use Rattle.qc_script.proofs.WrittenTexts.{no_cr, not_skipped, printed_joined, printed_split, words_back, words_plain}
-use Rattle.qc_script.specs.Names.{AreWritable, IsWritable, Refusal, empty_script, item_in, line_of, lines_of, numbered}
-use Rattle.qc_script.specs.Names.{placed, read_words, script_of, text_of_line, text_of_lines, with_line, with_lines}
-use Rattle.qc_script.specs.Names.{with_words, with_written, without_cr, words_in, words_of}
+use Rattle.qc_script.specs.Vocabulary.{AreWritable, IsWritable, Refusal, empty_script, item_in, line_of, lines_of}
+use Rattle.qc_script.specs.Vocabulary.{numbered, placed, read_words, script_of, text_of_line, text_of_lines, with_line}
+use Rattle.qc_script.specs.Vocabulary.{with_lines, with_words, with_written, without_cr, words_in, words_of}
 use Rattle.qc_script.specs.declared.item.Item.{Item}
 use Rattle.qc_script.specs.declared.line.ScriptLine.{ScriptLine}
 use Rattle.qc_script.specs.declared.script.LineKind.{LineKind}

@@ -13,9 +13,10 @@ use Rattle.qc_link.specs.declared.rule.Rule.TheVariants as rule
 use Rattle.qc_outside.specs.declared.disk.ArmKind.{ArmKind}
 use Rattle.qc_outside.specs.declared.disk.ArmKind.TheVariants.{Stop, Fail}
 use Rattle.qc_number.proofs.Numbers.{digits}
-use Rattle.qc_script.specs.Names.{HasFewDigits, IsWritable, IsWritableActor, IsWritableEnd, IsWritableOrdinal}
-use Rattle.qc_script.specs.Names.{IsWritableVerb, actor_word, arm_word, end_word, is_plain, is_skipped, lines_of}
-use Rattle.qc_script.specs.Names.{ordinal_word, rule_word, text_of_line, verb_words, without_cr, words_in, words_of}
+use Rattle.qc_script.specs.Vocabulary.{HasFewDigits, IsWritable, IsWritableActor, IsWritableEnd, IsWritableOrdinal}
+use Rattle.qc_script.specs.Vocabulary.{IsWritableVerb, actor_word, arm_word, end_word, is_plain, is_skipped, lines_of}
+use Rattle.qc_script.specs.Vocabulary.{ordinal_word, rule_word, text_of_line, verb_words, without_cr, words_in}
+use Rattle.qc_script.specs.Vocabulary.{words_of}
 use Rattle.qc_script.specs.declared.actor.ActorName.{ActorName}
 use Rattle.qc_script.specs.declared.actor.ActorName.TheVariants.{Site, Client, Administrator}
 use Rattle.qc_script.specs.declared.line.ScriptLine.{ScriptLine}

@@ -13,10 +13,10 @@ use Rattle.std.proofs.lemmas.Slice.Eq.{bytes_eq-Decides}
 use Rattle.qc_link.specs.declared.rule.Rule.{Rule}
 use Rattle.qc_link.specs.declared.rule.Rule.TheVariants as rule
 use Rattle.qc_number.proofs.Numbers.{number_read}
-use Rattle.qc_number.specs.Names.{number_of}
-use Rattle.qc_script.specs.Names.{HasFewDigits, IsWritableActor, IsWritableEnd, IsWritableName, IsWritableOrdinal}
-use Rattle.qc_script.specs.Names.{actor_of, actor_word, client_in, client_of, end_of, end_word, has_leading_zero}
-use Rattle.qc_script.specs.Names.{index_of, name_of, ordinal_of, ordinal_word, rule_of, rule_word}
+use Rattle.qc_number.specs.Vocabulary.{number_of}
+use Rattle.qc_script.specs.Vocabulary.{HasFewDigits, IsWritableActor, IsWritableEnd, IsWritableName, IsWritableOrdinal}
+use Rattle.qc_script.specs.Vocabulary.{actor_of, actor_word, client_in, client_of, end_of, end_word, has_leading_zero}
+use Rattle.qc_script.specs.Vocabulary.{index_of, name_of, ordinal_of, ordinal_word, rule_of, rule_word}
 use Rattle.qc_script.specs.declared.actor.ActorName.{ActorName}
 use Rattle.qc_script.specs.declared.actor.ActorName.TheVariants.{Site, Client, Administrator}
 

@@ -4,7 +4,7 @@ use Rattle.std.specs.Prelude.{None, option_map, option_and_then}
 use Rattle.std.specs.Str.{bytes_eq}
 use Rattle.qc_link.specs.declared.rule.Rule.{Rule}
 use Rattle.qc_link.specs.declared.rule.Rule.TheVariants.{Drop, Twice, Late, Again}
-use Rattle.qc_number.specs.Names.{number_of}
+use Rattle.qc_number.specs.Vocabulary.{number_of}
 use Rattle.qc_script.specs.declared.actor.ActorName.{ActorName}
 use Rattle.qc_script.specs.declared.actor.ActorName.TheVariants.{Site, Client, Administrator}
 

@@ -10,7 +10,7 @@
 -- 4. `Place`: it may not stand behind the lines before it (specs/Places.antt).
 use Rattle.std.specs.Prelude.{ℕ, ◌+◌, Bool, true, false, if◌then◌else◌, List, [], ◌∷◌, Result, Ok, Err, ok_or}
 use Rattle.qc_decl.specs.declared.declaration.Declaration.{Declaration}
-use Rattle.qc_list.specs.Names.{◌>>=◌}
+use Rattle.qc_list.specs.Vocabulary.{◌>>=◌}
 use Rattle.qc_script.specs.Items.{item_of}
 use Rattle.qc_script.specs.Lines.{line_of}
 use Rattle.qc_script.specs.Places.{has_place, with_item}

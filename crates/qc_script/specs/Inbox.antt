@@ -4,7 +4,7 @@
 use Rattle.std.specs.Prelude.{ℕ, ◌+◌, ◌-◌, ◌==◌, ◌&&◌, Bool, true, false, not, if◌then◌else◌, List, [], ◌∷◌, ◌++◌, drop}
 use Rattle.std.specs.Prelude.{filter, fold, get_or, map, replicate, set, slice_get}
 use Rattle.std.specs.Option.{option_map_or}
-use Rattle.qc_link.specs.Names.{fate, most_actors, no_cuts, with_cut, without_cut}
+use Rattle.qc_link.specs.Vocabulary.{fate, most_actors, no_cuts, with_cut, without_cut}
 use Rattle.qc_link.specs.declared.plan.Link.{Link}
 use Rattle.qc_link.specs.declared.rule.Fate.{Fate}
 use Rattle.qc_link.specs.declared.rule.Fate.TheVariants.{Pass, Drop, Twice, Late, Again}
@@ -18,7 +18,7 @@ use Rattle.qc_msg.specs.declared.step.Fall.{Fall}
 use Rattle.qc_msg.specs.declared.step.Fall.TheVariants as causes
 use Rattle.qc_msg.specs.declared.step.Step.{Step}
 use Rattle.qc_msg.specs.declared.step.Step.TheVariants as steps
-use Rattle.qc_msg.specs.Names.{Entry}
+use Rattle.qc_msg.specs.Vocabulary.{Entry}
 use Rattle.qc_script.specs.Requests.{SentRequest, has_request, requests_to, requests_to_others, with_lost, with_number}
 use Rattle.qc_script.specs.Requests.{without_request}
 use Rattle.qc_script.specs.declared.script.CommandLine.{CommandLine}

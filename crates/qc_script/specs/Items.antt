@@ -1,6 +1,6 @@
 -- What a line asks for, once each name in it is declared: numbers stand for the actors, the object and the invocation.
 use Rattle.std.specs.Prelude.{ℕ, if◌then◌else◌, nat_lt, Option, Some, None, option_map}
-use Rattle.qc_decl.specs.Names.{administrator, client_actor, inv_named, object_named}
+use Rattle.qc_decl.specs.Vocabulary.{administrator, client_actor, inv_named, object_named}
 use Rattle.qc_decl.specs.declared.declaration.Declaration.{Declaration}
 use Rattle.qc_msg.specs.declared.step.Command.{Command}
 use Rattle.qc_msg.specs.declared.step.Command.TheVariants as commands

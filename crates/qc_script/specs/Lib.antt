@@ -17,4 +17,4 @@ pub mod Steady
 pub mod Runs
 pub mod RunsWithFalls
 pub mod Written
-pub mod Names
+pub mod Vocabulary

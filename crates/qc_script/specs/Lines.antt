@@ -12,7 +12,7 @@ use Rattle.std.specs.Str.{bytes_eq}
 use Rattle.qc_outside.specs.declared.disk.ArmKind.{ArmKind}
 use Rattle.qc_outside.specs.declared.disk.ArmKind.TheVariants.{Stop, Fail}
 use Rattle.qc_script.specs.Forms.{actor_of, client_of, end_of, name_of, ordinal_of, rule_of}
-use Rattle.qc_number.specs.Names.{number_of}
+use Rattle.qc_number.specs.Vocabulary.{number_of}
 use Rattle.qc_script.specs.Options.{◌>>=◌}
 use Rattle.qc_script.specs.declared.actor.ActorName.{ActorName}
 use Rattle.qc_script.specs.declared.line.ScriptLine.{ScriptLine}

@@ -1,7 +1,7 @@
 -- Whether the numbers of a line are in range: ordinals and numbers of disk calls are 1 to 99,999, an epoch to move to
 -- is 2 to the number of epochs, and a cut and a heal are of two actors.
 use Rattle.std.specs.Prelude.{ℕ, ◌<◌, Bool, true, ◌==◌, not, length, Option, Some, None}
-use Rattle.qc_decl.specs.Names.{is_between}
+use Rattle.qc_decl.specs.Vocabulary.{is_between}
 use Rattle.qc_decl.specs.declared.declaration.Declaration.{Declaration}
 use Rattle.qc_msg.specs.declared.step.Control.{Control}
 use Rattle.qc_msg.specs.declared.step.Control.TheVariants as controls

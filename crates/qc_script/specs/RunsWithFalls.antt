@@ -2,7 +2,7 @@
 use Rattle.std.specs.Prelude.{◌≡◌, ℕ, ◌+◌, ◌<◌, Bool, true, false, List, [], ◌∷◌, ◌++◌, Some, None, length, replicate}
 use Rattle.std.specs.Prelude.{slice_get, slice_set}
 use Rattle.qc_decl.specs.declared.declaration.Declaration.{Declaration}
-use Rattle.qc_decl.specs.Names.{actors, controller}
+use Rattle.qc_decl.specs.Vocabulary.{actors, controller}
 use Rattle.qc_msg.specs.declared.record.Record.{Record}
 use Rattle.qc_msg.specs.declared.step.Control.{Control}
 use Rattle.qc_msg.specs.declared.step.Control.TheVariants.{Crash, Restart}
@@ -12,7 +12,7 @@ use Rattle.qc_msg.specs.declared.step.Input.{Input}
 use Rattle.qc_msg.specs.declared.step.Step.{Step}
 use Rattle.qc_msg.specs.declared.step.Step.TheVariants.{Phase, Fell, Rose, Damaged}
 use Rattle.qc_msg.specs.declared.turn.Turn.{Turn}
-use Rattle.qc_msg.specs.Names.{Deed, Entry, HasRecord, IsByDisk, by, deeds, mail, marked, posted_as, step_of}
+use Rattle.qc_msg.specs.Vocabulary.{Deed, Entry, HasRecord, IsByDisk, by, deeds, mail, marked, posted_as, step_of}
 use Rattle.qc_script.specs.Ready.{controller_step, controls_left, phase_of, ready}
 use Rattle.qc_script.specs.declared.script.Script.{Script}
 

@@ -1,7 +1,7 @@
 -- What every script that is read has: its actors, objects and invocations are declared, and its numbers are in range.
 use Rattle.std.specs.Prelude.{◌≡◌, ◌≢◌, ℕ, ◌≤◌, IsTrue, List, length, Option, Some, None}
 use Rattle.std.specs.List.{AllByRecursion as Every}
-use Rattle.qc_decl.specs.Names.{administrator, inv_named, is_client, object_named}
+use Rattle.qc_decl.specs.Vocabulary.{administrator, inv_named, is_client, object_named}
 use Rattle.qc_decl.specs.declared.declaration.Declaration.{Declaration}
 use Rattle.qc_link.specs.declared.plan.Link.{Link}
 use Rattle.qc_msg.specs.declared.step.Command.{Command}

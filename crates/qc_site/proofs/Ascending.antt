@@ -3,8 +3,8 @@ use Rattle.std.proofs.Common.{◌≡◌, ◌⊎◌, inl, inr, List, [], ◌∷�
 use Rattle.std.specs.Ordering.{ordering_reverse}
 use Rattle.std.specs.declared.cmp.Ordering.{Ordering}
 use Rattle.std.specs.declared.cmp.Ordering.TheVariants.{Less, Equal, Greater}
-use Rattle.qc_list.specs.Names.{Ascends, In, IsBelowAll, by_order, inserted}
-use Rattle.qc_stamp.specs.Names.{IsOrder}
+use Rattle.qc_list.specs.Vocabulary.{Ascends, In, IsBelowAll, by_order, inserted}
+use Rattle.qc_stamp.specs.Vocabulary.{IsOrder}
 
 -- no item is before itself, nor two before each other
 not_both : {A : Type 0} {cmp : A → A → Ordering} → IsOrder cmp → (x y : A) → cmp x y ≡ Less → cmp y x ≡ Less → ⊥

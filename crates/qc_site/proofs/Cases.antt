@@ -6,7 +6,7 @@ use Rattle.qc_entry.specs.declared.line.Line.{Line}
 use Rattle.qc_entry.specs.declared.line.OwnLine.{OwnLine}
 use Rattle.qc_entry.specs.declared.record.Prepared.{Prepared}
 use Rattle.qc_decl.specs.declared.declaration.Declaration.{Declaration}
-use Rattle.qc_decl.specs.Names.{most_record_bytes}
+use Rattle.qc_decl.specs.Vocabulary.{most_record_bytes}
 use Rattle.qc_msg.specs.declared.message.Answer.{Answer}
 use Rattle.qc_msg.specs.declared.message.Answer.TheVariants as says
 use Rattle.qc_msg.specs.declared.message.Message.{Message}
@@ -16,9 +16,10 @@ use Rattle.qc_msg.specs.declared.message.Outcome.TheVariants.{Committed, Aborted
 use Rattle.qc_msg.specs.declared.message.Want.TheVariants.{Read, Append, Prepare}
 use Rattle.qc_msg.specs.declared.record.Record.TheVariants as records
 use Rattle.qc_msg.specs.declared.turn.Turn.{Turn}
-use Rattle.qc_msg.specs.Names.{epoch_length}
-use Rattle.qc_site.specs.Names.{SiteMove, SiteState, answers, appends, closed, closes_in, dropped, installed, installs}
-use Rattle.qc_site.specs.Names.{installs_in, is_final, joins, moved, promise_of, promised, reads, recording, site_at}
+use Rattle.qc_msg.specs.Vocabulary.{epoch_length}
+use Rattle.qc_site.specs.Vocabulary.{SiteMove, SiteState, answers, appends, closed, closes_in, dropped, installed}
+use Rattle.qc_site.specs.Vocabulary.{installs, installs_in, is_final, joins, moved, promise_of, promised, reads}
+use Rattle.qc_site.specs.Vocabulary.{recording, site_at}
 use Rattle.qc_site.proofs.RequestCases.{never, choose, request_cases, read_cases, append_cases, prepare_cases}
 use Rattle.qc_site.proofs.RequestCases.{join_cases, close_cases}
 

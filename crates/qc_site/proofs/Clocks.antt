@@ -1,6 +1,6 @@
 -- The clock passes each stamp that comes, and never falls.
 use Rattle.std.proofs.Common.{◌≡◌, ◌⊎◌, inl, inr, ℕ, ◌≤◌, max, List, [], ◌∷◌, ◌++◌, fold, map, ap, arith}
-use Rattle.qc_list.specs.Names.{In}
+use Rattle.qc_list.specs.Vocabulary.{In}
 use Rattle.qc_stamp.specs.declared.stamp.Stamp.{Stamp}
 use Rattle.qc_entry.specs.declared.line.Line.{Line}
 use Rattle.qc_decl.specs.declared.declaration.Declaration.{Declaration}
@@ -12,10 +12,10 @@ use Rattle.qc_msg.specs.declared.message.Want.{Want}
 use Rattle.qc_msg.specs.declared.message.Want.TheVariants.{Read, Append, Prepare}
 use Rattle.qc_msg.specs.declared.step.Input.{Input}
 use Rattle.qc_msg.specs.declared.step.Input.TheVariants as inputs
-use Rattle.qc_msg.specs.Names.{Deed, Falls, Rises, Sends, Takes, Tells, Writes, quiet}
-use Rattle.qc_site.specs.Names.{SiteMove, SiteState, clock_after, clock_asked, clock_told, latest, moved, new_site}
-use Rattle.qc_site.specs.Names.{passed, site_after, site_does, site_on, site_takes, stamps_at, stamps_given, stamps_in}
-use Rattle.qc_site.specs.Names.{stamps_of, stamps_taken, stamps_told, view_in}
+use Rattle.qc_msg.specs.Vocabulary.{Deed, Falls, Rises, Sends, Takes, Tells, Writes, quiet}
+use Rattle.qc_site.specs.Vocabulary.{SiteMove, SiteState, clock_after, clock_asked, clock_told, latest, moved, new_site}
+use Rattle.qc_site.specs.Vocabulary.{passed, site_after, site_does, site_on, site_takes, stamps_at, stamps_given}
+use Rattle.qc_site.specs.Vocabulary.{stamps_in, stamps_of, stamps_taken, stamps_told, view_in}
 use Rattle.qc_site.proofs.Cases.{state_cases}
 
 -- what a message does once the clock has passed leaves it as it is, or lets it rise

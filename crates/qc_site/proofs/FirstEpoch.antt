@@ -2,8 +2,8 @@
 use Rattle.std.proofs.Common.{◌≡◌, ◌==◌, true, List, [], ◌∷◌, length, refl, sym, ◌∙◌, ap, arith}
 use Rattle.std.proofs.lemmas.Bool.{eqb-true}
 use Rattle.qc_entry.specs.declared.line.Line.{Line}
-use Rattle.qc_entry.specs.Names.{union, without}
-use Rattle.qc_site.specs.Names.{SiteState, learned}
+use Rattle.qc_entry.specs.Vocabulary.{union, without}
+use Rattle.qc_site.specs.Vocabulary.{SiteState, learned}
 
 without_none : (lines : List Line) → without lines [] ≡ lines
 without_none [] = refl

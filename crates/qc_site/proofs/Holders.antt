@@ -1,17 +1,17 @@
 -- Holders are of clients below the most, and so is who is in the way.
 use Rattle.std.proofs.Common.{◌≡◌, inl, inr, ℕ, ◌<◌, ◌==◌, ◌&&◌, not, Bool, true, false, cond, List, [], ◌∷◌, ◌++◌}
 use Rattle.std.proofs.Common.{fold, length, Some, sym, subst}
-use Rattle.qc_decl.specs.Names.{most_clients}
+use Rattle.qc_decl.specs.Vocabulary.{most_clients}
 use Rattle.qc_entry.specs.declared.line.OwnLine.{OwnLine}
 use Rattle.qc_entry.specs.declared.line.ReadLock.{ReadLock}
 use Rattle.qc_stamp.specs.declared.stamp.TxId.{TxId}
 use Rattle.qc_lock.specs.declared.clash.Clash.{Clash}
 use Rattle.qc_lock.specs.declared.held.Held.{Held}
-use Rattle.qc_lock.specs.Names.{In, IsAppendConflict, IsReadConflict, IsSmallest, append_clash, held_of, read_clash}
-use Rattle.qc_lock.specs.Names.{same_tx, with_entry, with_held, with_locks, with_owns, without_held}
+use Rattle.qc_lock.specs.Vocabulary.{In, IsAppendConflict, IsReadConflict, IsSmallest, append_clash, held_of}
+use Rattle.qc_lock.specs.Vocabulary.{read_clash, same_tx, with_entry, with_held, with_locks, with_owns, without_held}
 use Rattle.qc_lock.proofs.Conflicts.{append_smallest, read_smallest}
 use Rattle.qc_entry.specs.declared.record.Prepared.{Prepared}
-use Rattle.qc_site.specs.Names.{AreByClients, AreOfClients, held_by, holds, without_prepared}
+use Rattle.qc_site.specs.Vocabulary.{AreByClients, AreOfClients, held_by, holds, without_prepared}
 
 -- a holder among them is of a client
 of_client : (h : Held) (held : List Held) → In h held → AreOfClients held → h.tx.client < most_clients

@@ -4,9 +4,9 @@ use Rattle.std.proofs.Common.{sym, ap, ◌∙◌, subst}
 use Rattle.std.specs.declared.cmp.Ordering.{Ordering}
 use Rattle.std.specs.declared.cmp.Ordering.TheVariants.{Less, Equal, Greater}
 use Rattle.std.specs.Ordering.{nat_cmp}
-use Rattle.qc_list.specs.Names.{In, by_order}
+use Rattle.qc_list.specs.Vocabulary.{In, by_order}
 use Rattle.qc_stamp.specs.declared.stamp.TxId.{TxId}
-use Rattle.qc_stamp.specs.Names.{same_tx}
+use Rattle.qc_stamp.specs.Vocabulary.{same_tx}
 use Rattle.qc_stamp.proofs.Orders.{first_Equal, nat_apart, second_Equal}
 use Rattle.qc_entry.specs.declared.line.Line.{Line}
 use Rattle.qc_entry.specs.declared.line.OwnLine.{OwnLine}
@@ -14,8 +14,8 @@ use Rattle.qc_entry.specs.declared.line.ReadLock.{ReadLock}
 use Rattle.qc_entry.specs.declared.record.Prepared.{Prepared}
 use Rattle.qc_decl.specs.declared.declaration.Declaration.{Declaration}
 use Rattle.qc_lock.specs.declared.held.Held.{Held}
-use Rattle.qc_lock.specs.Names.{entry_of, held_of, lock_cmp, own_cmp, with_held, with_lock, with_locks, with_own}
-use Rattle.qc_lock.specs.Names.{with_owns, without_held}
+use Rattle.qc_lock.specs.Vocabulary.{entry_of, held_of, lock_cmp, own_cmp, with_held, with_lock, with_locks, with_own}
+use Rattle.qc_lock.specs.Vocabulary.{with_owns, without_held}
 use Rattle.qc_lock.proofs.Entries.{entry-without, entry-without_other, held-without_other, locks_given, others_stay}
 use Rattle.qc_lock.proofs.Entries.{own_given, tx_apart}
 use Rattle.qc_msg.specs.declared.message.Message.{Message}
@@ -23,8 +23,8 @@ use Rattle.qc_msg.specs.declared.message.Message.TheVariants as messages
 use Rattle.qc_msg.specs.declared.message.Outcome.{Outcome}
 use Rattle.qc_msg.specs.declared.message.Outcome.TheVariants.{Committed, Aborted, Active}
 use Rattle.qc_msg.specs.declared.message.Want.TheVariants.{Read, Append}
-use Rattle.qc_site.specs.Names.{HasOperation, SiteMove, SiteState, ends, finishes, grants_in, is_final, passed}
-use Rattle.qc_site.specs.Names.{prepared_of, site_at, site_on, without_prepared}
+use Rattle.qc_site.specs.Vocabulary.{HasOperation, SiteMove, SiteState, ends, finishes, grants_in, is_final, passed}
+use Rattle.qc_site.specs.Vocabulary.{prepared_of, site_at, site_on, without_prepared}
 use Rattle.qc_site.proofs.RequestCases.{append_cases, fault_grants_not, never, join_cases, read_cases, request_cases}
 use Rattle.qc_site.proofs.Cases.{steady_cases, IsSteady}
 use Rattle.qc_site.proofs.Votes.{not_ended, prepared-without, prepared-without_other}

@@ -10,14 +10,14 @@ use Rattle.std.specs.declared.cmp.Ordering.{Ordering}
 use Rattle.std.specs.declared.cmp.Ordering.TheVariants.{Less, Equal, Greater}
 use Rattle.std.proofs.lemmas.Map.Keys.{sorted_head, sorted_tail}
 use Rattle.qc_entry.specs.declared.record.Prepared.{Prepared}
-use Rattle.qc_list.specs.Names.{Ascends, In, IsBelowAll, by_order, inserted}
+use Rattle.qc_list.specs.Vocabulary.{Ascends, In, IsBelowAll, by_order, inserted}
 use Rattle.qc_list.proofs.Members.{every-from_In}
 use Rattle.qc_list.proofs.Order.{ascends-inserted}
-use Rattle.qc_lock.specs.Names.{AreOfOthers, IsOneForEach}
+use Rattle.qc_lock.specs.Vocabulary.{AreOfOthers, IsOneForEach}
 use Rattle.qc_lock.proofs.NumberedEntries.{tx_same}
-use Rattle.qc_site.specs.Names.{in_order, is_prepared, prepared_of, promise_cmp, promises_in_order}
+use Rattle.qc_site.specs.Vocabulary.{in_order, is_prepared, prepared_of, promise_cmp, promises_in_order}
 use Rattle.qc_stamp.specs.declared.stamp.TxId.{TxId}
-use Rattle.qc_stamp.specs.Names.{same_tx, tx_cmp}
+use Rattle.qc_stamp.specs.Vocabulary.{same_tx, tx_cmp}
 use Rattle.qc_stamp.proofs.Orders.{same_tx_is, same_tx_itself, tx_order}
 use Rattle.qc_site.proofs.Ascending.{In_inserted, inserted_In, same_ascending}
 use Rattle.qc_site.proofs.Promised.{promiser}

@@ -11,8 +11,8 @@ use Rattle.qc_msg.specs.declared.message.Message.TheVariants as messages
 use Rattle.qc_msg.specs.declared.message.Outcome.TheVariants.{Committed, Aborted, Active}
 use Rattle.qc_msg.specs.declared.message.Want.{Want}
 use Rattle.qc_msg.specs.declared.message.Want.TheVariants.{Read, Append, Prepare}
-use Rattle.qc_site.specs.Names.{SiteMove, SiteState, answers, brought, fault_of, grants, grants_in, installs_in}
-use Rattle.qc_site.specs.Names.{learned, lines_promised, moved, passed, site_at, site_on, view_in}
+use Rattle.qc_site.specs.Vocabulary.{SiteMove, SiteState, answers, brought, fault_of, grants, grants_in, installs_in}
+use Rattle.qc_site.specs.Vocabulary.{learned, lines_promised, moved, passed, site_at, site_on, view_in}
 use Rattle.qc_site.proofs.RequestCases.{append_cases, close_cases, fault_is, join_cases, prepare_cases, read_cases}
 use Rattle.qc_site.proofs.RequestCases.{request_cases}
 use Rattle.qc_site.proofs.Cases.{install_cases, lasting_cases}

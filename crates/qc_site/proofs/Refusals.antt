@@ -5,10 +5,11 @@ use Rattle.qc_entry.specs.declared.line.Line.{Line}
 use Rattle.qc_entry.specs.declared.line.OwnLine.{OwnLine}
 use Rattle.qc_entry.specs.declared.line.ReadLock.{ReadLock}
 use Rattle.qc_decl.specs.declared.declaration.Declaration.{Declaration}
-use Rattle.qc_table.specs.Names.{depends}
+use Rattle.qc_table.specs.Vocabulary.{depends}
 use Rattle.qc_lock.specs.declared.clash.Clash.{Clash as Conflict}
 use Rattle.qc_lock.specs.declared.held.Held.{Held}
-use Rattle.qc_lock.specs.Names.{In, IsAppendConflict, IsReadConflict, IsSmallest, append_clash, read_clash, same_tx}
+use Rattle.qc_lock.specs.Vocabulary.{In, IsAppendConflict, IsReadConflict, IsSmallest, append_clash, read_clash}
+use Rattle.qc_lock.specs.Vocabulary.{same_tx}
 use Rattle.qc_lock.proofs.Conflicts.{append_free, append_smallest, read_free, read_smallest}
 use Rattle.qc_msg.specs.declared.message.Answer.{Answer}
 use Rattle.qc_msg.specs.declared.message.Answer.TheVariants as says
@@ -18,8 +19,8 @@ use Rattle.qc_msg.specs.declared.message.Outcome.TheVariants.{Committed, Aborted
 use Rattle.qc_msg.specs.declared.message.Want.{Want}
 use Rattle.qc_msg.specs.declared.message.Want.TheVariants.{Read, Append, Prepare}
 use Rattle.qc_msg.specs.declared.turn.Turn.{Turn}
-use Rattle.qc_site.specs.Names.{SiteMove, SiteState, answer_of, answers, clashing, fault_of, grants, grants_in, passed}
-use Rattle.qc_site.specs.Names.{refuses_in, relation_at, site_at, site_on}
+use Rattle.qc_site.specs.Vocabulary.{SiteMove, SiteState, answer_of, answers, clashing, fault_of, grants, grants_in}
+use Rattle.qc_site.specs.Vocabulary.{passed, refuses_in, relation_at, site_at, site_on}
 use Rattle.qc_site.proofs.RequestCases.{append_cases, close_cases, fault_grants_not, fault_is, never, join_cases}
 use Rattle.qc_site.proofs.RequestCases.{prepare_cases, read_cases, request_cases}
 use Rattle.qc_site.proofs.Cases.{install_cases}

@@ -7,9 +7,9 @@ use Rattle.qc_entry.specs.declared.line.Line.{Line}
 use Rattle.qc_entry.specs.declared.line.OwnLine.{OwnLine}
 use Rattle.qc_entry.specs.declared.record.Prepared.{Prepared}
 use Rattle.qc_decl.specs.declared.declaration.Declaration.{Declaration}
-use Rattle.qc_decl.specs.Names.{most_record_bytes}
+use Rattle.qc_decl.specs.Vocabulary.{most_record_bytes}
 use Rattle.qc_lock.specs.declared.clash.Clash.{Clash as Conflict}
-use Rattle.qc_lock.specs.Names.{append_clash, is_held, read_clash}
+use Rattle.qc_lock.specs.Vocabulary.{append_clash, is_held, read_clash}
 use Rattle.qc_msg.specs.declared.message.Answer.{Answer}
 use Rattle.qc_msg.specs.declared.message.Answer.TheVariants as says
 use Rattle.qc_msg.specs.declared.message.Message.TheVariants as messages
@@ -17,12 +17,12 @@ use Rattle.qc_msg.specs.declared.message.Outcome.TheVariants.{Committed}
 use Rattle.qc_msg.specs.declared.message.Want.{Want}
 use Rattle.qc_msg.specs.declared.message.Want.TheVariants.{Read, Append}
 use Rattle.qc_msg.specs.declared.record.Record.TheVariants as records
-use Rattle.qc_msg.specs.Names.{epoch_length, quiet}
-use Rattle.qc_site.specs.Names.{SiteMove, SiteState, answers, appends, appends_by, clashing, closed, closed_fault}
-use Rattle.qc_site.specs.Names.{closes, dropped, fault_of, finishes, grants, installed, installs, is_closed_for}
-use Rattle.qc_site.specs.Names.{is_grant, is_prepared, joins, moved, names_declared, prepare_length, prepared_of}
-use Rattle.qc_site.specs.Names.{prepares, promise_of, promised, reads, reads_by, recording, relation_at, requested}
-use Rattle.qc_site.specs.Names.{shut_answer, site_at, votes}
+use Rattle.qc_msg.specs.Vocabulary.{epoch_length, quiet}
+use Rattle.qc_site.specs.Vocabulary.{SiteMove, SiteState, answers, appends, appends_by, clashing, closed, closed_fault}
+use Rattle.qc_site.specs.Vocabulary.{closes, dropped, fault_of, finishes, grants, installed, installs, is_closed_for}
+use Rattle.qc_site.specs.Vocabulary.{is_grant, is_prepared, joins, moved, names_declared, prepare_length, prepared_of}
+use Rattle.qc_site.specs.Vocabulary.{prepares, promise_of, promised, reads, reads_by, recording, relation_at, requested}
+use Rattle.qc_site.specs.Vocabulary.{shut_answer, site_at, votes}
 
 -- what a test that came out otherwise would show
 pub never : {A : Type 0} → false ≡ true → A

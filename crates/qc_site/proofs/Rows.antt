@@ -4,7 +4,7 @@ use Rattle.std.proofs.Common.{List, [], ◌∷◌, fold, Option, Some, None, ref
 use Rattle.std.proofs.lemmas.Bool.{eq-eqb, le-leb, leb-false, leb-true, lt-ltb, ltb-true, ne_eqb}
 use Rattle.qc_stamp.specs.declared.stamp.TxId.{TxId}
 use Rattle.qc_decl.specs.declared.declaration.Declaration.{Declaration}
-use Rattle.qc_decl.specs.Names.{most_record_bytes}
+use Rattle.qc_decl.specs.Vocabulary.{most_record_bytes}
 use Rattle.qc_entry.specs.declared.line.Line.{Line}
 use Rattle.qc_entry.specs.declared.record.Prepared.{Prepared}
 use Rattle.qc_lock.specs.declared.held.Held.{Held}
@@ -14,10 +14,10 @@ use Rattle.qc_msg.specs.declared.message.Message.{Message}
 use Rattle.qc_msg.specs.declared.message.Message.TheVariants as messages
 use Rattle.qc_msg.specs.declared.message.Want.{Want}
 use Rattle.qc_msg.specs.declared.record.Record.TheVariants as records
-use Rattle.qc_msg.specs.Names.{epoch_length, quiet}
-use Rattle.qc_site.specs.Names.{SiteMove, SiteState, answers, clock_after, closed, closed_fault, fault_of, grants}
-use Rattle.qc_site.specs.Names.{installed, is_closed_for, life_fault, moved, names_declared, passed, recording}
-use Rattle.qc_site.specs.Names.{requested, shut_answer, site_at, site_on}
+use Rattle.qc_msg.specs.Vocabulary.{epoch_length, quiet}
+use Rattle.qc_site.specs.Vocabulary.{SiteMove, SiteState, answers, clock_after, closed, closed_fault, fault_of, grants}
+use Rattle.qc_site.specs.Vocabulary.{installed, is_closed_for, life_fault, moved, names_declared, passed, recording}
+use Rattle.qc_site.specs.Vocabulary.{requested, shut_answer, site_at, site_on}
 use Rattle.qc_site.proofs.Cases.{IsSteady, state_cases, steady_cases}
 
 -- a number below another isn't above it, nor is it above itself

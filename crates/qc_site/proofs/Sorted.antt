@@ -1,30 +1,30 @@
 -- What is in order at a site stays so.
 use Rattle.std.proofs.Common.{ℕ, ◌==◌, ◌&&◌, not, Bool, true, false, cond, List, [], ◌∷◌, ◌++◌, fold, filter, length}
 use Rattle.std.proofs.Common.{Some, subst}
-use Rattle.qc_list.specs.Names.{Ascends}
+use Rattle.qc_list.specs.Vocabulary.{Ascends}
 use Rattle.qc_list.proofs.Order.{ascends-filter}
 use Rattle.qc_stamp.specs.declared.stamp.Stamp.{Stamp}
 use Rattle.qc_stamp.specs.declared.stamp.TxId.{TxId}
-use Rattle.qc_stamp.specs.Names.{same_tx}
+use Rattle.qc_stamp.specs.Vocabulary.{same_tx}
 use Rattle.qc_entry.specs.declared.line.Line.{Line}
 use Rattle.qc_entry.specs.declared.line.OwnLine.{OwnLine}
 use Rattle.qc_entry.specs.declared.line.ReadLock.{ReadLock}
 use Rattle.qc_entry.specs.declared.record.Prepared.{Prepared}
-use Rattle.qc_entry.specs.Names.{IsAscending, has_line, line_cmp, without}
+use Rattle.qc_entry.specs.Vocabulary.{IsAscending, has_line, line_cmp, without}
 use Rattle.qc_entry.proofs.Union.{ascending-union}
 use Rattle.qc_decl.specs.declared.declaration.Declaration.{Declaration}
 use Rattle.qc_lock.specs.declared.held.Held.{Held}
-use Rattle.qc_lock.specs.Names.{IsSound, held_of, lock_cmp, own_cmp, with_entry, with_held, with_locks, with_owns}
+use Rattle.qc_lock.specs.Vocabulary.{IsSound, held_of, lock_cmp, own_cmp, with_entry, with_held, with_locks, with_owns}
 use Rattle.qc_lock.proofs.Entries.{entry_some}
 use Rattle.qc_lock.proofs.Order.{ascends-locks, ascends-owns, sorted-find, sound-put, sound-without}
 use Rattle.qc_msg.specs.declared.message.Message.{Message}
 use Rattle.qc_msg.specs.declared.step.Input.{Input}
 use Rattle.qc_msg.specs.declared.step.Input.TheVariants as inputs
-use Rattle.qc_msg.specs.Names.{Deed, Falls, Rises, Sends, Takes, Tells, Writes, quiet}
-use Rattle.qc_site.specs.Names.{AreDeedsSorted, ArePromisesSorted, IsGivenSorted, IsMessageSorted, IsSiteSorted}
-use Rattle.qc_site.specs.Names.{SiteMove, SiteState, dropped, holds, joins, lines_of, moved, new_site, passed}
-use Rattle.qc_site.specs.Names.{promise_of, promised, site_after, site_at, site_does, site_on, site_takes, stamped}
-use Rattle.qc_site.specs.Names.{with_stamped}
+use Rattle.qc_msg.specs.Vocabulary.{Deed, Falls, Rises, Sends, Takes, Tells, Writes, quiet}
+use Rattle.qc_site.specs.Vocabulary.{AreDeedsSorted, ArePromisesSorted, IsGivenSorted, IsMessageSorted, IsSiteSorted}
+use Rattle.qc_site.specs.Vocabulary.{SiteMove, SiteState, dropped, holds, joins, lines_of, moved, new_site, passed}
+use Rattle.qc_site.specs.Vocabulary.{promise_of, promised, site_after, site_at, site_does, site_on, site_takes, stamped}
+use Rattle.qc_site.specs.Vocabulary.{with_stamped}
 use Rattle.qc_site.proofs.RequestCases.{choose}
 use Rattle.qc_site.proofs.Cases.{state_cases}
 

@@ -4,7 +4,7 @@ use Rattle.std.proofs.Common.{is_some, refl, sym, ap, ◌∙◌, subst}
 use Rattle.std.specs.Option.{option_or}
 use Rattle.std.proofs.lemmas.List.Folds.{find-append}
 use Rattle.qc_stamp.specs.declared.stamp.TxId.{TxId}
-use Rattle.qc_stamp.specs.Names.{same_tx}
+use Rattle.qc_stamp.specs.Vocabulary.{same_tx}
 use Rattle.qc_entry.specs.declared.record.Prepared.{Prepared}
 use Rattle.qc_decl.specs.declared.declaration.Declaration.{Declaration}
 use Rattle.qc_lock.proofs.Entries.{find-none, same_self, tx_apart}
@@ -15,9 +15,9 @@ use Rattle.qc_msg.specs.declared.message.Outcome.{Outcome}
 use Rattle.qc_msg.specs.declared.message.Outcome.TheVariants.{Committed}
 use Rattle.qc_msg.specs.declared.message.Want.{Want}
 use Rattle.qc_msg.specs.declared.message.Want.TheVariants.{Read, Append, Prepare}
-use Rattle.qc_site.specs.Names.{IsBacked, SiteMove, SiteState, answers, ends, fault_of, grants, installs_in, is_final}
-use Rattle.qc_site.specs.Names.{is_prepared, is_vote, moved, passed, prepared_of, prepares, promise_of, site_at}
-use Rattle.qc_site.specs.Names.{site_on, votes_in, without_prepared}
+use Rattle.qc_site.specs.Vocabulary.{IsBacked, SiteMove, SiteState, answers, ends, fault_of, grants, installs_in}
+use Rattle.qc_site.specs.Vocabulary.{is_final, is_prepared, is_vote, moved, passed, prepared_of, prepares, promise_of}
+use Rattle.qc_site.specs.Vocabulary.{site_at, site_on, votes_in, without_prepared}
 use Rattle.qc_site.proofs.RequestCases.{append_cases, fault_is, never, prepare_cases, read_cases, request_cases}
 use Rattle.qc_site.proofs.Cases.{lasting_cases}
 

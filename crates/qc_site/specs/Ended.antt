@@ -1,7 +1,7 @@
 -- Which message ends a transaction at a site: a decision on it, unless that says that it is active.
 use Rattle.std.specs.Prelude.{Bool, true, false, ◌&&◌}
 use Rattle.qc_stamp.specs.declared.stamp.TxId.{TxId}
-use Rattle.qc_stamp.specs.Names.{same_tx}
+use Rattle.qc_stamp.specs.Vocabulary.{same_tx}
 use Rattle.qc_msg.specs.declared.message.Message.{Message}
 use Rattle.qc_msg.specs.declared.message.Message.TheVariants as messages
 use Rattle.qc_msg.specs.declared.message.Outcome.{Outcome}

@@ -3,18 +3,18 @@ use Rattle.std.specs.Prelude.{ℕ, ◌+◌, ◌==◌, max, nat_lt, nat_le, Bool,
 use Rattle.std.specs.Prelude.{Some, None}
 use Rattle.std.specs.declared.cmp.Ordering.{Ordering}
 use Rattle.std.specs.Ordering.{on}
-use Rattle.qc_list.specs.Names.{inserted}
+use Rattle.qc_list.specs.Vocabulary.{inserted}
 use Rattle.qc_stamp.specs.declared.stamp.TxId.{TxId}
-use Rattle.qc_stamp.specs.Names.{tx_cmp}
+use Rattle.qc_stamp.specs.Vocabulary.{tx_cmp}
 use Rattle.qc_entry.specs.declared.line.Line.{Line}
 use Rattle.qc_entry.specs.declared.record.Prepared.{Prepared}
-use Rattle.qc_decl.specs.Names.{most_record_bytes}
+use Rattle.qc_decl.specs.Vocabulary.{most_record_bytes}
 use Rattle.qc_lock.specs.declared.held.Held.{Held}
-use Rattle.qc_lock.specs.Names.{with_held}
+use Rattle.qc_lock.specs.Vocabulary.{with_held}
 use Rattle.qc_msg.specs.declared.message.Answer.{Answer}
 use Rattle.qc_msg.specs.declared.message.Answer.TheVariants.{Behind, Closed, Installed, Shut}
 use Rattle.qc_msg.specs.declared.record.Record.TheVariants as records
-use Rattle.qc_msg.specs.Names.{epoch_length}
+use Rattle.qc_msg.specs.Vocabulary.{epoch_length}
 use Rattle.qc_site.specs.Site.{SiteState, SiteMove, moved, answers, known, recording}
 
 -- transactions in their order, and promises in that of their transactions

@@ -1,7 +1,7 @@
 -- Who holds something, and what.
 use Rattle.std.specs.Prelude.{◌≡◌, ◌⊎◌, ℕ, ◌<◌, List, [], ◌∷◌}
 use Rattle.std.specs.List.{AllByRecursion as Every}
-use Rattle.qc_decl.specs.Names.{most_clients}
+use Rattle.qc_decl.specs.Vocabulary.{most_clients}
 use Rattle.qc_entry.specs.declared.line.OwnLine.{OwnLine}
 use Rattle.qc_entry.specs.declared.record.Prepared.{Prepared}
 use Rattle.qc_lock.specs.declared.held.Held.{Held}

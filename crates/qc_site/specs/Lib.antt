@@ -9,4 +9,4 @@ pub mod Vote
 pub mod Brought
 pub mod Ended
 pub mod Sorted
-pub mod Names
+pub mod Vocabulary

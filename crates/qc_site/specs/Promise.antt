@@ -4,14 +4,14 @@ use Rattle.std.specs.Prelude.{None, is_some}
 use Rattle.std.specs.List.{find}
 use Rattle.qc_stamp.specs.declared.stamp.Stamp.{Stamp}
 use Rattle.qc_stamp.specs.declared.stamp.TxId.{TxId}
-use Rattle.qc_stamp.specs.Names.{same_tx}
+use Rattle.qc_stamp.specs.Vocabulary.{same_tx}
 use Rattle.qc_entry.specs.declared.line.Line.{Line}
 use Rattle.qc_entry.specs.declared.line.OwnLine.{OwnLine}
 use Rattle.qc_entry.specs.declared.record.Prepared.{Prepared}
-use Rattle.qc_entry.specs.Names.{union, without}
-use Rattle.qc_decl.specs.Names.{most_record_bytes}
+use Rattle.qc_entry.specs.Vocabulary.{union, without}
+use Rattle.qc_decl.specs.Vocabulary.{most_record_bytes}
 use Rattle.qc_lock.specs.declared.held.Held.{Held}
-use Rattle.qc_lock.specs.Names.{held_of, is_held, without_held}
+use Rattle.qc_lock.specs.Vocabulary.{held_of, is_held, without_held}
 use Rattle.qc_msg.specs.declared.message.Answer.TheVariants.{Stale, Yes}
 use Rattle.qc_msg.specs.declared.message.Outcome.{Outcome}
 use Rattle.qc_msg.specs.declared.message.Outcome.TheVariants.{Committed, Aborted, Active}
@@ -19,7 +19,7 @@ use Rattle.qc_msg.specs.declared.record.Record.TheVariants as records
 use Rattle.qc_msg.specs.declared.turn.Appended.TheVariants.{Done}
 use Rattle.qc_msg.specs.declared.turn.Turn.{Turn}
 pub use Rattle.qc_msg.specs.Lengths.{prepare_length}
-use Rattle.qc_msg.specs.Names.{quiet}
+use Rattle.qc_msg.specs.Vocabulary.{quiet}
 use Rattle.qc_site.specs.Site.{SiteState, SiteMove, moved, answers, recording}
 
 -- what the site would promise: all that the transaction holds, and the lines that no record gives yet

@@ -5,19 +5,19 @@ use Rattle.std.specs.Option.{option_map_or}
 use Rattle.qc_stamp.specs.declared.stamp.TxId.{TxId}
 use Rattle.qc_entry.specs.declared.line.Line.{Line}
 use Rattle.qc_entry.specs.declared.line.OwnLine.{OwnLine}
-use Rattle.qc_entry.specs.Names.{of_object}
+use Rattle.qc_entry.specs.Vocabulary.{of_object}
 use Rattle.qc_table.specs.declared.kind.Kind.{Kind}
 use Rattle.qc_decl.specs.declared.declaration.Declaration.{Declaration}
-use Rattle.qc_decl.specs.Names.{client_actor, kind_at}
+use Rattle.qc_decl.specs.Vocabulary.{client_actor, kind_at}
 use Rattle.qc_lock.specs.declared.clash.Clash.{Clash as Conflict}
-use Rattle.qc_lock.specs.Names.{append_clash, read_clash, with_held}
+use Rattle.qc_lock.specs.Vocabulary.{append_clash, read_clash, with_held}
 use Rattle.qc_msg.specs.declared.message.Answer.{Answer}
 use Rattle.qc_msg.specs.declared.message.Answer.TheVariants.{Granted, Clash, Closed, Behind, Restarted}
 use Rattle.qc_msg.specs.declared.message.Message.TheVariants as messages
 use Rattle.qc_msg.specs.declared.message.Want.{Want}
 use Rattle.qc_msg.specs.declared.message.Want.TheVariants.{Read, Append, Prepare}
 use Rattle.qc_msg.specs.declared.turn.Turn.{Turn}
-use Rattle.qc_msg.specs.Names.{sending}
+use Rattle.qc_msg.specs.Vocabulary.{sending}
 use Rattle.qc_site.specs.Site.{SiteState, SiteMove, moved, answering, answers, known, learned}
 use Rattle.qc_site.specs.Promise.{prepares}
 

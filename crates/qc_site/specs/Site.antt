@@ -2,9 +2,9 @@
 use Rattle.std.specs.Prelude.{ℕ, List, [], ◌∷◌, Option, Some, None}
 use Rattle.qc_entry.specs.declared.line.Line.{Line}
 use Rattle.qc_entry.specs.declared.record.Prepared.{Prepared}
-use Rattle.qc_entry.specs.Names.{union, without}
+use Rattle.qc_entry.specs.Vocabulary.{union, without}
 use Rattle.qc_lock.specs.declared.held.Held.{Held}
-use Rattle.qc_stamp.specs.Names.{first_life}
+use Rattle.qc_stamp.specs.Vocabulary.{first_life}
 use Rattle.qc_msg.specs.declared.message.Answer.{Answer}
 use Rattle.qc_msg.specs.declared.message.Answer.TheVariants.{Fault}
 use Rattle.qc_msg.specs.declared.message.Message.TheVariants as messages
@@ -12,7 +12,7 @@ use Rattle.qc_msg.specs.declared.record.Record.{Record}
 use Rattle.qc_msg.specs.declared.turn.Appended.TheVariants.{Done}
 use Rattle.qc_msg.specs.declared.turn.Posting.{Posting}
 use Rattle.qc_msg.specs.declared.turn.Turn.{Turn}
-use Rattle.qc_msg.specs.Names.{first_epoch, sending}
+use Rattle.qc_msg.specs.Vocabulary.{first_epoch, sending}
 
 pub record SiteState : Type 0 where
   pub number : ℕ

@@ -1,14 +1,14 @@
 -- What is in order at a site: its lines, all that is held, and each promise.
 use Rattle.std.specs.Prelude.{List, [], ◌∷◌}
-use Rattle.qc_list.specs.Names.{Ascends}
+use Rattle.qc_list.specs.Vocabulary.{Ascends}
 use Rattle.qc_entry.specs.declared.record.Prepared.{Prepared}
-use Rattle.qc_entry.specs.Names.{IsAscending}
-use Rattle.qc_lock.specs.Names.{IsSound, lock_cmp, own_cmp}
+use Rattle.qc_entry.specs.Vocabulary.{IsAscending}
+use Rattle.qc_lock.specs.Vocabulary.{IsSound, lock_cmp, own_cmp}
 use Rattle.qc_msg.specs.declared.message.Message.{Message}
 use Rattle.qc_msg.specs.declared.message.Message.TheVariants as messages
 use Rattle.qc_msg.specs.declared.step.Input.{Input}
 use Rattle.qc_msg.specs.declared.step.Input.TheVariants as inputs
-use Rattle.qc_msg.specs.Names.{Deed, Falls, Rises, Sends, Takes, Tells, Writes}
+use Rattle.qc_msg.specs.Vocabulary.{Deed, Falls, Rises, Sends, Takes, Tells, Writes}
 use Rattle.qc_site.specs.Brought.{view_in}
 use Rattle.qc_site.specs.Site.{SiteState}
 

@@ -8,7 +8,7 @@ use Rattle.qc_msg.specs.declared.message.Message.TheVariants as messages
 use Rattle.qc_msg.specs.declared.record.Record.{Record}
 use Rattle.qc_msg.specs.declared.turn.Posting.{Posting}
 use Rattle.qc_msg.specs.declared.turn.Turn.{Turn}
-use Rattle.qc_msg.specs.Names.{close_in, install_in}
+use Rattle.qc_msg.specs.Vocabulary.{close_in, install_in}
 
 abbrev pub answer_in : Message → Option Answer
 answer_in (messages.Request tx epoch life want) = None

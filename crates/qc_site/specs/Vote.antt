@@ -1,7 +1,7 @@
 -- What stands behind a Yes.
 use Rattle.std.specs.Prelude.{◌≡◌, ℕ, true, false, [], ◌∷◌, Some}
 use Rattle.qc_stamp.specs.declared.stamp.TxId.{TxId}
-use Rattle.qc_lock.specs.Names.{is_held}
+use Rattle.qc_lock.specs.Vocabulary.{is_held}
 use Rattle.qc_msg.specs.declared.message.Answer.TheVariants.{Fault}
 use Rattle.qc_msg.specs.declared.record.Record.TheVariants.{Prepare}
 use Rattle.qc_site.specs.Promise.{is_prepared, prepared_of, promise_of}

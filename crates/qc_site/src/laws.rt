@@ -59,10 +59,9 @@ pub fn clocks_pass_what_comes()
         → In stamp (stamps_taken deeds) → stamp.clock ≤ (site_after decl number deeds).site.clock }
 {}
 
-/// Where a Read is granted, its invocation depends on no event of an own line
-/// of the object that another transaction holds. Where an Append is granted,
-/// no invocation of a read lock that another transaction holds depends on the
-/// event of one of its lines.
+/// Where a Read is granted, its invocation depends on no event of an own line of the object that another
+/// transaction holds. Where an Append is granted, no invocation of a read lock that another transaction holds
+/// depends on the event of one of its lines.
 pub fn grants_conflict_with_nothing()
     ensures read { (decl : Declaration) (s : SiteState) (from number : ℕ) (tx : TxId) (epoch life object inv : ℕ)
         (holder : Held) (line : OwnLine)
@@ -172,10 +171,9 @@ pub fn promises_stand()
         → prepared_of (site_on decl s from number message).site.prepared tx ≡ Some p }
 {}
 
-/// Until the site begins another epoch, what its own began with stays, and the
-/// log gains just what that lacks of the view of an Append that is granted, or
-/// of the own lines that were promised of a committed transaction, with its
-/// stamp.
+/// Until the site begins another epoch, what its own began with stays, and the log gains just what that lacks of
+/// the view of an Append that is granted, or of the own lines that were promised of a committed transaction, with
+/// its stamp.
 pub fn logs_gain_what_is_brought()
     ensures log { (decl : Declaration) (s : SiteState) (from number : ℕ) (message : Message)
         → installs_in (site_on decl s from number message).turn ≡ false
@@ -218,10 +216,9 @@ pub fn lives_and_epochs_rise()
         → (site_on decl s from number message).site.closed_for ≡ s.closed_for }
 {}
 
-/// A Close is answered by the first row that applies: the site is too far behind,
-/// or in that epoch or a later one, or has closed for it and tells so again; else
-/// it closes. Then a new life begins, in which it holds what it has promised and
-/// no more, and this is written before it is told.
+/// A Close is answered by the first row that applies: the site is too far behind, or in that epoch or a later one,
+/// or has closed for it and tells so again; else it closes. Then a new life begins, in which it holds what it has
+/// promised and no more, and this is written before it is told.
 pub fn closes_are_answered_by_rows()
     ensures behind { (decl : Declaration) (s : SiteState) (from number epoch : ℕ) → s.epoch + 1 < epoch
         → site_on decl s from number (messages.Close epoch) ≡ moved s (answers from number (Behind s.epoch)) }
@@ -236,11 +233,9 @@ pub fn closes_are_answered_by_rows()
         ≡ moved (closed s epoch) (recording from number (records.Close epoch) (shut_answer (closed s epoch))) }
 {}
 
-/// An Install is answered by the first row that applies: the site is in that
-/// epoch or a later one, or its record would be too long; else it begins the
-/// epoch, with these lines and nothing else, and this is written before it is
-/// told. The clock passes the lines in each row, and the clock of the Install in
-/// the last one.
+/// An Install is answered by the first row that applies: the site is in that epoch or a later one, or its record
+/// would be too long; else it begins the epoch, with these lines and nothing else, and this is written before it is
+/// told. The clock passes the lines in each row, and the clock of the Install in the last one.
 pub fn installs_are_answered_by_rows()
     ensures known { (decl : Declaration) (s : SiteState) (from number epoch clock : ℕ) (lines : List Line)
         → epoch ≤ s.epoch

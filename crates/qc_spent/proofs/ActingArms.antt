@@ -3,7 +3,7 @@ use Rattle.std.proofs.Common.{◌≡◌, ℕ, ◌+◌, ◌==◌, Bool, true, fal
 use Rattle.std.proofs.Common.{Some, None, option_map, refl, sym, ◌∙◌, ap, subst, if◌then◌else◌}
 use Rattle.std.proofs.lemmas.Bool.{eqb-true, eqb-false}
 use Rattle.qc_outside.specs.declared.disk.ArmKind.{ArmKind}
-use Rattle.qc_promise.specs.Names.{Arm, Calls, DiskArm, may_act, may_have_acted, same_kind, without_arm}
+use Rattle.qc_promise.specs.Vocabulary.{Arm, Calls, DiskArm, may_act, may_have_acted, same_kind, without_arm}
 use Rattle.qc_spent.proofs.OwnArms.{arm_of, arms_of, of_actor, same_actor}
 
 abbrev pub IsUnused : ArmKind → Calls → Option DiskArm → Type 0

@@ -9,10 +9,11 @@ use Rattle.qc_msg.specs.declared.step.Step.{Step}
 use Rattle.qc_msg.specs.declared.step.Step.TheVariants as steps
 use Rattle.qc_outside.specs.declared.disk.ArmKind.{ArmKind}
 use Rattle.qc_outside.specs.declared.disk.ArmKind.TheVariants as kinds
-use Rattle.qc_promise.specs.Names.{Arm, Calls, DiskAccount, DiskArm, IsFallBelow, Tally, armed, called}
-use Rattle.qc_promise.specs.Names.{disk_account_with, disk_armed, disk_called, disk_fell, disk_fell_by, disk_fell_with}
-use Rattle.qc_promise.specs.Names.{fell, more_calls, no_calls, of_fall, of_opening, of_reading, of_record, tally_with}
-use Rattle.qc_promise.specs.Names.{total_below, used, waiting_after, with_calls, without_arm}
+use Rattle.qc_promise.specs.Vocabulary.{Arm, Calls, DiskAccount, DiskArm, IsFallBelow, Tally, armed, called}
+use Rattle.qc_promise.specs.Vocabulary.{disk_account_with, disk_armed, disk_called, disk_fell, disk_fell_by}
+use Rattle.qc_promise.specs.Vocabulary.{disk_fell_with, fell, more_calls, no_calls, of_fall, of_opening, of_reading}
+use Rattle.qc_promise.specs.Vocabulary.{of_record, tally_with, total_below, used, waiting_after, with_calls}
+use Rattle.qc_promise.specs.Vocabulary.{without_arm}
 use Rattle.qc_spent.proofs.OwnArms.{arms_of, called_arms, called_parts, of_actor, others, same_actor}
 use Rattle.qc_spent.proofs.Sums.{total_more, total_same}
 use Rattle.qc_spent.proofs.ActingArms.{Finds, IsUnused, IsUsed, finds}

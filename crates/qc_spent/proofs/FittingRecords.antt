@@ -1,9 +1,9 @@
 -- Damage comes only where a record doesn't fit, and where records are kept so far, each fits: so they are kept.
 use Rattle.std.proofs.Common.{◌≡◌, ℕ, Bool, true, List, [], ◌∷◌, ◌++◌, refl, sym, ◌∙◌, subst, append_assoc, append-nil}
-use Rattle.qc_msg.specs.Names.{Entry, own}
+use Rattle.qc_msg.specs.Vocabulary.{Entry, own}
 use Rattle.qc_msg.specs.declared.step.Step.{Step}
 use Rattle.qc_msg.specs.declared.step.Step.TheVariants as steps
-use Rattle.qc_promise.specs.Names.{IsKeptAt, IsKeptOrUnfit, Kept}
+use Rattle.qc_promise.specs.Vocabulary.{IsKeptAt, IsKeptOrUnfit, Kept}
 use Rattle.qc_spent.proofs.Ends.{CutAt, at_end, cut_at, inside}
 
 fit_kept : (fit : Bool) (before : List Step) (s : Step) → IsKeptOrUnfit fit before s → fit ≡ true → IsKeptAt before s

@@ -2,7 +2,7 @@
 use Rattle.std.proofs.Common.{◌≡◌, ℕ, ◌+◌, ◌==◌, Bool, true, false, not, List, [], ◌∷◌, filter, map, cond, Option, Some}
 use Rattle.std.proofs.Common.{None, refl, sym, ◌∙◌, ap, if◌then◌else◌}
 use Rattle.std.proofs.lemmas.Bool.{eqb-true, eqb-false, eq-eqb, ne_eqb}
-use Rattle.qc_promise.specs.Names.{Arm, Calls, DiskArm, waiting_after, with_calls}
+use Rattle.qc_promise.specs.Vocabulary.{Arm, Calls, DiskArm, waiting_after, with_calls}
 
 -- the test on numbers
 

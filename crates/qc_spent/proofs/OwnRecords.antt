@@ -2,10 +2,10 @@
 use Rattle.std.proofs.Common.{◌≡◌, ℕ, ◌==◌, Bool, true, false, List, [], ◌∷◌, ◌++◌, refl, sym, ◌∙◌, ap, subst}
 use Rattle.std.proofs.Common.{append_assoc, append-nil, if◌then◌else◌}
 use Rattle.std.proofs.lemmas.Bool.{eq-eqb, eqb-true}
-use Rattle.qc_msg.specs.Names.{Entry, marked, own}
+use Rattle.qc_msg.specs.Vocabulary.{Entry, marked, own}
 use Rattle.qc_msg.specs.declared.step.Step.{Step}
 use Rattle.qc_msg.proofs.DeedsGrow.{own-append}
-use Rattle.qc_promise.specs.Names.{AreKept, IsKeptAt, Kept}
+use Rattle.qc_promise.specs.Vocabulary.{AreKept, IsKeptAt, Kept}
 use Rattle.qc_spent.proofs.Ends.{CutAt, at_end, cut_at, inside}
 
 -- an entry more, of this actor or of another

@@ -3,13 +3,13 @@ use Rattle.std.proofs.Common.{◌≡◌, ℕ, ◌<◌, ◌≤◌, ◌==◌, Bool
 use Rattle.std.proofs.Common.{append_assoc, append-nil, arith, if◌then◌else◌}
 use Rattle.std.proofs.lemmas.List.Sums.{fold-append}
 use Rattle.std.proofs.lemmas.Bool.{eq-eqb}
-use Rattle.qc_msg.specs.Names.{Entry, by, marked, own}
+use Rattle.qc_msg.specs.Vocabulary.{Entry, by, marked, own}
 use Rattle.qc_msg.specs.declared.step.Step.{Step}
 use Rattle.qc_msg.specs.declared.step.Step.TheVariants as steps
-use Rattle.qc_promise.specs.Names.{AreKept, AreStoreSteps, DiskAccount, DiskArm, IsInTime, IsKeptAt, IsKeptBy}
-use Rattle.qc_promise.specs.Names.{IsOfOthers, IsStoreOf, Journal, arms_disk, disk_account, disk_account_after}
-use Rattle.qc_promise.specs.Names.{disk_account_with, disk_armed, journal_after, journal_of, journal_with, no_calls}
-use Rattle.qc_promise.specs.Names.{no_disk_account, no_journal}
+use Rattle.qc_promise.specs.Vocabulary.{AreKept, AreStoreSteps, DiskAccount, DiskArm, IsInTime, IsKeptAt, IsKeptBy}
+use Rattle.qc_promise.specs.Vocabulary.{IsOfOthers, IsStoreOf, Journal, arms_disk, disk_account, disk_account_after}
+use Rattle.qc_promise.specs.Vocabulary.{disk_account_with, disk_armed, journal_after, journal_of, journal_with}
+use Rattle.qc_promise.specs.Vocabulary.{no_calls, no_disk_account, no_journal}
 use Rattle.qc_outside.specs.declared.disk.ArmKind.{ArmKind}
 use Rattle.qc_spent.proofs.OwnRecords.{kept_more, own_mine, own_other}
 use Rattle.qc_spent.proofs.Whole.{in_time_more}

@@ -1,7 +1,7 @@
 -- Sums over the numbers below one.
 use Rattle.std.proofs.Common.{◌≡◌, ℕ, zero, suc, ◌+◌, ◌<◌, ◌≤◌, ◌==◌, Bool, true, false, refl, subst, arith}
 use Rattle.std.proofs.lemmas.Bool.{eqb-true, eqb-false, ne_eqb}
-use Rattle.qc_promise.specs.Names.{total_below}
+use Rattle.qc_promise.specs.Vocabulary.{total_below}
 
 pub total_same : (n : ℕ) (f g : ℕ → ℕ) → ((a : ℕ) → f a ≡ g a) → total_below n f ≡ total_below n g
 total_same zero f g same = refl

@@ -3,12 +3,12 @@ use Rattle.std.proofs.Common.{◌≡◌, inl, inr, ℕ, zero, suc, ◌<◌, ◌�
 use Rattle.std.proofs.Common.{None, refl, sym, ◌∙◌, ap, subst, arith}
 use Rattle.std.proofs.lemmas.List.Sums.{fold-append}
 use Rattle.std.proofs.lemmas.Bool.{eq-eqb}
-use Rattle.qc_list.specs.Names.{In}
+use Rattle.qc_list.specs.Vocabulary.{In}
 use Rattle.qc_list.proofs.Members.{In-filter, In-unfiltered}
-use Rattle.qc_msg.specs.Names.{Entry}
-use Rattle.qc_promise.specs.Names.{AreFallsBelow, Arm, DiskAccount, DiskArm, IsEverInTime, IsInTime, Spent, Tally}
-use Rattle.qc_promise.specs.Names.{disk_account, disk_account_with, no_disk_account, no_tally, tally, tally_with}
-use Rattle.qc_promise.specs.Names.{total_below}
+use Rattle.qc_msg.specs.Vocabulary.{Entry}
+use Rattle.qc_promise.specs.Vocabulary.{AreFallsBelow, Arm, DiskAccount, DiskArm, IsEverInTime, IsInTime, Spent, Tally}
+use Rattle.qc_promise.specs.Vocabulary.{disk_account, disk_account_with, no_disk_account, no_tally, tally, tally_with}
+use Rattle.qc_promise.specs.Vocabulary.{total_below}
 use Rattle.qc_spent.proofs.Ends.{Front, front as cut_front, all, less}
 use Rattle.qc_spent.proofs.OwnArms.{arm_of, arms_of, of_actor}
 use Rattle.qc_spent.proofs.Sums.{total_less}

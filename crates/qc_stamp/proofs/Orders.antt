@@ -9,7 +9,7 @@ use Rattle.std.specs.declared.cmp.Ordering.{Ordering}
 use Rattle.std.specs.declared.cmp.Ordering.TheVariants.{Less, Equal, Greater}
 use Rattle.qc_stamp.specs.declared.stamp.Stamp.{Stamp}
 use Rattle.qc_stamp.specs.declared.stamp.TxId.{TxId}
-use Rattle.qc_stamp.specs.Names.{IsOrder, same_tx, stamp_cmp, tx_cmp}
+use Rattle.qc_stamp.specs.Vocabulary.{IsOrder, same_tx, stamp_cmp, tx_cmp}
 
 -- a pair of answers is Equal only where both are
 pub first_Equal : (a b : Ordering) → ordering_then a b ≡ Equal → a ≡ Equal

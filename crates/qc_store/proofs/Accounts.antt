@@ -2,12 +2,12 @@
 use Rattle.std.proofs.Common.{◌≡◌, ℕ, ◌+◌, ◌-◌, ◌<◌, ◌≤◌, nat_le, Bool, true, false, ◌&&◌, Option, Some, None, inl, inr}
 use Rattle.std.proofs.Common.{refl, sym, ◌∙◌, ap, subst, arith, if◌then◌else◌}
 use Rattle.std.proofs.lemmas.Bool.{le-leb}
-use Rattle.qc_outside.specs.Names.{Armed, Fuse, HasFaulted, HasPassed, IsArmedAfter, KeepsArm, Rose}
+use Rattle.qc_outside.specs.Vocabulary.{Armed, Fuse, HasFaulted, HasPassed, IsArmedAfter, KeepsArm, Rose}
 use Rattle.qc_outside.specs.declared.disk.ArmKind.{ArmKind}
 use Rattle.qc_outside.specs.declared.disk.ArmKind.TheVariants.{Fail, Stop}
-use Rattle.qc_promise.specs.Names.{Calls, DiskAccount, DiskArm, disk_armed, disk_called, disk_fell, disk_fell_with}
-use Rattle.qc_promise.specs.Names.{may_have_acted, more_calls, same_kind, waiting_after}
-use Rattle.qc_store.specs.Names.{IsAccountOf, IsArmOf, IsArmedBy, IsCounted}
+use Rattle.qc_promise.specs.Vocabulary.{Calls, DiskAccount, DiskArm, disk_armed, disk_called, disk_fell, disk_fell_with}
+use Rattle.qc_promise.specs.Vocabulary.{may_have_acted, more_calls, same_kind, waiting_after}
+use Rattle.qc_store.specs.Vocabulary.{IsAccountOf, IsArmOf, IsArmedBy, IsCounted}
 
 -- counts
 

@@ -1,14 +1,14 @@
 -- Calls of a store are counted as a history's; and where nothing is armed, a fault is the disk's own.
 use Rattle.std.proofs.Common.{◌≡◌, inl, inr, ℕ, ◌≤◌, List, [], ◌∷◌, length, Err, refl}
-use Rattle.qc_journal.specs.Names.{JournalIsRefused, JournalRose, most_of_opening}
+use Rattle.qc_journal.specs.Vocabulary.{JournalIsRefused, JournalRose, most_of_opening}
 use Rattle.qc_journal.specs.declared.fault.JournalFault.{JournalFault}
 use Rattle.qc_journal.specs.declared.fault.JournalFault.TheVariants.{Failed, Stopped, Torn, OutOfMemory}
 use Rattle.qc_msg.specs.declared.record.Record.{Record}
-use Rattle.qc_outside.specs.Names.{Fuse, HasFaulted, HasPassed, Rose, no_fuse}
+use Rattle.qc_outside.specs.Vocabulary.{Fuse, HasFaulted, HasPassed, Rose, no_fuse}
 use Rattle.qc_outside.specs.declared.disk.ArmKind.{ArmKind}
 use Rattle.qc_outside.specs.declared.disk.ArmKind.TheVariants.{Fail, Stop}
-use Rattle.qc_promise.specs.Names.{of_opening}
-use Rattle.qc_store.specs.Names.{of_bodies}
+use Rattle.qc_promise.specs.Vocabulary.{of_opening}
+use Rattle.qc_store.specs.Vocabulary.{of_bodies}
 
 pub openings_alike : (bodies : List (List ℕ)) (records : List Record) → length bodies ≡ length records
     → of_bodies bodies ≡ of_opening records

@@ -1,11 +1,11 @@
 -- What a disk that fell holds.
 use Rattle.std.proofs.Common.{◌≡◌, inl, inr, ℕ, ◌≤◌, List, [], ◌∷◌, ◌++◌, Option, Some, None, length, refl}
-use Rattle.qc_outside.specs.Names.{IsImage, Since, Tells, Told, as_read}
+use Rattle.qc_outside.specs.Vocabulary.{IsImage, Since, Tells, Told, as_read}
 use Rattle.qc_outside.proofs.Kept.{read_is_image}
-use Rattle.qc_journal.specs.Names.{Holds, HoldsWithOrWithout, IsAtRest, IsLeftAtOpen, IsNoJournal, Rests}
+use Rattle.qc_journal.specs.Vocabulary.{Holds, HoldsWithOrWithout, IsAtRest, IsLeftAtOpen, IsNoJournal, Rests}
 use Rattle.qc_journal.proofs.Lasting.{rest_is_journal, rest_lasts}
 use Rattle.qc_journal.proofs.Unique.{length_journal, one_list, torn_or_not}
-use Rattle.qc_store.specs.Names.{AreGiven, DiskHasJournal, DiskHolds, HoldsBodies, IsSettled, StillTells}
+use Rattle.qc_store.specs.Vocabulary.{AreGiven, DiskHasJournal, DiskHolds, HoldsBodies, IsSettled, StillTells}
 
 -- a fall leaves what was there
 pub fall_holds : (a b : Option Told) (bodies : List (List ℕ)) (pending : Option (List ℕ))

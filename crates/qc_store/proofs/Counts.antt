@@ -2,11 +2,11 @@
 use Rattle.std.proofs.Common.{◌≡◌, ℕ, zero, suc, ◌+◌, ◌-◌, ◌^◌, ◌<◌, ◌≤◌, nat_lt, Bool, true, false, List, refl, arith}
 use Rattle.std.proofs.lemmas.Bool.{ltb-true}
 use Rattle.std.proofs.lemmas.Bool.Decides.{nat_tests}
-use Rattle.qc_msg.specs.Names.{Entry}
-use Rattle.qc_outside.specs.Names.{IsKept}
-use Rattle.qc_promise.specs.Names.{AreFallsBelow, IsEverInTime, Spent, disk_account, total_below}
+use Rattle.qc_msg.specs.Vocabulary.{Entry}
+use Rattle.qc_outside.specs.Vocabulary.{IsKept}
+use Rattle.qc_promise.specs.Vocabulary.{AreFallsBelow, IsEverInTime, Spent, disk_account, total_below}
 use Rattle.qc_spent.proofs.Whole.{spent}
-use Rattle.qc_store.specs.Names.{IsCounted}
+use Rattle.qc_store.specs.Vocabulary.{IsCounted}
 
 settled : (n : ℕ) (disks nows : ℕ → ℕ) → ((k : ℕ) → k < n → IsKept (nows k) (disks k) (nows (suc k)))
     → nows n < 2 ^ 64 - 1 → nows 0 + total_below n disks ≤ nows n

@@ -1,8 +1,8 @@
 -- What the account of one actor's disk says of what is armed on the disk, and of the faults that it counted.
 use Rattle.std.specs.Prelude.{◌≡◌, ℕ, ◌+◌, ◌-◌, ◌^◌, ◌≤◌, min, Option, Some, None}
-use Rattle.qc_outside.specs.Names.{Armed, Fuse}
+use Rattle.qc_outside.specs.Vocabulary.{Armed, Fuse}
 use Rattle.qc_outside.specs.declared.disk.ArmKind.{ArmKind}
-use Rattle.qc_promise.specs.Names.{DiskAccount, DiskArm}
+use Rattle.qc_promise.specs.Vocabulary.{DiskAccount, DiskArm}
 
 -- the disk counted so many faults of its own, or as many as 64 bits hold
 abbrev pub IsCounted : ℕ → ℕ → Type 0

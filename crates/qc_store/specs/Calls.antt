@@ -1,6 +1,6 @@
 -- How many calls of its disk each step of a store takes, of those that count for what is armed.
 use Rattle.std.specs.Prelude.{ℕ, List, [], ◌∷◌}
-use Rattle.qc_promise.specs.Names.{Calls, of_reading}
+use Rattle.qc_promise.specs.Vocabulary.{Calls, of_reading}
 
 -- an opening that gives these bodies
 abbrev pub of_bodies : List (List ℕ) → Calls

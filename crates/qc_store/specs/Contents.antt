@@ -1,8 +1,8 @@
 -- What a disk holds of an actor that is down: the bodies of its records, with the one that was being written as it
 -- fell or without it; and that a journal was begun on it.
 use Rattle.std.specs.Prelude.{◌≡◌, ◌⊎◌, ℕ, List, [], ◌∷◌, ◌++◌, Option, Some, None, IfSome, IsSome}
-use Rattle.qc_outside.specs.Names.{Leaves, Told}
-use Rattle.qc_journal.specs.Names.{Holds, HoldsWithOrWithout, IsJournal}
+use Rattle.qc_outside.specs.Vocabulary.{Leaves, Told}
+use Rattle.qc_journal.specs.Vocabulary.{Holds, HoldsWithOrWithout, IsJournal}
 
 abbrev pub HoldsBodies : List (List ℕ) → Option (List ℕ) → List ℕ → Type 0
 HoldsBodies bodies None bytes = Holds bodies bytes

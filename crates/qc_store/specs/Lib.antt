@@ -1,4 +1,4 @@
 pub mod Calls
 pub mod Accounts
 pub mod Contents
-pub mod Names
+pub mod Vocabulary

@@ -9,8 +9,8 @@ use Rattle.std.proofs.lemmas.List.Folds.{list_any_more}
 use Rattle.std.proofs.lemmas.Option.{slice_get-get_or}
 use Rattle.qc_table.specs.declared.row.Row.{Row}
 use Rattle.qc_table.specs.declared.row.Event.{Event}
-use Rattle.qc_table.specs.Names.{event, event_number, events_of, first_of, has, lowest_in, next_in, same_event, step_of}
-use Rattle.qc_table.specs.Names.{with_member}
+use Rattle.qc_table.specs.Vocabulary.{event, event_number, events_of, first_of, has, lowest_in, next_in, same_event}
+use Rattle.qc_table.specs.Vocabulary.{step_of, with_member}
 use Rattle.qc_table.proofs.Legal.{is_legal}
 use Rattle.qc_table.proofs.Lowest.{none_legal, lowest_legal, none_lower}
 use Rattle.qc_table.proofs.Numbered.{is_among, legal_among}

@@ -10,7 +10,7 @@ use Rattle.std.proofs.lemmas.List.Quantifiers.{position-Some}
 use Rattle.std.proofs.lemmas.Option.{slice_get_within, get_or_from_slice_get}
 use Rattle.qc_table.specs.declared.row.Row.{Row}
 use Rattle.qc_table.specs.declared.row.Event.{Event}
-use Rattle.qc_table.specs.Names.{event_number, event_of, events_of, same_event, with_event}
+use Rattle.qc_table.specs.Vocabulary.{event_number, event_of, events_of, same_event, with_event}
 use Rattle.qc_table.proofs.Numbered.{same_is, same_itself}
 use Rattle.qc_table.proofs.Places.{position_none}
 

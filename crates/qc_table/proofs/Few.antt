@@ -6,7 +6,7 @@ use Rattle.std.specs.List.{list_any}
 use Rattle.std.proofs.lemmas.Bool.{lt-ltb}
 use Rattle.qc_table.specs.declared.row.Row.{Row}
 use Rattle.qc_table.specs.declared.row.Event.{Event}
-use Rattle.qc_table.specs.Names.{event_of, events_of, same_event, with_event}
+use Rattle.qc_table.specs.Vocabulary.{event_of, events_of, same_event, with_event}
 
 longer : (events : List Event) (e : Event) → length events ≤ length (with_event events e)
 longer events e = by (list_any (λ x. same_event x e) events)

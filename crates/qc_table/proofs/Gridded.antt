@@ -9,8 +9,8 @@ use Rattle.std.proofs.lemmas.List.Folds.{find-append}
 use Rattle.std.proofs.lemmas.List.Quantifiers.{position-Some}
 use Rattle.qc_table.specs.declared.row.Row.{Row}
 use Rattle.qc_table.specs.declared.row.Event.{Event}
-use Rattle.qc_table.specs.Names.{event_number, event_of, grid_next, grid_place, is_row_of, next_in, same_event}
-use Rattle.qc_table.specs.Names.{with_next, with_row}
+use Rattle.qc_table.specs.Vocabulary.{event_number, event_of, grid_next, grid_place, is_row_of, next_in, same_event}
+use Rattle.qc_table.specs.Vocabulary.{with_next, with_row}
 use Rattle.qc_table.proofs.Numbered.{number_is}
 use Rattle.qc_table.proofs.Distinct.{AreDistinct, is_number, number_tells}
 

@@ -3,7 +3,7 @@ use Rattle.std.proofs.Common.{◌≡◌, ℕ, Bool, true, false, cond, List, ◌
 use Rattle.std.specs.Prelude.{is_some, ◌||◌, option_map, find}
 use Rattle.qc_table.specs.declared.row.Row.{Row}
 use Rattle.qc_table.specs.declared.row.Event.{Event}
-use Rattle.qc_table.specs.Names.{is_row_of, next_in}
+use Rattle.qc_table.specs.Vocabulary.{is_row_of, next_in}
 
 -- whether the rows have one for this state and event
 abbrev pub is_legal : List Row → ℕ → Event → Bool

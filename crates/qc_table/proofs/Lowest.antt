@@ -4,7 +4,7 @@ use Rattle.std.proofs.Common.{refl, sym, ap, ◌∙◌, inl, inr, ⊎_elim, eq-e
 use Rattle.std.specs.Prelude.{IsSome, ◌==◌, ◌&&◌, ◌||◌, fold}
 use Rattle.std.proofs.lemmas.Bool.{cases_lt, or_from, or_left, or_right, ne_eqb}
 use Rattle.qc_table.specs.declared.row.Row.{Row}
-use Rattle.qc_table.specs.Names.{event, lower, lowest_in, lowest_with, next_in}
+use Rattle.qc_table.specs.Vocabulary.{event, lower, lowest_in, lowest_with, next_in}
 use Rattle.qc_table.proofs.Legal.{is_legal, legal_cons, none_where_illegal}
 
 -- what a scan from a lowest response so far answers

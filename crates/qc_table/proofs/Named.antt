@@ -6,7 +6,7 @@ use Rattle.std.proofs.lemmas.Bool.{and_parts, or_parts, true≢false}
 use Rattle.qc_table.proofs.Legal.{is_legal, legal_cons}
 use Rattle.qc_table.proofs.Numbered.{same_is}
 use Rattle.qc_table.proofs.Unknown.{none_unknown, row_within}
-use Rattle.qc_table.specs.Names.{IsSound, Rules, event, event_of, is_row_of, is_unknown, same_event}
+use Rattle.qc_table.specs.Vocabulary.{IsSound, Rules, event, event_of, is_row_of, is_unknown, same_event}
 use Rattle.qc_table.specs.declared.row.Event.{Event}
 use Rattle.qc_table.specs.declared.row.Row.{Row}
 

@@ -9,8 +9,8 @@ use Rattle.std.proofs.lemmas.List.Quantifiers.{position-Some}
 use Rattle.std.proofs.lemmas.Option.{slice_get-get_or, slice_get_within}
 use Rattle.qc_table.specs.declared.row.Row.{Row}
 use Rattle.qc_table.specs.declared.row.Event.{Event}
-use Rattle.qc_table.specs.Names.{IsLowest, event, event_number, event_of, events_of, first_of, is_row_of, lowest_in}
-use Rattle.qc_table.specs.Names.{next_in, same_event, step_of, with_event}
+use Rattle.qc_table.specs.Vocabulary.{IsLowest, event, event_number, event_of, events_of, first_of, is_row_of}
+use Rattle.qc_table.specs.Vocabulary.{lowest_in, next_in, same_event, step_of, with_event}
 use Rattle.qc_table.proofs.Legal.{is_legal, legal_cons}
 use Rattle.qc_table.proofs.Places.{position_none}
 use Rattle.qc_table.proofs.Lowest.{lowest_legal, none_lower}

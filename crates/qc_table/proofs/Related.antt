@@ -8,7 +8,7 @@ use Rattle.std.proofs.Math.Nat.{div-eq_of_lt}
 use Rattle.std.proofs.Math.Pow.{pow_mono}
 use Rattle.std.proofs.lemmas.Bool.{eqb-true, eq-eqb}
 use Rattle.std.proofs.lemmas.List.{length-set, get_or-set_same, get_or-set_other}
-use Rattle.qc_table.specs.Names.{depended, depends, has, is_given, relation_of, with_member, with_pair}
+use Rattle.qc_table.specs.Vocabulary.{depended, depends, has, is_given, relation_of, with_member, with_pair}
 use Rattle.qc_table.specs.declared.relation.Pair.{Pair}
 
 -- a set with one member more has that member and those it had

@@ -1,6 +1,6 @@
 -- Laws of runs.
 use Rattle.std.proofs.Common.{◌≡◌, ℕ, List, [], ◌∷◌, ◌++◌, Option, None, refl}
-use Rattle.qc_table.specs.Names.{next_state, reached}
+use Rattle.qc_table.specs.Vocabulary.{next_state, reached}
 
 -- no state stays no state
 pub reached_none : (step : ℕ → ℕ → Option ℕ) (numbers : List ℕ) → reached step None numbers ≡ None

@@ -8,8 +8,8 @@ use Rattle.std.proofs.lemmas.Bool.{eqb-true, eq-eqb}
 use Rattle.std.proofs.lemmas.List.{get_or-set_same, get_or-set_other, take_more}
 use Rattle.std.proofs.lemmas.List.Folds.{list_any_more}
 use Rattle.qc_table.specs.declared.row.Row.{Row}
-use Rattle.qc_table.specs.Names.{IsSmall, case_place, case_set, has, has_case, no_cases, repeat_after, same_case}
-use Rattle.qc_table.specs.Names.{with_case, with_member}
+use Rattle.qc_table.specs.Vocabulary.{IsSmall, case_place, case_set, has, has_case, no_cases, repeat_after, same_case}
+use Rattle.qc_table.specs.Vocabulary.{with_case, with_member}
 use Rattle.qc_table.proofs.Related.{has_with, zeros}
 
 -- where rows of one place are rows of one state and invocation

@@ -8,8 +8,8 @@ use Rattle.std.proofs.lemmas.List.Folds.{list_any_at}
 use Rattle.std.proofs.lemmas.List.Elements.{All-append}
 use Rattle.qc_table.specs.declared.row.Row.{Row}
 use Rattle.qc_table.specs.declared.row.Event.{Event}
-use Rattle.qc_table.specs.Names.{IsSmall, IsSound, Rules, event_of, events_of, first_repeat, is_unknown, ranked}
-use Rattle.qc_table.specs.Names.{same_event, with_event}
+use Rattle.qc_table.specs.Vocabulary.{IsSmall, IsSound, Rules, event_of, events_of, first_repeat, is_unknown, ranked}
+use Rattle.qc_table.specs.Vocabulary.{same_event, with_event}
 use Rattle.qc_table.proofs.Places.{position_none}
 
 -- without a fault no row is unknown

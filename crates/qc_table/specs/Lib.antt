@@ -7,4 +7,4 @@ pub mod Rules
 pub mod Run
 pub mod Sets
 pub mod Sound
-pub mod Names
+pub mod Vocabulary

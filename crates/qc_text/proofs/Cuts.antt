@@ -4,9 +4,9 @@ use Rattle.std.proofs.Common.{drop, sym, ap, ◌∙◌, append_assoc, take-appen
 use Rattle.std.specs.Prelude.{fold}
 use Rattle.std.proofs.lemmas.List.{append-nil, map-append}
 use Rattle.std.proofs.lemmas.List.Sums.{fold-append}
-use Rattle.qc_msg.specs.Names.{Deed}
-use Rattle.qc_promise.specs.Names.{Holding, cuts, last_cut, with_cut}
-use Rattle.qc_text.specs.Names.{deed_of}
+use Rattle.qc_msg.specs.Vocabulary.{Deed}
+use Rattle.qc_promise.specs.Vocabulary.{Holding, cuts, last_cut, with_cut}
+use Rattle.qc_text.specs.Vocabulary.{deed_of}
 use Rattle.qc_text.specs.declared.deeds.Deed.{Deed as Found}
 use Rattle.qc_text.proofs.Found.{found_more, found_rest}
 

@@ -1,7 +1,7 @@
 -- Deeds as code has them, one at a time.
 use Rattle.std.proofs.Common.{◌≡◌, ℕ, ◌+◌, ◌<◌, List, [], ◌∷◌, ◌++◌, length, get_or, map, take, drop, ap, ◌∙◌}
 use Rattle.std.proofs.lemmas.List.{map-append}
-use Rattle.qc_text.specs.Names.{deed_of}
+use Rattle.qc_text.specs.Vocabulary.{deed_of}
 use Rattle.qc_text.specs.declared.deeds.Deed.{Deed as Found}
 use Rattle.qc_text.proofs.More.{more, rest}
 

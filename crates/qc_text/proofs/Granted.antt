@@ -5,9 +5,9 @@ use Rattle.std.specs.Option.{option_map_or}
 use Rattle.qc_entry.specs.declared.line.Line.{Line}
 use Rattle.qc_msg.specs.declared.message.Envelope.{Envelope}
 use Rattle.qc_msg.specs.declared.step.Fall.TheVariants as causes
-use Rattle.qc_msg.specs.Names.{Deed, Falls, Requested, Rises, Sends, Takes, Tells, Writes, request_in}
-use Rattle.qc_promise.specs.Names.{Lines, is_granted, learning, view_by, view_in}
-use Rattle.qc_text.specs.Names.{deed_of, ends_post, sends_grant, view_asked}
+use Rattle.qc_msg.specs.Vocabulary.{Deed, Falls, Requested, Rises, Sends, Takes, Tells, Writes, request_in}
+use Rattle.qc_promise.specs.Vocabulary.{Lines, is_granted, learning, view_by, view_in}
+use Rattle.qc_text.specs.Vocabulary.{deed_of, ends_post, sends_grant, view_asked}
 use Rattle.qc_text.specs.declared.deeds.Deed.{Deed as Found}
 use Rattle.qc_text.proofs.Found.{found_rest}
 use Rattle.qc_text.proofs.Recorded.{learn_none}

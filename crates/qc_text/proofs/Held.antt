@@ -4,11 +4,11 @@ use Rattle.std.proofs.Common.{append_assoc}
 use Rattle.std.specs.Prelude.{fold}
 use Rattle.std.proofs.lemmas.List.Sums.{fold-append}
 use Rattle.qc_msg.specs.declared.record.Record.{Record}
-use Rattle.qc_msg.specs.Names.{Deed, Falls, Rises, Sends, Takes, Tells, Writes, risen_in}
-use Rattle.qc_promise.specs.Names.{Holding, Lifetime, begun_with, cuts, held_shown, last_cut, lifetime, with_cut}
-use Rattle.qc_promise.specs.Names.{with_deed}
+use Rattle.qc_msg.specs.Vocabulary.{Deed, Falls, Rises, Sends, Takes, Tells, Writes, risen_in}
+use Rattle.qc_promise.specs.Vocabulary.{Holding, Lifetime, begun_with, cuts, held_shown, last_cut, lifetime, with_cut}
+use Rattle.qc_promise.specs.Vocabulary.{with_deed}
 use Rattle.qc_promise.proofs.Lifetimes.{AreNoRises, life_begins, lived, lives_on, no_rises}
-use Rattle.qc_text.specs.Names.{held_by, held_in}
+use Rattle.qc_text.specs.Vocabulary.{held_by, held_in}
 use Rattle.qc_text.proofs.Cuts.{anew, nothing, on}
 
 -- a life with these records whose deeds are parted as c, within deeds that are parted as h

@@ -1,7 +1,7 @@
 -- Pieces, one after another.
 use Rattle.std.proofs.Common.{◌≡◌, List, [], ◌∷◌, ◌++◌, refl, sym}
 use Rattle.std.proofs.lemmas.List.{append-nil}
-use Rattle.qc_text.specs.Names.{joined, piece_text}
+use Rattle.qc_text.specs.Vocabulary.{joined, piece_text}
 use Rattle.qc_text.specs.declared.page.Piece.{Piece}
 
 -- a first piece, and the rest

@@ -10,17 +10,17 @@ use Rattle.std.specs.BTreeSet.{insert_key}
 use Rattle.std.proofs.lemmas.List.Sums.{fold-append}
 use Rattle.std.proofs.lemmas.List.Elements.{filter_map-append}
 use Rattle.qc_entry.specs.declared.record.Commit.{Commit}
-use Rattle.qc_list.specs.Names.{by_order}
+use Rattle.qc_list.specs.Vocabulary.{by_order}
 use Rattle.qc_decl.specs.declared.declaration.Declaration.{Declaration}
-use Rattle.qc_msg.specs.Names.{Entry}
-use Rattle.theory_onecopy.specs.Names.{commit_cmp, with_commit}
-use Rattle.qc_promise.specs.Names.{commits_by, commits_in, committed}
-use Rattle.qc_decl.specs.Names.{is_client}
+use Rattle.qc_msg.specs.Vocabulary.{Entry}
+use Rattle.theory_onecopy.specs.Vocabulary.{commit_cmp, with_commit}
+use Rattle.qc_promise.specs.Vocabulary.{commits_by, commits_in, committed}
+use Rattle.qc_decl.specs.Vocabulary.{is_client}
 use Rattle.qc_msg.specs.declared.record.Record.{Record}
 use Rattle.qc_msg.specs.declared.record.Record.TheVariants as records
 use Rattle.qc_msg.specs.Counts as counts
 use Rattle.qc_text.specs.declared.committed.CommitKey.{CommitKey}
-use Rattle.qc_text.specs.Names.{commit_of}
+use Rattle.qc_text.specs.Vocabulary.{commit_of}
 use Rattle.qc_text.proofs.More.{more}
 
 -- keys are ordered as their records

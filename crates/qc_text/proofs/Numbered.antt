@@ -1,6 +1,6 @@
 -- Lines of a word and a number, one after another.
 use Rattle.std.proofs.Common.{◌≡◌, ℕ, List, ◌++◌, ap, ◌∙◌}
-use Rattle.qc_text.specs.Names.{number_line}
+use Rattle.qc_text.specs.Vocabulary.{number_line}
 use Rattle.qc_text.proofs.Sections.{section}
 
 -- a line whose number is another's

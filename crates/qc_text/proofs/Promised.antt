@@ -7,10 +7,10 @@ use Rattle.std.specs.Option.{option_map_or}
 use Rattle.std.proofs.lemmas.List.{append-nil, length-map, map-append}
 use Rattle.std.proofs.lemmas.List.Sums.{fold-append}
 use Rattle.qc_stamp.specs.declared.stamp.TxId.{TxId}
-use Rattle.qc_stamp.specs.Names.{same_tx}
+use Rattle.qc_stamp.specs.Vocabulary.{same_tx}
 use Rattle.qc_entry.specs.declared.record.Prepared.{Prepared}
 use Rattle.qc_lock.specs.declared.held.Held.{Held}
-use Rattle.qc_lock.specs.Names.{held_of, with_locks, with_owns}
+use Rattle.qc_lock.specs.Vocabulary.{held_of, with_locks, with_owns}
 use Rattle.qc_msg.specs.declared.message.Message.{Message}
 use Rattle.qc_msg.specs.declared.message.Message.TheVariants as messages
 use Rattle.qc_msg.specs.declared.message.Outcome.TheVariants.{Committed, Aborted, Active}
@@ -18,12 +18,12 @@ use Rattle.qc_msg.specs.declared.message.Want.TheVariants.{Read, Prepare}
 use Rattle.qc_msg.specs.declared.record.Record.{Record}
 use Rattle.qc_msg.specs.declared.record.Record.TheVariants as records
 use Rattle.qc_msg.specs.declared.step.Input.TheVariants as inputs
-use Rattle.qc_msg.specs.Names.{Deed, Falls, Rises, Sends, Takes, Tells, Writes, prepare_in, written_in}
-use Rattle.qc_promise.specs.Names.{Grant, Holding, frees, held_of_promises, is_ended, is_over, left_of, promises_of}
-use Rattle.qc_promise.specs.Names.{promises_since, standing, unless_over, with_promise}
+use Rattle.qc_msg.specs.Vocabulary.{Deed, Falls, Rises, Sends, Takes, Tells, Writes, prepare_in, written_in}
+use Rattle.qc_promise.specs.Vocabulary.{Grant, Holding, frees, held_of_promises, is_ended, is_over, left_of}
+use Rattle.qc_promise.specs.Vocabulary.{promises_of, promises_since, standing, unless_over, with_promise}
 use Rattle.qc_promise.proofs.Promises.{either_way, other_promises, promises_by_record, promises_with}
-use Rattle.qc_text.specs.Names.{held_by, holders_from, holders_with, is_holding, names_some, promised_at, promised_in}
-use Rattle.qc_text.specs.Names.{with_holder, without_holder}
+use Rattle.qc_text.specs.Vocabulary.{held_by, holders_from, holders_with, is_holding, names_some, promised_at}
+use Rattle.qc_text.specs.Vocabulary.{promised_in, with_holder, without_holder}
 use Rattle.qc_text.proofs.Holding.{all_named, append_named, dropped, hold_tx, is_other, name, stays, walks}
 
 -- promises, as if what they name had been granted

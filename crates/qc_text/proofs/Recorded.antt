@@ -7,16 +7,16 @@ use Rattle.std.specs.Option.{option_map_or, option_or}
 use Rattle.std.specs.BTreeMap.{is_at}
 use Rattle.std.proofs.lemmas.List.Sums.{fold-append}
 use Rattle.qc_stamp.specs.declared.stamp.TxId.{TxId}
-use Rattle.qc_stamp.specs.Names.{same_tx, tx_cmp}
+use Rattle.qc_stamp.specs.Vocabulary.{same_tx, tx_cmp}
 use Rattle.qc_entry.specs.declared.line.Line.{Line}
 use Rattle.qc_entry.specs.declared.record.Prepared.{Prepared}
 use Rattle.qc_entry.proofs.Union.{union-nil}
 use Rattle.qc_msg.specs.declared.record.Record.{Record}
 use Rattle.qc_msg.specs.declared.record.Record.TheVariants as journals
-use Rattle.qc_msg.specs.Names.{Deed, written_in}
-use Rattle.qc_promise.specs.Names.{Lines, done_lines, epoch_by, last_prepare, learning, life_by, lines_from, lines_of}
-use Rattle.qc_promise.specs.Names.{prepare_by, recorded_from, with_given, with_joined, with_written}
-use Rattle.qc_text.specs.Names.{deed_of, epoch_at, life_at}
+use Rattle.qc_msg.specs.Vocabulary.{Deed, written_in}
+use Rattle.qc_promise.specs.Vocabulary.{Lines, done_lines, epoch_by, last_prepare, learning, life_by, lines_from}
+use Rattle.qc_promise.specs.Vocabulary.{lines_of, prepare_by, recorded_from, with_given, with_joined, with_written}
+use Rattle.qc_text.specs.Vocabulary.{deed_of, epoch_at, life_at}
 use Rattle.qc_text.specs.declared.deeds.Deed.{Deed as Found}
 use Rattle.qc_text.proofs.Found.{found_rest}
 use Rattle.qc_text.proofs.More.{more, rest}

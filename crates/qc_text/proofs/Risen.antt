@@ -3,10 +3,10 @@ use Rattle.std.proofs.Common.{◌≡◌, ℕ, ◌+◌, ◌<◌, List, ◌∷◌,
 use Rattle.std.proofs.Common.{take-append-drop}
 use Rattle.std.proofs.lemmas.List.{map-append}
 use Rattle.qc_msg.specs.declared.record.Record.{Record}
-use Rattle.qc_msg.specs.Names.{Deed, Falls, Rises, Sends, Takes, Tells, Writes, risen_in}
-use Rattle.qc_promise.specs.Names.{lifetime}
+use Rattle.qc_msg.specs.Vocabulary.{Deed, Falls, Rises, Sends, Takes, Tells, Writes, risen_in}
+use Rattle.qc_promise.specs.Vocabulary.{lifetime}
 use Rattle.qc_promise.proofs.Lifetimes.{AreNoRises, life_after}
-use Rattle.qc_text.specs.Names.{deed_of}
+use Rattle.qc_text.specs.Vocabulary.{deed_of}
 use Rattle.qc_text.specs.declared.deeds.Deed.{Deed as Found}
 use Rattle.qc_text.proofs.Found.{found_rest}
 

@@ -7,7 +7,7 @@ use Rattle.std.proofs.lemmas.List.{map-id, flat_map_more}
 use Rattle.std.proofs.lemmas.List.FromFn.{map-range_with_len_more}
 use Rattle.qc_entry.specs.declared.line.Op.{Op}
 use Rattle.qc_decl.specs.declared.declaration.Declaration.{Declaration}
-use Rattle.qc_text.specs.Names.{op_text, ops_text}
+use Rattle.qc_text.specs.Vocabulary.{op_text, ops_text}
 use Rattle.qc_text.proofs.More.{rest}
 
 -- an operation is written, and the ones after it follow a comma

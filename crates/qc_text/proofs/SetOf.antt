@@ -4,9 +4,9 @@ use Rattle.std.proofs.Common.{sym, ap, ◌∙◌, subst, arith}
 use Rattle.std.specs.List.{list_any}
 use Rattle.std.specs.BTreeMap.{is_at}
 use Rattle.qc_stamp.specs.declared.stamp.TxId.{TxId}
-use Rattle.qc_stamp.specs.Names.{same_tx, tx_cmp}
+use Rattle.qc_stamp.specs.Vocabulary.{same_tx, tx_cmp}
 use Rattle.qc_stamp.proofs.Orders.{other_tx_sym, same_tx_is}
-use Rattle.qc_text.specs.Names.{AreOnce, IsSetOf, is_holder, with_holder, without_holder}
+use Rattle.qc_text.specs.Vocabulary.{AreOnce, IsSetOf, is_holder, with_holder, without_holder}
 use Rattle.qc_text.proofs.Alike.{same_key}
 use Rattle.qc_text.proofs.Holding.{holder_left}
 

@@ -7,9 +7,9 @@ use Rattle.std.proofs.lemmas.List.{drop-drop, get_or-set_same, get_or-set_other}
 use Rattle.std.proofs.lemmas.List.Sums.{count_by_more_yes, count_by_more_no}
 use Rattle.qc_decl.specs.declared.declaration.Declaration.{Declaration}
 use Rattle.qc_msg.specs.declared.reply.Reply.{Reply}
-use Rattle.qc_msg.specs.Names.{Entry}
+use Rattle.qc_msg.specs.Vocabulary.{Entry}
 use Rattle.qc_script.specs.declared.script.CommandLine.{CommandLine}
-use Rattle.qc_text.specs.Names.{asked, reply_line, reply_lines, told_of}
+use Rattle.qc_text.specs.Vocabulary.{asked, reply_line, reply_lines, told_of}
 use Rattle.qc_text.proofs.More.{more, rest, first_left}
 use Rattle.qc_text.proofs.Told.{others}
 

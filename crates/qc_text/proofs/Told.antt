@@ -8,8 +8,8 @@ use Rattle.std.proofs.lemmas.List.{append-nil, get_or-set_same, get_or-set_other
 use Rattle.std.proofs.lemmas.List.Elements.{filter_map-append}
 use Rattle.qc_msg.specs.declared.reply.Reply.{Reply}
 use Rattle.qc_msg.specs.declared.step.Step.{Step}
-use Rattle.qc_msg.specs.Names.{Entry}
-use Rattle.qc_text.specs.Names.{reply_by, reply_in, told_of}
+use Rattle.qc_msg.specs.Vocabulary.{Entry}
+use Rattle.qc_text.specs.Vocabulary.{reply_by, reply_in, told_of}
 use Rattle.qc_text.proofs.More.{more}
 
 pub told_more : (a : ℕ) (h : List Entry) (i : ℕ) (x d : Entry) → i < length h → x ≡ get_or h i d

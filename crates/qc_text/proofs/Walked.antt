@@ -3,8 +3,8 @@ use Rattle.std.proofs.Common.{◌≡◌, ℕ, ◌+◌, ◌<◌, Bool, true, fals
 use Rattle.std.proofs.Common.{◌∙◌, append_assoc}
 use Rattle.std.specs.Prelude.{◌==◌, fold, option_to_list}
 use Rattle.qc_msg.specs.declared.message.Envelope.{Envelope}
-use Rattle.qc_msg.specs.Names.{Deed, Entry, deeds, envelope_of, own}
-use Rattle.qc_text.specs.Names.{deeds_at, down_after, down_by}
+use Rattle.qc_msg.specs.Vocabulary.{Deed, Entry, deeds, envelope_of, own}
+use Rattle.qc_text.specs.Vocabulary.{deeds_at, down_after, down_by}
 use Rattle.qc_text.proofs.More.{rest}
 
 -- falls

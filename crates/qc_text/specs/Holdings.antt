@@ -2,10 +2,10 @@
 use Rattle.std.specs.Prelude.{Bool, ◌||◌, ◌++◌, List, fold, is_some, map}
 use Rattle.qc_entry.specs.declared.record.Prepared.{Prepared}
 use Rattle.qc_lock.specs.declared.held.Held.{Held}
-use Rattle.qc_msg.specs.Names.{Deed, close_in, install_in}
+use Rattle.qc_msg.specs.Vocabulary.{Deed, close_in, install_in}
 use Rattle.qc_msg.specs.declared.record.Record.{Record}
-use Rattle.qc_promise.specs.Names.{Grant, Holding, held_of_promises, holding, left_of, promises_of, promises_since}
-use Rattle.qc_promise.specs.Names.{standing}
+use Rattle.qc_promise.specs.Vocabulary.{Grant, Holding, held_of_promises, holding, left_of, promises_of, promises_since}
+use Rattle.qc_promise.specs.Vocabulary.{standing}
 use Rattle.qc_text.specs.Deeds.{deed_of}
 use Rattle.qc_text.specs.declared.holdings.Holding.{Holding as Parts}
 

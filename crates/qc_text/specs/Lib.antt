@@ -18,3 +18,4 @@ pub mod Promises
 pub mod Sites
 pub mod Text
 pub mod Summary
+pub mod Vocabulary

@@ -1,12 +1,12 @@
 -- An actor's present life as code has it, and what a site is in it.
 use Rattle.std.specs.Prelude.{ℕ, ◌++◌, List, fold, map}
 use Rattle.std.specs.List.{filter_map}
-use Rattle.qc_stamp.specs.Names.{first_life}
+use Rattle.qc_stamp.specs.Vocabulary.{first_life}
 use Rattle.qc_entry.specs.declared.line.Line.{Line}
-use Rattle.qc_entry.specs.Names.{union}
+use Rattle.qc_entry.specs.Vocabulary.{union}
 use Rattle.qc_lock.specs.declared.held.Held.{Held}
-use Rattle.qc_msg.specs.Names.{first_epoch, written_in}
-use Rattle.qc_promise.specs.Names.{Lifetime, Lines, epoch_by, last_cut, life_by, lines_from, recorded_by}
+use Rattle.qc_msg.specs.Vocabulary.{first_epoch, written_in}
+use Rattle.qc_promise.specs.Vocabulary.{Lifetime, Lines, epoch_by, last_cut, life_by, lines_from, recorded_by}
 use Rattle.qc_text.specs.Deeds.{deed_of}
 use Rattle.qc_text.specs.Holdings.{held_by}
 use Rattle.qc_text.specs.declared.lifetimes.Lifetime.{Lifetime as Present}

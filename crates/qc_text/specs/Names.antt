@@ -1,20 +1,25 @@
--- What proofs, and other crates, name of this crate's definitions.
-pub use Rattle.qc_text.specs.Asked.{asked}
-pub use Rattle.qc_text.specs.Deeds.{deed_of, deeds_at, envelope_in}
-pub use Rattle.qc_text.specs.Holders.{AreOnce, IsSetOf, ends_post, holders_from, holders_with, is_holder, is_holding}
-pub use Rattle.qc_text.specs.Holders.{names_some, sends_grant, with_holder, without_holder}
-pub use Rattle.qc_text.specs.Holdings.{held_by, parted, promised_in}
-pub use Rattle.qc_text.specs.Keys.{commit_of}
-pub use Rattle.qc_text.specs.Lifetimes.{epoch_in, held_in, life_in, lines_in, present}
-pub use Rattle.qc_text.specs.Log.{commit_line, log_text, op_text, ops_text}
-pub use Rattle.qc_text.specs.Parts.{member_text}
-pub use Rattle.qc_text.specs.Pieces.{joined, piece_text}
-pub use Rattle.qc_text.specs.Prepares.{AreLast}
-pub use Rattle.qc_text.specs.Promises.{promised_at}
-pub use Rattle.qc_text.specs.Records.{epoch_at, life_at}
-pub use Rattle.qc_text.specs.Replies.{replies_text, reply_by, reply_in, reply_line, reply_lines, told_of}
-pub use Rattle.qc_text.specs.Sites.{down_after, down_by, is_down, site_line, sites_text}
-pub use Rattle.qc_text.specs.States.{state_line, states_text}
-pub use Rattle.qc_text.specs.Summary.{greatest_stamp, number_line, ops_of, summary_of, tells_aborted, with_stamp}
-pub use Rattle.qc_text.specs.Text.{text_of}
-pub use Rattle.qc_text.specs.Views.{view_asked}
+-- Names as the declaration gives them.
+use Rattle.std.specs.Prelude.{ℕ, List, [], Option, slice_get, unwrap_or, option_and_then}
+use Rattle.std.specs.Option.{option_map_or}
+use Rattle.qc_decl.specs.declared.declaration.Declaration.{Declaration}
+use Rattle.qc_decl.specs.declared.declaration.KindNames.{KindNames}
+
+-- the name with this number; no byte where there is none
+abbrev pub name_at : List (List ℕ) → ℕ → List ℕ
+name_at names k = unwrap_or (slice_get names k) []
+
+-- the names of an object's type
+abbrev pub names_of : Declaration → ℕ → Option KindNames
+names_of decl object = option_and_then (λ kind. slice_get decl.kind_names kind) (slice_get decl.objects object)
+
+abbrev pub object_name : Declaration → ℕ → List ℕ
+object_name decl object = name_at decl.object_names object
+
+abbrev pub invocation_name : Declaration → ℕ → ℕ → List ℕ
+invocation_name decl object inv = option_map_or (λ (n : KindNames). name_at n.invs inv) (names_of decl object) []
+
+abbrev pub response_name : Declaration → ℕ → ℕ → List ℕ
+response_name decl object resp = option_map_or (λ (n : KindNames). name_at n.resps resp) (names_of decl object) []
+
+abbrev pub state_name : Declaration → ℕ → ℕ → List ℕ
+state_name decl object state = option_map_or (λ (n : KindNames). name_at n.states state) (names_of decl object) []

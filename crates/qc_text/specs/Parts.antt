@@ -3,8 +3,8 @@ use Rattle.std.specs.Prelude.{ℕ, ◌-◌, Bool, if◌then◌else◌, List, [],
 use Rattle.std.specs.List.{list_any, range_with_len}
 use Rattle.qc_stamp.specs.declared.stamp.Stamp.{Stamp}
 use Rattle.qc_stamp.specs.declared.stamp.TxId.{TxId}
-use Rattle.qc_table.specs.Names.{has}
-use Rattle.qc_decl.specs.Names.{is_client, is_site, most_sites}
+use Rattle.qc_table.specs.Vocabulary.{has}
+use Rattle.qc_decl.specs.Vocabulary.{is_client, is_site, most_sites}
 use Rattle.qc_decl.specs.declared.declaration.Declaration.{Declaration}
 
 -- a stamp as clock and client, `1.0`

@@ -1,8 +1,8 @@
 -- What a site's deed does to what its records show.
 use Rattle.std.specs.Prelude.{ℕ}
 use Rattle.std.specs.Option.{option_map_or}
-use Rattle.qc_msg.specs.Names.{Deed, written_in}
-use Rattle.qc_promise.specs.Names.{epoch_by, life_by}
+use Rattle.qc_msg.specs.Vocabulary.{Deed, written_in}
+use Rattle.qc_promise.specs.Vocabulary.{epoch_by, life_by}
 
 abbrev pub life_at : ℕ → Deed → ℕ
 life_at life d = option_map_or (life_by life) (written_in d) life

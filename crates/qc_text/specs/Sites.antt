@@ -5,8 +5,8 @@ use Rattle.std.specs.List.{range_with_len}
 use Rattle.qc_decl.specs.declared.declaration.Declaration.{Declaration}
 use Rattle.qc_msg.specs.declared.step.Step.{Step}
 use Rattle.qc_msg.specs.declared.step.Step.TheVariants as steps
-use Rattle.qc_msg.specs.Names.{Deed, Entry, deeds, own}
-use Rattle.qc_promise.specs.Names.{epoch_shown, held_shown, life_shown, log_shown}
+use Rattle.qc_msg.specs.Vocabulary.{Deed, Entry, deeds, own}
+use Rattle.qc_promise.specs.Vocabulary.{epoch_shown, held_shown, life_shown, log_shown}
 use Rattle.qc_text.specs.Parts.{site_text}
 
 -- whether an actor is down: it fell, and hasn't risen since; one whose journal is damaged doesn't rise

@@ -8,11 +8,11 @@ use Rattle.std.specs.Str.{bytes_eq}
 use Rattle.qc_decl.specs.declared.declaration.Declaration.{Declaration}
 use Rattle.qc_entry.specs.declared.line.Op.{Op}
 use Rattle.qc_entry.specs.declared.record.Commit.{Commit}
-use Rattle.qc_msg.specs.Names.{Entry}
+use Rattle.qc_msg.specs.Vocabulary.{Entry}
 use Rattle.qc_msg.specs.declared.reply.Reply.{Reply}
 use Rattle.qc_msg.specs.declared.reply.Reply.TheVariants as replies
-use Rattle.qc_promise.specs.Names.{committed}
-use Rattle.qc_stamp.specs.Names.{stamp_cmp}
+use Rattle.qc_promise.specs.Vocabulary.{committed}
+use Rattle.qc_stamp.specs.Vocabulary.{stamp_cmp}
 use Rattle.qc_stamp.specs.declared.stamp.Stamp.{Stamp}
 use Rattle.qc_text.specs.Names.{invocation_name, response_name}
 use Rattle.qc_text.specs.Parts.{stamp_text}

@@ -1,9 +1,9 @@
 -- The whole text of a run.
 use Rattle.std.specs.Prelude.{ℕ, List, ◌++◌}
 use Rattle.qc_decl.specs.declared.declaration.Declaration.{Declaration}
-use Rattle.qc_msg.specs.Names.{Entry}
-use Rattle.theory_onecopy.specs.Names.{replay}
-use Rattle.qc_promise.specs.Names.{committed}
+use Rattle.qc_msg.specs.Vocabulary.{Entry}
+use Rattle.theory_onecopy.specs.Vocabulary.{replay}
+use Rattle.qc_promise.specs.Vocabulary.{committed}
 use Rattle.qc_script.specs.declared.script.Script.{Script}
 use Rattle.qc_text.specs.Log.{log_text}
 use Rattle.qc_text.specs.Replies.{replies_text}

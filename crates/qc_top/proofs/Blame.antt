@@ -3,20 +3,20 @@ use Rattle.std.proofs.Common.{◌≡◌, ℕ, Bool, true, false, List, Option, N
 use Rattle.std.proofs.Common.{subst, ◌∙◌, ◌⊎◌, inl, inr}
 use Rattle.std.specs.Option.{option_map_or}
 use Rattle.std.specs.Prelude.{if◌then◌else◌, IsOk}
-use Rattle.qc_accept.specs.Names.{accepted}
+use Rattle.qc_accept.specs.Vocabulary.{accepted}
 use Rattle.qc_accept.specs.declared.fault.DeclFault.{DeclFault}
-use Rattle.qc_decl.specs.Names.{built_in_of}
+use Rattle.qc_decl.specs.Vocabulary.{built_in_of}
 use Rattle.qc_decl.specs.declared.declaration.Declaration.{Declaration}
-use Rattle.qc_outside.specs.Names.{Answer, Rose}
+use Rattle.qc_outside.specs.Vocabulary.{Answer, Rose}
 use Rattle.qc_outside.specs.declared.shelf.ShelfFault.TheVariants as faults
 use Rattle.qc_report.specs.declared.cause.Cause.{Cause}
 use Rattle.qc_report.specs.declared.cause.Cause.TheVariants as causes
-use Rattle.qc_script.specs.Names.{Refusal, script_of}
+use Rattle.qc_script.specs.Vocabulary.{Refusal, script_of}
 use Rattle.qc_script.specs.declared.script.Script.{Script}
 use Rattle.qc_top.proofs.Ends.{the_err}
-use Rattle.qc_top.specs.Names.{Caused, Gives, IsBlamed, IsCounted, accept_work, bytes_of, is_built_in, run_of}
-use Rattle.qc_top.specs.Names.{script_work, spelled_in, unless_a_line_is, unless_refused, work_of, ◌>>=◌}
-use Rattle.qc_words.specs.Names.{AskedOf, Check, Load, Run}
+use Rattle.qc_top.specs.Vocabulary.{Caused, Gives, IsBlamed, IsCounted, accept_work, bytes_of, is_built_in, run_of}
+use Rattle.qc_top.specs.Vocabulary.{script_work, spelled_in, unless_a_line_is, unless_refused, work_of, ◌>>=◌}
+use Rattle.qc_words.specs.Vocabulary.{AskedOf, Check, Load, Run}
 use Rattle.qc_top.specs.declared.answers.Answers.{Answers}
 use Rattle.qc_top.specs.declared.work.Work.{Work}
 use Rattle.qc_top.specs.declared.work.Work.TheVariants as works

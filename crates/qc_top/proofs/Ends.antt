@@ -2,27 +2,27 @@
 use Rattle.std.proofs.Common.{◌≡◌, ◌⊎◌, ◌∙◌, ℕ, false, List, [], Option, Some, None, Result, Ok, Err, inl, inr, refl}
 use Rattle.std.proofs.Common.{sym, subst, arith}
 use Rattle.std.specs.Prelude.{replicate}
-use Rattle.qc_core.specs.Names.{IsLawfulWithFalls}
-use Rattle.laws_due.specs.Names.{IsWholeWithFalls}
-use Rattle.qc_decl.specs.Names.{actors}
+use Rattle.qc_core.specs.Vocabulary.{IsLawfulWithFalls}
+use Rattle.laws_due.specs.Vocabulary.{IsWholeWithFalls}
+use Rattle.qc_decl.specs.Vocabulary.{actors}
 use Rattle.qc_decl.specs.declared.declaration.Declaration.{Declaration}
-use Rattle.qc_msg.specs.Names.{Entry}
-use Rattle.qc_node.specs.Names.{fits_of}
+use Rattle.qc_msg.specs.Vocabulary.{Entry}
+use Rattle.qc_node.specs.Vocabulary.{fits_of}
 use Rattle.qc_outside.specs.declared.rack.RackFault.{RackFault}
 use Rattle.qc_outside.specs.declared.rack.RackFault.TheVariants as racks
 use Rattle.qc_report.specs.declared.cause.Cause.{Cause}
 use Rattle.qc_report.specs.declared.cause.Cause.TheVariants as causes
 use Rattle.qc_outside.specs.declared.shelf.ShelfFault.TheVariants as faults
-use Rattle.qc_promise.specs.Names.{Kept}
-use Rattle.qc_script.specs.Names.{RunWithFalls, begins}
+use Rattle.qc_promise.specs.Vocabulary.{Kept}
+use Rattle.qc_script.specs.Vocabulary.{RunWithFalls, begins}
 use Rattle.qc_script.specs.declared.script.Script.{Script}
 use Rattle.qc_top.proofs.Right.{work_is}
-use Rattle.qc_fabric.specs.Names.{IsBelow}
+use Rattle.qc_fabric.specs.Vocabulary.{IsBelow}
 use Rattle.qc_top.proofs.Runs.{run_atomic, run_due, run_known}
-use Rattle.qc_top.specs.Names.{AreStatesKnown, Caused, Gives, IsFullCause, IsNoRack, IsNoShelf, IsRan, IsRefusal}
-use Rattle.qc_top.specs.Names.{IsRight, IsRunnable, IsTold, Leaves, LeavesRun, OnPrinted, PrintsBetween, cause_of_rack}
-use Rattle.qc_top.specs.Names.{cause_of_words, output_of, work_of}
-use Rattle.qc_words.specs.Names.{AskedOf, IsTold as IsToldOf, asked}
+use Rattle.qc_top.specs.Vocabulary.{AreStatesKnown, Caused, Gives, IsFullCause, IsNoRack, IsNoShelf, IsRan, IsRefusal}
+use Rattle.qc_top.specs.Vocabulary.{IsRight, IsRunnable, IsTold, Leaves, LeavesRun, OnPrinted, PrintsBetween}
+use Rattle.qc_top.specs.Vocabulary.{cause_of_rack, cause_of_words, output_of, work_of}
+use Rattle.qc_words.specs.Vocabulary.{AskedOf, IsTold as IsToldOf, asked}
 use Rattle.qc_words.specs.declared.fault.WordsFault.{WordsFault}
 use Rattle.qc_words.specs.declared.fault.WordsFault.TheVariants as words_faults
 use Rattle.qc_top.specs.declared.work.Output.{Output}

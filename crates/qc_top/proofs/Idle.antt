@@ -3,17 +3,17 @@ use Rattle.std.proofs.Common.{◌≡◌, ◌≤◌, ◌<◌, ◌-◌, ◌^◌, �
 use Rattle.std.proofs.Common.{◌∙◌, arith}
 use Rattle.std.specs.Prelude.{IsSome}
 use Rattle.qc_decl.specs.declared.declaration.Declaration.{Declaration}
-use Rattle.qc_list.specs.Names.{In}
-use Rattle.qc_msg.specs.Names.{Entry}
-use Rattle.qc_node.specs.Names.{AreEmpty, HoldJournals, IsRefused}
-use Rattle.qc_outside.specs.Names.{Places}
+use Rattle.qc_list.specs.Vocabulary.{In}
+use Rattle.qc_msg.specs.Vocabulary.{Entry}
+use Rattle.qc_node.specs.Vocabulary.{AreEmpty, HoldJournals, IsRefused}
+use Rattle.qc_outside.specs.Vocabulary.{Places}
 use Rattle.qc_outside.specs.declared.rack.RackFault.{RackFault}
 use Rattle.qc_outside.specs.declared.rack.RackFault.TheVariants as racks
-use Rattle.qc_promise.specs.Names.{Arm, Kept, Spent, tally}
+use Rattle.qc_promise.specs.Vocabulary.{Arm, Kept, Spent, tally}
 use Rattle.qc_report.specs.declared.cause.Cause.{Cause}
 use Rattle.qc_report.specs.declared.cause.Cause.TheVariants as causes
-use Rattle.qc_script.specs.Names.{phase_of}
-use Rattle.qc_top.specs.Names.{Caused, FillsPlaces, IsNoRack, IsRackBlamed, IsUsed, LeavesRack, cause_of_rack}
+use Rattle.qc_script.specs.Vocabulary.{phase_of}
+use Rattle.qc_top.specs.Vocabulary.{Caused, FillsPlaces, IsNoRack, IsRackBlamed, IsUsed, LeavesRack, cause_of_rack}
 use Rattle.qc_top.specs.declared.work.Work.{Work}
 use Rattle.qc_top.specs.declared.work.Work.TheVariants as works
 

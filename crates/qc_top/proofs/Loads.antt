@@ -1,15 +1,15 @@
 -- What becomes of a load's script: it is read over `@three`, as the load.
 use Rattle.std.proofs.Common.{◌≡◌, ◌∙◌, ◌⊎◌, ℕ, List, Ok, Err, inl, inr, sym, ap}
-use Rattle.qc_decl.specs.Names.{three}
+use Rattle.qc_decl.specs.Vocabulary.{three}
 use Rattle.qc_decl.specs.declared.declaration.Declaration.{Declaration}
 use Rattle.qc_gen.proofs.Loads.{loads_read}
-use Rattle.qc_gen.specs.Names.{load_of, load_text}
+use Rattle.qc_gen.specs.Vocabulary.{load_of, load_text}
 use Rattle.qc_report.specs.declared.cause.Cause.{Cause}
 use Rattle.qc_report.specs.declared.cause.Cause.TheVariants as causes
-use Rattle.qc_script.specs.Names.{script_of}
+use Rattle.qc_script.specs.Vocabulary.{script_of}
 use Rattle.qc_script.specs.declared.script.Script.{Script}
 use Rattle.qc_top.proofs.Right.{inner}
-use Rattle.qc_top.specs.Names.{Caused, load_work, unless_a_line_is}
+use Rattle.qc_top.specs.Vocabulary.{Caused, load_work, unless_a_line_is}
 use Rattle.qc_top.specs.declared.work.Work.{Work}
 use Rattle.qc_top.specs.declared.work.Work.TheVariants.{Run}
 use Rattle.qc_top.specs.declared.work.Output.TheVariants.{Summary}

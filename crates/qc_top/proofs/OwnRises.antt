@@ -3,9 +3,9 @@ use Rattle.std.proofs.Common.{◌≡◌, ℕ, ◌+◌, ◌==◌, ◌&&◌, Bool,
 use Rattle.std.proofs.Common.{Some, None, option_to_list, slice_get, refl, subst, eqb-true}
 use Rattle.std.specs.List.{AllByRecursion as Every}
 use Rattle.qc_list.proofs.Members.{every-append, every-weaker}
-use Rattle.qc_core.specs.Names.{IsLawfulWithFalls}
+use Rattle.qc_core.specs.Vocabulary.{IsLawfulWithFalls}
 use Rattle.qc_decl.specs.declared.declaration.Declaration.{Declaration}
-use Rattle.laws_turns.specs.Names.{GivesOwn, IsOwnRecord, RiseWithOwn}
+use Rattle.laws_turns.specs.Vocabulary.{GivesOwn, IsOwnRecord, RiseWithOwn}
 use Rattle.qc_msg.specs.declared.message.Envelope.{Envelope}
 use Rattle.qc_msg.specs.declared.record.Record.{Record}
 use Rattle.qc_msg.specs.declared.record.Record.TheVariants as records
@@ -21,12 +21,12 @@ use Rattle.qc_msg.specs.declared.turn.Appended.{Appended}
 use Rattle.qc_msg.specs.declared.turn.Appended.TheVariants.{Done, Failed, Stopped}
 use Rattle.qc_msg.specs.declared.turn.Posting.{Posting}
 use Rattle.qc_msg.specs.declared.turn.Turn.{Turn}
-use Rattle.qc_msg.specs.Names.{Entry, by, deed_at, deeds, envelope_of, fell, heard, mail, posted_as, sents, step_of}
-use Rattle.qc_msg.specs.Names.{told, wrote}
-use Rattle.qc_node.specs.Names.{fits_of}
-use Rattle.qc_record.specs.Names.{has_own_stamp, is_legal}
-use Rattle.qc_script.specs.Names.{RunsWithFalls, begins, control, controller_step, damaged, falls, phase, posts, rises}
-use Rattle.qc_script.specs.Names.{takes, unopened}
+use Rattle.qc_msg.specs.Vocabulary.{Entry, by, deed_at, deeds, envelope_of, fell, heard, mail, posted_as, sents}
+use Rattle.qc_msg.specs.Vocabulary.{step_of, told, wrote}
+use Rattle.qc_node.specs.Vocabulary.{fits_of}
+use Rattle.qc_record.specs.Vocabulary.{has_own_stamp, is_legal}
+use Rattle.qc_script.specs.Vocabulary.{RunsWithFalls, begins, control, controller_step, damaged, falls, phase, posts}
+use Rattle.qc_script.specs.Vocabulary.{rises, takes, unopened}
 use Rattle.qc_script.specs.declared.script.Script.{Script}
 
 -- a record that has a spelling names a stamp of its transaction's own client

@@ -3,16 +3,16 @@ use Rattle.std.proofs.Common.{ℕ, ◌+◌, List, [], ◌∷◌, Option, ap}
 use Rattle.std.specs.Prelude.{is_some}
 use Rattle.std.specs.List.{AllByRecursion as Every}
 use Rattle.qc_list.proofs.Members.{every-weaker}
-use Rattle.laws_due.specs.Names.{AllRisePlanned, IsPlanned, IsRecordPlanned, RisesPlanned}
-use Rattle.laws_bounds.specs.Names.{AllFit, AllRiseFit, risen_at}
+use Rattle.laws_due.specs.Vocabulary.{AllRisePlanned, IsPlanned, IsRecordPlanned, RisesPlanned}
+use Rattle.laws_bounds.specs.Vocabulary.{AllFit, AllRiseFit, risen_at}
 use Rattle.qc_decl.specs.declared.declaration.Declaration.{Declaration}
-use Rattle.qc_fit.specs.Names.{HasPlan, IsFit}
+use Rattle.qc_fit.specs.Vocabulary.{HasPlan, IsFit}
 use Rattle.qc_fit.proofs.Words.{as_said}
 use Rattle.qc_msg.specs.declared.record.Record.{Record}
 use Rattle.qc_msg.specs.declared.record.Record.TheVariants as records
 use Rattle.qc_msg.specs.declared.step.Step.{Step}
 use Rattle.qc_msg.specs.declared.step.Step.TheVariants as steps
-use Rattle.qc_msg.specs.Names.{Entry}
+use Rattle.qc_msg.specs.Vocabulary.{Entry}
 use Rattle.qc_plan.specs.declared.plan.Plan.{Plan}
 
 planned : (decl : Declaration) (epoch : ℕ) → HasPlan decl epoch → IsPlanned decl epoch

@@ -5,21 +5,21 @@ use Rattle.std.specs.Option.{option_map_or}
 use Rattle.std.specs.Prelude.{if◌then◌else◌, codes}
 use Rattle.std.specs.Str.{bytes_eq}
 use Rattle.qc_accept.proofs.Accepting.{accepted_is}
-use Rattle.qc_accept.specs.Names.{accepted}
+use Rattle.qc_accept.specs.Vocabulary.{accepted}
 use Rattle.qc_accept.specs.declared.fault.DeclFault.{DeclFault}
 use Rattle.qc_decl.proofs.BuiltInRules.{one_accepted, three_accepted}
-use Rattle.qc_decl.specs.Names.{IsAccepted, built_in_of, one, three}
+use Rattle.qc_decl.specs.Vocabulary.{IsAccepted, built_in_of, one, three}
 use Rattle.qc_decl.specs.declared.declaration.Declaration.{Declaration}
-use Rattle.qc_outside.specs.Names.{Answer}
+use Rattle.qc_outside.specs.Vocabulary.{Answer}
 use Rattle.qc_outside.specs.declared.shelf.ShelfFault.TheVariants as faults
 use Rattle.qc_report.specs.declared.cause.Cause.TheVariants as causes
 use Rattle.qc_script.proofs.SoundScripts.{script_names}
-use Rattle.qc_script.specs.Names.{IsScriptFor, Refusal, script_of}
+use Rattle.qc_script.specs.Vocabulary.{IsScriptFor, Refusal, script_of}
 use Rattle.qc_script.specs.declared.script.Script.{Script}
-use Rattle.qc_top.specs.Names.{Caused, IsRight, accept_work, bytes_of, is_built_in, load_work, run_of, script_work}
-use Rattle.qc_top.specs.Names.{spelled_in, unless_a_line_is, unless_refused, work_of, ◌>>=◌}
-use Rattle.qc_words.specs.Names.{AskedOf, Check, Load, Run}
-use Rattle.qc_gen.specs.Names.{load_of, load_text}
+use Rattle.qc_top.specs.Vocabulary.{Caused, IsRight, accept_work, bytes_of, is_built_in, load_work, run_of, script_work}
+use Rattle.qc_top.specs.Vocabulary.{spelled_in, unless_a_line_is, unless_refused, work_of, ◌>>=◌}
+use Rattle.qc_words.specs.Vocabulary.{AskedOf, Check, Load, Run}
+use Rattle.qc_gen.specs.Vocabulary.{load_of, load_text}
 use Rattle.qc_gen.proofs.Loads.{loads_read}
 use Rattle.qc_top.specs.declared.answers.Answers.{Answers}
 use Rattle.qc_top.specs.declared.work.Work.{Work}

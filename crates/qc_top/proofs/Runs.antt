@@ -5,29 +5,29 @@ use Rattle.std.specs.Prelude.{replicate}
 use Rattle.laws_due.proofs.AccountDeclared.{asks_declared, asks_epochs}
 use Rattle.laws_bounds.proofs.FitsNamed.{asks_known}
 use Rattle.laws_bounds.proofs.Rising.{run_rises_fit}
-use Rattle.qc_core.specs.Names.{IsLawfulWithFalls}
-use Rattle.qc_decl.specs.Names.{actors}
+use Rattle.qc_core.specs.Vocabulary.{IsLawfulWithFalls}
+use Rattle.qc_decl.specs.Vocabulary.{actors}
 use Rattle.qc_decl.specs.declared.declaration.Declaration.{Declaration}
 use Rattle.laws_due.proofs.AllDue.{runs_due}
 use Rattle.laws_due.proofs.WholeLaw.{is_whole}
-use Rattle.laws_due.specs.Names.{IsClosedWithFalls, IsWholeWithFalls}
-use Rattle.qc_fabric.specs.Names.{IsBelow, before_last_event}
+use Rattle.laws_due.specs.Vocabulary.{IsClosedWithFalls, IsWholeWithFalls}
+use Rattle.qc_fabric.specs.Vocabulary.{IsBelow, before_last_event}
 use Rattle.qc_fabric.proofs.Limits.{first_reached, none_reached}
-use Rattle.qc_link.specs.Names.{most_actors}
-use Rattle.qc_msg.specs.Names.{Entry}
-use Rattle.qc_node.specs.Names.{HasEnded, IsScriptEnd, fits_of}
+use Rattle.qc_link.specs.Vocabulary.{most_actors}
+use Rattle.qc_msg.specs.Vocabulary.{Entry}
+use Rattle.qc_node.specs.Vocabulary.{HasEnded, IsScriptEnd, fits_of}
 use Rattle.qc_node.specs.declared.ends.DriveEnd.{DriveEnd}
 use Rattle.qc_node.specs.declared.ends.DriveEnd.TheVariants as ends
 use Rattle.theory_onecopy.proofs.Copies.{replays_are_one_copy}
-use Rattle.qc_promise.specs.Names.{Atomic, Due, Kept, committed}
+use Rattle.qc_promise.specs.Vocabulary.{Atomic, Due, Kept, committed}
 use Rattle.laws_reach.proofs.RunLaws.{committed_apart, committed_one_copy}
-use Rattle.qc_script.specs.Names.{RunWithFalls, RunsWithFalls}
+use Rattle.qc_script.specs.Vocabulary.{RunWithFalls, RunsWithFalls}
 use Rattle.qc_script.specs.declared.script.Script.{Script}
 use Rattle.laws_reach.proofs.SightLaw.{records_follow_what_was_seen_through_falls}
 use Rattle.laws_reach.proofs.ToldRunLaws.{dealt, told}
 use Rattle.qc_top.proofs.OwnRises.{run_own}
 use Rattle.qc_top.proofs.Planned.{rises_planned}
-use Rattle.qc_top.specs.Names.{AreStatesKnown, IsEnd, IsRunnable}
+use Rattle.qc_top.specs.Vocabulary.{AreStatesKnown, IsEnd, IsRunnable}
 
 module _ (decl : Declaration) (script : Script) (ready : IsRunnable decl script) (h : List Entry)
     (run : RunWithFalls (IsLawfulWithFalls decl) (fits_of decl) decl script h) where

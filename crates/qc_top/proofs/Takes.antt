@@ -4,17 +4,17 @@ use Rattle.std.proofs.Common.{ap, sym, subst, ◌∙◌}
 use Rattle.std.specs.Option.{option_map_or}
 use Rattle.std.specs.Result.{IsErrAnd}
 use Rattle.std.specs.Prelude.{if◌then◌else◌, length}
-use Rattle.qc_accept.specs.Names.{accepted}
+use Rattle.qc_accept.specs.Vocabulary.{accepted}
 use Rattle.qc_accept.specs.declared.fault.DeclFault.{DeclFault}
-use Rattle.qc_decl.specs.Names.{built_in_of}
+use Rattle.qc_decl.specs.Vocabulary.{built_in_of}
 use Rattle.qc_decl.specs.declared.declaration.Declaration.{Declaration}
-use Rattle.qc_outside.specs.Names.{Answer, Files, IsTaken}
+use Rattle.qc_outside.specs.Vocabulary.{Answer, Files, IsTaken}
 use Rattle.qc_outside.specs.declared.shelf.ShelfFault.TheVariants as faults
 use Rattle.qc_report.specs.declared.cause.Cause.{Cause}
 use Rattle.qc_report.specs.declared.cause.Cause.TheVariants as causes
-use Rattle.qc_top.specs.Names.{AreAnswers, Caused, Gives, GivesSource, IsAnswerFor, IsShort, bytes_of, is_built_in}
-use Rattle.qc_top.specs.Names.{most_script_bytes, script_file, spelled_in, ◌>>=◌}
-use Rattle.qc_words.specs.Names.{AskedOf}
+use Rattle.qc_top.specs.Vocabulary.{AreAnswers, Caused, Gives, GivesSource, IsAnswerFor, IsShort, bytes_of, is_built_in}
+use Rattle.qc_top.specs.Vocabulary.{most_script_bytes, script_file, spelled_in, ◌>>=◌}
+use Rattle.qc_words.specs.Vocabulary.{AskedOf}
 use Rattle.qc_top.specs.declared.answers.Answers.{Answers}
 use Rattle.qc_top.specs.declared.work.Source.{Source}
 

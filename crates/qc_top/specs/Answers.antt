@@ -2,9 +2,9 @@
 use Rattle.std.specs.Prelude.{◌≡◌, ℕ, ◌≤◌, Bool, false, ◌==◌, ◌||◌, is_ok, List, [], ◌∷◌, Option, None, Some, Err, IfOk}
 use Rattle.std.specs.Prelude.{if◌then◌else◌, length}
 pub use Rattle.qc_decl.specs.Limits.{most_declaration_bytes, most_script_bytes}
-use Rattle.qc_outside.specs.Names.{Answer, Files, IsAnswer, Rose}
+use Rattle.qc_outside.specs.Vocabulary.{Answer, Files, IsAnswer, Rose}
 use Rattle.qc_outside.specs.declared.shelf.ShelfFault.TheVariants as faults
-use Rattle.qc_words.specs.Names.{AskedOf, Check, Load, Run, Text}
+use Rattle.qc_words.specs.Vocabulary.{AskedOf, Check, Load, Run, Text}
 use Rattle.qc_top.specs.declared.answers.Answers.{Answers}
 
 -- a name that begins with `@` (64) is no file's

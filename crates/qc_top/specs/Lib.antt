@@ -4,4 +4,4 @@ pub mod Work
 pub mod Racks
 pub mod Source
 pub mod Top
-pub mod Names
+pub mod Vocabulary

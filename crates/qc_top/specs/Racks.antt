@@ -1,15 +1,15 @@
 -- What a call does with a rack: disks are taken for a run alone, and go back to their places.
 use Rattle.std.specs.Prelude.{◌≡◌, ◌≢◌, ℕ, ◌-◌, ◌^◌, ◌<◌, ◌≤◌, List, Option, Ok, Err, IsSome}
 use Rattle.qc_decl.specs.declared.declaration.Declaration.{Declaration}
-use Rattle.qc_msg.specs.Names.{Entry}
-use Rattle.qc_node.specs.Names.{AreEmpty, HoldJournals, IsRefused}
-use Rattle.qc_outside.specs.Names.{Places}
+use Rattle.qc_msg.specs.Vocabulary.{Entry}
+use Rattle.qc_node.specs.Vocabulary.{AreEmpty, HoldJournals, IsRefused}
+use Rattle.qc_outside.specs.Vocabulary.{Places}
 use Rattle.qc_outside.specs.declared.rack.RackFault.{RackFault}
 use Rattle.qc_outside.specs.declared.rack.RackFault.TheVariants as racks
-use Rattle.qc_promise.specs.Names.{Kept, Spent}
+use Rattle.qc_promise.specs.Vocabulary.{Kept, Spent}
 use Rattle.qc_report.specs.declared.cause.Cause.{Cause}
 use Rattle.qc_report.specs.declared.cause.Cause.TheVariants as causes
-use Rattle.qc_script.specs.Names.{phase_of}
+use Rattle.qc_script.specs.Vocabulary.{phase_of}
 use Rattle.qc_top.specs.Work.{Caused}
 use Rattle.qc_top.specs.declared.work.Work.{Work}
 use Rattle.qc_top.specs.declared.work.Work.TheVariants as works

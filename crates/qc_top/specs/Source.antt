@@ -1,8 +1,8 @@
 -- Where a declaration stands, as code holds it.
 use Rattle.std.specs.Prelude.{◌≡◌, Result, Ok, Err, ◌⊎◌}
-use Rattle.qc_accept.specs.Names.{accepted}
+use Rattle.qc_accept.specs.Vocabulary.{accepted}
 use Rattle.qc_accept.specs.declared.fault.DeclFault.{DeclFault}
-use Rattle.qc_decl.specs.Names.{IsAccepted, IsNamed}
+use Rattle.qc_decl.specs.Vocabulary.{IsAccepted, IsNamed}
 use Rattle.qc_decl.specs.declared.declaration.Declaration.{Declaration}
 use Rattle.qc_report.specs.declared.cause.Cause.{Cause}
 use Rattle.qc_report.specs.declared.cause.Cause.TheVariants as causes

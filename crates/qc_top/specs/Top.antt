@@ -1,25 +1,25 @@
 -- What the top call leaves: a run of the words' script and its text, a word on a declaration, or a cause that is due.
 use Rattle.std.specs.Prelude.{◌≡◌, ℕ, Bool, ◌++◌, List, [], Option, Some, None, Ok, Err, IsSome, ◌⊎◌}
-use Rattle.qc_promise.specs.Names.{Atomic, Due, Kept, committed}
-use Rattle.qc_core.specs.Names.{IsLawfulWithFalls}
-use Rattle.laws_due.specs.Names.{IsWholeWithFalls}
-use Rattle.theory_onecopy.specs.Names.{replay}
-use Rattle.qc_decl.specs.Names.{IsAccepted}
+use Rattle.qc_promise.specs.Vocabulary.{Atomic, Due, Kept, committed}
+use Rattle.qc_core.specs.Vocabulary.{IsLawfulWithFalls}
+use Rattle.laws_due.specs.Vocabulary.{IsWholeWithFalls}
+use Rattle.theory_onecopy.specs.Vocabulary.{replay}
+use Rattle.qc_decl.specs.Vocabulary.{IsAccepted}
 use Rattle.qc_decl.specs.declared.declaration.Declaration.{Declaration}
-use Rattle.qc_msg.specs.Names.{Entry}
-use Rattle.qc_outside.specs.Names.{Answer, Files, Places}
+use Rattle.qc_msg.specs.Vocabulary.{Entry}
+use Rattle.qc_outside.specs.Vocabulary.{Answer, Files, Places}
 use Rattle.qc_outside.specs.declared.rack.RackFault.{RackFault}
 use Rattle.qc_outside.specs.declared.rack.RackFault.TheVariants as racks
 use Rattle.qc_outside.specs.declared.shelf.ShelfFault.TheVariants as faults
-use Rattle.qc_report.specs.Names.{accepted_text_of}
+use Rattle.qc_report.specs.Vocabulary.{accepted_text_of}
 use Rattle.qc_report.specs.declared.cause.Cause.{Cause}
 use Rattle.qc_report.specs.declared.cause.Cause.TheVariants as causes
-use Rattle.qc_text.specs.Names.{summary_of, text_of}
-use Rattle.qc_script.specs.Names.{RunWithFalls}
+use Rattle.qc_text.specs.Vocabulary.{summary_of, text_of}
+use Rattle.qc_script.specs.Vocabulary.{RunWithFalls}
 use Rattle.qc_script.specs.declared.script.Script.{Script}
-use Rattle.qc_fabric.specs.Names.{HasReached, IsBelow}
+use Rattle.qc_fabric.specs.Vocabulary.{HasReached, IsBelow}
 pub use Rattle.qc_node.specs.Runnable.{IsRunnable}
-use Rattle.qc_node.specs.Names.{fits_of}
+use Rattle.qc_node.specs.Vocabulary.{fits_of}
 use Rattle.qc_node.specs.declared.ends.DriveEnd.{DriveEnd}
 use Rattle.qc_node.specs.declared.ends.DriveEnd.TheVariants as ends
 use Rattle.qc_top.specs.Answers.{AreAnswers}
@@ -31,7 +31,7 @@ use Rattle.qc_top.specs.declared.work.Work.{Work}
 use Rattle.qc_top.specs.declared.work.Work.TheVariants as works
 use Rattle.qc_top.specs.declared.work.Output.{Output}
 use Rattle.qc_top.specs.declared.work.Output.TheVariants as outputs
-use Rattle.qc_words.specs.Names.{AskedOf, Text, asked}
+use Rattle.qc_words.specs.Vocabulary.{AskedOf, Text, asked}
 use Rattle.qc_words.specs.declared.fault.WordsFault.{WordsFault}
 use Rattle.qc_words.specs.declared.fault.WordsFault.TheVariants as words_faults
 

@@ -1,6 +1,6 @@
 -- The parts of what is asked: the script's name, how many workers are to run it, and the folder of the disks.
 use Rattle.std.specs.Prelude.{ℕ, List, Option, Some, None, option_and_then}
-use Rattle.qc_words.specs.Names.{AskedOf, Check, Load, Run, Text, asked}
+use Rattle.qc_words.specs.Vocabulary.{AskedOf, Check, Load, Run, Text, asked}
 
 abbrev pub script_name : AskedOf → Option Text
 script_name (Check decl) = None

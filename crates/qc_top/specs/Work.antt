@@ -1,17 +1,17 @@
 -- What a call has to do: what its words come to, by what the shelf answered for the files that they name.
 use Rattle.std.specs.Prelude.{◌≡◌, ℕ, Bool, true, false, List, Result, Ok, Err, IsOk, if◌then◌else◌, ◌⊎◌}
 use Rattle.std.specs.Option.{option_map_or}
-use Rattle.qc_accept.specs.Names.{accepted}
+use Rattle.qc_accept.specs.Vocabulary.{accepted}
 use Rattle.qc_accept.specs.declared.fault.DeclFault.{DeclFault}
 use Rattle.qc_decl.specs.declared.declaration.Declaration.{Declaration}
-use Rattle.qc_decl.specs.Names.{built_in_of, three}
-use Rattle.qc_gen.specs.Names.{load_of}
-use Rattle.qc_outside.specs.Names.{Answer}
+use Rattle.qc_decl.specs.Vocabulary.{built_in_of, three}
+use Rattle.qc_gen.specs.Vocabulary.{load_of}
+use Rattle.qc_outside.specs.Vocabulary.{Answer}
 use Rattle.qc_outside.specs.declared.shelf.ShelfFault.{ShelfFault}
 use Rattle.qc_outside.specs.declared.shelf.ShelfFault.TheVariants as faults
 use Rattle.qc_report.specs.declared.cause.Cause.{Cause}
 use Rattle.qc_report.specs.declared.cause.Cause.TheVariants as causes
-use Rattle.qc_script.specs.Names.{Refusal, script_of}
+use Rattle.qc_script.specs.Vocabulary.{Refusal, script_of}
 use Rattle.qc_script.specs.declared.script.Script.{Script}
 use Rattle.qc_script.specs.declared.script.ScriptFault.TheVariants.{Line}
 use Rattle.qc_top.specs.Answers.{is_built_in}
@@ -19,7 +19,7 @@ use Rattle.qc_top.specs.declared.answers.Answers.{Answers}
 use Rattle.qc_top.specs.declared.work.Work.{Work}
 use Rattle.qc_top.specs.declared.work.Work.TheVariants as works
 use Rattle.qc_top.specs.declared.work.Output.TheVariants.{Text, Summary}
-use Rattle.qc_words.specs.Names.{AskedOf, Check, Load, Run}
+use Rattle.qc_words.specs.Vocabulary.{AskedOf, Check, Load, Run}
 
 -- what there is, or the cause for which there is nothing
 abbrev pub Caused : Type 0 → Type 0

@@ -2,10 +2,10 @@
 use Rattle.std.proofs.Common.{◌≡◌, ℕ, List, [], ◌∷◌, Option, Some, None, map, option_and_then, IsSome, sym, ◌∙◌, ap}
 use Rattle.std.proofs.Common.{subst, append_assoc}
 use Rattle.qc_entry.specs.declared.line.Line.{Line}
-use Rattle.qc_table.specs.Names.{Rules, after, first_of, next_state, reached, step_of}
+use Rattle.qc_table.specs.Vocabulary.{Rules, after, first_of, next_state, reached, step_of}
 use Rattle.qc_table.proofs.Numbered.{first_steps}
 use Rattle.qc_table.proofs.Runs.{reached-append}
-use Rattle.qc_view.specs.Names.{answer_in, events_in, state_in, with_own}
+use Rattle.qc_view.specs.Vocabulary.{answer_in, events_in, state_in, with_own}
 use Rattle.qc_view.specs.declared.view.View.{View}
 
 pub own_last : (rules : Rules) (view : View) (event : ℕ)

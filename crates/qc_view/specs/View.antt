@@ -1,8 +1,8 @@
 -- The view of an object: the events that were committed, as far as they are known, and the viewer's own (Herlihy 1986).
 use Rattle.std.specs.Prelude.{ℕ, List, [], ◌∷◌, ◌++◌, Option, map, option_and_then}
 use Rattle.qc_entry.specs.declared.line.Line.{Line}
-use Rattle.qc_entry.specs.Names.{union}
-use Rattle.qc_table.specs.Names.{Rules, after, first_of, step_of}
+use Rattle.qc_entry.specs.Vocabulary.{union}
+use Rattle.qc_table.specs.Vocabulary.{Rules, after, first_of, step_of}
 use Rattle.qc_view.specs.declared.view.View.{View}
 
 -- nothing is known yet

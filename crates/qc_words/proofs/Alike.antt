@@ -4,9 +4,9 @@ use Rattle.std.proofs.Common.{None, not, refl, ap, sym, subst, true≢false}
 use Rattle.std.specs.List.{find, list_all}
 use Rattle.std.specs.Prelude.{is_some, option_and_then, option_map, slice_get}
 use Rattle.std.specs.Str.{bytes_eq}
-use Rattle.qc_words.specs.Names.{Form, Part, Reading, Text, ended, is_among, is_given, is_value, option_of}
-use Rattle.qc_words.specs.Names.{option_or_place, placed, value_of, values_in, waits_for_none, with_named, with_next}
-use Rattle.qc_words.specs.Names.{with_part, with_word, with_words}
+use Rattle.qc_words.specs.Vocabulary.{Form, Part, Reading, Text, ended, is_among, is_given, is_value, option_of}
+use Rattle.qc_words.specs.Vocabulary.{option_or_place, placed, value_of, values_in, waits_for_none, with_named}
+use Rattle.qc_words.specs.Vocabulary.{with_next, with_part, with_word, with_words}
 use Rattle.qc_words.proofs.Said.{then}
 use Rattle.qc_words.proofs.Steps.{part}
 

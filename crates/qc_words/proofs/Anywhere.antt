@@ -9,9 +9,9 @@ use Rattle.std.specs.Str.{bytes_eq}
 use Rattle.std.proofs.lemmas.Option.{cond_some, none-some}
 use Rattle.std.proofs.lemmas.Slice.Eq.{bytes_eq-Decides}
 use Rattle.clap.proofs.WalkLemmas.{both}
-use Rattle.qc_words.specs.Names.{Form, Part, Reading, Text, asked, is_among, is_given, is_joined, is_value, is_whole}
-use Rattle.qc_words.specs.Names.{nothing_read, option_of, option_or_place, placed, value_of, waiting_for, with_named}
-use Rattle.qc_words.specs.Names.{with_part, with_word, with_words}
+use Rattle.qc_words.specs.Vocabulary.{Form, Part, Reading, Text, asked, is_among, is_given, is_joined, is_value}
+use Rattle.qc_words.specs.Vocabulary.{is_whole, nothing_read, option_of, option_or_place, placed, value_of, waiting_for}
+use Rattle.qc_words.specs.Vocabulary.{with_named, with_part, with_word, with_words}
 use Rattle.qc_words.proofs.Clapped.{option_is_long, values_are_plain}
 use Rattle.qc_words.proofs.Said.{behind_same, then}
 use Rattle.qc_words.proofs.Rows.{or_right}

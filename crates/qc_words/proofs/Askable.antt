@@ -9,13 +9,14 @@ use Rattle.std.proofs.lemmas.Bool.{and_from, leb-true}
 use Rattle.std.proofs.lemmas.List.Folds.{list_all-append}
 use Rattle.std.proofs.lemmas.Option.{cond_some, none-some, option_and_then_some, same_Some}
 use Rattle.clap.proofs.WalkLemmas.{both}
-use Rattle.qc_words.specs.Names.{AreFew, AskedOf, Check, Form, IsAskable, IsName, IsNameIfAny, Part, Reading, Text}
-use Rattle.qc_words.specs.Names.{Values, are_given, asked, asked_behind, check_form, check_of, ended, greatest_seed}
-use Rattle.qc_words.specs.Names.{is_among, is_given, is_value, load_form, load_of, most_transactions, most_workers}
-use Rattle.qc_words.specs.Names.{nothing_read, number_within, option_of, option_or_place, parts_of, placed, run_form}
-use Rattle.qc_words.specs.Names.{run_of, value_of, values_in, values_of, waits_for_none, with_named, with_next}
-use Rattle.qc_words.specs.Names.{with_part, with_word, with_words, within, workers_of}
-use Rattle.qc_number.specs.Names.{number_of}
+use Rattle.qc_words.specs.Vocabulary.{AreFew, AskedOf, Check, Form, IsAskable, IsName, IsNameIfAny, Part, Reading, Text}
+use Rattle.qc_words.specs.Vocabulary.{Values, are_given, asked, asked_behind, check_form, check_of, ended}
+use Rattle.qc_words.specs.Vocabulary.{greatest_seed, is_among, is_given, is_value, load_form, load_of}
+use Rattle.qc_words.specs.Vocabulary.{most_transactions, most_workers, nothing_read, number_within, option_of}
+use Rattle.qc_words.specs.Vocabulary.{option_or_place, parts_of, placed, run_form, run_of, value_of, values_in}
+use Rattle.qc_words.specs.Vocabulary.{values_of, waits_for_none, with_named, with_next, with_part, with_word}
+use Rattle.qc_words.specs.Vocabulary.{with_words, within, workers_of}
+use Rattle.qc_number.specs.Vocabulary.{number_of}
 
 bounds : (least most : ℕ) (o : Option ℕ) (n : ℕ) → within least most o ≡ Some n → (least ≤ n) × (n ≤ most)
 bounds least most None n is = absurd (none-some n is)

@@ -6,7 +6,7 @@ use Rattle.std.specs.Str.{bytes_eq}
 use Rattle.clap.specs.Lexer.{long_of, short_of}
 use Rattle.clap.specs.Walk.{Held, Rule, arg_by_id, arg_by_long, idle, most_values, next, option, pushed, reacted}
 use Rattle.clap.specs.Walk.{settled, takes_values, value, word_met}
-use Rattle.qc_words.specs.Names.{Text, is_value, option_of}
+use Rattle.qc_words.specs.Vocabulary.{Text, is_value, option_of}
 
 -- a word that is no flag
 pub record IsPlain (word : Text) : Type 0 where

@@ -3,7 +3,7 @@ use Rattle.std.proofs.Common.{◌≡◌, ◌∙◌, ℕ, suc, ◌+◌, ◌<◌, 
 use Rattle.std.proofs.Common.{drop-cons, get_or, length, map, sym, Bor}
 use Rattle.clap.specs.Simple.{App, on_top, with_rule}
 use Rattle.clap.specs.Walk.{Rule}
-use Rattle.qc_words.specs.Names.{Text, texts_of, with_rules}
+use Rattle.qc_words.specs.Vocabulary.{Text, texts_of, with_rules}
 
 pub with_none : (a : App) → with_rules a [] ≡ a
 with_none a = ap (λ rules. on_top (λ s. record s { rules = rules }) a) (append-nil a.top.rules)

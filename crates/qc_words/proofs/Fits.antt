@@ -9,8 +9,8 @@ use Rattle.std.proofs.lemmas.Slice.Eq.{bytes_eq-Decides}
 use Rattle.clap.specs.Simple.{App, Shape, built, filled, is_simple, names_of, with_index}
 use Rattle.clap.specs.Takes.{default_passes, is_given as has_given}
 use Rattle.clap.specs.Walk.{Row, Rule, arg_by_id, arg_by_index, arg_by_long, is_empty}
-use Rattle.qc_words.specs.Names.{Form, IsForm, Text, check_form, command_for, is_among, load_form, option_rule}
-use Rattle.qc_words.specs.Names.{place_rule, run_form}
+use Rattle.qc_words.specs.Vocabulary.{Form, IsForm, Text, check_form, command_for, is_among, load_form, option_rule}
+use Rattle.qc_words.specs.Vocabulary.{place_rule, run_form}
 use Rattle.qc_words.proofs.Rows.{IsOne}
 
 pub record IsPlace (rules : List Rule) (position : ℕ) (name : Text) : Type 0 where

@@ -11,7 +11,7 @@ use Rattle.clap.specs.declared.builder.action.ArgAction.TheVariants.{Set}
 use Rattle.clap.specs.declared.builder.value_parser.Reading.TheVariants.{AsWritten}
 use Rattle.clap.specs.declared.builder.value_parser.ValueParser.TheVariants as parsers
 use Rattle.clap.specs.declared.parser.matches.ValueSource.TheVariants.{CommandLine}
-use Rattle.qc_words.specs.Names.{Part, Text, are_given, is_given, value_of}
+use Rattle.qc_words.specs.Vocabulary.{Part, Text, are_given, is_given, value_of}
 
 -- what `clap` holds for a part
 abbrev pub row : Part → Row

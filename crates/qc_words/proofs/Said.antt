@@ -10,11 +10,11 @@ use Rattle.std.proofs.lemmas.Bool.{and_from}
 use Rattle.std.proofs.lemmas.Option.{cond_some, none-some, option_and_then_some}
 use Rattle.clap.proofs.LexerLemmas.{name_and_value-at, name_and_value-without}
 use Rattle.clap.proofs.WalkLemmas.{both}
-use Rattle.qc_words.specs.Names.{Form, IsOptionName, Part, Reading, Text, Values, asked, asked_behind, check_form}
-use Rattle.qc_words.specs.Names.{check_of, ended, is_among, is_given, is_known, is_value, load_form, load_of}
-use Rattle.qc_words.specs.Names.{nothing_read, option_of, option_or_place, parts_of, placed, run_form, run_of}
-use Rattle.qc_words.specs.Names.{said_apart, said_joined, values_in, values_of, waiting_for, with_named, with_next}
-use Rattle.qc_words.specs.Names.{with_part, with_word, with_words}
+use Rattle.qc_words.specs.Vocabulary.{Form, IsOptionName, Part, Reading, Text, Values, asked, asked_behind, check_form}
+use Rattle.qc_words.specs.Vocabulary.{check_of, ended, is_among, is_given, is_known, is_value, load_form, load_of}
+use Rattle.qc_words.specs.Vocabulary.{nothing_read, option_of, option_or_place, parts_of, placed, run_form, run_of}
+use Rattle.qc_words.specs.Vocabulary.{said_apart, said_joined, values_in, values_of, waiting_for, with_named, with_next}
+use Rattle.qc_words.specs.Vocabulary.{with_part, with_word, with_words}
 use Rattle.qc_words.proofs.Rows.{or_right}
 use Rattle.qc_words.proofs.Steps.{reading}
 

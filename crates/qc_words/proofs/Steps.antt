@@ -14,8 +14,8 @@ use Rattle.clap.specs.Takes.{settle_passes, step_passes, turn_passes, use_passes
 use Rattle.clap.specs.Walk.{Held, Rule, Step, Waiting, Walk, after_step, arg_by_id, Row, has_row, idle, next}
 use Rattle.clap.specs.Walk.{next_position, option, positional, positional_held, pushed, reacted, settled, settled_rows}
 use Rattle.clap.specs.Walk.{takes_several, to_positional, used, value, walked, word_met}
-use Rattle.qc_words.specs.Names.{Form, Part, Reading, Text, is_among, is_given, is_value, option_of, option_or_place}
-use Rattle.qc_words.specs.Names.{placed, with_named, with_next, with_part, with_word}
+use Rattle.qc_words.specs.Vocabulary.{Form, Part, Reading, Text, is_among, is_given, is_value, option_of}
+use Rattle.qc_words.specs.Vocabulary.{option_or_place, placed, with_named, with_next, with_part, with_word}
 use Rattle.qc_words.proofs.Clapped.{IsPlain, option_is_long, joined_met, option_met, place_met, value_met}
 use Rattle.qc_words.proofs.Clapped.{values_are_plain}
 use Rattle.qc_words.proofs.Fits.{Reads}

@@ -13,9 +13,9 @@ use Rattle.clap.specs.Takes.{built_takes, is_valid, level_passes, takes, walk_pa
 use Rattle.clap.specs.Walk.{Held, Row, Rule, default_rows, finished, first_of, has_row, is_empty, Walk, nothing_held}
 use Rattle.clap.specs.Walk.{reading_by, rows_after, rows_of, walk, walked, with_default}
 use Rattle.clap.specs.declared.parser.matches.ArgMatches.{ArgMatches}
-use Rattle.qc_words.specs.Names.{Form, IsForm, IsTaken, Part, Reading, Text, are_given, command_for, ended, found_in}
-use Rattle.qc_words.specs.Names.{nothing_read, parts_of, value_of, values_in, values_of, waits_for_none, with_word}
-use Rattle.qc_words.specs.Names.{with_words}
+use Rattle.qc_words.specs.Vocabulary.{Form, IsForm, IsTaken, Part, Reading, Text, are_given, command_for, ended}
+use Rattle.qc_words.specs.Vocabulary.{found_in, nothing_read, parts_of, value_of, values_in, values_of, waits_for_none}
+use Rattle.qc_words.specs.Vocabulary.{with_word, with_words}
 use Rattle.qc_words.proofs.Fits.{Fits, Reads, form_fits}
 use Rattle.qc_words.proofs.Rows.{first_is_value, given_rows, row}
 use Rattle.qc_words.proofs.Steps.{Holds, Steps, stands, step}

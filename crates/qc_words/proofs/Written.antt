@@ -4,9 +4,10 @@ use Rattle.std.specs.Prelude.{decimal}
 use Rattle.std.specs.Char.{is_ascii_digit}
 use Rattle.std.specs.List.{list_all}
 use Rattle.std.proofs.lemmas.Bool.{le-leb}
-use Rattle.qc_words.specs.Names.{AskedOf, Check, IsAskable, IsLoad, IsName, IsRun, Load, Run, Text, asked}
-use Rattle.qc_words.specs.Names.{greatest_seed, most_transactions, most_workers, number_within, option_of, words_in}
-use Rattle.qc_number.specs.Names.{number_of}
+use Rattle.qc_words.specs.Vocabulary.{AskedOf, Check, IsAskable, IsLoad, IsName, IsRun, Load, Run, Text, asked}
+use Rattle.qc_words.specs.Vocabulary.{greatest_seed, most_transactions, most_workers, number_within, option_of}
+use Rattle.qc_words.specs.Vocabulary.{words_in}
+use Rattle.qc_number.specs.Vocabulary.{number_of}
 use Rattle.qc_words.proofs.Clapped.{option_is_long, values_are_plain}
 use Rattle.qc_number.proofs.Numbers.{decimal_is_digits, number_read}
 

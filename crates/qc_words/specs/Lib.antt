@@ -8,4 +8,4 @@ pub mod Parts
 pub mod Said
 pub mod Words
 pub mod Written
-pub mod Names
+pub mod Vocabulary

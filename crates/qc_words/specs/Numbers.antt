@@ -1,6 +1,6 @@
 -- Numbers in words, within bounds.
 use Rattle.std.specs.Prelude.{ℕ, ◌&&◌, nat_le, if◌then◌else◌, List, Option, Some, None}
-use Rattle.qc_number.specs.Names.{number_of}
+use Rattle.qc_number.specs.Vocabulary.{number_of}
 
 abbrev pub within : ℕ → ℕ → Option ℕ → Option ℕ
 within least most None = None

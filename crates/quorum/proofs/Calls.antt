@@ -3,22 +3,22 @@ use Rattle.std.proofs.Common.{◌≡◌, ◌≤◌, ℕ, List, [], ◌∷◌, �
 use Rattle.std.proofs.Common.{◌⊎◌, inl, inr, arith}
 use Rattle.std.proofs.lemmas.List.{append-nil}
 use Rattle.std.specs.Option.{option_map_or}
-use Rattle.qc_fabric.specs.Names.{IsBelow, before_last_event}
+use Rattle.qc_fabric.specs.Vocabulary.{IsBelow, before_last_event}
 use Rattle.qc_files.specs.Outside.{ShelfOfFiles}
-use Rattle.qc_msg.specs.Names.{Entry}
-use Rattle.qc_outside.specs.Names.{Answer, HoldsNoByte, Places, held}
-use Rattle.qc_node.specs.Names.{place_of}
+use Rattle.qc_msg.specs.Vocabulary.{Entry}
+use Rattle.qc_outside.specs.Vocabulary.{Answer, HoldsNoByte, Places, held}
+use Rattle.qc_node.specs.Vocabulary.{place_of}
 use Rattle.qc_outside.specs.declared.mem_rack.Kept.{Kept as KeptPlace}
 use Rattle.qc_outside.specs.declared.rack.RackFault.{RackFault}
 use Rattle.qc_outside.specs.declared.rack.RackFault.TheVariants as racks
-use Rattle.qc_promise.specs.Names.{Kept}
-use Rattle.qc_report.specs.Names.{status_of}
+use Rattle.qc_promise.specs.Vocabulary.{Kept}
+use Rattle.qc_report.specs.Vocabulary.{status_of}
 use Rattle.qc_report.specs.declared.cause.Cause.{Cause}
 use Rattle.qc_report.specs.declared.cause.Cause.TheVariants as causes
-use Rattle.qc_top.specs.Names.{AreStatesKnown, Caused, IsAnswerFor, IsFullCause, IsNoRack, IsRackBlamed, Leaves}
-use Rattle.qc_top.specs.Names.{LeavesAsked, LeavesWords, OnPrinted, decl_file, most_declaration_bytes}
-use Rattle.qc_top.specs.Names.{most_script_bytes, script_file, work_of}
-use Rattle.qc_words.specs.Names.{AskedOf, asked}
+use Rattle.qc_top.specs.Vocabulary.{AreStatesKnown, Caused, IsAnswerFor, IsFullCause, IsNoRack, IsRackBlamed, Leaves}
+use Rattle.qc_top.specs.Vocabulary.{LeavesAsked, LeavesWords, OnPrinted, decl_file, most_declaration_bytes}
+use Rattle.qc_top.specs.Vocabulary.{most_script_bytes, script_file, work_of}
+use Rattle.qc_words.specs.Vocabulary.{AskedOf, asked}
 use Rattle.qc_top.specs.declared.work.Work.{Work}
 use Rattle.qc_top.specs.declared.work.Work.TheVariants as works
 use Rattle.quorum.specs.Call.{IsCall, IsCallFor, IsKeptWork, IsNoCall, for_file}

@@ -1,22 +1,23 @@
 -- What a call of the program leaves: by its words, what was handed over for its files, and what standard output took.
 use Rattle.std.specs.Prelude.{◌≡◌, ◌⊎◌, ℕ, ◌<◌, ◌-◌, ◌^◌, Bool, List, [], ◌∷◌, ◌++◌, Option, None, Some, Ok, Err}
 use Rattle.qc_decl.specs.declared.declaration.Declaration.{Declaration}
-use Rattle.qc_fabric.specs.Names.{IsBelow, before_last_event}
+use Rattle.qc_fabric.specs.Vocabulary.{IsBelow, before_last_event}
 use Rattle.qc_files.specs.Handed.{HandedOver}
-use Rattle.qc_msg.specs.Names.{Entry}
-use Rattle.qc_outside.specs.Names.{Answer}
+use Rattle.qc_msg.specs.Vocabulary.{Entry}
+use Rattle.qc_outside.specs.Vocabulary.{Answer}
 use Rattle.qc_outside.specs.declared.shelf.ShelfFault.TheVariants as faults
-use Rattle.qc_promise.specs.Names.{Atomic, Due, Kept, Spent}
-use Rattle.qc_report.specs.Names.{status_of}
+use Rattle.qc_promise.specs.Vocabulary.{Atomic, Due, Kept, Spent}
+use Rattle.qc_report.specs.Vocabulary.{status_of}
 use Rattle.qc_outside.specs.declared.rack.RackFault.{RackFault}
 use Rattle.qc_report.specs.declared.cause.Cause.{Cause}
 use Rattle.qc_report.specs.declared.cause.Cause.TheVariants as causes
-use Rattle.qc_top.specs.Names.{AreStatesKnown, Caused, IsBlamed, IsFullCause, IsNoRack, IsRackBlamed, Leaves, OnPrinted}
-use Rattle.qc_top.specs.Names.{decl_file, folder_in, most_declaration_bytes, most_script_bytes, script_file, work_of}
+use Rattle.qc_top.specs.Vocabulary.{AreStatesKnown, Caused, IsBlamed, IsFullCause, IsNoRack, IsRackBlamed, Leaves}
+use Rattle.qc_top.specs.Vocabulary.{OnPrinted, decl_file, folder_in, most_declaration_bytes, most_script_bytes}
+use Rattle.qc_top.specs.Vocabulary.{script_file, work_of}
 use Rattle.qc_top.specs.declared.answers.Answers.{Answers}
 use Rattle.qc_top.specs.declared.work.Work.{Work}
 use Rattle.qc_top.specs.declared.work.Work.TheVariants as works
-use Rattle.qc_words.specs.Names.{AskedOf, Text, asked}
+use Rattle.qc_words.specs.Vocabulary.{AskedOf, Text, asked}
 
 -- what is handed over for a file, where one is asked for
 abbrev pub for_file : Option (List ℕ) → ℕ → Answer → List HandedOver

@@ -1,1 +1,3 @@
+pub mod Young
+pub mod Journals
 pub mod Records

@@ -3,7 +3,7 @@ use Rattle.std.proofs.Common.{◌≡◌, true, List, [], ◌∷◌}
 use Rattle.std.specs.List.{list_all}
 use Rattle.std.proofs.lemmas.Bool.{and_parts, ltb-true}
 use Rattle.qc_entry.specs.declared.record.Prepared.{Prepared}
-use Rattle.qc_admin.specs.Names.{AreOfClients}
+use Rattle.qc_admin.specs.Vocabulary.{AreOfClients}
 use Rattle.tests_admin.specs.Promises.{is_of_client}
 
 pub of_clients : (ps : List Prepared) → list_all is_of_client ps ≡ true → AreOfClients ps

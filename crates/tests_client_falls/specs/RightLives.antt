@@ -1,6 +1,6 @@
 -- Right deeds of a client with falls: each is near to a wrong one.
 use Rattle.std.specs.Prelude.{List, [], ◌∷◌, ◌++◌, take, Some, None}
-use Rattle.qc_msg.specs.Names.{Deed, Falls, Rises, Sends, Tells, Writes}
+use Rattle.qc_msg.specs.Vocabulary.{Deed, Falls, Rises, Sends, Tells, Writes}
 use Rattle.tests_client_falls.specs.Words.{tx, stamp, line, operation, commit, called, got, committing}
 use Rattle.qc_msg.specs.declared.step.Fall.TheVariants as falls
 use Rattle.qc_msg.specs.declared.message.Answer.TheVariants as answers

@@ -1,7 +1,7 @@
 -- Wrong deeds of a client with falls: what a client goes on with after a fall, under which name it begins, and what it
 -- tells while it is down.
 use Rattle.std.specs.Prelude.{List, [], ◌∷◌, ◌++◌, take, Some, None}
-use Rattle.qc_msg.specs.Names.{Deed, Falls, Rises, Sends, Tells, Writes}
+use Rattle.qc_msg.specs.Vocabulary.{Deed, Falls, Rises, Sends, Tells, Writes}
 use Rattle.tests_client_falls.specs.Words.{tx, stamp, operation, commit, called, got, committing}
 use Rattle.qc_msg.specs.declared.step.Fall.TheVariants as falls
 use Rattle.qc_msg.specs.declared.message.Answer.TheVariants as answers

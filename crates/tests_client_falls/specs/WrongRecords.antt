@@ -1,7 +1,7 @@
 -- Wrong deeds of a client with falls: Unknown and what is pending, records of a former life, and what a client does as
 -- it rises.
 use Rattle.std.specs.Prelude.{List, [], ◌∷◌, ◌++◌, take, Some, None}
-use Rattle.qc_msg.specs.Names.{Deed, Falls, Rises, Sends, Tells, Writes}
+use Rattle.qc_msg.specs.Vocabulary.{Deed, Falls, Rises, Sends, Tells, Writes}
 use Rattle.tests_client_falls.specs.Words.{tx, stamp, own_line, operation, prepare, commit, called, committing}
 use Rattle.qc_msg.specs.declared.step.Fall.TheVariants as falls
 use Rattle.qc_msg.specs.declared.reply.AbortCause.TheVariants as causes

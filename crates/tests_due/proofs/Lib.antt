@@ -1,3 +1,5 @@
+pub mod Records
+pub mod Falls
 pub mod Orders
 pub mod Owed
 pub mod Places

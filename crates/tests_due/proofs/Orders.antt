@@ -3,13 +3,13 @@ use Rattle.std.proofs.Common.{◌≡◌, ℕ, zero, suc, ◌<◌, ◌==◌, ◌&
 use Rattle.std.proofs.Common.{Option, Some, None, is_some, option_to_list, slice_get, refl, subst, sym, arith}
 use Rattle.std.proofs.lemmas.Bool.{eqb-false, eqb-true}
 use Rattle.qc_decl.specs.declared.declaration.Declaration.{Declaration}
-use Rattle.qc_decl.specs.Names.{is_site}
+use Rattle.qc_decl.specs.Vocabulary.{is_site}
 use Rattle.qc_msg.specs.declared.message.Envelope.{Envelope}
 use Rattle.qc_msg.specs.declared.step.Step.{Step}
 use Rattle.qc_msg.specs.declared.step.Step.TheVariants as steps
-use Rattle.qc_msg.specs.Names.{Answered, Entry, answer_in, deeds, envelope_of}
-use Rattle.qc_promise.specs.Names.{AreByTurns, IsAnswerOf, IsMailStep, IsMailed, IsReceived, IsRequestOf, IsRequestTo}
-use Rattle.qc_promise.specs.Names.{asks_answer, place_after}
+use Rattle.qc_msg.specs.Vocabulary.{Answered, Entry, answer_in, deeds, envelope_of}
+use Rattle.qc_promise.specs.Vocabulary.{AreByTurns, IsAnswerOf, IsMailStep, IsMailed, IsReceived, IsRequestOf}
+use Rattle.qc_promise.specs.Vocabulary.{IsRequestTo, asks_answer, place_after}
 
 -- two tests, one after the other
 
@@ -23,14 +23,18 @@ abbrev pub all_placed : Declaration → List Entry → ℕ → Bool
 all_placed decl h zero = true
 all_placed decl h (suc k) = is_some (place_after (is_site decl k) (deeds k [] h)) && all_placed decl h k
 
-pub by_turns_where_placed : (decl : Declaration) (h : List Entry) (n : ℕ) → all_placed decl h n ≡ true → (a : ℕ) → a < n → AreByTurns (is_site decl a) (deeds a [] h)
+pub by_turns_where_placed : (decl : Declaration) (h : List Entry) (n : ℕ) → all_placed decl h n ≡ true → (a : ℕ) → a < n
+    → AreByTurns (is_site decl a) (deeds a [] h)
 by_turns_where_placed decl h zero all a below = absurd (omega arith)
 by_turns_where_placed decl h (suc k) all a below =
     by (a == k) refl (both_true (is_some (place_after (is_site decl k) (deeds k [] h))) (all_placed decl h k) all).0
-    (by_turns_where_placed decl h k (both_true (is_some (place_after (is_site decl k) (deeds k [] h))) (all_placed decl h k) all).1 a)
+    (by_turns_where_placed decl h k
+    (both_true (is_some (place_after (is_site decl k) (deeds k [] h))) (all_placed decl h k) all).1 a)
   where
-    by : (t : Bool) → (a == k) ≡ t → AreByTurns (is_site decl k) (deeds k [] h) → (a < k → AreByTurns (is_site decl a) (deeds a [] h)) → AreByTurns (is_site decl a) (deeds a [] h)
-    by true here mine rest = subst (λ (x : ℕ). AreByTurns (is_site decl x) (deeds x [] h)) (sym (eqb-true a k here)) mine
+    by : (t : Bool) → (a == k) ≡ t → AreByTurns (is_site decl k) (deeds k [] h)
+        → (a < k → AreByTurns (is_site decl a) (deeds a [] h)) → AreByTurns (is_site decl a) (deeds a [] h)
+    by true here mine rest =
+        subst (λ (x : ℕ). AreByTurns (is_site decl x) (deeds x [] h)) (sym (eqb-true a k here)) mine
     by false other mine rest = let differs : a ≡ k → ⊥ = eqb-false a k other in rest (omega (arith, differs))
 
 -- messages
@@ -72,22 +76,28 @@ all_mailed ms (e ∷ h) = mail_step ms e.actor e.step && all_mailed (ms ++ optio
 
 request_of_is : (from : ℕ) (o : Option Envelope) → request_of from o ≡ true → IsRequestOf from o
 request_of_is from None is = absurd (let never : ⊥ = cc in never)
-request_of_is from (Some e) is = let parts : ((e.from == from) ≡ true) × (asks_answer e.message ≡ true) = both_true (e.from == from) (asks_answer e.message) is in (eqb-true e.from from parts.0, parts.1)
+request_of_is from (Some e) is =
+    let parts : ((e.from == from) ≡ true) × (asks_answer e.message ≡ true) =
+    both_true (e.from == from) (asks_answer e.message) is in
+    (eqb-true e.from from parts.0, parts.1)
 
 request_to_is : (to : ℕ) (o : Option Envelope) → request_to to o ≡ true → IsRequestTo to o
 request_to_is to None is = absurd (let never : ⊥ = cc in never)
 request_to_is to (Some e) is = eqb-true e.to to is
 
-answer_is : (ms : List Envelope) (from to : ℕ) (o : Option Answered) → answer_of ms from to o ≡ true → IsAnswerOf ms from to o
+answer_is : (ms : List Envelope) (from to : ℕ) (o : Option Answered) → answer_of ms from to o ≡ true
+    → IsAnswerOf ms from to o
 answer_is ms from to None is = tt
 answer_is ms from to (Some a) is =
-    let parts : (request_of to (slice_get ms a.to) ≡ true) × (request_to from (slice_get ms a.to) ≡ true) = both_true (request_of to (slice_get ms a.to)) (request_to from (slice_get ms a.to)) is in
+    let parts : (request_of to (slice_get ms a.to) ≡ true) × (request_to from (slice_get ms a.to) ≡ true) =
+    both_true (request_of to (slice_get ms a.to)) (request_to from (slice_get ms a.to)) is in
     (request_of_is to (slice_get ms a.to) parts.0, request_to_is from (slice_get ms a.to) parts.1)
 
 received_is : (ms : List Envelope) (a : ℕ) (o : Option Envelope) → received ms a o ≡ true → IsReceived ms a o
 received_is ms a None is = absurd (let never : ⊥ = cc in never)
 received_is ms a (Some e) is =
-    let parts : ((e.to == a) ≡ true) × (answer_of ms e.from a (answer_in e.message) ≡ true) = both_true (e.to == a) (answer_of ms e.from a (answer_in e.message)) is in
+    let parts : ((e.to == a) ≡ true) × (answer_of ms e.from a (answer_in e.message) ≡ true) =
+    both_true (e.to == a) (answer_of ms e.from a (answer_in e.message)) is in
     (eqb-true e.to a parts.0, answer_is ms e.from a (answer_in e.message) parts.1)
 
 step_is : (ms : List Envelope) (a : ℕ) (step : Step) → mail_step ms a step ≡ true → IsMailStep ms a step
@@ -108,7 +118,8 @@ step_is ms a (steps.Damaged offset) is = tt
 pub mailed_where_shown : (ms : List Envelope) (h : List Entry) → all_mailed ms h ≡ true → IsMailed ms h
 mailed_where_shown ms [] is = tt
 mailed_where_shown ms (e ∷ h) is =
-    let parts : (mail_step ms e.actor e.step ≡ true) × (all_mailed (ms ++ option_to_list (envelope_of e)) h ≡ true) = both_true (mail_step ms e.actor e.step) (all_mailed (ms ++ option_to_list (envelope_of e)) h) is in
+    let parts : (mail_step ms e.actor e.step ≡ true) × (all_mailed (ms ++ option_to_list (envelope_of e)) h ≡ true) =
+    both_true (mail_step ms e.actor e.step) (all_mailed (ms ++ option_to_list (envelope_of e)) h) is in
     (step_is ms e.actor e.step parts.0, mailed_where_shown (ms ++ option_to_list (envelope_of e)) h parts.1)
 
 -- what is said of the message step at a place

@@ -1,8 +1,8 @@
 -- Rows that those histories and the random ones don't have: their replies are due.
 use Rattle.std.proofs.Common.{[], refl}
-use Rattle.qc_decl.specs.Names.{actors, three}
-use Rattle.qc_msg.specs.Names.{deeds}
-use Rattle.qc_promise.specs.Names.{AreRepliesDue, Due}
+use Rattle.qc_decl.specs.Vocabulary.{actors, three}
+use Rattle.qc_msg.specs.Vocabulary.{deeds}
+use Rattle.qc_promise.specs.Vocabulary.{AreRepliesDue, Due}
 use Rattle.tests_due.proofs.Orders.{by_turns_where_placed, mailed_where_shown}
 use Rattle.tests_due.proofs.Owed.{all_due_where_shown, due_where_shown}
 use Rattle.tests_due.proofs.Sites.{sites_due_where_posted}

@@ -2,7 +2,7 @@
 use Rattle.std.proofs.Common.{◌≡◌, ℕ, zero, suc, ◌<◌, ◌==◌, Bool, true, false, List, [], ◌∷◌, Option, Some, None}
 use Rattle.std.proofs.Common.{is_some, refl, ap, subst, sym, arith}
 use Rattle.std.proofs.lemmas.Bool.{eqb-false, eqb-true}
-use Rattle.qc_decl.specs.Names.{client_actor}
+use Rattle.qc_decl.specs.Vocabulary.{client_actor}
 use Rattle.qc_decl.specs.declared.declaration.Declaration.{Declaration}
 use Rattle.qc_entry.specs.declared.record.Commit.{Commit}
 use Rattle.qc_msg.specs.declared.record.Record.{Record}
@@ -12,10 +12,10 @@ use Rattle.qc_msg.specs.declared.reply.Reply.TheVariants as replies
 use Rattle.qc_msg.specs.declared.step.Command.{Command}
 use Rattle.qc_msg.specs.declared.step.Input.{Input}
 use Rattle.qc_msg.specs.declared.step.Input.TheVariants as inputs
-use Rattle.qc_msg.specs.Names.{Deed, Entry, Falls, Rises, Sends, Takes, Tells, Writes, deeds}
-use Rattle.qc_promise.specs.Names.{Account, Act, AreDeedsDue, AreRepliesDue, IsDeedDue, IsInputDue, IsRecordDue}
-use Rattle.qc_promise.specs.Names.{account_at, commit_of, due, fallen_in, new_account, pending_next, posted_due}
-use Rattle.qc_promise.specs.Names.{posted_next, record_with, rising_turn}
+use Rattle.qc_msg.specs.Vocabulary.{Deed, Entry, Falls, Rises, Sends, Takes, Tells, Writes, deeds}
+use Rattle.qc_promise.specs.Vocabulary.{Account, Act, AreDeedsDue, AreRepliesDue, IsDeedDue, IsInputDue, IsRecordDue}
+use Rattle.qc_promise.specs.Vocabulary.{account_at, commit_of, due, fallen_in, new_account, pending_next, posted_due}
+use Rattle.qc_promise.specs.Vocabulary.{posted_next, record_with, rising_turn}
 use Rattle.qc_promise.specs.Rows.{pending_with}
 
 -- what is due of a deed, or what is there
@@ -46,7 +46,9 @@ abbrev owed_at : Declaration → Account → Deed → List Deed → Owed
 owed_at decl d (Takes g) after = owed_for d (due decl d false) g
 owed_at decl d (Writes r) after = owed_record d (due decl d false) r
 owed_at decl d (Sends number to message) after = nothing
-owed_at decl d (Tells reply) after = record nothing { reply = due decl d (is_some (pending_next after)); before = d.written; pending = pending_next after }
+owed_at decl d (Tells reply) after =
+    record nothing
+    { reply = due decl d (is_some (pending_next after)); before = d.written; pending = pending_next after }
 owed_at decl d (Falls cause pending) after = nothing
 owed_at decl d (Rises kept) after = record nothing { acts = posted_next after }
 
@@ -58,7 +60,8 @@ abbrev given_at : Account → Deed → List Deed → Owed
 given_at d (Takes g) after = nothing
 given_at d (Writes r) after = given_record r
 given_at d (Sends number to message) after = nothing
-given_at d (Tells reply) after = record nothing { reply = Some reply; before = record_with d reply; pending = pending_with d reply }
+given_at d (Tells reply) after =
+    record nothing { reply = Some reply; before = record_with d reply; pending = pending_with d reply }
 given_at d (Falls cause pending) after = nothing
 given_at d (Rises kept) after = record nothing { acts = posted_due rising_turn (fallen_in (posted_next after)) }
 
@@ -84,14 +87,17 @@ by_record d row (records.Prepare p) same = strange (ap (λ (o : Owed). o.own) sa
 by_record d row (records.Done tx clock) same = strange (ap (λ (o : Owed). o.own) same)
 by_record d row (records.Close epoch) same = strange (ap (λ (o : Owed). o.own) same)
 by_record d row (records.Install epoch clock lines) same = strange (ap (λ (o : Owed). o.own) same)
-by_record d row (records.Commit c) same = (ap (λ (o : Owed). o.reply) same, ap (λ (o : Owed). o.commit) same, ap (λ (o : Owed). o.before) same)
+by_record d row (records.Commit c) same =
+    (ap (λ (o : Owed). o.reply) same, ap (λ (o : Owed). o.commit) same, ap (λ (o : Owed). o.before) same)
 by_record d row (records.Decide epoch clock lines) same = strange (ap (λ (o : Owed). o.own) same)
 
-by_deed : (decl : Declaration) (d : Account) (x : Deed) (after : List Deed) → owed_at decl d x after ≡ given_at d x after → IsDeedDue decl d x after
+by_deed : (decl : Declaration) (d : Account) (x : Deed) (after : List Deed)
+    → owed_at decl d x after ≡ given_at d x after → IsDeedDue decl d x after
 by_deed decl d (Takes g) after same = by_given d (due decl d false) g same
 by_deed decl d (Writes r) after same = by_record d (due decl d false) r same
 by_deed decl d (Sends number to message) after same = tt
-by_deed decl d (Tells reply) after same = (ap (λ (o : Owed). o.reply) same, ap (λ (o : Owed). o.before) same, ap (λ (o : Owed). o.pending) same)
+by_deed decl d (Tells reply) after same =
+    (ap (λ (o : Owed). o.reply) same, ap (λ (o : Owed). o.before) same, ap (λ (o : Owed). o.pending) same)
 by_deed decl d (Falls cause pending) after same = tt
 by_deed decl d (Rises kept) after same = ap (λ (o : Owed). o.acts) same
 
@@ -105,9 +111,11 @@ abbrev rest_of : List Owed → List Owed
 rest_of [] = []
 rest_of (x ∷ xs) = xs
 
-deeds_due : (decl : Declaration) (d : Account) (ds : List Deed) → all_owed decl d ds ≡ all_given decl d ds → AreDeedsDue decl d ds
+deeds_due : (decl : Declaration) (d : Account) (ds : List Deed) → all_owed decl d ds ≡ all_given decl d ds
+    → AreDeedsDue decl d ds
 deeds_due decl d [] same = tt
-deeds_due decl d (x ∷ after) same = (by_deed decl d x after (ap first_of same), deeds_due decl (account_at decl d x) after (ap rest_of same))
+deeds_due decl d (x ∷ after) same =
+    (by_deed decl d x after (ap first_of same), deeds_due decl (account_at decl d x) after (ap rest_of same))
 
 -- of one client
 
@@ -117,7 +125,8 @@ owed_by decl client ds = all_owed decl (new_account client) ds
 abbrev pub given_by : Declaration → ℕ → List Deed → List Owed
 given_by decl client ds = all_given decl (new_account client) ds
 
-pub due_where_shown : (decl : Declaration) (client : ℕ) (ds : List Deed) → owed_by decl client ds ≡ given_by decl client ds → AreRepliesDue decl client ds
+pub due_where_shown : (decl : Declaration) (client : ℕ) (ds : List Deed)
+    → owed_by decl client ds ≡ given_by decl client ds → AreRepliesDue decl client ds
 due_where_shown decl client ds same = deeds_due decl (new_account client) ds same
 
 -- of the clients below a number, the greatest first
@@ -138,12 +147,16 @@ abbrev tail_of : List (List Owed) → List (List Owed)
 tail_of [] = []
 tail_of (x ∷ xs) = xs
 
-pub all_due_where_shown : (decl : Declaration) (h : List Entry) (n : ℕ) → all_owed_below decl h n ≡ all_given_below decl h n → (client : ℕ) → client < n
+pub all_due_where_shown : (decl : Declaration) (h : List Entry) (n : ℕ)
+    → all_owed_below decl h n ≡ all_given_below decl h n → (client : ℕ) → client < n
     → AreRepliesDue decl client (deeds (client_actor decl client) [] h)
 all_due_where_shown decl h zero same client below = absurd (omega arith)
-all_due_where_shown decl h (suc k) same client below = by (client == k) refl (all_due_where_shown decl h k (ap tail_of same) client)
+all_due_where_shown decl h (suc k) same client below =
+    by (client == k) refl (all_due_where_shown decl h k (ap tail_of same) client)
   where
-    by : (t : Bool) → (client == k) ≡ t → (client < k → AreRepliesDue decl client (deeds (client_actor decl client) [] h)) → AreRepliesDue decl client (deeds (client_actor decl client) [] h)
+    by : (t : Bool) → (client == k) ≡ t
+        → (client < k → AreRepliesDue decl client (deeds (client_actor decl client) [] h))
+        → AreRepliesDue decl client (deeds (client_actor decl client) [] h)
     by true here rest =
         subst (λ (c : ℕ). AreRepliesDue decl c (deeds (client_actor decl c) [] h)) (sym (eqb-true client k here))
         (due_where_shown decl k (deeds (client_actor decl k) [] h) (ap head_of same))

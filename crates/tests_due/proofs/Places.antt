@@ -4,8 +4,8 @@ use Rattle.qc_decl.specs.declared.declaration.Declaration.{Declaration}
 use Rattle.qc_entry.specs.declared.record.Commit.{Commit}
 use Rattle.qc_msg.specs.declared.reply.Reply.{Reply}
 use Rattle.qc_msg.specs.declared.reply.Reply.TheVariants as replies
-use Rattle.qc_msg.specs.Names.{Deed}
-use Rattle.qc_promise.specs.Names.{Account, AreDeedsDue, AreRepliesDue, IsDeedDue, account_at, new_account}
+use Rattle.qc_msg.specs.Vocabulary.{Deed}
+use Rattle.qc_promise.specs.Vocabulary.{Account, AreDeedsDue, AreRepliesDue, IsDeedDue, account_at, new_account}
 
 -- what is due of the deed at this place
 abbrev DeedAt : ℕ → Declaration → Account → List Deed → Type 0
@@ -21,7 +21,8 @@ deed_at (suc k) decl d (x ∷ after) all = deed_at k decl (account_at decl d x) 
 abbrev pub DueAt : ℕ → Declaration → ℕ → List Deed → Type 0
 DueAt k decl client ds = DeedAt k decl (new_account client) ds
 
-pub due_at : (k : ℕ) (decl : Declaration) (client : ℕ) (ds : List Deed) → AreRepliesDue decl client ds → DueAt k decl client ds
+pub due_at : (k : ℕ) (decl : Declaration) (client : ℕ) (ds : List Deed) → AreRepliesDue decl client ds
+    → DueAt k decl client ds
 due_at k decl client ds all = deed_at k decl (new_account client) ds all
 
 abbrev pub client_named : Option Reply → ℕ

@@ -1,7 +1,7 @@
 -- All is due in the random histories 1 to 10.
 use Rattle.std.proofs.Common.{[], refl}
-use Rattle.qc_decl.specs.Names.{actors}
-use Rattle.qc_promise.specs.Names.{Due}
+use Rattle.qc_decl.specs.Vocabulary.{actors}
+use Rattle.qc_promise.specs.Vocabulary.{Due}
 use Rattle.tests_due.proofs.Orders.{by_turns_where_placed, mailed_where_shown}
 use Rattle.tests_due.proofs.Owed.{all_due_where_shown}
 use Rattle.tests_due.proofs.Sites.{sites_due_where_posted}

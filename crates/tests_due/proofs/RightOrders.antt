@@ -1,8 +1,8 @@
 -- Actors go by turns, and messages reach their receivers, in the right histories with falls.
 use Rattle.std.proofs.Common.{◌<◌, ℕ, [], refl}
-use Rattle.qc_decl.specs.Names.{actors, is_site, three}
-use Rattle.qc_msg.specs.Names.{deeds}
-use Rattle.qc_promise.specs.Names.{AreByTurns, IsMailed}
+use Rattle.qc_decl.specs.Vocabulary.{actors, is_site, three}
+use Rattle.qc_msg.specs.Vocabulary.{deeds}
+use Rattle.qc_promise.specs.Vocabulary.{AreByTurns, IsMailed}
 use Rattle.tests_due.proofs.Orders.{by_turns_where_placed, mailed_where_shown}
 use Rattle.tests_due.specs.Orders as orders
 

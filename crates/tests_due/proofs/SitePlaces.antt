@@ -8,8 +8,8 @@ use Rattle.qc_msg.specs.declared.message.Answer.TheVariants as answers
 use Rattle.qc_msg.specs.declared.record.Record.{Record}
 use Rattle.qc_msg.specs.declared.record.Record.TheVariants as records
 use Rattle.qc_msg.specs.declared.turn.Posting.{Posting}
-use Rattle.qc_msg.specs.Names.{Answered, Deed, answer_in}
-use Rattle.qc_promise.specs.Names.{Act, AreDue, IsDueAt, Wrote, sent_by}
+use Rattle.qc_msg.specs.Vocabulary.{Answered, Deed, answer_in}
+use Rattle.qc_promise.specs.Vocabulary.{Act, AreDue, IsDueAt, Wrote, sent_by}
 
 -- what is due of the deed at this place
 abbrev pub DueAt : ℕ → Declaration → List Deed → List Deed → Type 0

@@ -1,9 +1,9 @@
 -- None of these is due: rounds of Reads that no site, or too few, answered.
 use Rattle.std.proofs.Common.{◌≡◌, ℕ, [], Option, Some, None, ap}
-use Rattle.qc_decl.specs.Names.{three}
+use Rattle.qc_decl.specs.Vocabulary.{three}
 use Rattle.qc_msg.specs.declared.reply.Reply.{Reply}
-use Rattle.qc_msg.specs.Names.{deeds}
-use Rattle.qc_promise.specs.Names.{AreRepliesDue}
+use Rattle.qc_msg.specs.Vocabulary.{deeds}
+use Rattle.qc_promise.specs.Vocabulary.{AreRepliesDue}
 use Rattle.tests_histories.specs.Words.{tx}
 use Rattle.tests_due.proofs.Places.{client_named, due_at}
 use Rattle.qc_msg.specs.declared.reply.Half.TheVariants as halves
@@ -44,7 +44,8 @@ another_invocation_differs : ◌≡◌ {A = Option Reply} None (Some (replies.Re
 another_invocation_differs e = let never : ⊥ = cc in never
 
 pub another_invocation_refused : AreRepliesDue three 0 (deeds 3 [] wrong_reads.another_invocation) → ⊥
-another_invocation_refused all = another_invocation_differs (due_at 7 three 0 (deeds 3 [] wrong_reads.another_invocation) all).0
+another_invocation_refused all =
+    another_invocation_differs (due_at 7 three 0 (deeds 3 [] wrong_reads.another_invocation) all).0
 
 another_epoch_differs : ◌≡◌ {A = Option Reply} None (Some (replies.Response 0)) → ⊥
 another_epoch_differs e = let never : ⊥ = cc in never
@@ -74,22 +75,28 @@ short_of_open_requests_differs : ◌≡◌ {A = Option Reply} None (Some (replie
 short_of_open_requests_differs e = let never : ⊥ = cc in never
 
 pub short_of_open_requests_refused : AreRepliesDue three 1 (deeds 4 [] wrong_reads.short_of_open_requests) → ⊥
-short_of_open_requests_refused all = short_of_open_requests_differs (due_at 8 three 1 (deeds 4 [] wrong_reads.short_of_open_requests) all).0
+short_of_open_requests_refused all =
+    short_of_open_requests_differs (due_at 8 three 1 (deeds 4 [] wrong_reads.short_of_open_requests) all).0
 
-short_of_less_differs : ◌≡◌ {A = Option Reply} (Some (replies.Quorum halves.Read 1 2)) (Some (replies.Quorum halves.Read 0 2)) → ⊥
+short_of_less_differs : ◌≡◌ {A = Option Reply} (Some (replies.Quorum halves.Read 1 2))
+    (Some (replies.Quorum halves.Read 0 2)) → ⊥
 short_of_less_differs e = let never : ⊥ = cc in never
 
 pub short_of_less_refused : AreRepliesDue three 1 (deeds 4 [] wrong_reads.short_of_less) → ⊥
 short_of_less_refused all = short_of_less_differs (due_at 9 three 1 (deeds 4 [] wrong_reads.short_of_less) all).0
 
-conflict_with_another_differs : ◌≡◌ {A = Option Reply} (Some (replies.Conflict (tx 0 1) 1)) (Some (replies.Conflict (tx 2 1) 1)) → ⊥
+conflict_with_another_differs : ◌≡◌ {A = Option Reply} (Some (replies.Conflict (tx 0 1) 1))
+    (Some (replies.Conflict (tx 2 1) 1)) → ⊥
 conflict_with_another_differs e = let same : ◌≡◌ {A = ℕ} (client_named (Some (replies.Conflict (tx 0 1) 1))) (client_named (Some (replies.Conflict (tx 2 1) 1))) = ap client_named e in let never : ⊥ = cc in never
 
 pub conflict_with_another_refused : AreRepliesDue three 1 (deeds 4 [] wrong_reads.conflict_with_another) → ⊥
-conflict_with_another_refused all = conflict_with_another_differs (due_at 7 three 1 (deeds 4 [] wrong_reads.conflict_with_another) all).0
+conflict_with_another_refused all =
+    conflict_with_another_differs (due_at 7 three 1 (deeds 4 [] wrong_reads.conflict_with_another) all).0
 
-granted_despite_a_clash_differs : ◌≡◌ {A = Option Reply} (Some (replies.Conflict (tx 0 1) 1)) (Some (replies.Response 0)) → ⊥
+granted_despite_a_clash_differs : ◌≡◌ {A = Option Reply} (Some (replies.Conflict (tx 0 1) 1))
+    (Some (replies.Response 0)) → ⊥
 granted_despite_a_clash_differs e = let never : ⊥ = cc in never
 
 pub granted_despite_a_clash_refused : AreRepliesDue three 1 (deeds 4 [] wrong_reads.granted_despite_a_clash) → ⊥
-granted_despite_a_clash_refused all = granted_despite_a_clash_differs (due_at 7 three 1 (deeds 4 [] wrong_reads.granted_despite_a_clash) all).0
+granted_despite_a_clash_refused all =
+    granted_despite_a_clash_differs (due_at 7 three 1 (deeds 4 [] wrong_reads.granted_despite_a_clash) all).0

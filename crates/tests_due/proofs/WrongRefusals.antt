@@ -1,9 +1,9 @@
 -- None of these is due: sites that refuse what they are to grant, or grant what they are to refuse.
 use Rattle.std.proofs.Common.{◌≡◌, ℕ, [], Option, Some, ap}
-use Rattle.qc_decl.specs.Names.{three}
+use Rattle.qc_decl.specs.Vocabulary.{three}
 use Rattle.qc_msg.specs.declared.message.Answer.{Answer}
-use Rattle.qc_msg.specs.Names.{deeds}
-use Rattle.qc_promise.specs.Names.{AreDue}
+use Rattle.qc_msg.specs.Vocabulary.{deeds}
+use Rattle.qc_promise.specs.Vocabulary.{AreDue}
 use Rattle.tests_histories.specs.Words.{tx}
 use Rattle.tests_due.proofs.SitePlaces.{count_sends, first_answer, holder_told, site_due_at}
 use Rattle.qc_msg.specs.declared.message.Answer.TheVariants as answers
@@ -19,7 +19,8 @@ held_off_differs : ◌≡◌ {A = Option Answer} (Some (answers.Clash (tx 1 1) 0
 held_off_differs e = let never : ⊥ = cc in never
 
 pub held_off_refused : AreDue three [] (deeds 0 [] wrong_refusals.held_off) → ⊥
-held_off_refused all = held_off_differs (ap first_answer (site_due_at 0 three [] (deeds 0 [] wrong_refusals.held_off) all))
+held_off_refused all =
+    held_off_differs (ap first_answer (site_due_at 0 three [] (deeds 0 [] wrong_refusals.held_off) all))
 
 lets_in_differs : ◌≡◌ {A = Option Answer} (Some (answers.Granted 1 0 [])) (Some (answers.Clash (tx 0 1) 0 3)) → ⊥
 lets_in_differs e = let never : ⊥ = cc in never
@@ -31,25 +32,29 @@ lets_append_in_differs : ◌≡◌ {A = Option Answer} (Some (answers.Granted 1 
 lets_append_in_differs e = let never : ⊥ = cc in never
 
 pub lets_append_in_refused : AreDue three [] (deeds 1 [] wrong_refusals.lets_append_in) → ⊥
-lets_append_in_refused all = lets_append_in_differs (ap first_answer (site_due_at 2 three [] (deeds 1 [] wrong_refusals.lets_append_in) all))
+lets_append_in_refused all =
+    lets_append_in_differs (ap first_answer (site_due_at 2 three [] (deeds 1 [] wrong_refusals.lets_append_in) all))
 
 keeps_out_differs : ◌≡◌ {A = Option Answer} (Some (answers.Clash (tx 0 1) 0 3)) (Some (answers.Granted 1 0 [])) → ⊥
 keeps_out_differs e = let never : ⊥ = cc in never
 
 pub keeps_out_refused : AreDue three [] (deeds 1 [] wrong_refusals.keeps_out) → ⊥
-keeps_out_refused all = keeps_out_differs (ap first_answer (site_due_at 3 three [] (deeds 1 [] wrong_refusals.keeps_out) all))
+keeps_out_refused all =
+    keeps_out_differs (ap first_answer (site_due_at 3 three [] (deeds 1 [] wrong_refusals.keeps_out) all))
 
 other_holder_differs : ◌≡◌ {A = ℕ} 2 0 → ⊥
 other_holder_differs e = let never : ⊥ = cc in never
 
 pub other_holder_refused : AreDue three [] (deeds 1 [] wrong_refusals.other_holder) → ⊥
-other_holder_refused all = other_holder_differs (ap holder_told (site_due_at 2 three [] (deeds 1 [] wrong_refusals.other_holder) all))
+other_holder_refused all =
+    other_holder_differs (ap holder_told (site_due_at 2 three [] (deeds 1 [] wrong_refusals.other_holder) all))
 
 asks_nobody_differs : ◌≡◌ {A = ℕ} 1 2 → ⊥
 asks_nobody_differs e = let never : ⊥ = cc in never
 
 pub asks_nobody_refused : AreDue three [] (deeds 1 [] wrong_refusals.asks_nobody) → ⊥
-asks_nobody_refused all = asks_nobody_differs (ap count_sends (site_due_at 2 three [] (deeds 1 [] wrong_refusals.asks_nobody) all))
+asks_nobody_refused all =
+    asks_nobody_differs (ap count_sends (site_due_at 2 three [] (deeds 1 [] wrong_refusals.asks_nobody) all))
 
 closed_differs : ◌≡◌ {A = Option Answer} (Some (answers.Closed 2)) (Some (answers.Granted 1 0 [])) → ⊥
 closed_differs e = let never : ⊥ = cc in never
@@ -67,4 +72,5 @@ restarted_differs : ◌≡◌ {A = Option Answer} (Some (answers.Restarted 2)) (
 restarted_differs e = let never : ⊥ = cc in never
 
 pub restarted_refused : AreDue three [] (deeds 0 [] wrong_refusals.restarted) → ⊥
-restarted_refused all = restarted_differs (ap first_answer (site_due_at 2 three [] (deeds 0 [] wrong_refusals.restarted) all))
+restarted_refused all =
+    restarted_differs (ap first_answer (site_due_at 2 three [] (deeds 0 [] wrong_refusals.restarted) all))

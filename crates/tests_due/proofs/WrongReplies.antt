@@ -1,9 +1,9 @@
 -- None of these is due: replies that aren't the first row's.
 use Rattle.std.proofs.Common.{◌≡◌, ℕ, [], Option, Some, None, ap}
-use Rattle.qc_decl.specs.Names.{three}
+use Rattle.qc_decl.specs.Vocabulary.{three}
 use Rattle.qc_msg.specs.declared.reply.Reply.{Reply}
-use Rattle.qc_msg.specs.Names.{deeds}
-use Rattle.qc_promise.specs.Names.{AreRepliesDue}
+use Rattle.qc_msg.specs.Vocabulary.{deeds}
+use Rattle.qc_promise.specs.Vocabulary.{AreRepliesDue}
 use Rattle.tests_histories.specs.Words.{tx}
 use Rattle.tests_due.proofs.Places.{due_at, number_begun}
 use Rattle.qc_msg.specs.declared.reply.Reply.TheVariants as replies
@@ -25,25 +25,29 @@ doomed_for_nothing_differs : ◌≡◌ {A = Option Reply} (Some (replies.Respons
 doomed_for_nothing_differs e = let never : ⊥ = cc in never
 
 pub doomed_for_nothing_refused : AreRepliesDue three 0 (deeds 3 [] wrong_replies.doomed_for_nothing) → ⊥
-doomed_for_nothing_refused all = doomed_for_nothing_differs (due_at 7 three 0 (deeds 3 [] wrong_replies.doomed_for_nothing) all).0
+doomed_for_nothing_refused all =
+    doomed_for_nothing_differs (due_at 7 three 0 (deeds 3 [] wrong_replies.doomed_for_nothing) all).0
 
 doomed_without_an_append_differs : ◌≡◌ {A = Option Reply} None (Some replies.Doomed) → ⊥
 doomed_without_an_append_differs e = let never : ⊥ = cc in never
 
 pub doomed_without_an_append_refused : AreRepliesDue three 1 (deeds 4 [] wrong_replies.doomed_without_an_append) → ⊥
-doomed_without_an_append_refused all = doomed_without_an_append_differs (due_at 9 three 1 (deeds 4 [] wrong_replies.doomed_without_an_append) all).0
+doomed_without_an_append_refused all =
+    doomed_without_an_append_differs (due_at 9 three 1 (deeds 4 [] wrong_replies.doomed_without_an_append) all).0
 
 goes_on_though_doomed_differs : ◌≡◌ {A = Option Reply} (Some replies.Doomed) (Some (replies.Conflict (tx 0 1) 1)) → ⊥
 goes_on_though_doomed_differs e = let never : ⊥ = cc in never
 
 pub goes_on_though_doomed_refused : AreRepliesDue three 1 (deeds 4 [] wrong_replies.goes_on_though_doomed) → ⊥
-goes_on_though_doomed_refused all = goes_on_though_doomed_differs (due_at 9 three 1 (deeds 4 [] wrong_replies.goes_on_though_doomed) all).0
+goes_on_though_doomed_refused all =
+    goes_on_though_doomed_differs (due_at 9 three 1 (deeds 4 [] wrong_replies.goes_on_though_doomed) all).0
 
 too_long_at_one_differs : ◌≡◌ {A = Option Reply} (Some (replies.Response 0)) (Some replies.TooLong) → ⊥
 too_long_at_one_differs e = let never : ⊥ = cc in never
 
 pub too_long_at_one_refused : AreRepliesDue three 0 (deeds 3 [] wrong_replies.too_long_at_one) → ⊥
-too_long_at_one_refused all = too_long_at_one_differs (due_at 7 three 0 (deeds 3 [] wrong_replies.too_long_at_one) all).0
+too_long_at_one_refused all =
+    too_long_at_one_differs (due_at 7 three 0 (deeds 3 [] wrong_replies.too_long_at_one) all).0
 
 told_twice_differs : ◌≡◌ {A = Option Reply} None (Some (replies.Response 0)) → ⊥
 told_twice_differs e = let never : ⊥ = cc in never
@@ -73,4 +77,5 @@ forgets_its_transaction_differs : ◌≡◌ {A = Option Reply} (Some replies.Dro
 forgets_its_transaction_differs e = let never : ⊥ = cc in never
 
 pub forgets_its_transaction_refused : AreRepliesDue three 0 (deeds 3 [] wrong_replies.forgets_its_transaction) → ⊥
-forgets_its_transaction_refused all = forgets_its_transaction_differs (due_at 3 three 0 (deeds 3 [] wrong_replies.forgets_its_transaction) all).0
+forgets_its_transaction_refused all =
+    forgets_its_transaction_differs (due_at 3 three 0 (deeds 3 [] wrong_replies.forgets_its_transaction) all).0

@@ -1,20 +1,22 @@
 -- None of these is by turns, and nobody falls; and no client is told a fault.
 use Rattle.std.proofs.Common.{◌≡◌, true, false, [], Option, Some}
-use Rattle.qc_decl.specs.Names.{is_site, three}
+use Rattle.qc_decl.specs.Vocabulary.{is_site, three}
 use Rattle.qc_msg.specs.declared.reply.Reply.{Reply}
 use Rattle.qc_msg.specs.declared.reply.Reply.TheVariants as replies
-use Rattle.qc_msg.specs.Names.{deeds}
-use Rattle.qc_promise.specs.Names.{AreByTurns, AreRepliesDue}
+use Rattle.qc_msg.specs.Vocabulary.{deeds}
+use Rattle.qc_promise.specs.Vocabulary.{AreByTurns, AreRepliesDue}
 use Rattle.tests_due.proofs.Places.{due_at}
 use Rattle.tests_due.specs.WrongTurns as wrong_turns
 
 pub posts_before_an_input_refused : AreByTurns (is_site three 0) (deeds 0 [] wrong_turns.posts_before_an_input) → ⊥
 posts_before_an_input_refused is = let fails : false ≡ true = is in let never : ⊥ = cc in never
 
-pub record_after_its_message_refused : AreByTurns (is_site three 0) (deeds 0 [] wrong_turns.record_after_its_message) → ⊥
+pub record_after_its_message_refused : AreByTurns (is_site three 0) (deeds 0 [] wrong_turns.record_after_its_message)
+    → ⊥
 record_after_its_message_refused is = let fails : false ≡ true = is in let never : ⊥ = cc in never
 
-pub record_after_its_decision_refused : AreByTurns (is_site three 3) (deeds 3 [] wrong_turns.record_after_its_decision) → ⊥
+pub record_after_its_decision_refused : AreByTurns (is_site three 3) (deeds 3 [] wrong_turns.record_after_its_decision)
+    → ⊥
 record_after_its_decision_refused is = let fails : false ≡ true = is in let never : ⊥ = cc in never
 
 pub two_records_refused : AreByTurns (is_site three 0) (deeds 0 [] wrong_turns.two_records) → ⊥

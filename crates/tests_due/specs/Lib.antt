@@ -1,3 +1,6 @@
+pub mod Journals
+pub mod Disks
+pub mod Vocabulary
 pub mod LaterRows
 pub mod LongTransaction
 pub mod WrongReads

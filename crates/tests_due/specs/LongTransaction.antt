@@ -1,6 +1,6 @@
 -- A history with the longest transaction.
 use Rattle.std.specs.Prelude.{List, [], ◌∷◌}
-use Rattle.qc_msg.specs.Names.{Entry, marked}
+use Rattle.qc_msg.specs.Vocabulary.{Entry, marked}
 use Rattle.tests_histories.specs.Words.{tx, own_line}
 use Rattle.qc_msg.specs.declared.step.Step.TheVariants.{Phase, Called, Got, Sent, Told}
 use Rattle.qc_msg.specs.declared.message.Answer.TheVariants as answers

@@ -1,6 +1,6 @@
 -- Wrong histories: requests that no round wants, replies of what isn't declared, and untold replies.
 use Rattle.std.specs.Prelude.{List, [], ◌∷◌}
-use Rattle.qc_msg.specs.Names.{Entry, marked}
+use Rattle.qc_msg.specs.Vocabulary.{Entry, marked}
 use Rattle.tests_histories.specs.Words.{tx}
 use Rattle.qc_msg.specs.declared.step.Step.TheVariants.{Phase, Cut, Called, Got, Lost, Sent, Told}
 use Rattle.qc_msg.specs.declared.message.Answer.TheVariants as answers

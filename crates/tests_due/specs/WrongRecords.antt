@@ -1,6 +1,6 @@
 -- Wrong histories: commits without their record.
 use Rattle.std.specs.Prelude.{List, [], ◌∷◌, Some}
-use Rattle.qc_msg.specs.Names.{Entry, marked}
+use Rattle.qc_msg.specs.Vocabulary.{Entry, marked}
 use Rattle.tests_histories.specs.Words.{tx, stamp, line, own_line, operation, read_lock, prepare, commit}
 use Rattle.qc_msg.specs.declared.step.Step.TheVariants.{Phase, Called, Got, Wrote, Sent, Told, Fell}
 use Rattle.qc_msg.specs.declared.message.Answer.TheVariants as answers

@@ -1,6 +1,6 @@
 -- Wrong histories: sites that refuse what they are to grant, or grant what they are to refuse.
 use Rattle.std.specs.Prelude.{List, [], ◌∷◌}
-use Rattle.qc_msg.specs.Names.{Entry, marked}
+use Rattle.qc_msg.specs.Vocabulary.{Entry, marked}
 use Rattle.tests_histories.specs.Words.{tx, own_line}
 use Rattle.qc_msg.specs.declared.step.Step.TheVariants.{Phase, Called, Got, Sent, Told}
 use Rattle.qc_msg.specs.declared.message.Answer.TheVariants as answers

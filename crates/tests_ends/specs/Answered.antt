@@ -1,7 +1,7 @@
 -- What a script asks a client is answered in a history.
 use Rattle.std.specs.Prelude.{ℕ, List, []}
-use Rattle.laws_turns.specs.Names.{AreAnswered, asked_by, exchanges}
-use Rattle.qc_msg.specs.Names.{Entry, deeds}
+use Rattle.laws_turns.specs.Vocabulary.{AreAnswered, asked_by, exchanges}
+use Rattle.qc_msg.specs.Vocabulary.{Entry, deeds}
 use Rattle.qc_script.specs.declared.script.Script.{Script}
 
 abbrev pub IsAnswered : Script → List Entry → ℕ → Type 0

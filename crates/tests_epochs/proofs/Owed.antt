@@ -7,11 +7,11 @@ use Rattle.qc_msg.specs.declared.reply.Reply.{Reply}
 use Rattle.qc_msg.specs.declared.step.Command.{Command}
 use Rattle.qc_msg.specs.declared.step.Input.{Input}
 use Rattle.qc_msg.specs.declared.step.Input.TheVariants as inputs
-use Rattle.qc_msg.specs.Names.{Deed, Falls, Installing, Rises, Sends, Takes, Tells, Writes}
-use Rattle.qc_promise.specs.Names.{Act, AdminAccount, AreAdminDeedsDue, IsAdminDeedDue, IsAdminDue, IsAdminInputDue}
-use Rattle.qc_promise.specs.Names.{IsAdminRecordDue, IsDecisionMet, admin_account_at, admin_due, decide_due}
-use Rattle.qc_promise.specs.Names.{decide_record, fallen_in, is_called_for, new_admin_account, pending_next, posted_due}
-use Rattle.qc_promise.specs.Names.{posted_next, rising_turn}
+use Rattle.qc_msg.specs.Vocabulary.{Deed, Falls, Installing, Rises, Sends, Takes, Tells, Writes}
+use Rattle.qc_promise.specs.Vocabulary.{Act, AdminAccount, AreAdminDeedsDue, IsAdminDeedDue, IsAdminDue}
+use Rattle.qc_promise.specs.Vocabulary.{IsAdminInputDue, IsAdminRecordDue, IsDecisionMet, admin_account_at, admin_due}
+use Rattle.qc_promise.specs.Vocabulary.{decide_due, decide_record, fallen_in, is_called_for, new_admin_account}
+use Rattle.qc_promise.specs.Vocabulary.{pending_next, posted_due, posted_next, rising_turn}
 
 pub record Owed : Type 0 where
   pub reply : Option Reply
@@ -41,14 +41,17 @@ given_record _ = nothing
 
 abbrev owed_told : Declaration → AdminAccount → Option Record → Owed
 owed_told decl d None = record nothing { reply = admin_due decl d false; before = d.written }
-owed_told decl d (Some r) = record nothing { reply = admin_due decl d true; before = d.written; pending = option_map decide_record (decide_due decl d) }
+owed_told decl d (Some r) =
+    record nothing
+    { reply = admin_due decl d true; before = d.written; pending = option_map decide_record (decide_due decl d) }
 
 abbrev given_told : Declaration → AdminAccount → Reply → Option Record → Owed
 given_told decl d reply None = record nothing { reply = Some reply; before = decide_due decl d }
 given_told decl d reply (Some r) = record nothing { reply = Some reply; pending = Some r }
 
 abbrev owed_at : Declaration → AdminAccount → Deed → List Deed → Owed
-owed_at decl d (Takes g) after = record nothing { reply = admin_due decl d false; before = d.written; command = owed_command d g }
+owed_at decl d (Takes g) after =
+    record nothing { reply = admin_due decl d false; before = d.written; command = owed_command d g }
 owed_at decl d (Writes r) after = owed_record decl d r
 owed_at decl d (Sends number to message) after = record nothing { own = is_called_for decl d to message }
 owed_at decl d (Tells reply) after = owed_told decl d (pending_next after)
@@ -71,15 +74,19 @@ abbrev all_given : Declaration → AdminAccount → List Deed → List Owed
 all_given decl d [] = []
 all_given decl d (x ∷ after) = given_at decl d x after ∷ all_given decl (admin_account_at decl d x) after
 
-by_given : (decl : Declaration) (d : AdminAccount) (g : Input) → record nothing { reply = admin_due decl d false; before = d.written; command = owed_command d g } ≡ record nothing { before = decide_due decl d } → IsAdminInputDue decl d g
-by_given decl d (inputs.Called command) same = (ap (λ (o : Owed). o.reply) same, ap (λ (o : Owed). o.before) same, ap (λ (o : Owed). o.command) same)
+by_given : (decl : Declaration) (d : AdminAccount) (g : Input)
+    → record nothing { reply = admin_due decl d false; before = d.written; command = owed_command d g }
+    ≡ record nothing { before = decide_due decl d } → IsAdminInputDue decl d g
+by_given decl d (inputs.Called command) same =
+    (ap (λ (o : Owed). o.reply) same, ap (λ (o : Owed). o.before) same, ap (λ (o : Owed). o.command) same)
 by_given decl d (inputs.Got envelope) same = (ap (λ (o : Owed). o.reply) same, ap (λ (o : Owed). o.before) same, tt)
 by_given decl d (inputs.Lost number) same = (ap (λ (o : Owed). o.reply) same, ap (λ (o : Owed). o.before) same, tt)
 
 strange : ◌≡◌ {A = Bool} false true → ⊥
 strange e = let never : ⊥ = cc in never
 
-by_record : (decl : Declaration) (d : AdminAccount) (r : Record) → owed_record decl d r ≡ given_record r → IsAdminRecordDue decl d r
+by_record : (decl : Declaration) (d : AdminAccount) (r : Record) → owed_record decl d r ≡ given_record r
+    → IsAdminRecordDue decl d r
 by_record decl d records.Life same = tt
 by_record decl d (records.Prepare p) same = strange (ap (λ (o : Owed). o.own) same)
 by_record decl d (records.Done tx clock) same = strange (ap (λ (o : Owed). o.own) same)
@@ -88,11 +95,15 @@ by_record decl d (records.Install epoch clock lines) same = strange (ap (λ (o :
 by_record decl d (records.Commit c) same = strange (ap (λ (o : Owed). o.own) same)
 by_record decl d (records.Decide e c l) same = (ap (λ (o : Owed). o.decision) same, ap (λ (o : Owed). o.before) same)
 
-by_told : (decl : Declaration) (d : AdminAccount) (reply : Reply) (p : Option Record) → owed_told decl d p ≡ given_told decl d reply p → (admin_due decl d (is_some p) ≡ Some reply) × IsDecisionMet decl d p
+by_told : (decl : Declaration) (d : AdminAccount) (reply : Reply) (p : Option Record)
+    → owed_told decl d p ≡ given_told decl d reply p
+    → (admin_due decl d (is_some p) ≡ Some reply) × IsDecisionMet decl d p
 by_told decl d reply None same = (ap (λ (o : Owed). o.reply) same, ap (λ (o : Owed). o.before) same)
-by_told decl d reply (Some r) same = (ap (λ (o : Owed). o.reply) same, (ap (λ (o : Owed). o.before) same, ap (λ (o : Owed). o.pending) same))
+by_told decl d reply (Some r) same =
+    (ap (λ (o : Owed). o.reply) same, (ap (λ (o : Owed). o.before) same, ap (λ (o : Owed). o.pending) same))
 
-by_deed : (decl : Declaration) (d : AdminAccount) (x : Deed) (after : List Deed) → owed_at decl d x after ≡ given_at decl d x after → IsAdminDeedDue decl d x after
+by_deed : (decl : Declaration) (d : AdminAccount) (x : Deed) (after : List Deed)
+    → owed_at decl d x after ≡ given_at decl d x after → IsAdminDeedDue decl d x after
 by_deed decl d (Takes g) after same = by_given decl d g same
 by_deed decl d (Writes r) after same = by_record decl d r same
 by_deed decl d (Sends number to message) after same = ap (λ (o : Owed). o.own) same
@@ -108,9 +119,11 @@ abbrev rest_of : List Owed → List Owed
 rest_of [] = []
 rest_of (x ∷ xs) = xs
 
-deeds_due : (decl : Declaration) (d : AdminAccount) (ds : List Deed) → all_owed decl d ds ≡ all_given decl d ds → AreAdminDeedsDue decl d ds
+deeds_due : (decl : Declaration) (d : AdminAccount) (ds : List Deed) → all_owed decl d ds ≡ all_given decl d ds
+    → AreAdminDeedsDue decl d ds
 deeds_due decl d [] same = tt
-deeds_due decl d (x ∷ after) same = (by_deed decl d x after (ap first_of same), deeds_due decl (admin_account_at decl d x) after (ap rest_of same))
+deeds_due decl d (x ∷ after) same =
+    (by_deed decl d x after (ap first_of same), deeds_due decl (admin_account_at decl d x) after (ap rest_of same))
 
 abbrev pub owed_by : Declaration → List Deed → List Owed
 owed_by decl ds = all_owed decl new_admin_account ds
@@ -118,5 +131,6 @@ owed_by decl ds = all_owed decl new_admin_account ds
 abbrev pub given_by : Declaration → List Deed → List Owed
 given_by decl ds = all_given decl new_admin_account ds
 
-pub admin_due_where_shown : (decl : Declaration) (ds : List Deed) → owed_by decl ds ≡ given_by decl ds → IsAdminDue decl ds
+pub admin_due_where_shown : (decl : Declaration) (ds : List Deed) → owed_by decl ds ≡ given_by decl ds
+    → IsAdminDue decl ds
 admin_due_where_shown decl ds same = deeds_due decl new_admin_account ds same

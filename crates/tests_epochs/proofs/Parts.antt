@@ -9,8 +9,8 @@ use Rattle.qc_msg.specs.declared.record.Record.{Record}
 use Rattle.qc_msg.specs.declared.record.Record.TheVariants as records
 use Rattle.qc_msg.specs.declared.reply.Reply.{Reply}
 use Rattle.qc_msg.specs.declared.reply.Reply.TheVariants as replies
-use Rattle.qc_msg.specs.Names.{Installing}
-use Rattle.qc_promise.specs.Names.{Act, Wrote}
+use Rattle.qc_msg.specs.Vocabulary.{Installing}
+use Rattle.qc_promise.specs.Vocabulary.{Act, Wrote}
 use Rattle.tests_due.proofs.SitePlaces.{first_answer}
 
 -- a reply of the administrator

@@ -1,11 +1,11 @@
 -- All is due in the random histories 1 to 10.
 use Rattle.std.proofs.Common.{[], refl}
-use Rattle.qc_decl.specs.Names.{actors, administrator}
-use Rattle.qc_msg.specs.Names.{deeds}
+use Rattle.qc_decl.specs.Vocabulary.{actors, administrator}
+use Rattle.qc_msg.specs.Vocabulary.{deeds}
 use Rattle.tests_due.proofs.Orders.{by_turns_where_placed, mailed_where_shown}
 use Rattle.tests_due.proofs.Owed.{all_due_where_shown}
 use Rattle.tests_due.proofs.Sites.{sites_due_where_posted}
-use Rattle.qc_promise.specs.Names.{Due}
+use Rattle.qc_promise.specs.Vocabulary.{Due}
 use Rattle.tests_epochs.proofs.Owed.{admin_due_where_shown}
 use Rattle.tests_epochs.specs.Random1 as random1
 use Rattle.tests_epochs.specs.Random2 as random2

@@ -1,8 +1,8 @@
 -- None of these is due: decisions of the administrator with another clock or other lines.
 use Rattle.std.proofs.Common.{◌≡◌, ℕ, [], Option, Some, None, ap}
-use Rattle.qc_decl.specs.Names.{administrator}
+use Rattle.qc_decl.specs.Vocabulary.{administrator}
 use Rattle.qc_msg.specs.declared.reply.Reply.{Reply}
-use Rattle.qc_msg.specs.Names.{deeds}
+use Rattle.qc_msg.specs.Vocabulary.{deeds}
 use Rattle.tests_epochs.specs.Declarations.{three_epochs, two_objects}
 use Rattle.tests_epochs.specs.Whole.{IsAdminDueIn}
 use Rattle.tests_epochs.proofs.Places.{admin_due_at}
@@ -13,8 +13,13 @@ use Rattle.tests_epochs.specs.WrongDecisions as wrong_decisions
 a_clock_that_leaves_out_stamps_differs : ◌≡◌ {A = ℕ} 4 3 → ⊥
 a_clock_that_leaves_out_stamps_differs e = let never : ⊥ = cc in never
 
-pub a_clock_that_leaves_out_stamps_refused : IsAdminDueIn three_epochs wrong_decisions.a_clock_that_leaves_out_stamps → ⊥
-a_clock_that_leaves_out_stamps_refused all = a_clock_that_leaves_out_stamps_differs (ap clock_decided (admin_due_at 7 three_epochs (deeds (administrator three_epochs) [] wrong_decisions.a_clock_that_leaves_out_stamps) all).0)
+pub a_clock_that_leaves_out_stamps_refused : IsAdminDueIn three_epochs wrong_decisions.a_clock_that_leaves_out_stamps
+    → ⊥
+a_clock_that_leaves_out_stamps_refused all =
+    a_clock_that_leaves_out_stamps_differs
+    (ap clock_decided
+    (admin_due_at 7 three_epochs
+    (deeds (administrator three_epochs) [] wrong_decisions.a_clock_that_leaves_out_stamps) all).0)
 
 committed_lines_left_out_differs : ◌≡◌ {A = ℕ} 1 0 → ⊥
 committed_lines_left_out_differs e = let never : ⊥ = cc in never
@@ -26,7 +31,10 @@ aborted_lines_merged_differs : ◌≡◌ {A = ℕ} 2 3 → ⊥
 aborted_lines_merged_differs e = let never : ⊥ = cc in never
 
 pub aborted_lines_merged_refused : IsAdminDueIn three_epochs wrong_decisions.aborted_lines_merged → ⊥
-aborted_lines_merged_refused all = aborted_lines_merged_differs (ap lines_decided (admin_due_at 11 three_epochs (deeds (administrator three_epochs) [] wrong_decisions.aborted_lines_merged) all).0)
+aborted_lines_merged_refused all =
+    aborted_lines_merged_differs
+    (ap lines_decided
+    (admin_due_at 11 three_epochs (deeds (administrator three_epochs) [] wrong_decisions.aborted_lines_merged) all).0)
 
 a_line_that_nobody_told_differs : ◌≡◌ {A = ℕ} 1 2 → ⊥
 a_line_that_nobody_told_differs e = let never : ⊥ = cc in never
@@ -44,4 +52,6 @@ another_log_installed_differs : ◌≡◌ {A = Option Reply} None (Some (replies
 another_log_installed_differs e = let never : ⊥ = cc in never
 
 pub another_log_installed_refused : IsAdminDueIn three_epochs wrong_decisions.another_log_installed → ⊥
-another_log_installed_refused all = another_log_installed_differs ((admin_due_at 12 three_epochs (deeds (administrator three_epochs) [] wrong_decisions.another_log_installed) all).0)
+another_log_installed_refused all =
+    another_log_installed_differs
+    ((admin_due_at 12 three_epochs (deeds (administrator three_epochs) [] wrong_decisions.another_log_installed) all).0)

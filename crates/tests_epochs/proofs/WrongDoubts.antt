@@ -1,8 +1,8 @@
 -- None of these is due: doubts of the administrator, and a decision in doubt.
 use Rattle.std.proofs.Common.{◌≡◌, ℕ, [], ◌∷◌, Option, Some, None, ap}
-use Rattle.qc_decl.specs.Names.{administrator}
+use Rattle.qc_decl.specs.Vocabulary.{administrator}
 use Rattle.qc_msg.specs.declared.reply.Reply.{Reply}
-use Rattle.qc_msg.specs.Names.{Installing, deeds}
+use Rattle.qc_msg.specs.Vocabulary.{Installing, deeds}
 use Rattle.tests_histories.specs.Words.{line, tx}
 use Rattle.tests_epochs.specs.Declarations.{three_epochs}
 use Rattle.tests_epochs.specs.Whole.{IsAdminDueIn}
@@ -15,13 +15,18 @@ doubt_of_what_is_answered_differs : ◌≡◌ {A = Option Reply} None (Some (rep
 doubt_of_what_is_answered_differs e = let never : ⊥ = cc in never
 
 pub doubt_of_what_is_answered_refused : IsAdminDueIn three_epochs wrong_doubts.doubt_of_what_is_answered → ⊥
-doubt_of_what_is_answered_refused all = doubt_of_what_is_answered_differs ((admin_due_at 7 three_epochs (deeds (administrator three_epochs) [] wrong_doubts.doubt_of_what_is_answered) all).0)
+doubt_of_what_is_answered_refused all =
+    doubt_of_what_is_answered_differs
+    ((admin_due_at 7 three_epochs (deeds (administrator three_epochs) [] wrong_doubts.doubt_of_what_is_answered) all).0)
 
 doubt_at_another_site_differs : ◌≡◌ {A = ℕ} 0 1 → ⊥
 doubt_at_another_site_differs e = let never : ⊥ = cc in never
 
 pub doubt_at_another_site_refused : IsAdminDueIn three_epochs wrong_doubts.doubt_at_another_site → ⊥
-doubt_at_another_site_refused all = doubt_at_another_site_differs (ap doubt_told (admin_due_at 7 three_epochs (deeds (administrator three_epochs) [] wrong_doubts.doubt_at_another_site) all).0)
+doubt_at_another_site_refused all =
+    doubt_at_another_site_differs
+    (ap doubt_told
+    (admin_due_at 7 three_epochs (deeds (administrator three_epochs) [] wrong_doubts.doubt_at_another_site) all).0)
 
 doubt_of_another_promise_differs : ◌≡◌ {A = ℕ} 17 32 → ⊥
 doubt_of_another_promise_differs e = let never : ⊥ = cc in never
@@ -33,10 +38,15 @@ doubt_before_it_is_asked_differs : ◌≡◌ {A = Option Reply} None (Some (repl
 doubt_before_it_is_asked_differs e = let never : ⊥ = cc in never
 
 pub doubt_before_it_is_asked_refused : IsAdminDueIn three_epochs wrong_doubts.doubt_before_it_is_asked → ⊥
-doubt_before_it_is_asked_refused all = doubt_before_it_is_asked_differs ((admin_due_at 5 three_epochs (deeds (administrator three_epochs) [] wrong_doubts.doubt_before_it_is_asked) all).0)
+doubt_before_it_is_asked_refused all =
+    doubt_before_it_is_asked_differs
+    ((admin_due_at 5 three_epochs (deeds (administrator three_epochs) [] wrong_doubts.doubt_before_it_is_asked) all).0)
 
-decided_in_doubt_differs : ◌≡◌ {A = Option Installing} None (Some (record { epoch = 2; clock = 1; lines = (line 1 0 1 1 0 3 ∷ []) })) → ⊥
+decided_in_doubt_differs : ◌≡◌ {A = Option Installing} None
+    (Some (record { epoch = 2; clock = 1; lines = (line 1 0 1 1 0 3 ∷ []) })) → ⊥
 decided_in_doubt_differs e = let never : ⊥ = cc in never
 
 pub decided_in_doubt_refused : IsAdminDueIn three_epochs wrong_doubts.decided_in_doubt → ⊥
-decided_in_doubt_refused all = decided_in_doubt_differs ((admin_due_at 7 three_epochs (deeds (administrator three_epochs) [] wrong_doubts.decided_in_doubt) all).0)
+decided_in_doubt_refused all =
+    decided_in_doubt_differs ((admin_due_at 7 three_epochs
+    (deeds (administrator three_epochs) [] wrong_doubts.decided_in_doubt) all).0)

@@ -1,6 +1,6 @@
 -- An Ask is lost, so a transaction is in doubt; the next command closes again, and moves.
 use Rattle.std.specs.Prelude.{List, [], ◌∷◌, Some}
-use Rattle.qc_msg.specs.Names.{Entry, marked}
+use Rattle.qc_msg.specs.Vocabulary.{Entry, marked}
 use Rattle.tests_histories.specs.Words.{tx, stamp, line, own_line, operation, read_lock, prepare, commit}
 use Rattle.qc_msg.specs.declared.step.Step.TheVariants.{Phase, Called, Got, Lost, Wrote, Sent, Told}
 use Rattle.tests_epochs.specs.Words.{prepared}

@@ -1,6 +1,6 @@
 -- The administrator asks about a transaction that waits for votes, and it is in doubt; then it aborted, and he moves.
 use Rattle.std.specs.Prelude.{List, [], ◌∷◌, Some}
-use Rattle.qc_msg.specs.Names.{Entry, marked}
+use Rattle.qc_msg.specs.Vocabulary.{Entry, marked}
 use Rattle.tests_histories.specs.Words.{tx, own_line, prepare}
 use Rattle.qc_msg.specs.declared.step.Step.TheVariants.{Phase, Called, Got, Lost, Wrote, Sent, Told, Fell}
 use Rattle.tests_epochs.specs.Words.{prepared}

@@ -1,7 +1,7 @@
 -- The declarations of the worked histories: three epochs, of one object and of two.
 use Rattle.std.specs.Prelude.{[], ◌∷◌}
 use Rattle.qc_decl.specs.declared.declaration.Declaration.{Declaration}
-use Rattle.qc_decl.specs.Names.{row}
+use Rattle.qc_decl.specs.Vocabulary.{row}
 use Rattle.tests_histories.specs.Words.{declaration, kind, pair, plan}
 
 abbrev pub three_epochs : Declaration

@@ -1,6 +1,6 @@
 -- Two closed sites have promised other lines of one transaction: all of them are merged.
 use Rattle.std.specs.Prelude.{List, [], ◌∷◌, Some}
-use Rattle.qc_msg.specs.Names.{Entry, marked}
+use Rattle.qc_msg.specs.Vocabulary.{Entry, marked}
 use Rattle.tests_histories.specs.Words.{tx, stamp, line, own_line, operation, read_lock, prepare, commit}
 use Rattle.qc_msg.specs.declared.step.Step.TheVariants.{Phase, Cut, Called, Got, Lost, Wrote, Sent, Told}
 use Rattle.tests_epochs.specs.Words.{prepared}

@@ -1,6 +1,6 @@
 -- An Install comes late, after that of a later epoch; a decided epoch is installed again; other epochs are refused.
 use Rattle.std.specs.Prelude.{List, [], ◌∷◌, Some}
-use Rattle.qc_msg.specs.Names.{Entry, marked}
+use Rattle.qc_msg.specs.Vocabulary.{Entry, marked}
 use Rattle.tests_histories.specs.Words.{tx, stamp, line, own_line, operation, read_lock, prepare, commit}
 use Rattle.qc_msg.specs.declared.step.Step.TheVariants.{Phase, Called, Got, Lost, Wrote, Sent, Told}
 use Rattle.qc_msg.specs.declared.message.Answer.TheVariants as answers

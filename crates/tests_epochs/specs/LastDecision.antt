@@ -1,6 +1,6 @@
 -- An administrator rises with two decisions, and installs the last one again.
 use Rattle.std.specs.Prelude.{List, [], ◌∷◌, None}
-use Rattle.qc_msg.specs.Names.{Entry, marked}
+use Rattle.qc_msg.specs.Vocabulary.{Entry, marked}
 use Rattle.tests_histories.specs.Words.{tx, own_line}
 use Rattle.qc_msg.specs.declared.step.Step.TheVariants.{Phase, Called, Got, Wrote, Sent, Told, Fell, Rose}
 use Rattle.qc_msg.specs.declared.message.Answer.TheVariants as answers

@@ -2,8 +2,8 @@
 -- unwritten records 3, closes 2, decisions 1, installs 1.
 use Rattle.std.specs.Prelude.{List, [], ◌∷◌, Some}
 use Rattle.qc_decl.specs.declared.declaration.Declaration.{Declaration}
-use Rattle.qc_decl.specs.Names.{row}
-use Rattle.qc_msg.specs.Names.{Entry, marked}
+use Rattle.qc_decl.specs.Vocabulary.{row}
+use Rattle.qc_msg.specs.Vocabulary.{Entry, marked}
 use Rattle.tests_histories.specs.Words.{tx, stamp, commit, declaration, kind, pair, plan}
 use Rattle.qc_msg.specs.declared.step.Step.TheVariants.{Phase, Cut, Called, Got, Lost, Wrote, Sent, Told, Armed, Fell}
 use Rattle.qc_msg.specs.declared.step.Step.TheVariants.{Rose}

@@ -1,8 +1,8 @@
 -- Random: sites 4, clients 3, steps 173, messages 44, commits 2, falls 5, rises 3, closes 4, decisions 1, installs 4.
 use Rattle.std.specs.Prelude.{List, [], ◌∷◌, None}
 use Rattle.qc_decl.specs.declared.declaration.Declaration.{Declaration}
-use Rattle.qc_decl.specs.Names.{row}
-use Rattle.qc_msg.specs.Names.{Entry, marked}
+use Rattle.qc_decl.specs.Vocabulary.{row}
+use Rattle.qc_msg.specs.Vocabulary.{Entry, marked}
 use Rattle.tests_histories.specs.Words.{tx, stamp, commit, declaration, kind, pair, plan}
 use Rattle.qc_msg.specs.declared.step.Step.TheVariants.{Phase, Called, Got, Wrote, Sent, Told, Armed, Fell, Rose}
 use Rattle.tests_epochs.specs.Words.{tx_in}

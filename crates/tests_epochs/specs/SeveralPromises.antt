@@ -1,6 +1,6 @@
 -- Sites have promised several transactions, in another order than their names; one of them aborted.
 use Rattle.std.specs.Prelude.{List, [], ◌∷◌, Some}
-use Rattle.qc_msg.specs.Names.{Entry, marked}
+use Rattle.qc_msg.specs.Vocabulary.{Entry, marked}
 use Rattle.tests_histories.specs.Words.{tx, stamp, line, own_line, operation, read_lock, prepare, commit}
 use Rattle.qc_msg.specs.declared.step.Step.TheVariants.{Phase, Called, Got, Lost, Wrote, Sent, Told}
 use Rattle.tests_epochs.specs.Words.{prepared}

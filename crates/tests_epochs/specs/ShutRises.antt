@@ -1,6 +1,6 @@
 -- A closed site rises: it grants nothing of the closed epoch, and another command closes enough.
 use Rattle.std.specs.Prelude.{List, [], ◌∷◌, None}
-use Rattle.qc_msg.specs.Names.{Entry, marked}
+use Rattle.qc_msg.specs.Vocabulary.{Entry, marked}
 use Rattle.tests_histories.specs.Words.{tx}
 use Rattle.qc_msg.specs.declared.step.Step.TheVariants.{Phase, Cut, Heal, Called, Got, Lost, Wrote, Sent, Told, Fell}
 use Rattle.qc_msg.specs.declared.step.Step.TheVariants.{Rose}

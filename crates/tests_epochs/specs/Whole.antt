@@ -1,9 +1,9 @@
 -- What is due in a whole history: of the administrator, and of one site.
 use Rattle.std.specs.Prelude.{ℕ, false, List, []}
 use Rattle.qc_decl.specs.declared.declaration.Declaration.{Declaration}
-use Rattle.qc_decl.specs.Names.{administrator}
-use Rattle.qc_msg.specs.Names.{Entry, deeds}
-use Rattle.qc_promise.specs.Names.{AreByTurns, AreDue, IsAdminDue}
+use Rattle.qc_decl.specs.Vocabulary.{administrator}
+use Rattle.qc_msg.specs.Vocabulary.{Entry, deeds}
+use Rattle.qc_promise.specs.Vocabulary.{AreByTurns, AreDue, IsAdminDue}
 
 abbrev pub IsAdminDueIn : Declaration → List Entry → Type 0
 IsAdminDueIn decl h = IsAdminDue decl (deeds (administrator decl) [] h)

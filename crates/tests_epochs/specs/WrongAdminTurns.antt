@@ -1,6 +1,6 @@
 -- Wrong histories: the administrator doesn't act by turns.
 use Rattle.std.specs.Prelude.{List, [], ◌∷◌, ◌++◌, take, Some}
-use Rattle.qc_msg.specs.Names.{Entry, marked}
+use Rattle.qc_msg.specs.Vocabulary.{Entry, marked}
 use Rattle.tests_histories.specs.Words.{line}
 use Rattle.qc_msg.specs.declared.step.Step.TheVariants.{Wrote, Sent, Told, Fell}
 use Rattle.qc_msg.specs.declared.message.Message.TheVariants as messages

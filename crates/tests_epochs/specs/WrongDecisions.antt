@@ -1,6 +1,6 @@
 -- Wrong histories: decisions of the administrator with another clock or other lines.
 use Rattle.std.specs.Prelude.{List, [], ◌∷◌, ◌++◌, take}
-use Rattle.qc_msg.specs.Names.{Entry, marked}
+use Rattle.qc_msg.specs.Vocabulary.{Entry, marked}
 use Rattle.tests_histories.specs.Words.{line}
 use Rattle.qc_msg.specs.declared.step.Step.TheVariants.{Got, Wrote, Sent, Told}
 use Rattle.qc_msg.specs.declared.message.Answer.TheVariants as answers

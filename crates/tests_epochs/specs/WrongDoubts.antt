@@ -1,6 +1,6 @@
 -- Wrong histories: doubts of the administrator, and a decision in doubt.
 use Rattle.std.specs.Prelude.{List, [], ◌∷◌, ◌++◌, take}
-use Rattle.qc_msg.specs.Names.{Entry, marked}
+use Rattle.qc_msg.specs.Vocabulary.{Entry, marked}
 use Rattle.tests_histories.specs.Words.{tx, line}
 use Rattle.qc_msg.specs.declared.step.Step.TheVariants.{Wrote, Told}
 use Rattle.qc_msg.specs.declared.record.Record.TheVariants as records

@@ -1,6 +1,6 @@
 -- Wrong histories: decisions of the administrator as his disk fails, and of one who rose.
 use Rattle.std.specs.Prelude.{List, [], ◌∷◌, ◌++◌, take, Some}
-use Rattle.qc_msg.specs.Names.{Entry, marked}
+use Rattle.qc_msg.specs.Vocabulary.{Entry, marked}
 use Rattle.tests_histories.specs.Words.{line}
 use Rattle.qc_msg.specs.declared.step.Step.TheVariants.{Phase, Called, Got, Wrote, Sent, Told, Fell, Rose}
 use Rattle.qc_msg.specs.declared.message.Answer.TheVariants as answers

@@ -1,6 +1,6 @@
 -- Wrong histories: what the administrator takes while something else is due.
 use Rattle.std.specs.Prelude.{List, [], ◌∷◌, ◌++◌, take}
-use Rattle.qc_msg.specs.Names.{Entry, marked}
+use Rattle.qc_msg.specs.Vocabulary.{Entry, marked}
 use Rattle.tests_histories.specs.Words.{line}
 use Rattle.qc_msg.specs.declared.step.Step.TheVariants.{Phase, Called, Got, Wrote, Sent}
 use Rattle.qc_msg.specs.declared.message.Answer.TheVariants as answers

@@ -1,6 +1,6 @@
 -- Wrong histories: the administrator tells what he moved, or refuses, otherwise than he did.
 use Rattle.std.specs.Prelude.{List, [], ◌∷◌, ◌++◌, take}
-use Rattle.qc_msg.specs.Names.{Entry, marked}
+use Rattle.qc_msg.specs.Vocabulary.{Entry, marked}
 use Rattle.qc_msg.specs.declared.step.Step.TheVariants.{Told}
 use Rattle.qc_msg.specs.declared.reply.Reply.TheVariants as replies
 use Rattle.tests_epochs.specs.MovedOnce as moved_once

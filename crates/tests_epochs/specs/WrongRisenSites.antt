@@ -1,6 +1,6 @@
 -- Wrong histories: sites that rise closed, or in an installed epoch.
 use Rattle.std.specs.Prelude.{List, [], ◌∷◌, ◌++◌, take}
-use Rattle.qc_msg.specs.Names.{Entry, marked}
+use Rattle.qc_msg.specs.Vocabulary.{Entry, marked}
 use Rattle.tests_histories.specs.Words.{tx, own_line}
 use Rattle.qc_msg.specs.declared.step.Step.TheVariants.{Wrote, Sent}
 use Rattle.tests_epochs.specs.Words.{prepared}

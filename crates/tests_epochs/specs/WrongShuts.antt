@@ -1,6 +1,6 @@
 -- Wrong histories: sites that close and install epochs.
 use Rattle.std.specs.Prelude.{List, [], ◌∷◌, ◌++◌, take, None}
-use Rattle.qc_msg.specs.Names.{Entry, marked}
+use Rattle.qc_msg.specs.Vocabulary.{Entry, marked}
 use Rattle.tests_histories.specs.Words.{tx, stamp, line, own_line, prepare}
 use Rattle.qc_msg.specs.declared.step.Step.TheVariants.{Phase, Called, Got, Lost, Wrote, Sent, Told, Fell, Rose}
 use Rattle.tests_epochs.specs.Words.{prepared}

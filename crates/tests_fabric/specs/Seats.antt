@@ -1,16 +1,16 @@
 -- What a seat knows of its pass: whether its actor is down; and how an actor may be restarted.
 use Rattle.std.specs.Prelude.{◌≡◌, ◌<◌, Bool, true, false, []}
 use Rattle.atomic_table.specs.Seated.{TableId}
-use Rattle.qc_decl.specs.Names.{actors}
+use Rattle.qc_decl.specs.Vocabulary.{actors}
 use Rattle.qc_decl.specs.declared.declaration.Declaration.{Declaration}
-use Rattle.qc_inbox.specs.Names.{is_down}
-use Rattle.qc_msg.specs.Names.{HasRecord, IsByDisk, deeds}
+use Rattle.qc_mailbox.specs.Vocabulary.{is_down}
+use Rattle.qc_msg.specs.Vocabulary.{HasRecord, IsByDisk, deeds}
 use Rattle.qc_msg.specs.declared.step.Step.{Step}
 use Rattle.qc_msg.specs.declared.turn.Appended.{Appended}
 use Rattle.qc_msg.specs.declared.turn.Appended.TheVariants.{Done, Failed, Stopped}
 use Rattle.qc_pass.specs.declared.token.Pass.{Pass}
-use Rattle.qc_pass.specs.Names.{number, pass_table, seen}
-use Rattle.qc_fabric.specs.Names.{GoesToActors}
+use Rattle.qc_pass.specs.Vocabulary.{number, pass_table, seen}
+use Rattle.qc_fabric.specs.Vocabulary.{GoesToActors}
 use Rattle.qc_fabric.specs.declared.rising.Rising.{Rising}
 use Rattle.qc_fabric.specs.declared.rising.Rising.TheVariants.{Rose, Damaged, NotOpened}
 

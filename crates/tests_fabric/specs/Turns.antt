@@ -1,8 +1,8 @@
 -- A conduct under which an actor that is up may do anything. One that is down tells replies alone.
 use Rattle.std.specs.Prelude.{◌≡◌, ℕ, Bool, true, List, [], None}
 use Rattle.qc_decl.specs.declared.declaration.Declaration.{Declaration}
-use Rattle.qc_inbox.specs.Names.{is_down}
-use Rattle.qc_msg.specs.Names.{Deed, MayEnd}
+use Rattle.qc_mailbox.specs.Vocabulary.{is_down}
+use Rattle.qc_msg.specs.Vocabulary.{Deed, MayEnd}
 use Rattle.qc_msg.specs.declared.record.Record.{Record}
 use Rattle.qc_msg.specs.declared.turn.Turn.{Turn}
 

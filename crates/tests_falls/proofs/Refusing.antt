@@ -1,6 +1,6 @@
 -- A post is refused by each end of the record of the turn that is due.
 use Rattle.std.proofs.Common.{◌≡◌, ℕ, List, [], ◌∷◌, length, Some, sym, ap, ◌∙◌}
-use Rattle.qc_core.specs.Names.{actor_after, turn_with_falls, with_record}
+use Rattle.qc_core.specs.Vocabulary.{actor_after, turn_with_falls, with_record}
 use Rattle.qc_decl.specs.declared.declaration.Declaration.{Declaration}
 use Rattle.qc_msg.specs.declared.record.Record.TheVariants as records
 use Rattle.qc_msg.specs.declared.reply.Reply.TheVariants as replies
@@ -9,14 +9,15 @@ use Rattle.qc_msg.specs.declared.step.Step.TheVariants as steps
 use Rattle.qc_msg.specs.declared.turn.Appended.{Appended}
 use Rattle.qc_msg.specs.declared.turn.Appended.TheVariants.{Done, Failed, Stopped}
 use Rattle.qc_msg.specs.declared.turn.Turn.{Turn}
-use Rattle.qc_msg.specs.Names.{Entry, deeds, mail, posted_as}
+use Rattle.qc_msg.specs.Vocabulary.{Entry, deeds, mail, posted_as}
 use Rattle.tests_falls.specs.Refused.{IsNoPost}
 
 -- the turn that the actor's deeds call for
 abbrev pub due : Declaration → ℕ → List Entry → Turn
 due decl a h = (actor_after decl a (deeds a [] h)).turn
 
-pub refused : (decl : Declaration) (a : ℕ) (h : List Entry) (steps : List Step) → turn_with_falls decl a (deeds a [] h) ≡ Some (due decl a h)
+pub refused : (decl : Declaration) (a : ℕ) (h : List Entry) (steps : List Step)
+    → turn_with_falls decl a (deeds a [] h) ≡ Some (due decl a h)
     → (posted_as Done (length (mail h)) (due decl a h) ≡ steps → ⊥)
     → (posted_as Failed (length (mail h)) (due decl a h) ≡ steps → ⊥)
     → (posted_as Stopped (length (mail h)) (due decl a h) ≡ steps → ⊥)

@@ -1,6 +1,6 @@
 -- A site that promised falls and rises: it asks how that stands, and holds what it promised.
 use Rattle.std.specs.Prelude.{List, [], ◌∷◌, Some, None, false}
-use Rattle.qc_msg.specs.Names.{Entry, marked}
+use Rattle.qc_msg.specs.Vocabulary.{Entry, marked}
 use Rattle.tests_histories.specs.Words.{tx, stamp, own_line, operation, prepare, commit}
 use Rattle.qc_msg.specs.declared.step.Step.TheVariants.{Phase, Called, Got, Wrote, Sent, Told, Armed, Fell, Rose}
 use Rattle.qc_msg.specs.declared.turn.Appended.TheVariants.{Done, Stopped}

@@ -3,9 +3,9 @@
 -- acts. A move that no run has there ends it.
 use Rattle.std.specs.Prelude.{ℕ, ◌+◌, ◌&&◌, Bool, true, false, cond, List, [], ◌∷◌, ◌++◌, length, slice_set, Option}
 use Rattle.std.specs.Prelude.{Some, None, is_some, option_and_then, option_map, option_to_list, slice_get}
-use Rattle.qc_core.specs.Names.{turn_with_falls}
+use Rattle.qc_core.specs.Vocabulary.{turn_with_falls}
 use Rattle.qc_decl.specs.declared.declaration.Declaration.{Declaration}
-use Rattle.qc_fit.specs.Names.{fits}
+use Rattle.qc_fit.specs.Vocabulary.{fits}
 use Rattle.qc_msg.specs.declared.record.Record.{Record}
 use Rattle.qc_msg.specs.declared.step.Control.{Control}
 use Rattle.qc_msg.specs.declared.step.Control.TheVariants as controls
@@ -15,10 +15,10 @@ use Rattle.qc_msg.specs.declared.step.Step.TheVariants as steps
 use Rattle.qc_msg.specs.declared.turn.Appended.{Appended}
 use Rattle.qc_msg.specs.declared.turn.Appended.TheVariants.{Done, Failed, Stopped}
 use Rattle.qc_msg.specs.declared.turn.Turn.{Turn}
-use Rattle.qc_msg.specs.Names.{Entry, by, deeds, mail, marked, own, posted_as}
-use Rattle.qc_promise.specs.Names.{Journal, journal_of}
+use Rattle.qc_msg.specs.Vocabulary.{Entry, by, deeds, mail, marked, own, posted_as}
+use Rattle.qc_promise.specs.Vocabulary.{Journal, journal_of}
 use Rattle.qc_script.specs.declared.script.Script.{Script}
-use Rattle.qc_script.specs.Names.{controls_left, ready}
+use Rattle.qc_script.specs.Vocabulary.{controls_left, ready}
 use Rattle.tests_runs.specs.Perform.{Stage, ended, nothing_done, taken_by, with_phase, with_step}
 
 -- the next phase begins; the first control line that is left acts, and restarts nobody; an actor takes what is ready

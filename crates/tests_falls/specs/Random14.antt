@@ -1,8 +1,8 @@
 -- Random: sites 3, clients 1, steps 78, messages 10, cuts 3, commits 2, falls 4, rises 1.
 use Rattle.std.specs.Prelude.{List, [], ◌∷◌, Some, None, false}
 use Rattle.qc_decl.specs.declared.declaration.Declaration.{Declaration}
-use Rattle.qc_decl.specs.Names.{row}
-use Rattle.qc_msg.specs.Names.{Entry, marked}
+use Rattle.qc_decl.specs.Vocabulary.{row}
+use Rattle.qc_msg.specs.Vocabulary.{Entry, marked}
 use Rattle.tests_histories.specs.Words.{tx, stamp, operation, read_lock, prepare, commit, declaration, kind, plan}
 use Rattle.qc_msg.specs.declared.step.Step.TheVariants.{Phase, Cut, Heal, Called, Got, Wrote, Sent, Told, Armed, Fell}
 use Rattle.qc_msg.specs.declared.step.Step.TheVariants.{Rose}

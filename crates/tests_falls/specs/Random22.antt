@@ -1,8 +1,8 @@
 -- Random: sites 5, clients 2, steps 112, messages 40, commits 1, aborts 1, conflicts 1, falls 1, rises 1.
 use Rattle.std.specs.Prelude.{List, [], ◌∷◌, Some, None, false}
 use Rattle.qc_decl.specs.declared.declaration.Declaration.{Declaration}
-use Rattle.qc_decl.specs.Names.{row}
-use Rattle.qc_msg.specs.Names.{Entry, marked}
+use Rattle.qc_decl.specs.Vocabulary.{row}
+use Rattle.qc_msg.specs.Vocabulary.{Entry, marked}
 use Rattle.tests_histories.specs.Words.{tx, stamp, own_line, operation, read_lock, prepare, commit, declaration, kind}
 use Rattle.tests_histories.specs.Words.{pair, plan}
 use Rattle.qc_msg.specs.declared.step.Step.TheVariants.{Phase, Called, Got, Wrote, Sent, Told, Armed, Fell, Rose}

@@ -1,8 +1,8 @@
 -- Random: sites 2, clients 1, steps 52, messages 7, commits 2, falls 4, rises 3, unwritten records 2.
 use Rattle.std.specs.Prelude.{List, [], ◌∷◌, Some, None, true, false}
 use Rattle.qc_decl.specs.declared.declaration.Declaration.{Declaration}
-use Rattle.qc_decl.specs.Names.{row}
-use Rattle.qc_msg.specs.Names.{Entry, marked}
+use Rattle.qc_decl.specs.Vocabulary.{row}
+use Rattle.qc_msg.specs.Vocabulary.{Entry, marked}
 use Rattle.tests_histories.specs.Words.{tx, stamp, own_line, operation, read_lock, prepare, commit, declaration, kind}
 use Rattle.tests_histories.specs.Words.{pair, plan}
 use Rattle.qc_msg.specs.declared.step.Step.TheVariants.{Phase, Called, Got, Wrote, Sent, Told, Armed, Fell, Rose}

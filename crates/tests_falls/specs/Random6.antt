@@ -1,8 +1,8 @@
 -- Random: sites 2, clients 1, steps 57, messages 8, lost 2, cuts 1, short rounds 2, falls 3, rises 2.
 use Rattle.std.specs.Prelude.{List, [], ◌∷◌, None, false}
 use Rattle.qc_decl.specs.declared.declaration.Declaration.{Declaration}
-use Rattle.qc_decl.specs.Names.{row}
-use Rattle.qc_msg.specs.Names.{Entry, marked}
+use Rattle.qc_decl.specs.Vocabulary.{row}
+use Rattle.qc_msg.specs.Vocabulary.{Entry, marked}
 use Rattle.tests_histories.specs.Words.{tx, declaration, kind, pair, plan}
 use Rattle.qc_msg.specs.declared.step.Step.TheVariants.{Phase, Cut, Heal, Called, Got, Lost, Wrote, Sent, Told, Armed}
 use Rattle.qc_msg.specs.declared.step.Step.TheVariants.{Fell, Rose}

@@ -1,8 +1,8 @@
 -- Random: sites 2, clients 1, steps 67, messages 18, commits 1, absent 1, falls 2, rises 2.
 use Rattle.std.specs.Prelude.{List, [], ◌∷◌, Some, None, false}
 use Rattle.qc_decl.specs.declared.declaration.Declaration.{Declaration}
-use Rattle.qc_decl.specs.Names.{row}
-use Rattle.qc_msg.specs.Names.{Entry, marked}
+use Rattle.qc_decl.specs.Vocabulary.{row}
+use Rattle.qc_msg.specs.Vocabulary.{Entry, marked}
 use Rattle.tests_histories.specs.Words.{stamp, own_line, operation, read_lock, prepare, commit, declaration, kind, pair}
 use Rattle.tests_histories.specs.Words.{plan}
 use Rattle.qc_msg.specs.declared.step.Step.TheVariants.{Phase, Called, Got, Wrote, Sent, Told, Fell, Rose}

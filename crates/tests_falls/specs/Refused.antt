@@ -1,12 +1,12 @@
 -- What a wrong history with falls is refused for.
 use Rattle.std.specs.Prelude.{◌≡◌, ℕ, List, [], length}
-use Rattle.qc_core.specs.Names.{IsLawfulWithFalls, journal_after}
+use Rattle.qc_core.specs.Vocabulary.{IsLawfulWithFalls, journal_after}
 use Rattle.qc_decl.specs.declared.declaration.Declaration.{Declaration}
 use Rattle.qc_msg.specs.declared.record.Record.{Record}
 use Rattle.qc_msg.specs.declared.step.Step.{Step}
 use Rattle.qc_msg.specs.declared.turn.Turn.{Turn}
-use Rattle.qc_msg.specs.Names.{Entry, deeds, mail, posted_as}
-use Rattle.qc_promise.specs.Names.{IsGivenBack}
+use Rattle.qc_msg.specs.Vocabulary.{Entry, deeds, mail, posted_as}
+use Rattle.qc_promise.specs.Vocabulary.{IsGivenBack}
 
 -- whatever becomes of its record, no turn that is lawful for the actor after this history posts these steps
 abbrev pub IsNoPost : Declaration → ℕ → List Entry → List Step → Type 0

@@ -1,6 +1,6 @@
 -- A site that granted restarts: a commit is told that it is in another life.
 use Rattle.std.specs.Prelude.{List, [], ◌∷◌, None, false}
-use Rattle.qc_msg.specs.Names.{Entry, marked}
+use Rattle.qc_msg.specs.Vocabulary.{Entry, marked}
 use Rattle.tests_histories.specs.Words.{tx, own_line, prepare}
 use Rattle.qc_msg.specs.declared.step.Step.TheVariants.{Phase, Called, Got, Wrote, Sent, Told, Fell, Rose}
 use Rattle.qc_msg.specs.declared.turn.Appended.TheVariants.{Done}

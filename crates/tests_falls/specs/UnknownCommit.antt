@@ -1,6 +1,6 @@
 -- A client's disk stops as it writes its commit record: it is told Unknown, and rises without the record.
 use Rattle.std.specs.Prelude.{List, [], ◌∷◌, Some, false}
-use Rattle.qc_msg.specs.Names.{Entry, marked}
+use Rattle.qc_msg.specs.Vocabulary.{Entry, marked}
 use Rattle.tests_histories.specs.Words.{tx, stamp, own_line, operation, read_lock, prepare, commit}
 use Rattle.qc_msg.specs.declared.step.Step.TheVariants.{Phase, Called, Got, Wrote, Sent, Told, Armed, Fell, Rose}
 use Rattle.qc_msg.specs.declared.turn.Appended.TheVariants.{Done, Stopped}

@@ -1,13 +1,13 @@
 -- A whole run with falls: all that the script asks was done, no record was lost, and nothing is left to do.
 use Rattle.std.specs.Prelude.{◌≡◌, ℕ, ◌<◌, Bool, true, false, List, [], None, length, replicate}
-use Rattle.qc_core.specs.Names.{IsLawfulWithFalls}
+use Rattle.qc_core.specs.Vocabulary.{IsLawfulWithFalls}
 use Rattle.qc_decl.specs.declared.declaration.Declaration.{Declaration}
-use Rattle.qc_decl.specs.Names.{actors}
+use Rattle.qc_decl.specs.Vocabulary.{actors}
 use Rattle.qc_msg.specs.declared.record.Record.{Record}
-use Rattle.qc_msg.specs.Names.{Entry}
-use Rattle.qc_promise.specs.Names.{Kept}
+use Rattle.qc_msg.specs.Vocabulary.{Entry}
+use Rattle.qc_promise.specs.Vocabulary.{Kept}
 use Rattle.qc_script.specs.declared.script.Script.{Script}
-use Rattle.qc_script.specs.Names.{RunsWithFalls, controls_left, phase_of, ready}
+use Rattle.qc_script.specs.Vocabulary.{RunsWithFalls, controls_left, phase_of, ready}
 use Rattle.tests_falls.specs.Perform.{are_fit}
 
 -- all records of a rise fit their actor

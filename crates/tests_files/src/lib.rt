@@ -29,6 +29,8 @@ mod places;
 #[cfg(test)]
 mod reading;
 #[cfg(test)]
+mod spellings;
+#[cfg(test)]
 mod texts;
 #[cfg(test)]
 mod told;

@@ -1,6 +1,6 @@
 -- The worked histories, computed.
 use Rattle.std.proofs.Common.{◌≡◌, Some, refl}
-use Rattle.qc_decl.specs.Names.{three}
+use Rattle.qc_decl.specs.Vocabulary.{three}
 use Rattle.tests_histories.specs.Play.{performed}
 use Rattle.tests_histories.specs.ReadAfterWrite as read_after_write
 use Rattle.tests_histories.specs.ReadBeforeCommit as read_before_commit

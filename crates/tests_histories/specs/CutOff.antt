@@ -1,6 +1,6 @@
 -- A client that is cut off from two sites gets no quorum.
 use Rattle.std.specs.Prelude.{List, [], ◌∷◌}
-use Rattle.qc_msg.specs.Names.{Entry, marked}
+use Rattle.qc_msg.specs.Vocabulary.{Entry, marked}
 use Rattle.tests_histories.specs.Play.{Move, Takes, Posts, Acts}
 use Rattle.tests_histories.specs.Words.{tx}
 use Rattle.qc_msg.specs.declared.step.Step.TheVariants.{Phase, Cut, Called, Got, Lost, Sent, Told}

@@ -1,11 +1,11 @@
 -- A history made by a schedule: whoever is named takes its input, or posts the turn of its conduct.
 use Rattle.std.specs.Prelude.{ℕ, List, [], ◌∷◌, ◌++◌, length, Option, Some, option_map, option_and_then}
-use Rattle.qc_core.specs.Names.{turn_after}
+use Rattle.qc_core.specs.Vocabulary.{turn_after}
 use Rattle.qc_decl.specs.declared.declaration.Declaration.{Declaration}
-use Rattle.qc_decl.specs.Names.{controller}
+use Rattle.qc_decl.specs.Vocabulary.{controller}
 use Rattle.qc_msg.specs.declared.step.Step.{Step}
 use Rattle.qc_msg.specs.declared.turn.Turn.{Turn}
-use Rattle.qc_msg.specs.Names.{Entry, by, deeds, mail, marked, posted}
+use Rattle.qc_msg.specs.Vocabulary.{Entry, by, deeds, mail, marked, posted}
 
 -- the controller acts; an actor takes its input; an actor posts its turn
 pub data Move : Type 0 where

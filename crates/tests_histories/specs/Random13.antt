@@ -1,8 +1,8 @@
 -- Random: sites 5, clients 3, steps 96, messages 33, cuts 1, commits 1, conflicts 1.
 use Rattle.std.specs.Prelude.{List, [], ◌∷◌, Some}
 use Rattle.qc_decl.specs.declared.declaration.Declaration.{Declaration}
-use Rattle.qc_decl.specs.Names.{row}
-use Rattle.qc_msg.specs.Names.{Entry, marked}
+use Rattle.qc_decl.specs.Vocabulary.{row}
+use Rattle.qc_msg.specs.Vocabulary.{Entry, marked}
 use Rattle.tests_histories.specs.Play.{Move, Takes, Posts, Acts}
 use Rattle.tests_histories.specs.Words.{tx, stamp, line, own_line, operation, prepare, commit, declaration, kind, pair}
 use Rattle.tests_histories.specs.Words.{plan}

@@ -2,8 +2,8 @@
 -- 1, absent 4.
 use Rattle.std.specs.Prelude.{List, [], ◌∷◌, Some, None}
 use Rattle.qc_decl.specs.declared.declaration.Declaration.{Declaration}
-use Rattle.qc_decl.specs.Names.{row}
-use Rattle.qc_msg.specs.Names.{Entry, marked}
+use Rattle.qc_decl.specs.Vocabulary.{row}
+use Rattle.qc_msg.specs.Vocabulary.{Entry, marked}
 use Rattle.tests_histories.specs.Play.{Move, Takes, Posts, Acts}
 use Rattle.tests_histories.specs.Words.{tx, stamp, line, own_line, operation, read_lock, prepare, commit, declaration}
 use Rattle.tests_histories.specs.Words.{kind, pair, plan}

@@ -2,7 +2,7 @@
 use Rattle.std.specs.Prelude.{ℕ, List, [], Option}
 use Rattle.qc_stamp.specs.declared.stamp.Stamp.{Stamp}
 use Rattle.qc_stamp.specs.declared.stamp.TxId.{TxId}
-use Rattle.qc_table.specs.Names.{relation_of}
+use Rattle.qc_table.specs.Vocabulary.{relation_of}
 use Rattle.qc_table.specs.declared.kind.Kind.{Kind}
 use Rattle.qc_table.specs.declared.relation.Pair.{Pair}
 use Rattle.qc_table.specs.declared.row.Row.{Row}

@@ -7,7 +7,7 @@ use Rattle.qc_msg.specs.declared.message.Message.{Message}
 use Rattle.qc_msg.specs.declared.message.Message.TheVariants as messages
 use Rattle.qc_msg.specs.declared.record.Record.{Record}
 use Rattle.qc_msg.specs.declared.record.Record.TheVariants as journals
-use Rattle.qc_promise.specs.Names.{Act, Fell, Sent, Told, Wrote}
+use Rattle.qc_promise.specs.Vocabulary.{Act, Fell, Sent, Told, Wrote}
 
 abbrev pub of_record : Record → List ℕ
 of_record journals.Life = 1 ∷ []

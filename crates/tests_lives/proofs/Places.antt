@@ -1,8 +1,8 @@
 -- What is due of one of a site's deeds.
 use Rattle.std.proofs.Common.{ℕ, zero, suc, List, [], ◌∷◌, ◌++◌}
 use Rattle.qc_decl.specs.declared.declaration.Declaration.{Declaration}
-use Rattle.qc_msg.specs.Names.{Deed}
-use Rattle.qc_promise.specs.Names.{AreDue, IsDueAt}
+use Rattle.qc_msg.specs.Vocabulary.{Deed}
+use Rattle.qc_promise.specs.Vocabulary.{AreDue, IsDueAt}
 
 abbrev pub PostAt : ℕ → Declaration → List Deed → List Deed → Type 0
 PostAt k decl before [] = Unit {0}

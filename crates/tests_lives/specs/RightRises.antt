@@ -6,7 +6,7 @@ use Rattle.qc_msg.specs.declared.message.Outcome.TheVariants as outcomes
 use Rattle.qc_msg.specs.declared.message.Want.TheVariants as wants
 use Rattle.qc_msg.specs.declared.record.Record.TheVariants as records
 use Rattle.qc_msg.specs.declared.step.Fall.TheVariants as causes
-use Rattle.qc_msg.specs.Names.{Deed, Falls, Rises, Sends, Writes}
+use Rattle.qc_msg.specs.Vocabulary.{Deed, Falls, Rises, Sends, Writes}
 use Rattle.tests_lives.specs.Words.{tx, own_line, read_lock, prepare, got}
 
 -- lets go of what it held without a promise

@@ -9,7 +9,7 @@ use Rattle.qc_msg.specs.declared.message.Message.{Message}
 use Rattle.qc_msg.specs.declared.record.Record.{Record}
 use Rattle.qc_msg.specs.declared.record.Record.TheVariants as records
 use Rattle.qc_msg.specs.declared.step.Input.TheVariants as inputs
-use Rattle.qc_msg.specs.Names.{Deed, Takes}
+use Rattle.qc_msg.specs.Vocabulary.{Deed, Takes}
 
 -- a client's transaction, by the client's life and its number in it
 abbrev pub tx : ℕ → ℕ → ℕ → TxId

@@ -6,6 +6,7 @@ use crate::steps::Short;
 
 pub(crate) mod changes;
 mod conflicts;
+mod copies;
 mod falls;
 mod links;
 mod losses;

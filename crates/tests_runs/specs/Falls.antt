@@ -2,7 +2,7 @@
 -- clients 3 to 5.
 use Rattle.std.specs.Prelude.{ℕ, List, [], ◌∷◌, Some, None}
 use Rattle.qc_link.specs.declared.rule.Rule.TheVariants as rules
-use Rattle.qc_msg.specs.Names.{Entry, marked}
+use Rattle.qc_msg.specs.Vocabulary.{Entry, marked}
 use Rattle.qc_msg.specs.declared.message.Envelope.{Envelope}
 use Rattle.qc_msg.specs.declared.message.Message.{Message}
 use Rattle.qc_msg.specs.declared.message.Message.TheVariants as messages

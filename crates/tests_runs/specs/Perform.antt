@@ -5,17 +5,17 @@ use Rattle.std.specs.Prelude.{replicate, slice_get, slice_set, filter, is_none, 
 use Rattle.std.specs.Prelude.{option_map, option_and_then}
 use Rattle.std.specs.List.{list_all, range_with_len}
 use Rattle.std.specs.Option.{option_map_or}
-use Rattle.qc_core.specs.Names.{turn_after}
+use Rattle.qc_core.specs.Vocabulary.{turn_after}
 use Rattle.qc_decl.specs.declared.declaration.Declaration.{Declaration}
-use Rattle.qc_decl.specs.Names.{actors, controller}
+use Rattle.qc_decl.specs.Vocabulary.{actors, controller}
 use Rattle.qc_msg.specs.declared.step.Control.{Control}
 use Rattle.qc_msg.specs.declared.step.Input.{Input}
 use Rattle.qc_msg.specs.declared.step.Step.{Step}
 use Rattle.qc_msg.specs.declared.step.Step.TheVariants as steps
 use Rattle.qc_msg.specs.declared.turn.Turn.{Turn}
-use Rattle.qc_msg.specs.Names.{Entry, by, deeds, mail, marked, posted, step_of}
+use Rattle.qc_msg.specs.Vocabulary.{Entry, by, deeds, mail, marked, posted, step_of}
 use Rattle.qc_script.specs.declared.script.Script.{Script}
-use Rattle.qc_script.specs.Names.{controls_left, phase_of, ready, step_of_control}
+use Rattle.qc_script.specs.Vocabulary.{controls_left, phase_of, ready, step_of_control}
 use Rattle.tests_histories.specs.Play.{Move, Takes, Posts, Acts}
 
 -- the history so far, and which actors have an open input

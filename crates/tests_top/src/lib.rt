@@ -13,6 +13,8 @@ mod declarations;
 #[cfg(test)]
 mod disks;
 #[cfg(test)]
+mod edges;
+#[cfg(test)]
 mod ends;
 #[cfg(test)]
 mod epochs;
@@ -20,6 +22,8 @@ mod epochs;
 mod falls;
 #[cfg(test)]
 mod loads;
+#[cfg(test)]
+mod losses;
 #[cfg(test)]
 mod overtaking;
 #[cfg(test)]

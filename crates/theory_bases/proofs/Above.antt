@@ -4,17 +4,17 @@ use Rattle.std.proofs.Common.{arith, append-nil}
 use Rattle.qc_stamp.specs.declared.stamp.TxId.{TxId}
 use Rattle.qc_entry.specs.declared.line.Line.{Line}
 use Rattle.qc_decl.specs.declared.declaration.Declaration.{Declaration}
-use Rattle.qc_decl.specs.Names.{IsAccepted, append_need_of}
-use Rattle.qc_plan.specs.Names.{weight}
-use Rattle.qc_list.specs.Names.{In}
-use Rattle.theory_onecopy.specs.Names.{Executed, own_line}
-use Rattle.theory_machine.specs.Names.{Act, Decision, Deed, Granted, Grants, HasQuorum, HasRecord, IsClosedAt, IsRun}
-use Rattle.theory_machine.specs.Names.{Own, Snapshot, Status, epoch_from, site_after, state, weights_of}
+use Rattle.qc_decl.specs.Vocabulary.{IsAccepted, append_need_of}
+use Rattle.qc_plan.specs.Vocabulary.{weight}
+use Rattle.qc_list.specs.Vocabulary.{In}
+use Rattle.theory_onecopy.specs.Vocabulary.{Executed, own_line}
+use Rattle.theory_machine.specs.Vocabulary.{Act, Decision, Deed, Granted, Grants, HasQuorum, HasRecord, IsClosedAt}
+use Rattle.theory_machine.specs.Vocabulary.{IsRun, Own, Snapshot, Status, epoch_from, site_after, state, weights_of}
 use Rattle.theory_machine.proofs.Decided.{of_epoch}
 use Rattle.theory_machine.proofs.Keeps.{laws}
 use Rattle.theory_machine.proofs.LogKeeps.{log_laws}
 use Rattle.theory_machine.proofs.Quorums.{some_site}
-use Rattle.theory_bases.specs.Names.{AreDisciplined, BelongsTo}
+use Rattle.theory_bases.specs.Vocabulary.{AreDisciplined, BelongsTo}
 use Rattle.theory_bases.proofs.Keeps.{epoch_laws}
 use Rattle.theory_bases.proofs.Passing.{passes}
 

@@ -3,12 +3,12 @@
 use Rattle.std.proofs.Common.{◌≡◌, ℕ, ◌<◌, ◌⊎◌, inl, inr, List, [], ◌∷◌, Some, refl, sym, ap, ◌∙◌, subst}
 use Rattle.qc_entry.specs.declared.line.Line.{Line}
 use Rattle.qc_decl.specs.declared.declaration.Declaration.{Declaration}
-use Rattle.qc_decl.specs.Names.{IsAccepted, plan_in}
-use Rattle.qc_list.specs.Names.{In}
-use Rattle.theory_machine.specs.Names.{Act, Closes, Decision, Deed, Grants, Installs, IsRun, LearnsAbort, LearnsCommit}
-use Rattle.theory_machine.specs.Names.{Prepares, Rises, epoch_from, site_after, state}
+use Rattle.qc_decl.specs.Vocabulary.{IsAccepted, plan_in}
+use Rattle.qc_list.specs.Vocabulary.{In}
+use Rattle.theory_machine.specs.Vocabulary.{Act, Closes, Decision, Deed, Grants, Installs, IsRun, LearnsAbort}
+use Rattle.theory_machine.specs.Vocabulary.{LearnsCommit, Prepares, Rises, epoch_from, site_after, state}
 use Rattle.theory_machine.proofs.Keeps.{laws}
-use Rattle.theory_bases.specs.Names.{AreDisciplined, AreShortDeeds, IsAbove, base_from, base_of, short_site_after}
+use Rattle.theory_bases.specs.Vocabulary.{AreDisciplined, AreShortDeeds, IsAbove, base_from, base_of, short_site_after}
 use Rattle.theory_bases.proofs.Above.{decided_once, later_lines_are_above}
 use Rattle.theory_bases.proofs.Stands.{short_sites_stand_for_whole_ones}
 

@@ -4,11 +4,12 @@ use Rattle.std.proofs.Common.{◌≡◌, ◌⊎◌, inl, inr, List, ◌∷◌, �
 use Rattle.qc_stamp.specs.declared.stamp.Stamp.{Stamp}
 use Rattle.qc_entry.specs.declared.record.Commit.{Commit as CommitRecord}
 use Rattle.qc_decl.specs.declared.declaration.Declaration.{Declaration}
-use Rattle.qc_decl.specs.Names.{IsAccepted}
-use Rattle.qc_list.specs.Names.{In}
+use Rattle.qc_decl.specs.Vocabulary.{IsAccepted}
+use Rattle.qc_list.specs.Vocabulary.{In}
 use Rattle.qc_list.proofs.Members.{In-first, In-second}
-use Rattle.theory_machine.specs.Names.{Act, Committed, Deed, Granted, Grants, IsRun, Item, LearnsCommit, Promise}
-use Rattle.theory_machine.specs.Names.{Snapshot, StateLaws, done_records, empty_site, epoch_from, site_after, state}
+use Rattle.theory_machine.specs.Vocabulary.{Act, Committed, Deed, Granted, Grants, IsRun, Item, LearnsCommit, Promise}
+use Rattle.theory_machine.specs.Vocabulary.{Snapshot, StateLaws, done_records, empty_site, epoch_from, site_after}
+use Rattle.theory_machine.specs.Vocabulary.{state}
 use Rattle.theory_machine.proofs.Decided.{IsPast, past, tells}
 use Rattle.theory_machine.proofs.Keeps.{laws}
 use Rattle.theory_machine.proofs.Grants.{holds_granted}

@@ -4,11 +4,11 @@ use Rattle.qc_stamp.specs.declared.stamp.Stamp.{Stamp}
 use Rattle.qc_entry.specs.declared.line.Line.{Line}
 use Rattle.qc_entry.specs.declared.line.OwnLine.{OwnLine}
 use Rattle.qc_decl.specs.declared.declaration.Declaration.{Declaration}
-use Rattle.qc_list.specs.Names.{In}
-use Rattle.theory_onecopy.specs.Names.{committed_line}
-use Rattle.theory_machine.specs.Names.{Decision, IsMerged, MayDecide, Own, Promise, State, epoch_from, site_after}
+use Rattle.qc_list.specs.Vocabulary.{In}
+use Rattle.theory_onecopy.specs.Vocabulary.{committed_line}
+use Rattle.theory_machine.specs.Vocabulary.{Decision, IsMerged, MayDecide, Own, Promise, State, epoch_from, site_after}
 use Rattle.theory_machine.proofs.Grants.{site_laws}
-use Rattle.theory_bases.specs.Names.{BelongsNow, EpochLawsOf, IsLineOfDecision, IsSnapshotOfEpoch, IsWrittenIn}
+use Rattle.theory_bases.specs.Vocabulary.{BelongsNow, EpochLawsOf, IsLineOfDecision, IsSnapshotOfEpoch, IsWrittenIn}
 
 module _ (decl : Declaration) (now : State) (d : Decision) (ok : MayDecide decl now d) (epochs : EpochLawsOf decl now)
     (l : Line) (m : IsMerged now.verdicts d l) where

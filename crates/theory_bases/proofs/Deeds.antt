@@ -5,16 +5,16 @@ use Rattle.qc_stamp.specs.declared.stamp.TxId.{TxId}
 use Rattle.qc_entry.specs.declared.line.Line.{Line}
 use Rattle.qc_entry.specs.declared.line.OwnLine.{OwnLine}
 use Rattle.qc_decl.specs.declared.declaration.Declaration.{Declaration}
-use Rattle.qc_list.specs.Names.{In}
+use Rattle.qc_list.specs.Vocabulary.{In}
 use Rattle.theory_onecopy.proofs.Lists.{in_split}
-use Rattle.theory_onecopy.specs.Names.{committed_line}
-use Rattle.theory_machine.specs.Names.{Closes, Decision, Deed, Grants, Installs, Item, LearnsAbort, LearnsCommit, Lock}
-use Rattle.theory_machine.specs.Names.{Own, Prepares, Promise, Rises, Site, SiteLaws, Status, after_commit, after_deed}
-use Rattle.theory_machine.specs.Names.{after_prepare, each_held, epoch_from, held_by_promises, items_of, promise_of}
-use Rattle.theory_machine.specs.Names.{stamped_lines}
+use Rattle.theory_onecopy.specs.Vocabulary.{committed_line}
+use Rattle.theory_machine.specs.Vocabulary.{Closes, Decision, Deed, Grants, Installs, Item, LearnsAbort, LearnsCommit}
+use Rattle.theory_machine.specs.Vocabulary.{Lock, Own, Prepares, Promise, Rises, Site, SiteLaws, Status, after_commit}
+use Rattle.theory_machine.specs.Vocabulary.{after_deed, after_prepare, each_held, epoch_from, held_by_promises}
+use Rattle.theory_machine.specs.Vocabulary.{items_of, promise_of, stamped_lines}
 use Rattle.theory_machine.proofs.Sound.{IsStamped}
 use Rattle.theory_machine.proofs.SiteLists.{items_of-append, in_dropped, found}
-use Rattle.theory_bases.specs.Names.{BelongsTo, IsInherited, IsOwnWrittenIn, IsSiteOfEpoch, IsWrittenIn}
+use Rattle.theory_bases.specs.Vocabulary.{BelongsTo, IsInherited, IsOwnWrittenIn, IsSiteOfEpoch, IsWrittenIn}
 use Rattle.theory_bases.proofs.Items.{left_over, of_each, of_promises}
 
 -- which own line a stamped line is

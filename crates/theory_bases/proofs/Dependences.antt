@@ -2,14 +2,14 @@
 use Rattle.std.proofs.Common.{◌≡◌, ℕ, IsTrue, IsSome, Option, Some, None, option_map, refl}
 use Rattle.qc_entry.specs.declared.record.Commit.{Commit as CommitRecord}
 use Rattle.qc_decl.specs.declared.declaration.Declaration.{Declaration}
-use Rattle.theory_onecopy.specs.Names.{Executed, depends_at}
-use Rattle.theory_machine.specs.Names.{State, every_guard, state}
+use Rattle.theory_onecopy.specs.Vocabulary.{Executed, depends_at}
+use Rattle.theory_machine.specs.Vocabulary.{State, every_guard, state}
 use Rattle.theory_witnesses.proofs.Accepted.{moving_register_accepted}
 use Rattle.theory_witnesses.proofs.Allowed.{run_of}
 use Rattle.theory_witnesses.proofs.Finding.{IsFound, below, both, is_true, proof_of, same_number, some}
-use Rattle.theory_witnesses.specs.Names.{acts_of, moving_register}
-use Rattle.theory_bases.specs.Names.{HasDependence, IsDisciplinedRun, WritesAfter, WritesBefore}
-use Rattle.theory_bases.specs.Names.{read_and_written_in_both}
+use Rattle.theory_witnesses.specs.Vocabulary.{acts_of, moving_register}
+use Rattle.theory_bases.specs.Vocabulary.{HasDependence, IsDisciplinedRun, WritesAfter, WritesBefore}
+use Rattle.theory_bases.specs.Vocabulary.{read_and_written_in_both}
 use Rattle.theory_bases.proofs.Disciplined.{disciplined_of}
 
 abbrev is_told : (o : Option ℕ) → Option (IsSome o)

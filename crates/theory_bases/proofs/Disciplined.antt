@@ -5,20 +5,21 @@ use Rattle.std.proofs.lemmas.Bool.{eqb-false}
 use Rattle.qc_entry.specs.declared.line.Line.{Line}
 use Rattle.qc_entry.specs.declared.line.OwnLine.{OwnLine}
 use Rattle.qc_entry.specs.declared.line.ReadLock.{ReadLock}
-use Rattle.qc_decl.specs.Names.{append_need_of, three}
+use Rattle.qc_decl.specs.Vocabulary.{append_need_of, three}
 use Rattle.qc_decl.specs.declared.declaration.Declaration.{Declaration}
-use Rattle.qc_list.specs.Names.{In}
-use Rattle.theory_machine.specs.Names.{Abort, Act, Announce, Begin, Choose, Close, Commit, CommitUnknown, Count, Decide}
-use Rattle.theory_machine.specs.Names.{Decision, Execute, ExecuteAbsent, Grant, Granted, Install, Item, Learn, Lock}
-use Rattle.theory_machine.specs.Names.{Own, Prepare, PrepareLost, Recover, Rise, RiseClient, SendAppend, Snapshot}
-use Rattle.theory_machine.specs.Names.{State, TakeSnapshot, Vote, every_guard, site_after, state}
+use Rattle.qc_list.specs.Vocabulary.{In}
+use Rattle.theory_machine.specs.Vocabulary.{Abort, Act, Announce, Begin, Choose, Close, Commit, CommitUnknown, Count}
+use Rattle.theory_machine.specs.Vocabulary.{Decide, Decision, Execute, ExecuteAbsent, Grant, Granted, Install, Item}
+use Rattle.theory_machine.specs.Vocabulary.{Learn, Lock, Own, Prepare, PrepareLost, Recover, Rise, RiseClient}
+use Rattle.theory_machine.specs.Vocabulary.{SendAppend, Snapshot, State, TakeSnapshot, Vote, every_guard, site_after}
+use Rattle.theory_machine.specs.Vocabulary.{state}
 use Rattle.theory_witnesses.proofs.Accepted.{moving_register_accepted}
 use Rattle.theory_witnesses.proofs.Allowed.{run_of}
 use Rattle.theory_witnesses.proofs.Finding.{IsFound, below, both, every, proof_of, same_number, some}
 use Rattle.theory_witnesses.proofs.WitnessRuns.{one_epoch_commits, two_epochs_commit}
-use Rattle.theory_witnesses.specs.Names.{acts_of, moving_register, one_epoch, three_in_two_epochs, two_epochs}
-use Rattle.theory_bases.specs.Names.{AreDisciplined, HasLowSnapshot, IsDisciplined, IsDisciplinedRun, IsGrantOfEpoch}
-use Rattle.theory_bases.specs.Names.{low_snapshot, two_moves}
+use Rattle.theory_witnesses.specs.Vocabulary.{acts_of, moving_register, one_epoch, three_in_two_epochs, two_epochs}
+use Rattle.theory_bases.specs.Vocabulary.{AreDisciplined, HasLowSnapshot, IsDisciplined, IsDisciplinedRun}
+use Rattle.theory_bases.specs.Vocabulary.{IsGrantOfEpoch, low_snapshot, two_moves}
 
 -- an own line's event has a final threshold
 abbrev Weighs : Declaration → ℕ → Item → Type 0

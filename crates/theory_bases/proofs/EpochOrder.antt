@@ -4,15 +4,15 @@
 use Rattle.std.proofs.Common.{◌≡◌, ℕ, ◌<◌, ◌≤◌, IsTrue, ◌↔◌, inl, List, ◌∷◌, IsSome, sym, ap, ◌∙◌, subst, arith}
 use Rattle.qc_entry.specs.declared.line.Line.{Line}
 use Rattle.qc_entry.specs.declared.record.Commit.{Commit as CommitRecord}
-use Rattle.qc_plan.specs.Names.{weight}
+use Rattle.qc_plan.specs.Vocabulary.{weight}
 use Rattle.qc_decl.specs.declared.declaration.Declaration.{Declaration}
-use Rattle.qc_decl.specs.Names.{IsAccepted, append_need_of, read_need_of}
-use Rattle.qc_list.specs.Names.{In}
-use Rattle.theory_onecopy.specs.Names.{Executed, IsOrdered, IsStampedBefore, committed_line, depends_at, own_line}
-use Rattle.theory_onecopy.specs.Names.{sorted}
+use Rattle.qc_decl.specs.Vocabulary.{IsAccepted, append_need_of, read_need_of}
+use Rattle.qc_list.specs.Vocabulary.{In}
+use Rattle.theory_onecopy.specs.Vocabulary.{Executed, IsOrdered, IsStampedBefore, committed_line, depends_at, own_line}
+use Rattle.theory_onecopy.specs.Vocabulary.{sorted}
 use Rattle.theory_onecopy.proofs.Committed.{records_are_sorted}
-use Rattle.theory_machine.specs.Names.{Act, Decision, Granted, Grants, IsDependedOn, IsRun, LogLaws, StateLaws, place}
-use Rattle.theory_machine.specs.Names.{placed, read_lock, site_after, state, weights_of}
+use Rattle.theory_machine.specs.Vocabulary.{Act, Decision, Granted, Grants, IsDependedOn, IsRun, LogLaws, StateLaws}
+use Rattle.theory_machine.specs.Vocabulary.{place, placed, read_lock, site_after, state, weights_of}
 use Rattle.theory_machine.proofs.ClaimLaws.{records_are_apart}
 use Rattle.theory_machine.proofs.CommittedViews.{clock_below, depended, plan_of, smaller, whose}
 use Rattle.theory_machine.proofs.Decided.{kept_lines, of_epoch, passed_stamps, positive}

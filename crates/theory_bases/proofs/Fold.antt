@@ -4,13 +4,13 @@ use Rattle.std.proofs.Common.{append-nil, refl, sym, ap, ◌∙◌}
 use Rattle.std.specs.Ordering.{nat_cmp}
 use Rattle.std.specs.declared.cmp.Ordering.TheVariants.{Less}
 use Rattle.qc_entry.specs.declared.line.Line.{Line}
-use Rattle.qc_entry.specs.Names.{IsAscending, line_cmp, union}
+use Rattle.qc_entry.specs.Vocabulary.{IsAscending, line_cmp, union}
 use Rattle.qc_list.proofs.Members.{every-from_In}
 use Rattle.qc_entry.proofs.Union.{ascending-union, in_either, in_first, in_second, union-after, union-nil}
 use Rattle.qc_entry.proofs.Members.{ascending-same}
-use Rattle.qc_table.specs.Names.{after, reached}
+use Rattle.qc_table.specs.Vocabulary.{after, reached}
 use Rattle.qc_table.proofs.Runs.{reached-append}
-use Rattle.theory_bases.specs.Names.{IsAbove, IsUnionOf, events, state_from}
+use Rattle.theory_bases.specs.Vocabulary.{IsAbove, IsUnionOf, events, state_from}
 
 nat_less : (a b : ℕ) → a < b → nat_cmp a b ≡ Less
 nat_less a b l = let t : nat_lt a b ≡ true = lt-ltb a b l in rw t refl

@@ -4,11 +4,11 @@ use Rattle.qc_stamp.specs.declared.stamp.TxId.{TxId}
 use Rattle.qc_entry.specs.declared.line.Line.{Line}
 use Rattle.qc_entry.specs.declared.line.OwnLine.{OwnLine}
 use Rattle.qc_decl.specs.declared.declaration.Declaration.{Declaration}
-use Rattle.qc_list.specs.Names.{In}
-use Rattle.theory_machine.specs.Names.{AppendRequest, Decision, Deed, Granted, NotBegun, Site, Snapshot, Status}
-use Rattle.theory_machine.specs.Names.{epoch_from, site_after}
-use Rattle.theory_bases.specs.Names.{BelongsTo, EpochLaws, IsAppendOfEpoch, IsLineOfDecision, IsOwnWrittenIn}
-use Rattle.theory_bases.specs.Names.{IsSiteOfEpoch, IsSnapshotOfEpoch}
+use Rattle.qc_list.specs.Vocabulary.{In}
+use Rattle.theory_machine.specs.Vocabulary.{AppendRequest, Decision, Deed, Granted, NotBegun, Site, Snapshot, Status}
+use Rattle.theory_machine.specs.Vocabulary.{epoch_from, site_after}
+use Rattle.theory_bases.specs.Vocabulary.{BelongsTo, EpochLaws, IsAppendOfEpoch, IsLineOfDecision, IsOwnWrittenIn}
+use Rattle.theory_bases.specs.Vocabulary.{IsSiteOfEpoch, IsSnapshotOfEpoch}
 
 -- the one state comes after the other
 pub record GoesOn (status more : TxId → Status) (epoch later : TxId → ℕ) (decided longer : List Decision) : Type 0 where

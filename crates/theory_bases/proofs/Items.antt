@@ -1,11 +1,11 @@
 -- What a transaction holds of what is left of all that is held, of its own grant, and of promises.
 use Rattle.std.proofs.Common.{◌≡◌, Bool, true, false, inl, inr, List, [], ◌∷◌, refl, sym, ap, ◌∙◌, subst}
 use Rattle.qc_stamp.specs.declared.stamp.TxId.{TxId}
-use Rattle.qc_stamp.specs.Names.{same_tx}
+use Rattle.qc_stamp.specs.Vocabulary.{same_tx}
 use Rattle.qc_stamp.proofs.Orders.{same_tx_is}
-use Rattle.qc_list.specs.Names.{In}
+use Rattle.qc_list.specs.Vocabulary.{In}
 use Rattle.theory_onecopy.proofs.Lists.{in_split}
-use Rattle.theory_machine.specs.Names.{Held, Item, Promise, each_held, held_by_promises, items_of, without_tx}
+use Rattle.theory_machine.specs.Vocabulary.{Held, Item, Promise, each_held, held_by_promises, items_of, without_tx}
 use Rattle.theory_machine.proofs.SiteLists.{items_of-append, items_of-each_held, items_of-other, items_of-dropped}
 use Rattle.theory_machine.proofs.SiteLists.{items_of-kept}
 

@@ -7,25 +7,25 @@ use Rattle.qc_entry.specs.declared.line.Line.{Line}
 use Rattle.qc_entry.specs.declared.line.OwnLine.{OwnLine}
 use Rattle.qc_entry.specs.declared.record.Commit.{Commit as CommitRecord}
 use Rattle.qc_decl.specs.declared.declaration.Declaration.{Declaration}
-use Rattle.qc_decl.specs.Names.{IsAccepted, append_need_of}
-use Rattle.qc_list.specs.Names.{In}
-use Rattle.theory_onecopy.specs.Names.{Executed}
-use Rattle.theory_machine.specs.Names.{Abort, Aborted, Act, Active, Announce, AppendRequest, Begin, Choose, Close}
-use Rattle.theory_machine.specs.Names.{Closes, Commit, CommitUnknown, Committed, Count, Decide, Decision, Deed, Execute}
-use Rattle.theory_machine.specs.Names.{ExecuteAbsent, Grant, Granted, Grants, Install, Installs, IsAllowed, IsRequested}
-use Rattle.theory_machine.specs.Names.{IsRun, Item, Learn, Lock, LogLaws, NotBegun, Own, Pending, Prepare, PrepareLost}
-use Rattle.theory_machine.specs.Names.{Prepares, Recover, Rise, RiseClient, Rises, SendAppend, Site, Snapshot, State}
-use Rattle.theory_machine.specs.Names.{StateLaws, Status, TakeSnapshot, Vote, Voting, after_act, deed_of}
-use Rattle.theory_machine.specs.Names.{deed_of_outcome, empty_site, epoch_from, put, put_tx, recover_status, site_after}
-use Rattle.theory_machine.specs.Names.{state}
+use Rattle.qc_decl.specs.Vocabulary.{IsAccepted, append_need_of}
+use Rattle.qc_list.specs.Vocabulary.{In}
+use Rattle.theory_onecopy.specs.Vocabulary.{Executed}
+use Rattle.theory_machine.specs.Vocabulary.{Abort, Aborted, Act, Active, Announce, AppendRequest, Begin, Choose, Close}
+use Rattle.theory_machine.specs.Vocabulary.{Closes, Commit, CommitUnknown, Committed, Count, Decide, Decision, Deed}
+use Rattle.theory_machine.specs.Vocabulary.{Execute, ExecuteAbsent, Grant, Granted, Grants, Install, Installs}
+use Rattle.theory_machine.specs.Vocabulary.{IsAllowed, IsRequested, IsRun, Item, Learn, Lock, LogLaws, NotBegun, Own}
+use Rattle.theory_machine.specs.Vocabulary.{Pending, Prepare, PrepareLost, Prepares, Recover, Rise, RiseClient, Rises}
+use Rattle.theory_machine.specs.Vocabulary.{SendAppend, Site, Snapshot, State, StateLaws, Status, TakeSnapshot, Vote}
+use Rattle.theory_machine.specs.Vocabulary.{Voting, after_act, deed_of, deed_of_outcome, empty_site, epoch_from, put}
+use Rattle.theory_machine.specs.Vocabulary.{put_tx, recover_status, site_after, state}
 use Rattle.theory_machine.proofs.Names.{put_case, put_tx_case}
 use Rattle.theory_machine.proofs.SiteOrder.{after_append}
 use Rattle.theory_machine.proofs.Epochs.{epoch-append, upward}
 use Rattle.theory_machine.proofs.Grants.{site_laws}
 use Rattle.theory_machine.proofs.Keeps.{laws}
 use Rattle.theory_machine.proofs.LogKeeps.{log_laws}
-use Rattle.theory_bases.specs.Names.{AreDisciplined, BelongsTo, EpochLaws, EpochLawsOf, IsAppendOfEpoch, IsDisciplined}
-use Rattle.theory_bases.specs.Names.{IsLineOfDecision, IsSiteOfEpoch, IsSnapshotOfEpoch}
+use Rattle.theory_bases.specs.Vocabulary.{AreDisciplined, BelongsTo, EpochLaws, EpochLawsOf, IsAppendOfEpoch}
+use Rattle.theory_bases.specs.Vocabulary.{IsDisciplined, IsLineOfDecision, IsSiteOfEpoch, IsSnapshotOfEpoch}
 use Rattle.theory_bases.proofs.Growing.{GoesOn, belongs_still, site_still, append_still, snapshot_still, decision_still}
 use Rattle.theory_bases.proofs.Growing.{laws_still}
 use Rattle.theory_machine.proofs.Merges.{recovered_begun}

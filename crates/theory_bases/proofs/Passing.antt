@@ -6,19 +6,19 @@ use Rattle.std.specs.Option.{option_map_or}
 use Rattle.qc_stamp.specs.declared.stamp.Stamp.{Stamp}
 use Rattle.qc_entry.specs.declared.line.Line.{Line}
 use Rattle.qc_entry.specs.declared.record.Commit.{Commit as CommitRecord}
-use Rattle.qc_plan.specs.Names.{Closes, IsShared, need_of, total, weight}
+use Rattle.qc_plan.specs.Vocabulary.{Closes, IsShared, need_of, total, weight}
 use Rattle.qc_plan.specs.declared.plan.Plan.{Plan}
 use Rattle.qc_plan.proofs.Meet.{meet}
 use Rattle.qc_decl.specs.declared.declaration.Declaration.{Declaration}
-use Rattle.qc_decl.specs.Names.{IsAccepted, append_need_of, plan_in}
-use Rattle.qc_list.specs.Names.{In}
-use Rattle.theory_onecopy.specs.Names.{own_line}
-use Rattle.theory_machine.specs.Names.{Act, Committed, Decision, IsOutcome, IsResolved, IsRun, LogLaws, Own, Promise}
-use Rattle.theory_machine.specs.Names.{Snapshot, StateLaws, Status, epoch_from, state, weights_of}
+use Rattle.qc_decl.specs.Vocabulary.{IsAccepted, append_need_of, plan_in}
+use Rattle.qc_list.specs.Vocabulary.{In}
+use Rattle.theory_onecopy.specs.Vocabulary.{own_line}
+use Rattle.theory_machine.specs.Vocabulary.{Act, Committed, Decision, IsOutcome, IsResolved, IsRun, LogLaws, Own}
+use Rattle.theory_machine.specs.Vocabulary.{Promise, Snapshot, StateLaws, Status, epoch_from, state, weights_of}
 use Rattle.theory_machine.proofs.Decided.{of_epoch}
 use Rattle.theory_machine.proofs.Keeps.{laws}
 use Rattle.theory_machine.proofs.LogKeeps.{log_laws}
-use Rattle.theory_bases.specs.Names.{AreDisciplined, EpochLawsOf, IsWrittenIn}
+use Rattle.theory_bases.specs.Vocabulary.{AreDisciplined, EpochLawsOf, IsWrittenIn}
 use Rattle.theory_bases.proofs.Closings.{tells_end}
 use Rattle.theory_bases.proofs.Keeps.{epoch_laws}
 

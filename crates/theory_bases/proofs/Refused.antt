@@ -1,12 +1,12 @@
 -- Lines that aren't above others, short sites that lack a line, and unions that lack one or have another.
 use Rattle.std.proofs.Common.{◌≡◌, ◌≢◌, ℕ, ◌<◌, ◌⊎◌, inl, inr, List, [], ◌∷◌, ◌++◌, refl, sym, ap, subst, arith}
 use Rattle.qc_entry.specs.declared.line.Line.{Line}
-use Rattle.qc_entry.specs.Names.{union}
-use Rattle.qc_list.specs.Names.{In}
-use Rattle.theory_machine.specs.Names.{Grants, empty_site, site_after}
-use Rattle.theory_witnesses.specs.Names.{first, first_again, second}
-use Rattle.theory_bases.specs.Names.{AreShortDeeds, IsAbove, IsShortDeed, IsUnionOf, StandsFor, base_of, short_deeds}
-use Rattle.theory_bases.specs.Names.{short_site_after, shorter_deeds, whole_deeds, write_line}
+use Rattle.qc_entry.specs.Vocabulary.{union}
+use Rattle.qc_list.specs.Vocabulary.{In}
+use Rattle.theory_machine.specs.Vocabulary.{Grants, empty_site, site_after}
+use Rattle.theory_witnesses.specs.Vocabulary.{first, first_again, second}
+use Rattle.theory_bases.specs.Vocabulary.{AreShortDeeds, IsAbove, IsShortDeed, IsUnionOf, StandsFor, base_of}
+use Rattle.theory_bases.specs.Vocabulary.{short_deeds, short_site_after, shorter_deeds, whole_deeds, write_line}
 
 -- the two lines differ
 apart : (write_line first_again 2 ≡ write_line first 1) → ⊥

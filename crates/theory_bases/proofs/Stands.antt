@@ -3,15 +3,15 @@ use Rattle.std.proofs.Common.{◌≡◌, ◌⊎◌, inl, inr, List, [], ◌∷�
 use Rattle.qc_stamp.specs.declared.stamp.Stamp.{Stamp}
 use Rattle.qc_stamp.specs.declared.stamp.TxId.{TxId}
 use Rattle.qc_entry.specs.declared.line.Line.{Line}
-use Rattle.qc_list.specs.Names.{In}
+use Rattle.qc_list.specs.Vocabulary.{In}
 use Rattle.qc_list.proofs.Members.{In-first, In-second}
 use Rattle.theory_onecopy.proofs.Lists.{in_split}
-use Rattle.theory_machine.specs.Names.{Closes, Deed, Grants, Held, Installs, LearnsAbort, LearnsCommit, Prepares}
-use Rattle.theory_machine.specs.Names.{Promise, Rises, Site, after_commit, after_deed, after_prepare, each_held}
-use Rattle.theory_machine.specs.Names.{empty_site, held_by_promises, items_of, promise_of, site_after, site_from}
-use Rattle.theory_machine.specs.Names.{stamped_lines, without_promise, without_tx}
-use Rattle.theory_bases.specs.Names.{AreShortDeeds, AreShortFrom, IsShortDeed, IsUnionOf, StandsFor, after_short}
-use Rattle.theory_bases.specs.Names.{base_after, base_from, base_of, short_from, short_site_after}
+use Rattle.theory_machine.specs.Vocabulary.{Closes, Deed, Grants, Held, Installs, LearnsAbort, LearnsCommit, Prepares}
+use Rattle.theory_machine.specs.Vocabulary.{Promise, Rises, Site, after_commit, after_deed, after_prepare, each_held}
+use Rattle.theory_machine.specs.Vocabulary.{empty_site, held_by_promises, items_of, promise_of, site_after, site_from}
+use Rattle.theory_machine.specs.Vocabulary.{stamped_lines, without_promise, without_tx}
+use Rattle.theory_bases.specs.Vocabulary.{AreShortDeeds, AreShortFrom, IsShortDeed, IsUnionOf, StandsFor, after_short}
+use Rattle.theory_bases.specs.Vocabulary.{base_after, base_from, base_of, short_from, short_site_after}
 
 -- the same lines join both
 more : (base short whole new : List Line) → IsUnionOf base short whole → IsUnionOf base (new ++ short) (new ++ whole)

@@ -4,20 +4,20 @@ use Rattle.std.proofs.Common.{◌≡◌, ◌≢◌, ℕ, ◌<◌, ◌≤◌, tru
 use Rattle.std.proofs.Common.{inr, refl, ap, arith}
 use Rattle.qc_entry.specs.declared.line.Line.{Line}
 use Rattle.qc_decl.specs.declared.declaration.Declaration.{Declaration}
-use Rattle.qc_decl.specs.Names.{IsAccepted, append_need_of}
-use Rattle.qc_list.specs.Names.{In}
-use Rattle.theory_onecopy.specs.Names.{Executed}
+use Rattle.qc_decl.specs.Vocabulary.{IsAccepted, append_need_of}
+use Rattle.qc_list.specs.Vocabulary.{In}
+use Rattle.theory_onecopy.specs.Vocabulary.{Executed}
 use Rattle.qc_stamp.specs.declared.stamp.TxId.{TxId}
-use Rattle.theory_machine.specs.Names.{Decision, IsRun, State, epoch_from, every_guard, site_after, state}
+use Rattle.theory_machine.specs.Vocabulary.{Decision, IsRun, State, epoch_from, every_guard, site_after, state}
 use Rattle.theory_witnesses.proofs.Accepted.{moving_register_accepted, three_in_two_epochs_accepted}
 use Rattle.theory_witnesses.proofs.Allowed.{run_of}
 use Rattle.theory_witnesses.proofs.Broken.{or_else}
 use Rattle.theory_witnesses.proofs.Finding.{IsFound, at_most, below, both, every, proof_of, same_number, some}
-use Rattle.theory_witnesses.specs.Names.{Move, acts_of, moving_register, third, three_in_two_epochs}
-use Rattle.theory_bases.specs.Names.{AreDisciplined, BelongsNow, HasLaterView, HasMissedLine, HasStrayLine}
-use Rattle.theory_bases.specs.Names.{HasTwoDecisions, IsUndisciplinedRun, IsWrittenIn, appended_without_threshold}
-use Rattle.theory_bases.specs.Names.{decided_twice, decided_with_two_logs, granted_in_another_epoch}
-use Rattle.theory_bases.specs.Names.{seen_in_another_epoch}
+use Rattle.theory_witnesses.specs.Vocabulary.{Move, acts_of, moving_register, third, three_in_two_epochs}
+use Rattle.theory_bases.specs.Vocabulary.{AreDisciplined, BelongsNow, HasLaterView, HasMissedLine, HasStrayLine}
+use Rattle.theory_bases.specs.Vocabulary.{HasTwoDecisions, IsUndisciplinedRun, IsWrittenIn, appended_without_threshold}
+use Rattle.theory_bases.specs.Vocabulary.{decided_twice, decided_with_two_logs, granted_in_another_epoch}
+use Rattle.theory_bases.specs.Vocabulary.{seen_in_another_epoch}
 use Rattle.theory_bases.proofs.Above.{decided_once, sites_have_what_their_epoch_began_with, sites_split, views_older}
 use Rattle.theory_bases.proofs.Disciplined.{different}
 

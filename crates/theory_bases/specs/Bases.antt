@@ -1,8 +1,8 @@
 -- States in place of lines: of a log whose first part is known by the state after it.
 use Rattle.std.specs.Prelude.{ℕ, ◌<◌, ◌++◌, List, map, Option}
 use Rattle.qc_entry.specs.declared.line.Line.{Line}
-use Rattle.qc_list.specs.Names.{In}
-use Rattle.qc_table.specs.Names.{reached}
+use Rattle.qc_list.specs.Vocabulary.{In}
+use Rattle.qc_table.specs.Vocabulary.{reached}
 
 -- the events of lines
 abbrev pub events : List Line → List ℕ

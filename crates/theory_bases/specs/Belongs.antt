@@ -4,9 +4,9 @@ use Rattle.qc_stamp.specs.declared.stamp.TxId.{TxId}
 use Rattle.qc_entry.specs.declared.line.Line.{Line}
 use Rattle.qc_entry.specs.declared.line.OwnLine.{OwnLine}
 use Rattle.qc_decl.specs.declared.declaration.Declaration.{Declaration}
-use Rattle.qc_decl.specs.Names.{append_need_of}
-use Rattle.qc_list.specs.Names.{In}
-use Rattle.theory_machine.specs.Names.{Decision, NotBegun, State, Status}
+use Rattle.qc_decl.specs.Vocabulary.{append_need_of}
+use Rattle.qc_list.specs.Vocabulary.{In}
+use Rattle.theory_machine.specs.Vocabulary.{Decision, NotBegun, State, Status}
 
 -- a line of a begun transaction of epoch k, whose event has a final threshold there
 pub record IsWrittenIn (decl : Declaration) (status : TxId → Status) (epoch : TxId → ℕ) (k : ℕ)

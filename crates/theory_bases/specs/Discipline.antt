@@ -8,12 +8,12 @@
 use Rattle.std.specs.Prelude.{◌≡◌, ◌≢◌, ◌<◌, List, [], ◌∷◌}
 use Rattle.qc_entry.specs.declared.line.OwnLine.{OwnLine}
 use Rattle.qc_decl.specs.declared.declaration.Declaration.{Declaration}
-use Rattle.qc_decl.specs.Names.{append_need_of}
-use Rattle.qc_list.specs.Names.{In}
-use Rattle.theory_machine.specs.Names.{Abort, Act, Announce, Begin, Choose, Close, Commit, CommitUnknown, Count, Decide}
-use Rattle.theory_machine.specs.Names.{Decision, Execute, ExecuteAbsent, Grant, Granted, Install, Learn, Own, Prepare}
-use Rattle.theory_machine.specs.Names.{PrepareLost, Recover, Rise, RiseClient, SendAppend, State, TakeSnapshot, Vote}
-use Rattle.theory_machine.specs.Names.{state}
+use Rattle.qc_decl.specs.Vocabulary.{append_need_of}
+use Rattle.qc_list.specs.Vocabulary.{In}
+use Rattle.theory_machine.specs.Vocabulary.{Abort, Act, Announce, Begin, Choose, Close, Commit, CommitUnknown, Count}
+use Rattle.theory_machine.specs.Vocabulary.{Decide, Decision, Execute, ExecuteAbsent, Grant, Granted, Install, Learn}
+use Rattle.theory_machine.specs.Vocabulary.{Own, Prepare, PrepareLost, Recover, Rise, RiseClient, SendAppend, State}
+use Rattle.theory_machine.specs.Vocabulary.{TakeSnapshot, Vote, state}
 
 -- a grant is of its transaction's epoch, and its own lines are of events with a final threshold in it
 pub record IsGrantOfEpoch (decl : Declaration) (now : State) (g : Granted) : Type 0 where

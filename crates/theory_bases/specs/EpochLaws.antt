@@ -5,9 +5,9 @@ use Rattle.qc_stamp.specs.declared.stamp.TxId.{TxId}
 use Rattle.qc_entry.specs.declared.line.Line.{Line}
 use Rattle.qc_entry.specs.declared.line.OwnLine.{OwnLine}
 use Rattle.qc_decl.specs.declared.declaration.Declaration.{Declaration}
-use Rattle.qc_list.specs.Names.{In}
-use Rattle.theory_machine.specs.Names.{AppendRequest, Decision, Deed, Granted, NotBegun, Own, Promise, Site, Snapshot}
-use Rattle.theory_machine.specs.Names.{State, Status, epoch_from, items_of, site_after}
+use Rattle.qc_list.specs.Vocabulary.{In}
+use Rattle.theory_machine.specs.Vocabulary.{AppendRequest, Decision, Deed, Granted, NotBegun, Own, Promise, Site}
+use Rattle.theory_machine.specs.Vocabulary.{Snapshot, State, Status, epoch_from, items_of, site_after}
 use Rattle.theory_bases.specs.Belongs.{BelongsTo, IsOwnWrittenIn}
 
 -- a site in epoch k: its lines belong to k, and what is held or promised there was written in it

@@ -5,4 +5,4 @@ pub mod Bases
 pub mod Short
 pub mod Witnesses
 pub mod Wrong
-pub mod Names
+pub mod Vocabulary

@@ -2,9 +2,9 @@
 -- a view than it lacks. It goes beside the machine's site, which keeps all in one log.
 use Rattle.std.specs.Prelude.{◌≡◌, ◌⊎◌, List, [], ◌∷◌}
 use Rattle.qc_entry.specs.declared.line.Line.{Line}
-use Rattle.qc_list.specs.Names.{In}
-use Rattle.theory_machine.specs.Names.{Closes, Deed, Grants, Installs, LearnsAbort, LearnsCommit, Prepares, Rises, Site}
-use Rattle.theory_machine.specs.Names.{after_deed, empty_site}
+use Rattle.qc_list.specs.Vocabulary.{In}
+use Rattle.theory_machine.specs.Vocabulary.{Closes, Deed, Grants, Installs, LearnsAbort, LearnsCommit, Prepares, Rises}
+use Rattle.theory_machine.specs.Vocabulary.{Site, after_deed, empty_site}
 
 -- the log that its epoch began with, after a deed of the machine's site
 abbrev pub base_after : List Line → Deed → List Line

@@ -4,13 +4,13 @@ use Rattle.qc_stamp.specs.declared.stamp.TxId.{TxId}
 use Rattle.qc_entry.specs.declared.line.Line.{Line}
 use Rattle.qc_entry.specs.declared.record.Commit.{Commit as CommitRecord}
 use Rattle.qc_decl.specs.declared.declaration.Declaration.{Declaration}
-use Rattle.qc_decl.specs.Names.{IsAccepted}
-use Rattle.qc_list.specs.Names.{In}
-use Rattle.theory_onecopy.specs.Names.{Executed, depends_at}
-use Rattle.theory_machine.specs.Names.{IsRun, Snapshot, State, site_after}
-use Rattle.theory_witnesses.specs.Names.{Move, acts_of, begins, closes, decides, ends_at, first, first_again}
-use Rattle.theory_witnesses.specs.Names.{grants_append, moves_to, operates, reads_one, reads_only, reads_zero, second}
-use Rattle.theory_witnesses.specs.Names.{second_again, stamp_of, tells, writes, writes_one}
+use Rattle.qc_decl.specs.Vocabulary.{IsAccepted}
+use Rattle.qc_list.specs.Vocabulary.{In}
+use Rattle.theory_onecopy.specs.Vocabulary.{Executed, depends_at}
+use Rattle.theory_machine.specs.Vocabulary.{IsRun, Snapshot, State, site_after}
+use Rattle.theory_witnesses.specs.Vocabulary.{Move, acts_of, begins, closes, decides, ends_at, first, first_again}
+use Rattle.theory_witnesses.specs.Vocabulary.{grants_append, moves_to, operates, reads_one, reads_only, reads_zero}
+use Rattle.theory_witnesses.specs.Vocabulary.{second, second_again, stamp_of, tells, writes, writes_one}
 use Rattle.theory_bases.specs.Discipline.{AreDisciplined}
 
 -- the declaration is accepted, and the story is a disciplined run over it

@@ -4,15 +4,15 @@ use Rattle.std.specs.Prelude.{◌≡◌, ℕ, ◌<◌, List, [], ◌∷◌, ◌+
 use Rattle.qc_stamp.specs.declared.stamp.TxId.{TxId}
 use Rattle.qc_entry.specs.declared.line.Line.{Line}
 use Rattle.qc_decl.specs.declared.declaration.Declaration.{Declaration}
-use Rattle.qc_decl.specs.Names.{IsAccepted}
-use Rattle.qc_list.specs.Names.{In}
-use Rattle.theory_onecopy.specs.Names.{Executed}
-use Rattle.theory_machine.specs.Names.{Decide, Decision, Deed, Grants, Installs, IsRun, State, epoch_from, site_after}
-use Rattle.theory_machine.specs.Names.{state}
-use Rattle.theory_witnesses.specs.Names.{Move, aborts, acts_of, appends_at, begins, chooses, closes, commits_at}
-use Rattle.theory_witnesses.specs.Names.{decides, decision, ends_at, executes, first, first_again, grants_append}
-use Rattle.theory_witnesses.specs.Names.{installs, locks, moves_to, operates, reads_one, reads_zero, second, sends}
-use Rattle.theory_witnesses.specs.Names.{tells, third, writes, writes_one}
+use Rattle.qc_decl.specs.Vocabulary.{IsAccepted}
+use Rattle.qc_list.specs.Vocabulary.{In}
+use Rattle.theory_onecopy.specs.Vocabulary.{Executed}
+use Rattle.theory_machine.specs.Vocabulary.{Decide, Decision, Deed, Grants, Installs, IsRun, State, epoch_from}
+use Rattle.theory_machine.specs.Vocabulary.{site_after, state}
+use Rattle.theory_witnesses.specs.Vocabulary.{Move, aborts, acts_of, appends_at, begins, chooses, closes, commits_at}
+use Rattle.theory_witnesses.specs.Vocabulary.{decides, decision, ends_at, executes, first, first_again, grants_append}
+use Rattle.theory_witnesses.specs.Vocabulary.{installs, locks, moves_to, operates, reads_one, reads_zero, second, sends}
+use Rattle.theory_witnesses.specs.Vocabulary.{tells, third, writes, writes_one}
 use Rattle.theory_bases.specs.Belongs.{BelongsNow}
 use Rattle.theory_bases.specs.Discipline.{AreDisciplined}
 use Rattle.theory_bases.specs.Witnesses.{write_line}

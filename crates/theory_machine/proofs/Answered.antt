@@ -7,11 +7,11 @@ use Rattle.qc_stamp.specs.declared.stamp.TxId.{TxId}
 use Rattle.qc_entry.specs.declared.line.Line.{Line}
 use Rattle.qc_entry.specs.declared.line.OwnLine.{OwnLine}
 use Rattle.qc_decl.specs.declared.declaration.Declaration.{Declaration}
-use Rattle.qc_list.specs.Names.{In}
-use Rattle.theory_onecopy.specs.Names.{Executed, committed_line, own_line}
+use Rattle.qc_list.specs.Vocabulary.{In}
+use Rattle.theory_onecopy.specs.Vocabulary.{Executed, committed_line, own_line}
 use Rattle.theory_onecopy.proofs.Lists.{in_split}
-use Rattle.theory_machine.specs.Names.{AreInOrder, IsAnsweredFromQuorum, IsClosedAt, IsExecutedFrom, IsNextOperation}
-use Rattle.theory_machine.specs.Names.{LogLaws, State, StateLaws, own_on, site_after}
+use Rattle.theory_machine.specs.Vocabulary.{AreInOrder, IsAnsweredFromQuorum, IsClosedAt, IsExecutedFrom}
+use Rattle.theory_machine.specs.Vocabulary.{IsNextOperation, LogLaws, State, StateLaws, own_on, site_after}
 use Rattle.theory_machine.proofs.Grows.{same}
 
 module _ (decl : Declaration) where

@@ -4,12 +4,12 @@ use Rattle.std.proofs.Common.{arith}
 use Rattle.std.specs.Prelude.{max}
 use Rattle.qc_stamp.specs.declared.stamp.TxId.{TxId}
 use Rattle.qc_decl.specs.declared.declaration.Declaration.{Declaration}
-use Rattle.qc_list.specs.Names.{In}
-use Rattle.theory_onecopy.specs.Names.{Executed}
+use Rattle.qc_list.specs.Vocabulary.{In}
+use Rattle.theory_onecopy.specs.Vocabulary.{Executed}
 use Rattle.qc_list.proofs.Members.{In-first, In-second}
-use Rattle.theory_machine.specs.Names.{Active, AppendRequest, Count, CountedLaw, Deed, Granted, GrantedLaw, Grants}
-use Rattle.theory_machine.specs.Names.{HasRecord, IsAllowed, MayPrepare, NotBegun, Prepares, State, StateLaws, Status}
-use Rattle.theory_machine.specs.Names.{Voting, after_act, op_of, put}
+use Rattle.theory_machine.specs.Vocabulary.{Active, AppendRequest, Count, CountedLaw, Deed, Granted, GrantedLaw, Grants}
+use Rattle.theory_machine.specs.Vocabulary.{HasRecord, IsAllowed, MayPrepare, NotBegun, Prepares, State, StateLaws}
+use Rattle.theory_machine.specs.Vocabulary.{Status, Voting, after_act, op_of, put}
 use Rattle.qc_entry.specs.declared.record.Commit.{Commit as CommitRecord}
 use Rattle.theory_machine.proofs.Names.{put_case, put_here}
 use Rattle.theory_machine.proofs.Deeds.{calm_all}

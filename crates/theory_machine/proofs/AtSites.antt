@@ -4,14 +4,14 @@ use Rattle.std.proofs.Common.{Some, None, refl, sym, ap, ◌∙◌, subst, arith
 use Rattle.qc_stamp.specs.declared.stamp.Stamp.{Stamp}
 use Rattle.qc_stamp.specs.declared.stamp.TxId.{TxId}
 use Rattle.qc_decl.specs.declared.declaration.Declaration.{Declaration}
-use Rattle.qc_list.specs.Names.{In}
+use Rattle.qc_list.specs.Vocabulary.{In}
 use Rattle.theory_onecopy.proofs.Lists.{in_split}
-use Rattle.theory_machine.specs.Names.{Aborted, AgreesWithStatus, Close, Closes, CountedLaw, Deed, Grant, Granted}
-use Rattle.theory_machine.specs.Names.{GrantedLaw, Grants, HasDecision, HasRisingEpochs, Installs, IsAllowed, IsOutcome}
-use Rattle.theory_machine.specs.Names.{KeepsLife, Learn, LearnsAbort, LearnsCommit, MayGrant, MayPrepare, Prepares}
-use Rattle.theory_machine.specs.Names.{Rise, Rises, State, StateLaws, Verdict, Vote, YesVote, after_act, deed_of}
-use Rattle.theory_machine.specs.Names.{deed_of_outcome, epoch_from, put}
-use Rattle.qc_stamp.specs.Names.{same_tx}
+use Rattle.theory_machine.specs.Vocabulary.{Aborted, AgreesWithStatus, Close, Closes, CountedLaw, Deed, Grant, Granted}
+use Rattle.theory_machine.specs.Vocabulary.{GrantedLaw, Grants, HasDecision, HasRisingEpochs, Installs, IsAllowed}
+use Rattle.theory_machine.specs.Vocabulary.{IsOutcome, KeepsLife, Learn, LearnsAbort, LearnsCommit, MayGrant}
+use Rattle.theory_machine.specs.Vocabulary.{MayPrepare, Prepares, Rise, Rises, State, StateLaws, Verdict, Vote, YesVote}
+use Rattle.theory_machine.specs.Vocabulary.{after_act, deed_of, deed_of_outcome, epoch_from, put}
+use Rattle.qc_stamp.specs.Vocabulary.{same_tx}
 use Rattle.theory_machine.proofs.Names.{put_case, tx_test}
 use Rattle.qc_stamp.proofs.Orders.{same_tx_is}
 use Rattle.theory_machine.proofs.Deeds.{IsCalm}

@@ -5,13 +5,13 @@ use Rattle.qc_stamp.specs.declared.stamp.TxId.{TxId}
 use Rattle.qc_entry.specs.declared.line.Line.{Line}
 use Rattle.qc_entry.specs.declared.line.OwnLine.{OwnLine}
 use Rattle.qc_decl.specs.declared.declaration.Declaration.{Declaration}
-use Rattle.qc_decl.specs.Names.{IsAccepted, append_need_of}
-use Rattle.qc_list.specs.Names.{In}
-use Rattle.theory_onecopy.specs.Names.{Executed, own_line}
-use Rattle.theory_machine.specs.Names.{Active, AppendRequest, Choose, IsAllowed, IsAnsweredFromQuorum, IsAppendClosed}
-use Rattle.theory_machine.specs.Names.{IsAppendOf, IsClosedAt, IsDependedOn, IsExecutedOrChosen, IsNextOperation}
-use Rattle.theory_machine.specs.Names.{IsOwnClosedAt, LogLaws, NotBegun, Own, SendAppend, State, StateLaws, after_act}
-use Rattle.theory_machine.specs.Names.{own_on, put_tx}
+use Rattle.qc_decl.specs.Vocabulary.{IsAccepted, append_need_of}
+use Rattle.qc_list.specs.Vocabulary.{In}
+use Rattle.theory_onecopy.specs.Vocabulary.{Executed, own_line}
+use Rattle.theory_machine.specs.Vocabulary.{Active, AppendRequest, Choose, IsAllowed, IsAnsweredFromQuorum}
+use Rattle.theory_machine.specs.Vocabulary.{IsAppendClosed, IsAppendOf, IsClosedAt, IsDependedOn, IsExecutedOrChosen}
+use Rattle.theory_machine.specs.Vocabulary.{IsNextOperation, IsOwnClosedAt, LogLaws, NotBegun, Own, SendAppend, State}
+use Rattle.theory_machine.specs.Vocabulary.{StateLaws, after_act, own_on, put_tx}
 use Rattle.theory_machine.proofs.Names.{put_tx_case}
 use Rattle.theory_machine.proofs.Quorums.{heavy, needed}
 use Rattle.theory_machine.proofs.Grows.{Grows, carry}

@@ -9,28 +9,29 @@ use Rattle.std.proofs.lemmas.List.{length-append}
 use Rattle.std.specs.declared.cmp.Ordering.TheVariants.{Less}
 use Rattle.qc_stamp.specs.declared.stamp.Stamp.{Stamp}
 use Rattle.qc_stamp.specs.declared.stamp.TxId.{TxId}
-use Rattle.qc_stamp.specs.Names.{stamp_cmp}
+use Rattle.qc_stamp.specs.Vocabulary.{stamp_cmp}
 use Rattle.qc_entry.specs.declared.line.Line.{Line}
 use Rattle.qc_entry.specs.declared.line.Op.{Op}
 use Rattle.qc_entry.specs.declared.record.Commit.{Commit as CommitRecord}
 use Rattle.qc_table.specs.declared.kind.Kind.{Kind}
-use Rattle.qc_table.specs.Names.{Rules, depends, event, event_number, events_of}
-use Rattle.qc_cert.specs.Names.{inv_of}
+use Rattle.qc_table.specs.Vocabulary.{Rules, depends, event, event_number, events_of}
+use Rattle.qc_cert.specs.Vocabulary.{inv_of}
 use Rattle.qc_decl.specs.declared.declaration.Declaration.{Declaration}
-use Rattle.qc_decl.specs.Names.{IsAccepted}
-use Rattle.theory_onecopy.specs.Names.{AreApart, Executed, IsAnswered, IsClosedLog, IsEarlier, IsLineBefore, IsLogged}
-use Rattle.theory_onecopy.specs.Names.{IsNext, IsOrdered, IsStampedBefore, OneCopy, Placed, committed_line, depends_at}
-use Rattle.theory_onecopy.specs.Names.{event_at, line_depends, line_of, own_line, sorted}
-use Rattle.qc_list.specs.Names.{In}
+use Rattle.qc_decl.specs.Vocabulary.{IsAccepted}
+use Rattle.theory_onecopy.specs.Vocabulary.{AreApart, Executed, IsAnswered, IsClosedLog, IsEarlier, IsLineBefore}
+use Rattle.theory_onecopy.specs.Vocabulary.{IsLogged, IsNext, IsOrdered, IsStampedBefore, OneCopy, Placed}
+use Rattle.theory_onecopy.specs.Vocabulary.{committed_line, depends_at, event_at, line_depends, line_of, own_line}
+use Rattle.theory_onecopy.specs.Vocabulary.{sorted}
+use Rattle.qc_list.specs.Vocabulary.{In}
 use Rattle.theory_onecopy.proofs.Committed.{records_are_sorted}
 use Rattle.theory_onecopy.proofs.Lists.{compared}
 use Rattle.theory_onecopy.proofs.Orders.{earlier_line, line_clocks, line_trans, not_stamp_less}
 use Rattle.qc_entry.proofs.Members.{not_below}
 use Rattle.theory_onecopy.proofs.Runs.{inv_is, table_is}
-use Rattle.theory_machine.specs.Names.{Aborted, Act, AreInOrder, Committed, FollowsSeen, Granted, HasEarlier}
-use Rattle.theory_machine.specs.Names.{IsClosedAt, IsDependedOn, IsLogOf, IsOutcome, IsRun, IsVerdictOf, LogLaws}
-use Rattle.theory_machine.specs.Names.{MayCommit, OfAppend, OfDecision, OfGrant, OfSite, OfSnapshot, Shows, StateLaws}
-use Rattle.theory_machine.specs.Names.{Verdict, op_of, place, placed, state}
+use Rattle.theory_machine.specs.Vocabulary.{Aborted, Act, AreInOrder, Committed, FollowsSeen, Granted, HasEarlier}
+use Rattle.theory_machine.specs.Vocabulary.{IsClosedAt, IsDependedOn, IsLogOf, IsOutcome, IsRun, IsVerdictOf, LogLaws}
+use Rattle.theory_machine.specs.Vocabulary.{MayCommit, OfAppend, OfDecision, OfGrant, OfSite, OfSnapshot, Shows}
+use Rattle.theory_machine.specs.Vocabulary.{StateLaws, Verdict, op_of, place, placed, state}
 use Rattle.theory_machine.proofs.Names.{tx_cases}
 use Rattle.theory_machine.proofs.Outcomes.{committed_record, outcome_commit, outcome_aborted}
 use Rattle.theory_machine.proofs.Keeps.{laws}
@@ -88,8 +89,7 @@ module _ (decl : Declaration) (accepted : IsAccepted decl) where
         ]
 
     -- a line that is closed at is an operation of a record
-    logged : (log : List Line) (l : Line) → IsClosedAt decl (state acts).status (state acts).executed log l
-        → IsLogged decl (state acts).records l
+    logged : (log : List Line) (l : Line) → IsClosedAt decl (state acts).status (state acts).executed log l → IsLogged decl (state acts).records l
     logged log l f =
         let r = wl.record_of l.tx f.commit (committed_record ((state acts).status l.tx) f.commit f.committed) in
         let t = there ((state acts).executed l.tx) [] (ll.order l.tx) f.operation f.listed in

@@ -5,9 +5,9 @@ use Rattle.qc_stamp.specs.declared.stamp.Stamp.{Stamp}
 use Rattle.qc_stamp.specs.declared.stamp.TxId.{TxId}
 use Rattle.qc_entry.specs.declared.record.Commit.{Commit as CommitRecord}
 use Rattle.qc_decl.specs.declared.declaration.Declaration.{Declaration}
-use Rattle.theory_machine.specs.Names.{Aborted, Committed, HasRecord, IsLive, IsOutcome, IsRecordOf, MayCommit}
-use Rattle.theory_machine.specs.Names.{NotBegun, Pending, State, StateLaws, Status, Voting, put, recover_records}
-use Rattle.theory_machine.specs.Names.{recover_status}
+use Rattle.theory_machine.specs.Vocabulary.{Aborted, Committed, HasRecord, IsLive, IsOutcome, IsRecordOf, MayCommit}
+use Rattle.theory_machine.specs.Vocabulary.{NotBegun, Pending, State, StateLaws, Status, Voting, put, recover_records}
+use Rattle.theory_machine.specs.Vocabulary.{recover_status}
 use Rattle.theory_machine.proofs.Names.{put_case, put_here}
 use Rattle.theory_machine.proofs.Statuses.{Moves, voting_no_outcome, pending_no_outcome}
 

@@ -9,14 +9,14 @@ use Rattle.qc_entry.specs.declared.line.Line.{Line}
 use Rattle.qc_entry.specs.declared.line.OwnLine.{OwnLine}
 use Rattle.qc_entry.specs.declared.record.Commit.{Commit as CommitRecord}
 use Rattle.qc_table.specs.declared.kind.Kind.{Kind}
-use Rattle.qc_table.specs.Names.{events_of}
+use Rattle.qc_table.specs.Vocabulary.{events_of}
 use Rattle.qc_decl.specs.declared.declaration.Declaration.{Declaration}
-use Rattle.qc_decl.specs.Names.{IsAccepted, plan_in}
-use Rattle.theory_onecopy.specs.Names.{Executed, HasLine, HasOwn, IsNext, IsOrdered, IsOwnBefore, IsStampedBefore}
-use Rattle.theory_onecopy.specs.Names.{Placed, committed_line, depends_at, kind_at, line_of, own_line}
-use Rattle.qc_list.specs.Names.{In}
-use Rattle.theory_machine.specs.Names.{Act, Committed, Granted, IsAnsweredFromQuorum, IsClosedAt, IsDependedOn, IsRun}
-use Rattle.theory_machine.specs.Names.{LogLaws, StateLaws, place, placed, state}
+use Rattle.qc_decl.specs.Vocabulary.{IsAccepted, plan_in}
+use Rattle.theory_onecopy.specs.Vocabulary.{Executed, HasLine, HasOwn, IsNext, IsOrdered, IsOwnBefore, IsStampedBefore}
+use Rattle.theory_onecopy.specs.Vocabulary.{Placed, committed_line, depends_at, kind_at, line_of, own_line}
+use Rattle.qc_list.specs.Vocabulary.{In}
+use Rattle.theory_machine.specs.Vocabulary.{Act, Committed, Granted, IsAnsweredFromQuorum, IsClosedAt, IsDependedOn}
+use Rattle.theory_machine.specs.Vocabulary.{IsRun, LogLaws, StateLaws, place, placed, state}
 use Rattle.theory_machine.proofs.Outcomes.{committed_record}
 use Rattle.theory_machine.proofs.Keeps.{laws}
 use Rattle.theory_machine.proofs.LogKeeps.{log_laws}

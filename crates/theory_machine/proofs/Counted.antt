@@ -1,9 +1,9 @@
 -- What a site did since it granted: each deed more keeps what is known of a grant that the client counted.
 -- A counted grant lasts (the held law): its items are held until the transaction is decided, or they are prepared.
 use Rattle.std.proofs.Common.{◌≡◌, ◌≢◌, ℕ, suc, ◌≤◌, false, inl, inr, List, [], ◌∷◌, ◌++◌, ap, ◌∙◌, arith, append_assoc}
-use Rattle.qc_list.specs.Names.{In}
-use Rattle.theory_machine.specs.Names.{Aborted, Closes, CountedLaw, Deed, Granted, GrantedLaw, Grants, KeepsLife}
-use Rattle.theory_machine.specs.Names.{Prepares, Rises, Status, YesVote}
+use Rattle.qc_list.specs.Vocabulary.{In}
+use Rattle.theory_machine.specs.Vocabulary.{Aborted, Closes, CountedLaw, Deed, Granted, GrantedLaw, Grants, KeepsLife}
+use Rattle.theory_machine.specs.Vocabulary.{Prepares, Rises, Status, YesVote}
 use Rattle.theory_machine.proofs.Deeds.{IsCalm, more_calm, IsBorne, more_borne, more_prepared_or_done}
 use Rattle.theory_machine.proofs.Deeds.{vote_prepared_or_done, no_rise_more}
 

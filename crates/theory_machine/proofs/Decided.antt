@@ -9,20 +9,20 @@ use Rattle.qc_entry.specs.declared.line.Line.{Line}
 use Rattle.qc_entry.specs.declared.line.OwnLine.{OwnLine}
 use Rattle.qc_entry.specs.declared.record.Commit.{Commit as CommitRecord}
 use Rattle.qc_table.specs.declared.kind.Kind.{Kind}
-use Rattle.qc_table.specs.Names.{events_of}
+use Rattle.qc_table.specs.Vocabulary.{events_of}
 use Rattle.qc_plan.specs.declared.plan.Plan.{Plan}
-use Rattle.qc_plan.specs.Names.{weight}
+use Rattle.qc_plan.specs.Vocabulary.{weight}
 use Rattle.qc_decl.specs.declared.declaration.Declaration.{Declaration}
-use Rattle.qc_decl.specs.Names.{IsAccepted, append_need_of, plan_in, read_need_of}
-use Rattle.qc_list.specs.Names.{In}
-use Rattle.theory_onecopy.specs.Names.{Executed, committed_line, depends_at, kind_at, own_line}
+use Rattle.qc_decl.specs.Vocabulary.{IsAccepted, append_need_of, plan_in, read_need_of}
+use Rattle.qc_list.specs.Vocabulary.{In}
+use Rattle.theory_onecopy.specs.Vocabulary.{Executed, committed_line, depends_at, kind_at, own_line}
 use Rattle.qc_list.proofs.Members.{In-first, In-second}
-use Rattle.theory_machine.specs.Names.{Act, Committed, CountedLaw, Decision, Deed, Granted, Grants, HasDone}
-use Rattle.theory_machine.specs.Names.{HasRisingEpochs, HaveNoInstall, Installs, IsDecisionFrom, IsDependedOn}
-use Rattle.theory_machine.specs.Names.{IsOutcome, IsPreparedWith, IsResolved, IsRun, Item, LearnsCommit, Lock, LogLaws}
-use Rattle.theory_machine.specs.Names.{NotBegun, Own, Promise, Site, Snapshot, SparesUntilDone, StateLaws, Status}
-use Rattle.theory_machine.specs.Names.{after_deed, done_records, empty_site, epoch_from, read_lock, shut_from}
-use Rattle.theory_machine.specs.Names.{site_after, site_from, state, weights_of}
+use Rattle.theory_machine.specs.Vocabulary.{Act, Committed, CountedLaw, Decision, Deed, Granted, Grants, HasDone}
+use Rattle.theory_machine.specs.Vocabulary.{HasRisingEpochs, HaveNoInstall, Installs, IsDecisionFrom, IsDependedOn}
+use Rattle.theory_machine.specs.Vocabulary.{IsOutcome, IsPreparedWith, IsResolved, IsRun, Item, LearnsCommit, Lock}
+use Rattle.theory_machine.specs.Vocabulary.{LogLaws, NotBegun, Own, Promise, Site, Snapshot, SparesUntilDone, StateLaws}
+use Rattle.theory_machine.specs.Vocabulary.{Status, after_deed, done_records, empty_site, epoch_from, read_lock}
+use Rattle.theory_machine.specs.Vocabulary.{shut_from, site_after, site_from, state, weights_of}
 use Rattle.theory_machine.proofs.SiteOrder.{after_append, laws_after, logged_from}
 use Rattle.theory_machine.proofs.Epochs.{epoch-append, installed, none_between, rising-left, rising-right, shut-append}
 use Rattle.theory_machine.proofs.Epochs.{still_shut, prepared_or_done}

@@ -1,12 +1,12 @@
 -- One more deed after a grant: which deeds leave what a transaction holds, and which keep that it is prepared or done.
 use Rattle.std.proofs.Common.{◌≡◌, ◌≢◌, Bool, true, false, IsTrue, ◌||◌, inl, inr, List, [], ◌∷◌, ◌++◌, refl, ap}
-use Rattle.qc_list.specs.Names.{In}
+use Rattle.qc_list.specs.Vocabulary.{In}
 use Rattle.qc_stamp.specs.declared.stamp.TxId.{TxId}
-use Rattle.qc_stamp.specs.Names.{same_tx}
+use Rattle.qc_stamp.specs.Vocabulary.{same_tx}
 use Rattle.theory_machine.proofs.Names.{tx_test}
 use Rattle.qc_stamp.proofs.Orders.{same_tx_is}
-use Rattle.theory_machine.specs.Names.{Closes, Deed, Grants, Installs, IsPreparedOrDone, KeepsLife, LearnsAbort}
-use Rattle.theory_machine.specs.Names.{LearnsCommit, Prepares, Rises, SparesUntilDone}
+use Rattle.theory_machine.specs.Vocabulary.{Closes, Deed, Grants, Installs, IsPreparedOrDone, KeepsLife, LearnsAbort}
+use Rattle.theory_machine.specs.Vocabulary.{LearnsCommit, Prepares, Rises, SparesUntilDone}
 
 -- a deed that harms nobody but whom it names
 abbrev pub IsCalm : TxId → Deed → Type 0

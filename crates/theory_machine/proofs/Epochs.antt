@@ -5,12 +5,12 @@ use Rattle.std.proofs.Common.{ap, ◌∙◌, subst, arith}
 use Rattle.std.proofs.lemmas.Bool.{cases_eq}
 use Rattle.qc_stamp.specs.declared.stamp.TxId.{TxId}
 use Rattle.qc_entry.specs.declared.line.Line.{Line}
-use Rattle.qc_list.specs.Names.{In}
-use Rattle.qc_stamp.specs.Names.{same_tx}
-use Rattle.theory_machine.specs.Names.{Closes, Deed, Grants, HasDone, HasRisingEpochs, HaveNoInstall, Holds, Installs}
-use Rattle.theory_machine.specs.Names.{IsPreparedOrDone, IsPreparedWith, Item, LearnsAbort, LearnsCommit, Prepares}
-use Rattle.theory_machine.specs.Names.{Rises, Site, SiteLaws, Spares, SparesUntilDone, after_deed, epoch_from}
-use Rattle.theory_machine.specs.Names.{is_prepared_after, shut_from, site_from}
+use Rattle.qc_list.specs.Vocabulary.{In}
+use Rattle.qc_stamp.specs.Vocabulary.{same_tx}
+use Rattle.theory_machine.specs.Vocabulary.{Closes, Deed, Grants, HasDone, HasRisingEpochs, HaveNoInstall, Holds}
+use Rattle.theory_machine.specs.Vocabulary.{Installs, IsPreparedOrDone, IsPreparedWith, Item, LearnsAbort, LearnsCommit}
+use Rattle.theory_machine.specs.Vocabulary.{Prepares, Rises, Site, SiteLaws, Spares, SparesUntilDone, after_deed}
+use Rattle.theory_machine.specs.Vocabulary.{epoch_from, is_prepared_after, shut_from, site_from}
 use Rattle.theory_machine.proofs.SiteHolds.{held_after}
 use Rattle.theory_machine.proofs.SiteOrder.{first_done, keeps, stays}
 

@@ -4,13 +4,13 @@ use Rattle.std.proofs.Common.{subst}
 use Rattle.qc_stamp.specs.declared.stamp.TxId.{TxId}
 use Rattle.qc_entry.specs.declared.line.Line.{Line}
 use Rattle.qc_decl.specs.declared.declaration.Declaration.{Declaration}
-use Rattle.qc_decl.specs.Names.{append_need_of}
-use Rattle.qc_list.specs.Names.{In}
-use Rattle.theory_onecopy.specs.Names.{Executed, own_line}
+use Rattle.qc_decl.specs.Vocabulary.{append_need_of}
+use Rattle.qc_list.specs.Vocabulary.{In}
+use Rattle.theory_onecopy.specs.Vocabulary.{Executed, own_line}
 use Rattle.theory_onecopy.proofs.Lists.{in_split}
 use Rattle.qc_list.proofs.Members.{In-first, In-second}
-use Rattle.theory_machine.specs.Names.{Active, AreInOrder, HasQuorum, IsAnsweredFromQuorum, IsClosedAt}
-use Rattle.theory_machine.specs.Names.{IsExecutedOrChosen, IsNextOperation, LogLaws, NotBegun, Own, State, put_tx}
+use Rattle.theory_machine.specs.Vocabulary.{Active, AreInOrder, HasQuorum, IsAnsweredFromQuorum, IsClosedAt}
+use Rattle.theory_machine.specs.Vocabulary.{IsExecutedOrChosen, IsNextOperation, LogLaws, NotBegun, Own, State, put_tx}
 use Rattle.theory_machine.proofs.Names.{put_tx_case, put_tx_here}
 use Rattle.theory_machine.proofs.Places.{order_more}
 use Rattle.theory_machine.proofs.Grows.{Grows, closed_at_more, carry}

@@ -1,16 +1,16 @@
 -- Two grants of one epoch at a site; and what a fresh grant holds.
-use Rattle.std.proofs.Common.{◌≡◌, ◌≢◌, ℕ, Bool, true, false, cond, ◌||◌, inl, inr, List, ◌∷◌, ◌++◌, Option, Some, None}
-use Rattle.std.proofs.Common.{IsSome, refl, sym, ap, ◌∙◌, subst, true≢false}
+use Rattle.std.proofs.Common.{[], ◌≡◌, ◌≢◌, ℕ, Bool, true, false, cond, ◌||◌, inl, inr, List, ◌∷◌, ◌++◌, Option, Some}
+use Rattle.std.proofs.Common.{None, IsSome, refl, sym, ap, ◌∙◌, subst, true≢false}
 use Rattle.qc_stamp.specs.declared.stamp.Stamp.{Stamp}
 use Rattle.qc_stamp.specs.declared.stamp.TxId.{TxId}
-use Rattle.qc_list.specs.Names.{In}
+use Rattle.qc_list.specs.Vocabulary.{In}
 use Rattle.qc_list.proofs.Members.{In-first, In-second}
-use Rattle.qc_stamp.specs.Names.{same_tx}
-use Rattle.theory_machine.specs.Names.{Closes, Deed, Granted, Grants, HasRisingEpochs, HaveNoInstall, Holds, Installs}
-use Rattle.theory_machine.specs.Names.{Item, LearnsAbort, LearnsCommit, Prepares, Promise, Rises, Site, SiteLaws}
-use Rattle.theory_machine.specs.Names.{SparesUntilDone, after_commit, after_deed, after_prepare, done_record}
-use Rattle.theory_machine.specs.Names.{done_records, each_held, empty_site, epoch_from, items_of, promise_of}
-use Rattle.theory_machine.specs.Names.{site_after, site_from}
+use Rattle.qc_stamp.specs.Vocabulary.{same_tx}
+use Rattle.theory_machine.specs.Vocabulary.{Closes, Deed, Granted, Grants, HasRisingEpochs, HaveNoInstall, Holds}
+use Rattle.theory_machine.specs.Vocabulary.{Installs, Item, LearnsAbort, LearnsCommit, Prepares, Promise, Rises, Site}
+use Rattle.theory_machine.specs.Vocabulary.{SiteLaws, SparesUntilDone, after_commit, after_deed, after_prepare}
+use Rattle.theory_machine.specs.Vocabulary.{done_record, done_records, each_held, empty_site, epoch_from, items_of}
+use Rattle.theory_machine.specs.Vocabulary.{promise_of, site_after, site_from}
 use Rattle.theory_machine.proofs.Names.{tx_test}
 use Rattle.qc_stamp.proofs.Orders.{same_tx_is}
 use Rattle.theory_machine.proofs.SiteLists.{items_of-append, items_of-each_held, in_dropped, not_found}

@@ -5,13 +5,13 @@ use Rattle.qc_entry.specs.declared.line.Line.{Line}
 use Rattle.qc_entry.specs.declared.line.OwnLine.{OwnLine}
 use Rattle.qc_entry.specs.declared.record.Commit.{Commit as CommitRecord}
 use Rattle.qc_decl.specs.declared.declaration.Declaration.{Declaration}
-use Rattle.qc_decl.specs.Names.{append_need_of}
-use Rattle.qc_list.specs.Names.{In}
-use Rattle.theory_onecopy.specs.Names.{Executed, own_line}
-use Rattle.theory_machine.specs.Names.{AreInOrder, Committed, Deed, Granted, HasQuorum, IsAnsweredFromQuorum}
-use Rattle.theory_machine.specs.Names.{IsAppendClosed, IsClosedAt, IsExecutedOrChosen, IsNextOperation, IsOwnClosedAt}
-use Rattle.theory_machine.specs.Names.{IsShown, IsSiteClosed, Item, LogLaws, NotBegun, Own, Site, State, Status}
-use Rattle.theory_machine.specs.Names.{YesVote, empty_site, put, put_tx, site_after}
+use Rattle.qc_decl.specs.Vocabulary.{append_need_of}
+use Rattle.qc_list.specs.Vocabulary.{In}
+use Rattle.theory_onecopy.specs.Vocabulary.{Executed, own_line}
+use Rattle.theory_machine.specs.Vocabulary.{AreInOrder, Committed, Deed, Granted, HasQuorum, IsAnsweredFromQuorum}
+use Rattle.theory_machine.specs.Vocabulary.{IsAppendClosed, IsClosedAt, IsExecutedOrChosen, IsNextOperation}
+use Rattle.theory_machine.specs.Vocabulary.{IsOwnClosedAt, IsShown, IsSiteClosed, Item, LogLaws, NotBegun, Own, Site}
+use Rattle.theory_machine.specs.Vocabulary.{State, Status, YesVote, empty_site, put, put_tx, site_after}
 use Rattle.theory_machine.proofs.Names.{put_case, put_tx_case}
 use Rattle.theory_machine.proofs.SiteOrder.{after_append}
 use Rattle.theory_machine.proofs.Sound.{IsReady, deed_keeps_closed}

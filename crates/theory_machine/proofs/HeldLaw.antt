@@ -4,11 +4,11 @@ use Rattle.std.proofs.lemmas.List.{append_cancel_left}
 use Rattle.qc_entry.specs.declared.line.Line.{Line}
 use Rattle.qc_entry.specs.declared.record.Commit.{Commit as CommitRecord}
 use Rattle.qc_decl.specs.declared.declaration.Declaration.{Declaration}
-use Rattle.qc_list.specs.Names.{In}
-use Rattle.theory_machine.specs.Names.{Aborted, Act, AreBeforeDone, Closes, Deed, Granted, Grants, HasPassed}
-use Rattle.theory_machine.specs.Names.{HaveNoInstall, Installs, IsBound, IsRun, IsSince, Item, LearnsAbort}
-use Rattle.theory_machine.specs.Names.{LearnsCommit, Prepares, Rises, Site, SparesUntilDone, StateLaws, after_deed}
-use Rattle.theory_machine.specs.Names.{empty_site, items_of, site_after, site_from, state}
+use Rattle.qc_list.specs.Vocabulary.{In}
+use Rattle.theory_machine.specs.Vocabulary.{Aborted, Act, AreBeforeDone, Closes, Deed, Granted, Grants, HasPassed}
+use Rattle.theory_machine.specs.Vocabulary.{HaveNoInstall, Installs, IsBound, IsRun, IsSince, Item, LearnsAbort}
+use Rattle.theory_machine.specs.Vocabulary.{LearnsCommit, Prepares, Rises, Site, SparesUntilDone, StateLaws, after_deed}
+use Rattle.theory_machine.specs.Vocabulary.{empty_site, items_of, site_after, site_from, state}
 use Rattle.theory_machine.proofs.Keeps.{laws}
 use Rattle.theory_machine.proofs.Grants.{holds_granted}
 use Rattle.theory_machine.proofs.Order.{ended}

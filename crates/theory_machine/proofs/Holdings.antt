@@ -5,15 +5,15 @@ use Rattle.std.proofs.lemmas.List.{length-append}
 use Rattle.qc_stamp.specs.declared.stamp.TxId.{TxId}
 use Rattle.qc_entry.specs.declared.line.OwnLine.{OwnLine}
 use Rattle.qc_decl.specs.declared.declaration.Declaration.{Declaration}
-use Rattle.qc_decl.specs.Names.{IsAccepted}
-use Rattle.qc_list.specs.Names.{In}
-use Rattle.theory_onecopy.specs.Names.{Executed, own_line}
+use Rattle.qc_decl.specs.Vocabulary.{IsAccepted}
+use Rattle.qc_list.specs.Vocabulary.{In}
+use Rattle.theory_onecopy.specs.Vocabulary.{Executed, own_line}
 use Rattle.theory_onecopy.proofs.Lists.{in_split}
 use Rattle.qc_list.proofs.Members.{In-second}
-use Rattle.theory_machine.specs.Names.{Aborted, Act, AreInOrder, Deed, Granted, Grants, HasRisingEpochs, HaveNoInstall}
-use Rattle.theory_machine.specs.Names.{IsExecutedOrChosen, IsOutcome, IsRun, Item, LearnsCommit, LogLaws, Own, Site}
-use Rattle.theory_machine.specs.Names.{StateLaws, Status, Voting, after_deed, empty_site, epoch_from, items_of}
-use Rattle.theory_machine.specs.Names.{site_after, site_from, state}
+use Rattle.theory_machine.specs.Vocabulary.{Aborted, Act, AreInOrder, Deed, Granted, Grants, HasRisingEpochs}
+use Rattle.theory_machine.specs.Vocabulary.{HaveNoInstall, IsExecutedOrChosen, IsOutcome, IsRun, Item, LearnsCommit}
+use Rattle.theory_machine.specs.Vocabulary.{LogLaws, Own, Site, StateLaws, Status, Voting, after_deed, empty_site}
+use Rattle.theory_machine.specs.Vocabulary.{epoch_from, items_of, site_after, site_from, state}
 use Rattle.theory_machine.proofs.Keeps.{laws}
 use Rattle.theory_machine.proofs.LogKeeps.{log_laws}
 use Rattle.theory_machine.proofs.Grants.{between, holds_granted}

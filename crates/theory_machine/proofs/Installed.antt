@@ -4,10 +4,10 @@ use Rattle.qc_stamp.specs.declared.stamp.Stamp.{Stamp}
 use Rattle.qc_stamp.specs.declared.stamp.TxId.{TxId}
 use Rattle.qc_entry.specs.declared.line.Line.{Line}
 use Rattle.qc_decl.specs.declared.declaration.Declaration.{Declaration}
-use Rattle.qc_list.specs.Names.{In}
-use Rattle.theory_machine.specs.Names.{Closes, Decision, Deed, Grants, HasDecision, HasRisingEpochs, Installs}
-use Rattle.theory_machine.specs.Names.{IsDecisionFrom, IsResolved, LearnsAbort, LearnsCommit, Prepares, Promise, Rises}
-use Rattle.theory_machine.specs.Names.{Snapshot, Verdict, deed_of_outcome, epoch_from}
+use Rattle.qc_list.specs.Vocabulary.{In}
+use Rattle.theory_machine.specs.Vocabulary.{Closes, Decision, Deed, Grants, HasDecision, HasRisingEpochs, Installs}
+use Rattle.theory_machine.specs.Vocabulary.{IsDecisionFrom, IsResolved, LearnsAbort, LearnsCommit, Prepares, Promise}
+use Rattle.theory_machine.specs.Vocabulary.{Rises, Snapshot, Verdict, deed_of_outcome, epoch_from}
 
 -- a deed that a site may do: an Install is of a decided, greater epoch
 abbrev pub IsNew : List Decision → List Deed → Deed → Type 0

@@ -3,16 +3,16 @@ use Rattle.std.proofs.Common.{◌≡◌, ◌≢◌, ℕ, ◌≤◌, inl, inr, Li
 use Rattle.std.proofs.Common.{append-nil}
 use Rattle.qc_stamp.specs.declared.stamp.TxId.{TxId}
 use Rattle.qc_decl.specs.declared.declaration.Declaration.{Declaration}
-use Rattle.qc_list.specs.Names.{In}
+use Rattle.qc_list.specs.Vocabulary.{In}
 use Rattle.theory_onecopy.proofs.Lists.{in_split}
 use Rattle.qc_list.proofs.Members.{In-second}
-use Rattle.theory_machine.specs.Names.{Abort, Aborted, Act, Active, Announce, Begin, Choose, Close, Commit}
-use Rattle.theory_machine.specs.Names.{CommitUnknown, Committed, Count, Decide, Decision, Deed, Execute, ExecuteAbsent}
-use Rattle.theory_machine.specs.Names.{Grant, Granted, Install, Installs, IsAllowed, IsDecisionFrom, IsOutcome, IsRun}
-use Rattle.theory_machine.specs.Names.{Learn, MaySnapshot, Pending, Prepare, PrepareLost, Prepares, Recover, Rise}
-use Rattle.theory_machine.specs.Names.{RiseClient, SendAppend, Snapshot, State, StateLaws, Status, TakeSnapshot, Vote}
-use Rattle.theory_machine.specs.Names.{Voting, after_act, chosen_list, put, put_tx, recover_records, recover_status}
-use Rattle.theory_machine.specs.Names.{state, verdict_of}
+use Rattle.theory_machine.specs.Vocabulary.{Abort, Aborted, Act, Active, Announce, Begin, Choose, Close, Commit}
+use Rattle.theory_machine.specs.Vocabulary.{CommitUnknown, Committed, Count, Decide, Decision, Deed, Execute}
+use Rattle.theory_machine.specs.Vocabulary.{ExecuteAbsent, Grant, Granted, Install, Installs, IsAllowed, IsDecisionFrom}
+use Rattle.theory_machine.specs.Vocabulary.{IsOutcome, IsRun, Learn, MaySnapshot, Pending, Prepare, PrepareLost}
+use Rattle.theory_machine.specs.Vocabulary.{Prepares, Recover, Rise, RiseClient, SendAppend, Snapshot, State, StateLaws}
+use Rattle.theory_machine.specs.Vocabulary.{Status, TakeSnapshot, Vote, Voting, after_act, chosen_list, put, put_tx}
+use Rattle.theory_machine.specs.Vocabulary.{recover_records, recover_status, state, verdict_of}
 use Rattle.theory_machine.proofs.Names.{put_case, put_tx_case}
 use Rattle.theory_machine.proofs.Outcomes.{verdict_is}
 use Rattle.theory_machine.proofs.Installed.{made_more}

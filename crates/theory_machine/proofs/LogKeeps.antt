@@ -4,17 +4,17 @@ use Rattle.std.proofs.Common.{◌≡◌, ◌≢◌, ℕ, suc, inl, inr, List, []
 use Rattle.std.proofs.Common.{subst}
 use Rattle.std.specs.Prelude.{max}
 use Rattle.qc_decl.specs.declared.declaration.Declaration.{Declaration}
-use Rattle.qc_decl.specs.Names.{IsAccepted, append_need_of}
-use Rattle.qc_list.specs.Names.{In}
-use Rattle.theory_onecopy.specs.Names.{Executed, own_line}
-use Rattle.theory_machine.specs.Names.{Abort, Aborted, Act, Active, Announce, AppendRequest, Begin, Choose, Close}
-use Rattle.theory_machine.specs.Names.{Closes, Commit, CommitUnknown, Committed, Count, Decide, Decision, Deed, Execute}
-use Rattle.theory_machine.specs.Names.{ExecuteAbsent, Grant, Granted, Grants, Install, Installs, IsAllowed}
-use Rattle.theory_machine.specs.Names.{IsAppendClosed, IsClosedAt, IsExecutedOrChosen, IsRun, IsSiteClosed, Learn}
-use Rattle.theory_machine.specs.Names.{LogLaws, NotBegun, Own, Pending, Prepare, PrepareLost, Prepares, Recover, Rise}
-use Rattle.theory_machine.specs.Names.{RiseClient, Rises, SendAppend, Snapshot, State, StateLaws, Status, TakeSnapshot}
-use Rattle.theory_machine.specs.Names.{Vote, Voting, after_act, chosen_list, deed_of, put, put_tx, recover_records}
-use Rattle.theory_machine.specs.Names.{recover_status, site_after, state}
+use Rattle.qc_decl.specs.Vocabulary.{IsAccepted, append_need_of}
+use Rattle.qc_list.specs.Vocabulary.{In}
+use Rattle.theory_onecopy.specs.Vocabulary.{Executed, own_line}
+use Rattle.theory_machine.specs.Vocabulary.{Abort, Aborted, Act, Active, Announce, AppendRequest, Begin, Choose, Close}
+use Rattle.theory_machine.specs.Vocabulary.{Closes, Commit, CommitUnknown, Committed, Count, Decide, Decision, Deed}
+use Rattle.theory_machine.specs.Vocabulary.{Execute, ExecuteAbsent, Grant, Granted, Grants, Install, Installs}
+use Rattle.theory_machine.specs.Vocabulary.{IsAllowed, IsAppendClosed, IsClosedAt, IsExecutedOrChosen, IsRun}
+use Rattle.theory_machine.specs.Vocabulary.{IsSiteClosed, Learn, LogLaws, NotBegun, Own, Pending, Prepare, PrepareLost}
+use Rattle.theory_machine.specs.Vocabulary.{Prepares, Recover, Rise, RiseClient, Rises, SendAppend, Snapshot, State}
+use Rattle.theory_machine.specs.Vocabulary.{StateLaws, Status, TakeSnapshot, Vote, Voting, after_act, chosen_list}
+use Rattle.theory_machine.specs.Vocabulary.{deed_of, put, put_tx, recover_records, recover_status, site_after, state}
 use Rattle.theory_machine.proofs.Names.{put_tx_case}
 use Rattle.theory_machine.proofs.Keeps.{laws}
 use Rattle.theory_machine.proofs.Grows.{right_more, met_more, carry, restated, same, at_site}

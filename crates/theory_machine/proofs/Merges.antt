@@ -8,12 +8,13 @@ use Rattle.qc_entry.specs.declared.line.Line.{Line}
 use Rattle.qc_entry.specs.declared.line.OwnLine.{OwnLine}
 use Rattle.qc_entry.specs.declared.record.Commit.{Commit as CommitRecord}
 use Rattle.qc_decl.specs.declared.declaration.Declaration.{Declaration}
-use Rattle.qc_list.specs.Names.{In}
-use Rattle.theory_onecopy.specs.Names.{Executed, committed_line}
-use Rattle.theory_machine.specs.Names.{Aborted, Committed, Decision, Granted, IsAppendClosed, IsClosedAt}
-use Rattle.theory_machine.specs.Names.{IsExecutedOrChosen, IsMerged, IsOutcome, IsRequested, IsResolved, IsSiteClosed}
-use Rattle.theory_machine.specs.Names.{Item, Lock, LogLaws, MayDecide, NotBegun, Own, Pending, Promise, State}
-use Rattle.theory_machine.specs.Names.{StateLaws, Status, deed_of_outcome, recover_status, site_after}
+use Rattle.qc_list.specs.Vocabulary.{In}
+use Rattle.theory_onecopy.specs.Vocabulary.{Executed, committed_line}
+use Rattle.theory_machine.specs.Vocabulary.{Aborted, Committed, Decision, Granted, IsAppendClosed, IsClosedAt}
+use Rattle.theory_machine.specs.Vocabulary.{IsExecutedOrChosen, IsMerged, IsOutcome, IsRequested, IsResolved}
+use Rattle.theory_machine.specs.Vocabulary.{IsSiteClosed, Item, Lock, LogLaws, MayDecide, NotBegun, Own, Pending}
+use Rattle.theory_machine.specs.Vocabulary.{Promise, State, StateLaws, Status, deed_of_outcome, recover_status}
+use Rattle.theory_machine.specs.Vocabulary.{site_after}
 use Rattle.theory_machine.proofs.Sound.{IsReady, wider}
 use Rattle.theory_machine.proofs.Outcomes.{committed_record, outcome_aborted, outcome_commit}
 use Rattle.theory_machine.proofs.Grows.{same}

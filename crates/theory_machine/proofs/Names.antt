@@ -2,8 +2,8 @@
 use Rattle.std.proofs.Common.{◌≡◌, ◌≢◌, ℕ, ◌==◌, ◌⊎◌, inl, inr, Bool, true, false, cond, refl, subst, eq-eqb, eqb-true}
 use Rattle.qc_stamp.specs.declared.stamp.TxId.{TxId}
 use Rattle.qc_stamp.proofs.Orders.{same_tx_is, same_tx_itself}
-use Rattle.theory_machine.specs.Names.{put, put_tx}
-use Rattle.qc_stamp.specs.Names.{same_tx}
+use Rattle.theory_machine.specs.Vocabulary.{put, put_tx}
+use Rattle.qc_stamp.specs.Vocabulary.{same_tx}
 
 pub tx_test : (a b : TxId) → a ≡ b → same_tx a b ≡ true
 tx_test a b e = subst (λ (x : TxId). same_tx a x ≡ true) e (same_tx_itself a)

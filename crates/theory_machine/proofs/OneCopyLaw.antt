@@ -4,12 +4,12 @@ use Rattle.std.proofs.lemmas.List.{map-append}
 use Rattle.qc_entry.specs.declared.line.Op.{Op}
 use Rattle.qc_entry.specs.declared.record.Commit.{Commit as CommitRecord}
 use Rattle.qc_decl.specs.declared.declaration.Declaration.{Declaration}
-use Rattle.qc_decl.specs.Names.{IsAccepted}
-use Rattle.theory_onecopy.specs.Names.{AreFromViews, Executed, IsOrdered, IsStampedBefore, OneCopy, Placed, Walks}
-use Rattle.theory_onecopy.specs.Names.{operations, start_at}
-use Rattle.qc_list.specs.Names.{In}
+use Rattle.qc_decl.specs.Vocabulary.{IsAccepted}
+use Rattle.theory_onecopy.specs.Vocabulary.{AreFromViews, Executed, IsOrdered, IsStampedBefore, OneCopy, Placed, Walks}
+use Rattle.theory_onecopy.specs.Vocabulary.{operations, start_at}
+use Rattle.qc_list.specs.Vocabulary.{In}
 use Rattle.theory_onecopy.proofs.Walk.{views_are_one_copy}
-use Rattle.theory_machine.specs.Names.{Act, IsRun, op_of, place, placed, state}
+use Rattle.theory_machine.specs.Vocabulary.{Act, IsRun, op_of, place, placed, state}
 use Rattle.theory_machine.proofs.Outcomes.{committed_record}
 use Rattle.theory_machine.proofs.Quorums.{exact}
 use Rattle.theory_machine.proofs.PlacedOperations.{placed_ordered}

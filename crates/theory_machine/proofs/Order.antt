@@ -1,20 +1,20 @@
 -- The ordering lemma at a shared site: of two counted grants that conflict, the Done of the earlier one's transaction stands
 -- before the later one, so its line is there, or its stamp is smaller (two-phase locking; Lamport 1978).
-use Rattle.std.proofs.Common.{◌≡◌, ◌≢◌, ℕ, ◌<◌, ◌≤◌, Bool, true, false, IsTrue, ◌⊎◌, inl, inr, List, ◌∷◌, ◌++◌, Some}
-use Rattle.std.proofs.Common.{IsSome, refl, sym, ap, ◌∙◌, subst, arith, append_assoc}
+use Rattle.std.proofs.Common.{[], ◌≡◌, ◌≢◌, ℕ, ◌<◌, ◌≤◌, Bool, true, false, IsTrue, ◌⊎◌, inl, inr, List, ◌∷◌, ◌++◌}
+use Rattle.std.proofs.Common.{Some, IsSome, refl, sym, ap, ◌∙◌, subst, arith, append_assoc}
 use Rattle.qc_stamp.specs.declared.stamp.Stamp.{Stamp}
 use Rattle.qc_stamp.specs.declared.stamp.TxId.{TxId}
 use Rattle.qc_entry.specs.declared.line.OwnLine.{OwnLine}
 use Rattle.qc_entry.specs.declared.line.ReadLock.{ReadLock}
 use Rattle.qc_entry.specs.declared.record.Commit.{Commit as CommitRecord}
 use Rattle.qc_decl.specs.declared.declaration.Declaration.{Declaration}
-use Rattle.qc_list.specs.Names.{In}
-use Rattle.theory_onecopy.specs.Names.{committed_line, depends_at}
+use Rattle.qc_list.specs.Vocabulary.{In}
+use Rattle.theory_onecopy.specs.Vocabulary.{committed_line, depends_at}
 use Rattle.qc_list.proofs.Members.{In-first, In-second}
-use Rattle.theory_machine.specs.Names.{Aborted, Act, Committed, CountedLaw, Deed, Granted, Grants, HasDone}
-use Rattle.theory_machine.specs.Names.{HasRisingEpochs, Holds, IsOutcome, IsRun, Item, LearnsCommit, Lock, Own, Site}
-use Rattle.theory_machine.specs.Names.{SparesUntilDone, StateLaws, Status, after_deed, done_records, empty_site}
-use Rattle.theory_machine.specs.Names.{epoch_from, items_of, promise_of, site_after, site_from, state}
+use Rattle.theory_machine.specs.Vocabulary.{Aborted, Act, Committed, CountedLaw, Deed, Granted, Grants, HasDone}
+use Rattle.theory_machine.specs.Vocabulary.{HasRisingEpochs, Holds, IsOutcome, IsRun, Item, LearnsCommit, Lock, Own}
+use Rattle.theory_machine.specs.Vocabulary.{Site, SparesUntilDone, StateLaws, Status, after_deed, done_records}
+use Rattle.theory_machine.specs.Vocabulary.{empty_site, epoch_from, items_of, promise_of, site_after, site_from, state}
 use Rattle.theory_machine.proofs.SiteOrder.{after_append, held_or_done, held_or_logged, laws_after}
 use Rattle.theory_machine.proofs.Epochs.{rising-left}
 use Rattle.theory_machine.proofs.SiteHolds.{held_after}

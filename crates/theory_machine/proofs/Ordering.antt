@@ -8,14 +8,14 @@ use Rattle.qc_stamp.specs.declared.stamp.Stamp.{Stamp}
 use Rattle.qc_stamp.specs.declared.stamp.TxId.{TxId}
 use Rattle.qc_entry.specs.declared.line.Line.{Line}
 use Rattle.qc_entry.specs.declared.record.Commit.{Commit as CommitRecord}
-use Rattle.qc_plan.specs.Names.{weight}
+use Rattle.qc_plan.specs.Vocabulary.{weight}
 use Rattle.qc_decl.specs.declared.declaration.Declaration.{Declaration}
-use Rattle.qc_decl.specs.Names.{IsAccepted, append_need_of, read_need_of}
-use Rattle.theory_onecopy.specs.Names.{IsOrdered, IsStampedBefore, Placed, committed_line, depends_at, line_of}
-use Rattle.theory_onecopy.specs.Names.{own_line}
-use Rattle.qc_list.specs.Names.{In}
-use Rattle.theory_machine.specs.Names.{Act, Grants, IsDependedOn, IsRun, placed, read_lock, site_after, state}
-use Rattle.theory_machine.specs.Names.{weights_of}
+use Rattle.qc_decl.specs.Vocabulary.{IsAccepted, append_need_of, read_need_of}
+use Rattle.theory_onecopy.specs.Vocabulary.{IsOrdered, IsStampedBefore, Placed, committed_line, depends_at, line_of}
+use Rattle.theory_onecopy.specs.Vocabulary.{own_line}
+use Rattle.qc_list.specs.Vocabulary.{In}
+use Rattle.theory_machine.specs.Vocabulary.{Act, Grants, IsDependedOn, IsRun, placed, read_lock, site_after, state}
+use Rattle.theory_machine.specs.Vocabulary.{weights_of}
 use Rattle.theory_machine.proofs.Order.{ordering}
 use Rattle.theory_machine.proofs.Places.{above}
 use Rattle.theory_machine.proofs.Quorums.{heavy, needed, read_needed, shared, some_site}

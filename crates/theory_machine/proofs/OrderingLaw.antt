@@ -2,11 +2,11 @@
 use Rattle.std.proofs.Common.{◌≡◌, ◌≢◌, ◌<◌, IsTrue, ◌⊎◌, List, IsSome}
 use Rattle.qc_entry.specs.declared.record.Commit.{Commit as CommitRecord}
 use Rattle.qc_decl.specs.declared.declaration.Declaration.{Declaration}
-use Rattle.qc_decl.specs.Names.{IsAccepted}
-use Rattle.theory_onecopy.specs.Names.{Executed, committed_line, depends_at, own_line, sorted}
-use Rattle.qc_list.specs.Names.{In}
+use Rattle.qc_decl.specs.Vocabulary.{IsAccepted}
+use Rattle.theory_onecopy.specs.Vocabulary.{Executed, committed_line, depends_at, own_line, sorted}
+use Rattle.qc_list.specs.Vocabulary.{In}
 use Rattle.theory_onecopy.proofs.Committed.{records_are_sorted}
-use Rattle.theory_machine.specs.Names.{Act, IsRun, place, state}
+use Rattle.theory_machine.specs.Vocabulary.{Act, IsRun, place, state}
 use Rattle.theory_machine.proofs.ClaimLaws.{records_are_apart}
 use Rattle.theory_machine.proofs.Ordering.{ordered}
 use Rattle.theory_machine.proofs.PlacedOperations.{placed_of}

@@ -4,11 +4,11 @@ use Rattle.std.proofs.Common.{◌≡◌, ◌≢◌, inl, inr, [], ◌∷◌, Opt
 use Rattle.qc_stamp.specs.declared.stamp.Stamp.{Stamp}
 use Rattle.qc_stamp.specs.declared.stamp.TxId.{TxId}
 use Rattle.qc_entry.specs.declared.record.Commit.{Commit as CommitRecord}
-use Rattle.qc_list.specs.Names.{In}
-use Rattle.theory_machine.specs.Names.{Aborted, Active, AgreesWithStatus, Closes, Committed, Deed, Grants, HasRecord}
-use Rattle.theory_machine.specs.Names.{Installs, IsOutcome, KeepsLife, LearnsAbort, LearnsCommit, MayPrepare, NotBegun}
-use Rattle.theory_machine.specs.Names.{Pending, Prepares, Rises, Status, Verdict, Voting, deed_of_outcome, put_tx}
-use Rattle.theory_machine.specs.Names.{verdict_of}
+use Rattle.qc_list.specs.Vocabulary.{In}
+use Rattle.theory_machine.specs.Vocabulary.{Aborted, Active, AgreesWithStatus, Closes, Committed, Deed, Grants}
+use Rattle.theory_machine.specs.Vocabulary.{HasRecord, Installs, IsOutcome, KeepsLife, LearnsAbort, LearnsCommit}
+use Rattle.theory_machine.specs.Vocabulary.{MayPrepare, NotBegun, Pending, Prepares, Rises, Status, Verdict, Voting}
+use Rattle.theory_machine.specs.Vocabulary.{deed_of_outcome, put_tx, verdict_of}
 use Rattle.theory_machine.proofs.Names.{put_tx_case}
 use Rattle.theory_machine.proofs.Deeds.{IsMild}
 

@@ -4,11 +4,11 @@ use Rattle.std.proofs.Common.{IsSome, refl, sym, ap, ◌∙◌, subst, append_as
 use Rattle.std.specs.Prelude.{◌&&◌, is_some}
 use Rattle.qc_entry.specs.declared.line.OwnLine.{OwnLine}
 use Rattle.qc_decl.specs.declared.declaration.Declaration.{Declaration}
-use Rattle.qc_list.specs.Names.{In}
-use Rattle.theory_onecopy.specs.Names.{Executed, own_line}
+use Rattle.qc_list.specs.Vocabulary.{In}
+use Rattle.theory_onecopy.specs.Vocabulary.{Executed, own_line}
 use Rattle.theory_onecopy.proofs.Lists.{in_split}
 use Rattle.qc_list.proofs.Members.{In-first}
-use Rattle.theory_machine.specs.Names.{AreInOrder, own_on}
+use Rattle.theory_machine.specs.Vocabulary.{AreInOrder, own_on}
 
 module _ (decl : Declaration) where
   -- where an own line of an object comes from

@@ -7,15 +7,16 @@ use Rattle.std.proofs.lemmas.List.{length-append}
 use Rattle.std.specs.declared.cmp.Ordering.TheVariants.{Less}
 use Rattle.qc_stamp.specs.declared.stamp.Stamp.{Stamp}
 use Rattle.qc_stamp.specs.declared.stamp.TxId.{TxId}
-use Rattle.qc_stamp.specs.Names.{stamp_cmp}
+use Rattle.qc_stamp.specs.Vocabulary.{stamp_cmp}
 use Rattle.qc_entry.specs.declared.line.OwnLine.{OwnLine}
 use Rattle.qc_entry.specs.declared.record.Commit.{Commit as CommitRecord}
 use Rattle.qc_decl.specs.declared.declaration.Declaration.{Declaration}
-use Rattle.theory_onecopy.specs.Names.{Executed, IsEarlier, IsOrdered, IsOwnBefore, IsStampedBefore, Placed, own_line}
-use Rattle.qc_list.specs.Names.{In}
+use Rattle.theory_onecopy.specs.Vocabulary.{Executed, IsEarlier, IsOrdered, IsOwnBefore, IsStampedBefore, Placed}
+use Rattle.theory_onecopy.specs.Vocabulary.{own_line}
+use Rattle.qc_list.specs.Vocabulary.{In}
 use Rattle.theory_onecopy.proofs.Lists.{in_map, in_split, map_in, ordered-append}
 use Rattle.qc_list.proofs.Members.{In-first, In-second}
-use Rattle.theory_machine.specs.Names.{AreInOrder, own_on, place, placed}
+use Rattle.theory_machine.specs.Vocabulary.{AreInOrder, own_on, place, placed}
 use Rattle.theory_machine.proofs.OwnLines.{own_of}
 use Rattle.theory_machine.proofs.Places.{above}
 

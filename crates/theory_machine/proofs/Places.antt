@@ -3,11 +3,11 @@ use Rattle.std.proofs.Common.{◌≡◌, ℕ, suc, ◌<◌, ◌≤◌, ◌==◌,
 use Rattle.std.proofs.Common.{Option, Some, None, IsSome, refl, sym, ap, subst, arith, append_assoc, append-nil, eq-eqb}
 use Rattle.std.specs.Prelude.{◌&&◌, is_some}
 use Rattle.std.proofs.lemmas.List.{length-append}
-use Rattle.qc_list.specs.Names.{In}
-use Rattle.theory_onecopy.specs.Names.{Executed, own_line}
+use Rattle.qc_list.specs.Vocabulary.{In}
+use Rattle.theory_onecopy.specs.Vocabulary.{Executed, own_line}
 use Rattle.theory_onecopy.proofs.Lists.{in_split}
 use Rattle.qc_list.proofs.Members.{In-first, In-second}
-use Rattle.theory_machine.specs.Names.{AreInOrder, IsNextOperation, own_on}
+use Rattle.theory_machine.specs.Vocabulary.{AreInOrder, IsNextOperation, own_on}
 
 one_more : (earlier : List Executed) (d : Executed) → length (earlier ++ d ∷ []) ≡ suc (length earlier)
 one_more earlier d = let e = length-append earlier (d ∷ []) in omega arith

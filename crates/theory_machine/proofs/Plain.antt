@@ -3,14 +3,14 @@ use Rattle.std.proofs.Common.{◌≡◌, ℕ, false, inl, inr, List, [], ◌∷�
 use Rattle.qc_stamp.specs.declared.stamp.Stamp.{Stamp}
 use Rattle.qc_stamp.specs.declared.stamp.TxId.{TxId}
 use Rattle.qc_decl.specs.declared.declaration.Declaration.{Declaration}
-use Rattle.qc_list.specs.Names.{In}
+use Rattle.qc_list.specs.Vocabulary.{In}
 use Rattle.theory_onecopy.proofs.Lists.{in_split}
-use Rattle.theory_machine.specs.Names.{Abort, Act, Announce, ArePlain, Begin, Choose, Close, Closes, Commit}
-use Rattle.theory_machine.specs.Names.{CommitUnknown, Count, Decide, Deed, Execute, ExecuteAbsent, Grant, Granted}
-use Rattle.theory_machine.specs.Names.{Grants, Install, Installs, IsAllowed, IsFirst, IsPlain, IsPlainDeed, IsRun}
-use Rattle.theory_machine.specs.Names.{Learn, LearnsAbort, LearnsCommit, Prepare, PrepareLost, Prepares, Recover, Rise}
-use Rattle.theory_machine.specs.Names.{RiseClient, Rises, SendAppend, State, TakeSnapshot, Vote, after_act, deed_of}
-use Rattle.theory_machine.specs.Names.{deed_of_outcome, epoch_from, put, shut_from, state}
+use Rattle.theory_machine.specs.Vocabulary.{Abort, Act, Announce, ArePlain, Begin, Choose, Close, Closes, Commit}
+use Rattle.theory_machine.specs.Vocabulary.{CommitUnknown, Count, Decide, Deed, Execute, ExecuteAbsent, Grant, Granted}
+use Rattle.theory_machine.specs.Vocabulary.{Grants, Install, Installs, IsAllowed, IsFirst, IsPlain, IsPlainDeed, IsRun}
+use Rattle.theory_machine.specs.Vocabulary.{Learn, LearnsAbort, LearnsCommit, Prepare, PrepareLost, Prepares, Recover}
+use Rattle.theory_machine.specs.Vocabulary.{Rise, RiseClient, Rises, SendAppend, State, TakeSnapshot, Vote, after_act}
+use Rattle.theory_machine.specs.Vocabulary.{deed_of, deed_of_outcome, epoch_from, put, shut_from, state}
 use Rattle.theory_machine.proofs.Names.{put_case, put_tx_case}
 
 deeds_more : (w : State) (site : ℕ) (d : Deed) → IsPlainDeed d → IsFirst w → (s : ℕ) (e : Deed)

@@ -6,16 +6,16 @@ use Rattle.std.specs.Prelude.{option_and_then, ◌-◌}
 use Rattle.std.specs.Option.{option_map_or}
 use Rattle.std.proofs.lemmas.Option.{slice_get_within}
 use Rattle.qc_table.specs.declared.kind.Kind.{Kind}
-use Rattle.qc_table.specs.Names.{depends, event, event_number, events_of}
+use Rattle.qc_table.specs.Vocabulary.{depends, event, event_number, events_of}
 use Rattle.qc_table.proofs.Numbered.{number_is}
-use Rattle.qc_cert.specs.Names.{IsExact}
+use Rattle.qc_cert.specs.Vocabulary.{IsExact}
 use Rattle.qc_plan.specs.declared.plan.Plan.{Plan}
-use Rattle.qc_plan.specs.Names.{Closes as Closing, IsShared, need_of, total, weight}
+use Rattle.qc_plan.specs.Vocabulary.{Closes as Closing, IsShared, need_of, total, weight}
 use Rattle.qc_plan.proofs.Meet.{meet}
 use Rattle.qc_decl.specs.declared.declaration.Declaration.{Declaration}
-use Rattle.qc_decl.specs.Names.{IsAccepted, append_need_of, plan_in, read_need_of}
-use Rattle.theory_onecopy.specs.Names.{depends_at, kind_at}
-use Rattle.theory_machine.specs.Names.{weights_of}
+use Rattle.qc_decl.specs.Vocabulary.{IsAccepted, append_need_of, plan_in, read_need_of}
+use Rattle.theory_onecopy.specs.Vocabulary.{depends_at, kind_at}
+use Rattle.theory_machine.specs.Vocabulary.{weights_of}
 
 -- the place of an epoch's plan
 placed : (decl : Declaration) (epoch : ℕ) (plan : Plan) → plan_in decl epoch ≡ Some plan

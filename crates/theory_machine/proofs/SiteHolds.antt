@@ -1,17 +1,18 @@
 -- The held law at one site: what is granted stays held while the deeds spare the transaction.
 use Rattle.std.proofs.Common.{◌≡◌, ◌≢◌, Bool, true, false, cond, ◌||◌, inl, inr, List, [], ◌∷◌, Option, Some, None}
 use Rattle.std.proofs.Common.{refl, sym, ◌∙◌, subst, true≢false}
-use Rattle.qc_list.specs.Names.{In}
+use Rattle.qc_list.specs.Vocabulary.{In}
 use Rattle.qc_stamp.specs.declared.stamp.Stamp.{Stamp}
 use Rattle.qc_stamp.specs.declared.stamp.TxId.{TxId}
 use Rattle.qc_list.proofs.Members.{In-first, In-second}
-use Rattle.qc_stamp.specs.Names.{same_tx}
+use Rattle.qc_stamp.specs.Vocabulary.{same_tx}
 use Rattle.theory_machine.proofs.Names.{tx_test}
 use Rattle.qc_stamp.proofs.Orders.{same_tx_is}
-use Rattle.theory_machine.specs.Names.{Closes, Deed, Grants, Held, Holds, Installs, IsPromiseWith, Item, LearnsAbort}
-use Rattle.theory_machine.specs.Names.{LearnsCommit, Phase, Prepares, Promise, Rises, Site, Spares, after_commit}
-use Rattle.theory_machine.specs.Names.{after_deed, after_prepare, each_held, held_by_promises, is_prepared_after}
-use Rattle.theory_machine.specs.Names.{items_of, promise_of, site_from, without_promise, without_tx}
+use Rattle.theory_machine.specs.Vocabulary.{Closes, Deed, Grants, Held, Holds, Installs, IsPromiseWith, Item}
+use Rattle.theory_machine.specs.Vocabulary.{LearnsAbort, LearnsCommit, Phase, Prepares, Promise, Rises, Site, Spares}
+use Rattle.theory_machine.specs.Vocabulary.{after_commit, after_deed, after_prepare, each_held, held_by_promises}
+use Rattle.theory_machine.specs.Vocabulary.{is_prepared_after, items_of, promise_of, site_from, without_promise}
+use Rattle.theory_machine.specs.Vocabulary.{without_tx}
 use Rattle.theory_machine.proofs.SiteLists.{items_of-append, items_of-each_held, items_of-kept, in_dropped, dropped_in}
 use Rattle.theory_machine.proofs.SiteLists.{not_found}
 

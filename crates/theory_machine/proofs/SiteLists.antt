@@ -1,13 +1,13 @@
 -- Members of joined and dropped lists.
 use Rattle.std.proofs.Common.{◌≡◌, Bool, true, false, cond, ◌⊎◌, inl, inr, List, [], ◌∷◌, ◌++◌, Some, None, refl, sym}
 use Rattle.std.proofs.Common.{ap, ◌∙◌, subst, true≢false}
-use Rattle.qc_list.specs.Names.{In}
+use Rattle.qc_list.specs.Vocabulary.{In}
 use Rattle.qc_stamp.specs.declared.stamp.TxId.{TxId}
-use Rattle.qc_stamp.specs.Names.{same_tx}
+use Rattle.qc_stamp.specs.Vocabulary.{same_tx}
 use Rattle.theory_machine.proofs.Names.{tx_test}
 use Rattle.qc_stamp.proofs.Orders.{same_tx_is}
-use Rattle.theory_machine.specs.Names.{Held, Item, Promise, each_held, items_of, promise_of, without_promise}
-use Rattle.theory_machine.specs.Names.{without_tx}
+use Rattle.theory_machine.specs.Vocabulary.{Held, Item, Promise, each_held, items_of, promise_of, without_promise}
+use Rattle.theory_machine.specs.Vocabulary.{without_tx}
 
 pub items_of-append : (tx : TxId) (xs ys : List Held) → items_of tx (xs ++ ys) ≡ items_of tx xs ++ items_of tx ys
 items_of-append tx [] ys = refl

@@ -2,21 +2,21 @@
 -- its line is in the log.
 use Rattle.std.proofs.Common.{◌≡◌, Bool, true, false, ◌||◌, ◌⊎◌, inl, inr, List, [], ◌∷◌, ◌++◌, Option, Some, None}
 use Rattle.std.proofs.Common.{refl, sym, ap, ◌∙◌, subst, true≢false}
-use Rattle.qc_list.specs.Names.{In}
+use Rattle.qc_list.specs.Vocabulary.{In}
 use Rattle.qc_stamp.specs.declared.stamp.Stamp.{Stamp}
 use Rattle.qc_stamp.specs.declared.stamp.TxId.{TxId}
 use Rattle.qc_entry.specs.declared.line.Line.{Line}
 use Rattle.qc_entry.specs.declared.line.OwnLine.{OwnLine}
-use Rattle.theory_onecopy.specs.Names.{committed_line}
+use Rattle.theory_onecopy.specs.Vocabulary.{committed_line}
 use Rattle.theory_onecopy.proofs.Lists.{in_split}
 use Rattle.qc_list.proofs.Members.{In-first, In-second}
-use Rattle.qc_stamp.specs.Names.{same_tx}
+use Rattle.qc_stamp.specs.Vocabulary.{same_tx}
 use Rattle.theory_machine.proofs.Names.{tx_test, tx_cases}
-use Rattle.theory_machine.specs.Names.{Closes, Deed, Grants, HasDone, HaveNoInstall, Holds, Installs, IsLoggedAtDone}
-use Rattle.theory_machine.specs.Names.{Item, LearnsAbort, LearnsCommit, Lock, Own, Prepares, Promise, Rises, Site}
-use Rattle.theory_machine.specs.Names.{SiteLaws, Spares, SparesUntilDone, after_commit, after_deed, after_prepare}
-use Rattle.theory_machine.specs.Names.{is_prepared_after, items_of, promise_of, site_from, stamped_lines}
-use Rattle.theory_machine.specs.Names.{without_promise}
+use Rattle.theory_machine.specs.Vocabulary.{Closes, Deed, Grants, HasDone, HaveNoInstall, Holds, Installs}
+use Rattle.theory_machine.specs.Vocabulary.{IsLoggedAtDone, Item, LearnsAbort, LearnsCommit, Lock, Own, Prepares}
+use Rattle.theory_machine.specs.Vocabulary.{Promise, Rises, Site, SiteLaws, Spares, SparesUntilDone, after_commit}
+use Rattle.theory_machine.specs.Vocabulary.{after_deed, after_prepare, is_prepared_after, items_of, promise_of}
+use Rattle.theory_machine.specs.Vocabulary.{site_from, stamped_lines, without_promise}
 use Rattle.theory_machine.proofs.SiteLists.{dropped_in, in_dropped, found, not_found}
 use Rattle.theory_machine.proofs.SiteHolds.{held_law, held_after}
 

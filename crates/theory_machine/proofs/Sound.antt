@@ -7,16 +7,16 @@ use Rattle.qc_entry.specs.declared.line.Line.{Line}
 use Rattle.qc_entry.specs.declared.line.OwnLine.{OwnLine}
 use Rattle.qc_entry.specs.declared.record.Commit.{Commit as CommitRecord}
 use Rattle.qc_decl.specs.declared.declaration.Declaration.{Declaration}
-use Rattle.qc_list.specs.Names.{In}
-use Rattle.theory_onecopy.specs.Names.{Executed, committed_line, own_line}
+use Rattle.qc_list.specs.Vocabulary.{In}
+use Rattle.theory_onecopy.specs.Vocabulary.{Executed, committed_line, own_line}
 use Rattle.theory_onecopy.proofs.Lists.{in_split}
 use Rattle.qc_list.proofs.Members.{In-first, In-second}
-use Rattle.qc_stamp.specs.Names.{same_tx}
-use Rattle.theory_machine.specs.Names.{Closes, Committed, Deed, Grants, Installs, IsAppendClosed, IsClosedAt}
-use Rattle.theory_machine.specs.Names.{IsExecutedOrChosen, IsOwnClosedAt, IsSiteClosed, Item, LearnsAbort, LearnsCommit}
-use Rattle.theory_machine.specs.Names.{Lock, Own, Prepares, Promise, Rises, Site, Status, after_commit, after_deed}
-use Rattle.theory_machine.specs.Names.{after_prepare, each_held, held_by_promises, items_of, promise_of, stamped_lines}
-use Rattle.theory_machine.specs.Names.{without_promise, without_tx}
+use Rattle.qc_stamp.specs.Vocabulary.{same_tx}
+use Rattle.theory_machine.specs.Vocabulary.{Closes, Committed, Deed, Grants, Installs, IsAppendClosed, IsClosedAt}
+use Rattle.theory_machine.specs.Vocabulary.{IsExecutedOrChosen, IsOwnClosedAt, IsSiteClosed, Item, LearnsAbort}
+use Rattle.theory_machine.specs.Vocabulary.{LearnsCommit, Lock, Own, Prepares, Promise, Rises, Site, Status}
+use Rattle.theory_machine.specs.Vocabulary.{after_commit, after_deed, after_prepare, each_held, held_by_promises}
+use Rattle.theory_machine.specs.Vocabulary.{items_of, promise_of, stamped_lines, without_promise, without_tx}
 use Rattle.qc_stamp.proofs.Orders.{same_tx_is}
 use Rattle.theory_machine.proofs.SiteLists.{items_of-append, items_of-each_held, items_of-other, items_of-dropped}
 use Rattle.theory_machine.proofs.SiteLists.{items_of-kept, in_dropped, dropped_in, found, not_found}

@@ -6,11 +6,12 @@ use Rattle.qc_stamp.specs.declared.stamp.Stamp.{Stamp}
 use Rattle.qc_stamp.specs.declared.stamp.TxId.{TxId}
 use Rattle.qc_entry.specs.declared.record.Commit.{Commit as CommitRecord}
 use Rattle.qc_decl.specs.declared.declaration.Declaration.{Declaration}
-use Rattle.qc_list.specs.Names.{In}
-use Rattle.theory_machine.specs.Names.{Aborted, Active, Committed, CountedLaw, HasRecord, IsLive, IsOutcome, IsRecordOf}
-use Rattle.theory_machine.specs.Names.{MayPrepare, NotBegun, Pending, State, StateLaws, Status, Voting, put_tx}
+use Rattle.qc_list.specs.Vocabulary.{In}
+use Rattle.theory_machine.specs.Vocabulary.{Aborted, Active, Committed, CountedLaw, HasRecord, IsLive, IsOutcome}
+use Rattle.theory_machine.specs.Vocabulary.{IsRecordOf, MayPrepare, NotBegun, Pending, State, StateLaws, Status, Voting}
+use Rattle.theory_machine.specs.Vocabulary.{put_tx}
 use Rattle.qc_plan.specs.declared.plan.Plan.{Plan}
-use Rattle.qc_decl.specs.Names.{plan_in}
+use Rattle.qc_decl.specs.Vocabulary.{plan_in}
 use Rattle.theory_machine.proofs.Names.{put_tx_case, put_tx_here}
 use Rattle.theory_machine.proofs.Counted.{restated}
 use Rattle.theory_machine.proofs.Outcomes.{deed_agrees}

@@ -1,11 +1,11 @@
 -- A verdict that was sent stays sent, whatever happens next.
 use Rattle.std.proofs.Common.{List, [], ◌∷◌, ◌++◌}
-use Rattle.qc_list.specs.Names.{In}
+use Rattle.qc_list.specs.Vocabulary.{In}
 use Rattle.qc_list.proofs.Members.{In-second}
-use Rattle.theory_machine.specs.Names.{Abort, Act, Announce, Begin, Choose, Close, Commit, CommitUnknown, Count, Decide}
-use Rattle.theory_machine.specs.Names.{Execute, ExecuteAbsent, Grant, Install, Learn, Prepare, PrepareLost, Recover}
-use Rattle.theory_machine.specs.Names.{Rise, RiseClient, SendAppend, State, TakeSnapshot, Verdict, Vote, after_act}
-use Rattle.theory_machine.specs.Names.{state, verdict_of}
+use Rattle.theory_machine.specs.Vocabulary.{Abort, Act, Announce, Begin, Choose, Close, Commit, CommitUnknown, Count}
+use Rattle.theory_machine.specs.Vocabulary.{Decide, Execute, ExecuteAbsent, Grant, Install, Learn, Prepare, PrepareLost}
+use Rattle.theory_machine.specs.Vocabulary.{Recover, Rise, RiseClient, SendAppend, State, TakeSnapshot, Verdict, Vote}
+use Rattle.theory_machine.specs.Vocabulary.{after_act, state, verdict_of}
 
 one_more : (now : State) (a : Act) (v : Verdict) → In v now.verdicts → In v (after_act now a).verdicts
 one_more now (Begin tx epoch) v h = h

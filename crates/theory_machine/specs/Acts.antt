@@ -4,7 +4,7 @@ use Rattle.std.specs.Prelude.{ℕ, suc, max, Bool, true, false, List, [], ◌∷
 use Rattle.qc_stamp.specs.declared.stamp.Stamp.{Stamp}
 use Rattle.qc_stamp.specs.declared.stamp.TxId.{TxId}
 use Rattle.qc_entry.specs.declared.record.Commit.{Commit as CommitRecord}
-use Rattle.theory_onecopy.specs.Names.{Executed}
+use Rattle.theory_onecopy.specs.Vocabulary.{Executed}
 use Rattle.theory_machine.specs.Names.{put, put_tx}
 use Rattle.theory_machine.specs.Site.{Deed, Grants, Prepares, LearnsCommit, LearnsAbort, Closes, Installs, Rises}
 use Rattle.theory_machine.specs.State.{Status, NotBegun, Active, Voting, Pending, Committed, Aborted, AppendRequest}

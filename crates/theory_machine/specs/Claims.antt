@@ -4,7 +4,7 @@ use Rattle.qc_stamp.specs.declared.stamp.Stamp.{Stamp}
 use Rattle.qc_stamp.specs.declared.stamp.TxId.{TxId}
 use Rattle.qc_entry.specs.declared.line.Line.{Line}
 use Rattle.qc_entry.specs.declared.record.Commit.{Commit as CommitRecord}
-use Rattle.qc_list.specs.Names.{In}
+use Rattle.qc_list.specs.Vocabulary.{In}
 use Rattle.theory_machine.specs.Site.{site_after}
 use Rattle.theory_machine.specs.State.{AppendRequest, Decision, Granted, Snapshot, State}
 use Rattle.theory_machine.specs.Guards.{Shows}

@@ -14,11 +14,11 @@ use Rattle.qc_entry.specs.declared.line.ReadLock.{ReadLock}
 use Rattle.qc_entry.specs.declared.record.Commit.{Commit as CommitRecord}
 use Rattle.qc_table.specs.declared.kind.Kind.{Kind}
 use Rattle.qc_plan.specs.declared.plan.Plan.{Plan}
-use Rattle.qc_plan.specs.Names.{Closes as Closing, weight}
+use Rattle.qc_plan.specs.Vocabulary.{Closes as Closing, weight}
 use Rattle.qc_decl.specs.declared.declaration.Declaration.{Declaration}
-use Rattle.qc_decl.specs.Names.{append_need_of, plan_in, read_need_of}
-use Rattle.qc_list.specs.Names.{In}
-use Rattle.theory_onecopy.specs.Names.{Executed, IsAnswered, committed_line, depends_at, kind_at, own_line}
+use Rattle.qc_decl.specs.Vocabulary.{append_need_of, plan_in, read_need_of}
+use Rattle.qc_list.specs.Vocabulary.{In}
+use Rattle.theory_onecopy.specs.Vocabulary.{Executed, IsAnswered, committed_line, depends_at, kind_at, own_line}
 pub use Rattle.theory_machine.specs.Quorums.{HasGranted, HasQuorum, IsShown, Shows, own_on, read_lock, weights_of}
 use Rattle.theory_machine.specs.Site.{Item, Lock, Own, Promise, Installs, epoch_from, shut_from, items_of, site_after}
 use Rattle.theory_machine.specs.Site.{empty_site, done_records}

@@ -4,7 +4,7 @@ use Rattle.std.specs.Prelude.{◌≡◌, ℕ, ◌<◌, ◌⊎◌, List, ◌∷�
 use Rattle.qc_stamp.specs.declared.stamp.Stamp.{Stamp}
 use Rattle.qc_stamp.specs.declared.stamp.TxId.{TxId}
 use Rattle.qc_entry.specs.declared.line.Line.{Line}
-use Rattle.qc_list.specs.Names.{In}
+use Rattle.qc_list.specs.Vocabulary.{In}
 use Rattle.theory_machine.specs.Site.{Deed, DoneRecord, Grants, Installs, LearnsCommit, done_records, empty_site}
 use Rattle.theory_machine.specs.Site.{site_after}
 use Rattle.theory_machine.specs.State.{Granted, State, YesVote}

@@ -12,3 +12,4 @@ pub mod Claims
 pub mod HeldLaw
 pub mod Placed
 pub mod Plain
+pub mod Vocabulary

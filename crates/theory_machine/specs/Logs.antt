@@ -6,12 +6,12 @@ use Rattle.qc_entry.specs.declared.line.Line.{Line}
 use Rattle.qc_entry.specs.declared.line.OwnLine.{OwnLine}
 use Rattle.qc_entry.specs.declared.record.Commit.{Commit as CommitRecord}
 use Rattle.qc_table.specs.declared.kind.Kind.{Kind}
-use Rattle.qc_table.specs.Names.{events_of}
-use Rattle.qc_plan.specs.Names.{weight}
+use Rattle.qc_table.specs.Vocabulary.{events_of}
+use Rattle.qc_plan.specs.Vocabulary.{weight}
 use Rattle.qc_decl.specs.declared.declaration.Declaration.{Declaration}
-use Rattle.qc_decl.specs.Names.{append_need_of, read_need_of}
-use Rattle.qc_list.specs.Names.{In}
-use Rattle.theory_onecopy.specs.Names.{Executed, IsAnswered, committed_line, depends_at, kind_at, own_line}
+use Rattle.qc_decl.specs.Vocabulary.{append_need_of, read_need_of}
+use Rattle.qc_list.specs.Vocabulary.{In}
+use Rattle.theory_onecopy.specs.Vocabulary.{Executed, IsAnswered, committed_line, depends_at, kind_at, own_line}
 use Rattle.theory_machine.specs.Site.{Item, Lock, Own, Promise, Site, items_of, site_after}
 use Rattle.theory_machine.specs.State.{Status, NotBegun, Committed, Decision, Granted, AppendRequest, Snapshot, State}
 use Rattle.theory_machine.specs.Guards.{HasQuorum, IsShown, Shows, own_on, read_lock, weights_of}

@@ -2,7 +2,7 @@
 use Rattle.std.specs.Prelude.{List, [], ◌∷◌, ◌++◌, map}
 use Rattle.qc_stamp.specs.declared.stamp.TxId.{TxId}
 use Rattle.qc_entry.specs.declared.record.Commit.{Commit as CommitRecord}
-use Rattle.theory_onecopy.specs.Names.{Executed, Placed}
+use Rattle.theory_onecopy.specs.Vocabulary.{Executed, Placed}
 
 -- an operation of a record
 abbrev pub place : CommitRecord → Executed → Placed

@@ -1,7 +1,7 @@
 -- Runs without falls, restarts and changes of quorums.
 use Rattle.std.specs.Prelude.{◌≡◌, ℕ, List, [], ◌∷◌}
 use Rattle.qc_stamp.specs.declared.stamp.TxId.{TxId}
-use Rattle.qc_list.specs.Names.{In}
+use Rattle.qc_list.specs.Vocabulary.{In}
 use Rattle.theory_machine.specs.Site.{Deed, Grants, Prepares, LearnsCommit, LearnsAbort}
 use Rattle.theory_machine.specs.Acts.{Act, TakeSnapshot, Begin, Decide, Install, RiseClient, Rise, Recover, Close}
 use Rattle.theory_machine.specs.Acts.{CommitUnknown, PrepareLost}

@@ -8,11 +8,11 @@ use Rattle.qc_entry.specs.declared.line.Op.{Op}
 use Rattle.qc_entry.specs.declared.line.OwnLine.{OwnLine}
 use Rattle.qc_entry.specs.declared.line.ReadLock.{ReadLock}
 use Rattle.qc_plan.specs.declared.plan.Plan.{Plan}
-use Rattle.qc_plan.specs.Names.{weight}
+use Rattle.qc_plan.specs.Vocabulary.{weight}
 use Rattle.qc_decl.specs.declared.declaration.Declaration.{Declaration}
-use Rattle.qc_decl.specs.Names.{plan_in}
-use Rattle.qc_list.specs.Names.{In}
-use Rattle.theory_onecopy.specs.Names.{Executed, own_line}
+use Rattle.qc_decl.specs.Vocabulary.{plan_in}
+use Rattle.qc_list.specs.Vocabulary.{In}
+use Rattle.theory_onecopy.specs.Vocabulary.{Executed, own_line}
 use Rattle.theory_machine.specs.Site.{Item, Lock, site_after}
 use Rattle.theory_machine.specs.State.{Granted}
 

@@ -6,8 +6,8 @@ use Rattle.qc_stamp.specs.declared.stamp.TxId.{TxId}
 use Rattle.qc_entry.specs.declared.line.Line.{Line}
 use Rattle.qc_entry.specs.declared.line.OwnLine.{OwnLine}
 use Rattle.qc_entry.specs.declared.line.ReadLock.{ReadLock}
-use Rattle.theory_onecopy.specs.Names.{committed_line}
-use Rattle.qc_stamp.specs.Names.{same_tx}
+use Rattle.theory_onecopy.specs.Vocabulary.{committed_line}
+use Rattle.qc_stamp.specs.Vocabulary.{same_tx}
 
 -- what a transaction holds
 pub data Item : Type 0 where

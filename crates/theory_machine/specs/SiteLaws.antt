@@ -4,9 +4,9 @@ use Rattle.qc_stamp.specs.declared.stamp.Stamp.{Stamp}
 use Rattle.qc_stamp.specs.declared.stamp.TxId.{TxId}
 use Rattle.qc_entry.specs.declared.line.Line.{Line}
 use Rattle.qc_entry.specs.declared.line.OwnLine.{OwnLine}
-use Rattle.qc_list.specs.Names.{In}
-use Rattle.theory_onecopy.specs.Names.{committed_line}
-use Rattle.qc_stamp.specs.Names.{same_tx}
+use Rattle.qc_list.specs.Vocabulary.{In}
+use Rattle.theory_onecopy.specs.Vocabulary.{committed_line}
+use Rattle.qc_stamp.specs.Vocabulary.{same_tx}
 use Rattle.theory_machine.specs.Site.{Item, Promise, Deed, Grants, Prepares, LearnsCommit, LearnsAbort, Closes}
 use Rattle.theory_machine.specs.Site.{Installs, Rises, Site, items_of, promise_of, site_from}
 

@@ -6,7 +6,7 @@ use Rattle.qc_stamp.specs.declared.stamp.Stamp.{Stamp}
 use Rattle.qc_stamp.specs.declared.stamp.TxId.{TxId}
 use Rattle.qc_entry.specs.declared.line.Line.{Line}
 use Rattle.qc_entry.specs.declared.record.Commit.{Commit as CommitRecord}
-use Rattle.theory_onecopy.specs.Names.{Executed}
+use Rattle.theory_onecopy.specs.Vocabulary.{Executed}
 use Rattle.theory_machine.specs.Site.{Item, Deed}
 
 -- where a transaction stands; the last two are final (presumed abort, Mohan and Lindsay 1983: without a commit record

@@ -6,12 +6,12 @@ use Rattle.qc_stamp.specs.declared.stamp.TxId.{TxId}
 use Rattle.qc_entry.specs.declared.line.Line.{Line}
 use Rattle.qc_entry.specs.declared.record.Commit.{Commit as CommitRecord}
 use Rattle.qc_decl.specs.declared.declaration.Declaration.{Declaration}
-use Rattle.qc_plan.specs.Names.{Closes as Closing, weight}
+use Rattle.qc_plan.specs.Vocabulary.{Closes as Closing, weight}
 use Rattle.qc_plan.specs.declared.plan.Plan.{Plan}
-use Rattle.qc_decl.specs.Names.{plan_in}
-use Rattle.qc_list.specs.Names.{In}
-use Rattle.theory_onecopy.specs.Names.{Executed}
-use Rattle.qc_stamp.specs.Names.{same_tx}
+use Rattle.qc_decl.specs.Vocabulary.{plan_in}
+use Rattle.qc_list.specs.Vocabulary.{In}
+use Rattle.theory_onecopy.specs.Vocabulary.{Executed}
+use Rattle.qc_stamp.specs.Vocabulary.{same_tx}
 use Rattle.theory_machine.specs.Site.{Promise, Deed, Grants, Prepares, LearnsCommit, LearnsAbort, Closes, Installs}
 use Rattle.theory_machine.specs.Site.{Rises, epoch_from, site_after}
 use Rattle.theory_machine.specs.SiteLaws.{SparesUntilDone}

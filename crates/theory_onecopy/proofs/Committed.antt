@@ -7,12 +7,12 @@ use Rattle.std.specs.Ordering.{ordering_reverse, ordering_then}
 use Rattle.std.specs.declared.cmp.Ordering.{Ordering}
 use Rattle.std.specs.declared.cmp.Ordering.TheVariants.{Less, Equal, Greater}
 use Rattle.qc_stamp.specs.declared.stamp.Stamp.{Stamp}
-use Rattle.qc_stamp.specs.Names.{stamp_cmp}
+use Rattle.qc_stamp.specs.Vocabulary.{stamp_cmp}
 use Rattle.qc_stamp.proofs.Orders.{stamp_order, tx_order}
 use Rattle.qc_entry.specs.declared.line.Op.{Op}
 use Rattle.qc_entry.specs.declared.record.Commit.{Commit}
-use Rattle.qc_list.specs.Names.{In, by_order}
-use Rattle.theory_onecopy.specs.Names.{IsOrdered, IsStampedBefore, commit_cmp, op_cmp, sorted, with_commit}
+use Rattle.qc_list.specs.Vocabulary.{In, by_order}
+use Rattle.theory_onecopy.specs.Vocabulary.{IsOrdered, IsStampedBefore, commit_cmp, op_cmp, sorted, with_commit}
 
 -- the stamps decide where they differ
 by_stamp : (c d : Commit) (o rest : Ordering) → ordering_then o rest ≡ ordering_then o rest → (o ≡ Equal → ⊥)

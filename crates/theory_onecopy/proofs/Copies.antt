@@ -7,17 +7,18 @@ use Rattle.std.proofs.lemmas.Bool.{eqb-true, eq-eqb}
 use Rattle.std.proofs.lemmas.List.Sums.{fold-append}
 use Rattle.std.proofs.lemmas.Option.{slice_get-map}
 use Rattle.theory_onecopy.proofs.Places.{slice_get-set_other, slice_get-set_same}
-use Rattle.theory_onecopy.specs.Names.{Goes, OneCopy, Walks, kept, operations, replay, replay_commit, replayed}
-use Rattle.theory_onecopy.specs.Names.{start_at, start_of, starts, state_after, states_after, states_by, step_at}
-use Rattle.theory_onecopy.specs.Names.{unlisted, updated}
+use Rattle.theory_onecopy.specs.Vocabulary.{Goes, OneCopy, Walks, kept, operations, replay, replay_commit, replayed}
+use Rattle.theory_onecopy.specs.Vocabulary.{start_at, start_of, starts, state_after, states_after, states_by, step_at}
+use Rattle.theory_onecopy.specs.Vocabulary.{unlisted, updated}
 use Rattle.qc_decl.specs.declared.declaration.Declaration.{Declaration}
 use Rattle.qc_table.specs.declared.kind.Kind.{Kind}
-use Rattle.qc_decl.specs.Names.{table_at}
+use Rattle.qc_decl.specs.Vocabulary.{table_at}
 use Rattle.qc_entry.specs.declared.line.Op.{Op}
 use Rattle.qc_entry.specs.declared.record.Commit.{Commit}
 use Rattle.qc_table.proofs.Lowest.{none_legal}
 use Rattle.qc_table.proofs.Numbered.{first_lowest, first_some, legal_numbered, number_is}
-use Rattle.qc_table.specs.Names.{IsLowest, Rules, event, event_number, events_of, first_of, lowest_in, next_in, step_of}
+use Rattle.qc_table.specs.Vocabulary.{IsLowest, Rules, event, event_number, events_of, first_of, lowest_in, next_in}
+use Rattle.qc_table.specs.Vocabulary.{step_of}
 use Rattle.theory_onecopy.proofs.Missing.{no_ops}
 
 -- the replay's states of declared objects are the copies'

@@ -4,12 +4,12 @@ use Rattle.std.proofs.Common.{slice_get, Option, Some, None, IsSome, refl, sym, 
 use Rattle.std.proofs.Common.{eqb-true}
 use Rattle.qc_entry.specs.declared.line.Line.{Line}
 use Rattle.qc_table.specs.declared.kind.Kind.{Kind}
-use Rattle.qc_table.specs.Names.{depends, event, event_number, events_of}
-use Rattle.qc_cert.specs.Names.{inv_of}
+use Rattle.qc_table.specs.Vocabulary.{depends, event, event_number, events_of}
+use Rattle.qc_cert.specs.Vocabulary.{inv_of}
 use Rattle.qc_decl.specs.declared.declaration.Declaration.{Declaration}
-use Rattle.theory_onecopy.specs.Names.{IsEarlier, IsLineBefore, IsOrdered, Placed, depends_at, kind_at, line_of}
-use Rattle.theory_onecopy.specs.Names.{lines_of, lines_on}
-use Rattle.qc_list.specs.Names.{In}
+use Rattle.theory_onecopy.specs.Vocabulary.{IsEarlier, IsLineBefore, IsOrdered, Placed, depends_at, kind_at, line_of}
+use Rattle.theory_onecopy.specs.Vocabulary.{lines_of, lines_on}
+use Rattle.qc_list.specs.Vocabulary.{In}
 use Rattle.theory_onecopy.proofs.Lists.{in_split, ordered-append}
 use Rattle.qc_list.proofs.Members.{In-first, In-second}
 use Rattle.theory_onecopy.proofs.Orders.{earlier_line}

@@ -1,8 +1,8 @@
 -- Members of joined lists, and ordered lists.
 use Rattle.std.proofs.Common.{◌≡◌, ◌⊎◌, inl, inr, List, [], ◌∷◌, ◌++◌, map, refl, sym, ap, ◌∙◌, subst}
 use Rattle.qc_list.proofs.Members.{In-first, In-second}
-use Rattle.theory_onecopy.specs.Names.{IsOrdered}
-use Rattle.qc_list.specs.Names.{In}
+use Rattle.theory_onecopy.specs.Vocabulary.{IsOrdered}
+use Rattle.qc_list.specs.Vocabulary.{In}
 
 pub in_split : {A : Type 0} (x : A) (xs ys : List A) → In x (xs ++ ys) → In x xs ⊎ In x ys
 in_split x [] ys h = inr h

@@ -4,7 +4,7 @@ use Rattle.std.specs.Prelude.{Option, fold}
 use Rattle.qc_entry.specs.declared.line.Op.{Op}
 use Rattle.qc_entry.specs.declared.record.Commit.{Commit}
 use Rattle.qc_decl.specs.declared.declaration.Declaration.{Declaration}
-use Rattle.theory_onecopy.specs.Names.{replay_commit, replayed, states_after}
+use Rattle.theory_onecopy.specs.Vocabulary.{replay_commit, replayed, states_after}
 use Rattle.std.proofs.lemmas.List.{drop_more}
 
 -- one element more of a list, as a loop takes it

@@ -7,11 +7,11 @@ use Rattle.std.specs.declared.cmp.Ordering.{Ordering}
 use Rattle.std.specs.declared.cmp.Ordering.TheVariants.{Less, Equal, Greater}
 use Rattle.qc_stamp.specs.declared.stamp.Stamp.{Stamp}
 use Rattle.qc_stamp.specs.declared.stamp.TxId.{TxId}
-use Rattle.qc_stamp.specs.Names.{stamp_cmp, tx_cmp}
+use Rattle.qc_stamp.specs.Vocabulary.{stamp_cmp, tx_cmp}
 use Rattle.qc_stamp.proofs.Orders.{nat_apart, stamp_order, tx_order}
 use Rattle.qc_entry.specs.declared.line.Line.{Line}
 use Rattle.qc_entry.proofs.Orders.{line_order}
-use Rattle.theory_onecopy.specs.Names.{IsEarlier, IsLineBefore, Placed, line_of}
+use Rattle.theory_onecopy.specs.Vocabulary.{IsEarlier, IsLineBefore, Placed, line_of}
 
 nat_less : (a b : ℕ) → a < b → nat_cmp a b ≡ Less
 nat_less a b l = grind (arith, nat_tests)

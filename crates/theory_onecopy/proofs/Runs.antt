@@ -3,13 +3,13 @@ use Rattle.std.proofs.Common.{◌≡◌, ℕ, true, false, List, [], ◌∷◌, 
 use Rattle.std.specs.Prelude.{option_and_then, option_map, is_some}
 use Rattle.qc_table.specs.declared.kind.Kind.{Kind}
 use Rattle.qc_table.specs.declared.row.Event.{Event}
-use Rattle.qc_table.specs.Names.{Rules, event, event_number, events_of, next_in, next_state, step_of}
+use Rattle.qc_table.specs.Vocabulary.{Rules, event, event_number, events_of, next_in, next_state, step_of}
 use Rattle.qc_table.proofs.Runs.{reached-append}
 use Rattle.qc_table.proofs.Numbered.{number_is}
-use Rattle.qc_cert.specs.Names.{allows, inv_of, state_after}
+use Rattle.qc_cert.specs.Vocabulary.{allows, inv_of, state_after}
 use Rattle.qc_decl.specs.declared.declaration.Declaration.{Declaration}
-use Rattle.qc_decl.specs.Names.{table_at}
-use Rattle.theory_onecopy.specs.Names.{kind_at, step_at}
+use Rattle.qc_decl.specs.Vocabulary.{table_at}
+use Rattle.theory_onecopy.specs.Vocabulary.{kind_at, step_at}
 
 -- the table of a typed object
 pub table_is : (decl : Declaration) (object : ℕ) (kind : Kind) → kind_at decl object ≡ Some kind

@@ -5,16 +5,16 @@ use Rattle.std.proofs.Common.{refl, sym, ap, ◌∙◌, subst, arith, append_ass
 use Rattle.std.proofs.lemmas.List.{map-append}
 use Rattle.std.specs.declared.cmp.Ordering.TheVariants.{Less}
 use Rattle.qc_stamp.specs.declared.stamp.Stamp.{Stamp}
-use Rattle.qc_stamp.specs.Names.{stamp_cmp}
+use Rattle.qc_stamp.specs.Vocabulary.{stamp_cmp}
 use Rattle.qc_entry.specs.declared.line.Line.{Line}
 use Rattle.qc_entry.specs.declared.line.OwnLine.{OwnLine}
-use Rattle.qc_table.specs.Names.{depends}
-use Rattle.qc_cert.specs.Names.{IsView, inv_of, picked}
+use Rattle.qc_table.specs.Vocabulary.{depends}
+use Rattle.qc_cert.specs.Vocabulary.{IsView, inv_of, picked}
 use Rattle.qc_decl.specs.declared.declaration.Declaration.{Declaration}
-use Rattle.theory_onecopy.specs.Names.{AreFromViews, IsAnswered, IsEarlier, IsFromView, IsLineBefore, IsNext, IsOrdered}
-use Rattle.theory_onecopy.specs.Names.{IsOwnBefore, Placed, committed_line, depends_at, events_seen, kind_at, line_of}
-use Rattle.theory_onecopy.specs.Names.{lines_on, own_line}
-use Rattle.qc_list.specs.Names.{In}
+use Rattle.theory_onecopy.specs.Vocabulary.{AreFromViews, IsAnswered, IsEarlier, IsFromView, IsLineBefore, IsNext}
+use Rattle.theory_onecopy.specs.Vocabulary.{IsOrdered, IsOwnBefore, Placed, committed_line, depends_at, events_seen}
+use Rattle.theory_onecopy.specs.Vocabulary.{kind_at, line_of, lines_on, own_line}
+use Rattle.qc_list.specs.Vocabulary.{In}
 use Rattle.theory_onecopy.proofs.Lists.{compared, in_map, in_split, map_in, ordered-append, ordered_across}
 use Rattle.theory_onecopy.proofs.Lists.{ordered_left}
 use Rattle.qc_list.proofs.Members.{In-first, In-second}

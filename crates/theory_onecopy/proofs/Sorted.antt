@@ -1,9 +1,9 @@
 -- An ordered list whose items all stand in another ordered list is what a set of positions picks from it.
 use Rattle.std.proofs.Common.{◌≡◌, ℕ, zero, suc, Bool, true, false, IsTrue, inl, inr, List, [], ◌∷◌, map, slice_get}
 use Rattle.std.proofs.Common.{Some, refl, arith, ◌<◌, le_of_suc-le-suc, sym, ap, subst, cond, true≢false}
-use Rattle.qc_cert.specs.Names.{picked}
-use Rattle.theory_onecopy.specs.Names.{IsBeforeAll, IsOrdered}
-use Rattle.qc_list.specs.Names.{In}
+use Rattle.qc_cert.specs.Vocabulary.{picked}
+use Rattle.theory_onecopy.specs.Vocabulary.{IsBeforeAll, IsOrdered}
+use Rattle.qc_list.specs.Vocabulary.{In}
 
 pub in_at : {A : Type 0} (xs : List A) (q : ℕ) (x : A) → slice_get xs q ≡ Some x → In x xs
 in_at [] q x is = absurd (cc)

@@ -6,12 +6,12 @@ use Rattle.std.proofs.lemmas.List.{map-append}
 use Rattle.qc_entry.specs.declared.line.Line.{Line}
 use Rattle.qc_entry.specs.declared.line.Op.{Op}
 use Rattle.qc_table.specs.declared.kind.Kind.{Kind}
-use Rattle.qc_table.specs.Names.{Rules, event, event_number, events_of, next_in}
-use Rattle.qc_cert.specs.Names.{IsExact, IsView, allows, state_after}
+use Rattle.qc_table.specs.Vocabulary.{Rules, event, event_number, events_of, next_in}
+use Rattle.qc_cert.specs.Vocabulary.{IsExact, IsView, allows, state_after}
 use Rattle.qc_decl.specs.declared.declaration.Declaration.{Declaration}
 use Rattle.std.specs.Prelude.{IsSome, is_some}
-use Rattle.theory_onecopy.specs.Names.{AreFromViews, Goes, IsAnswered, Placed, Replies, Walks, events_seen, kind_at}
-use Rattle.theory_onecopy.specs.Names.{line_of, lines_of, lines_on, start_at, updated}
+use Rattle.theory_onecopy.specs.Vocabulary.{AreFromViews, Goes, IsAnswered, Placed, Replies, Walks, events_seen}
+use Rattle.theory_onecopy.specs.Vocabulary.{kind_at, line_of, lines_of, lines_on, start_at, updated}
 use Rattle.theory_onecopy.proofs.Seen.{answers_are_from_views, listed}
 use Rattle.theory_onecopy.proofs.Runs.{allows_step, none_of, some_of, state_more, step_is, table_is}
 use Rattle.theory_onecopy.proofs.Lines.{lines_on-append}

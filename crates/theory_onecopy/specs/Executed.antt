@@ -5,14 +5,14 @@ use Rattle.std.specs.Option.{option_map_or}
 use Rattle.std.specs.declared.cmp.Ordering.TheVariants.{Less}
 use Rattle.qc_stamp.specs.declared.stamp.Stamp.{Stamp}
 use Rattle.qc_stamp.specs.declared.stamp.TxId.{TxId}
-use Rattle.qc_stamp.specs.Names.{stamp_cmp}
+use Rattle.qc_stamp.specs.Vocabulary.{stamp_cmp}
 use Rattle.qc_entry.specs.declared.line.Line.{Line}
 use Rattle.qc_entry.specs.declared.line.Op.{Op}
 use Rattle.qc_entry.specs.declared.line.OwnLine.{OwnLine}
-use Rattle.qc_entry.specs.Names.{line_cmp}
+use Rattle.qc_entry.specs.Vocabulary.{line_cmp}
 use Rattle.qc_table.specs.declared.kind.Kind.{Kind}
-use Rattle.qc_table.specs.Names.{depends, event, event_number, events_of}
-use Rattle.qc_cert.specs.Names.{allows}
+use Rattle.qc_table.specs.Vocabulary.{depends, event, event_number, events_of}
+use Rattle.qc_cert.specs.Vocabulary.{allows}
 use Rattle.qc_decl.specs.declared.declaration.Declaration.{Declaration}
 pub use Rattle.qc_decl.specs.Lookup.{kind_at}
 use Rattle.theory_onecopy.specs.Lists.{IsOrdered}

@@ -5,4 +5,4 @@ pub mod Views
 pub mod Committed
 pub mod Logged
 pub mod Replay
-pub mod Names
+pub mod Vocabulary

@@ -5,11 +5,11 @@ use Rattle.qc_entry.specs.declared.line.Line.{Line}
 use Rattle.qc_entry.specs.declared.line.Op.{Op}
 use Rattle.qc_entry.specs.declared.record.Commit.{Commit}
 use Rattle.qc_decl.specs.declared.declaration.Declaration.{Declaration}
-use Rattle.qc_decl.specs.Names.{table_at}
-use Rattle.qc_table.specs.Names.{Rules, depends, event, event_number, events_of}
-use Rattle.qc_list.specs.Names.{In}
+use Rattle.qc_decl.specs.Vocabulary.{table_at}
+use Rattle.qc_table.specs.Vocabulary.{Rules, depends, event, event_number, events_of}
+use Rattle.qc_list.specs.Vocabulary.{In}
 use Rattle.qc_table.specs.declared.kind.Kind.{Kind}
-use Rattle.qc_cert.specs.Names.{inv_of}
+use Rattle.qc_cert.specs.Vocabulary.{inv_of}
 use Rattle.theory_onecopy.specs.Executed.{IsLineBefore, kind_at}
 
 -- the number of the event of an invocation and a response, in an object's type

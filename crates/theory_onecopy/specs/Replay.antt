@@ -4,8 +4,8 @@ use Rattle.std.specs.Option.{option_map_or}
 use Rattle.qc_entry.specs.declared.line.Op.{Op}
 use Rattle.qc_entry.specs.declared.record.Commit.{Commit}
 use Rattle.qc_decl.specs.declared.declaration.Declaration.{Declaration}
-use Rattle.qc_decl.specs.Names.{table_at}
-use Rattle.qc_table.specs.Names.{Rules, event, event_number, events_of, first_of, step_of}
+use Rattle.qc_decl.specs.Vocabulary.{table_at}
+use Rattle.qc_table.specs.Vocabulary.{Rules, event, event_number, events_of, first_of, step_of}
 use Rattle.qc_table.specs.declared.kind.Kind.{Kind}
 
 -- an absent operation stands where no response is legal, and keeps the state

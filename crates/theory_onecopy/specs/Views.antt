@@ -3,12 +3,12 @@
 use Rattle.std.specs.Prelude.{◌≡◌, ◌≢◌, ℕ, ◌<◌, ◌==◌, Bool, IsTrue, ◌⊎◌, if◌then◌else◌, List, [], ◌∷◌, ◌++◌, map}
 use Rattle.std.specs.Prelude.{Option, Some, None, IsSome}
 use Rattle.qc_table.specs.declared.kind.Kind.{Kind}
-use Rattle.qc_cert.specs.Names.{IsView, picked}
+use Rattle.qc_cert.specs.Vocabulary.{IsView, picked}
 use Rattle.qc_entry.specs.declared.line.Line.{Line}
 use Rattle.qc_entry.specs.declared.line.OwnLine.{OwnLine}
 use Rattle.qc_decl.specs.declared.declaration.Declaration.{Declaration}
 use Rattle.theory_onecopy.specs.Lists.{IsOrdered}
-use Rattle.qc_list.specs.Names.{In}
+use Rattle.qc_list.specs.Vocabulary.{In}
 use Rattle.theory_onecopy.specs.Executed.{Placed, IsAnswered, IsEarlier, IsOwnBefore, depends_at, events_seen, kind_at}
 use Rattle.theory_onecopy.specs.Executed.{line_of, own_line}
 

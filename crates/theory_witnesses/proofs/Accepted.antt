@@ -1,26 +1,25 @@
 -- The declarations of the runs keep the rules: their relations are exact by certificates, and their quorums meet.
-use Rattle.std.proofs.Common.{◌≡◌, ◌<◌, ◌≤◌, ℕ, zero, suc, List, ◌∷◌, length, Option, Some, None, option_map, refl}
+use Rattle.std.proofs.Common.{[], ◌≡◌, ◌<◌, ◌≤◌, ℕ, zero, suc, List, ◌∷◌, length, Option, Some, None, option_map, refl}
 use Rattle.std.proofs.Common.{subst, arith, slice_get}
 use Rattle.qc_cert.proofs.Faultless.{inductive}
 use Rattle.qc_cert.proofs.Walk.{exact}
-use Rattle.qc_cert.specs.Names.{triple}
+use Rattle.qc_cert.specs.Vocabulary.{triple}
 use Rattle.qc_cert.specs.declared.triple.Triple.{Triple}
-use Rattle.qc_decl.specs.Names.{AreNames, AreThresholds, HasNames, HasThresholds, IsAccepted, IsGood, IsRight}
-use Rattle.qc_decl.specs.Names.{greatest_threshold, greatest_weight, kind_at, most_epochs, most_objects, most_sites}
-use Rattle.qc_decl.specs.Names.{register_kind, register_names}
+use Rattle.qc_decl.specs.Vocabulary.{AreNames, AreThresholds, HasNames, HasThresholds, IsAccepted, IsGood, IsRight}
+use Rattle.qc_decl.specs.Vocabulary.{greatest_threshold, greatest_weight, kind_at, most_epochs, most_objects}
+use Rattle.qc_decl.specs.Vocabulary.{most_sites, register_kind, register_names}
 use Rattle.qc_decl.specs.declared.declaration.KindNames.{KindNames}
-use Rattle.qc_table.specs.Names.{events_of}
+use Rattle.qc_table.specs.Vocabulary.{events_of}
 use Rattle.std.specs.Prelude.{All, codes, option_and_then, take}
 use Rattle.qc_decl.specs.declared.declaration.Declaration.{Declaration}
 use Rattle.qc_plan.specs.declared.plan.Plan.{Plan}
 use Rattle.theory_witnesses.proofs.Finding.{at_most, below, both, proof_of, same_number}
-use Rattle.theory_witnesses.specs.Names.{extra_kind, extra_store, latch_kind, latch_names, latch_store, moving_register}
-use Rattle.theory_witnesses.specs.Names.{store, three_in_two_epochs, ticket_kind, ticket_names, ticket_store}
-use Rattle.theory_witnesses.specs.Names.{two_registers}
+use Rattle.theory_witnesses.specs.Vocabulary.{extra_kind, extra_store, latch_kind, latch_names, latch_store}
+use Rattle.theory_witnesses.specs.Vocabulary.{moving_register, store, three_in_two_epochs, ticket_kind, ticket_names}
+use Rattle.theory_witnesses.specs.Vocabulary.{ticket_store, two_registers}
 use Rattle.qc_table.specs.declared.kind.Kind.{Kind}
-use Rattle.theory_witnesses.proofs.RelationsRight.{register_right, latch_right, ticket_right, good_plan}
-use Rattle.theory_witnesses.proofs.RelationsRight.{each_place, each_item, names_found, parts_found, IsThreshold}
-use Rattle.theory_witnesses.proofs.RelationsRight.{IsWeight}
+use Rattle.theory_witnesses.proofs.RelationsRight.{register_right, latch_right, ticket_right, good_plan, each_place}
+use Rattle.theory_witnesses.proofs.RelationsRight.{each_item, names_found, parts_found, IsThreshold, IsWeight}
 
 -- a declaration of one type
 module _ (actors : ℕ) (kind : Kind) (names : KindNames) (objects : List ℕ) (plans : List Plan) where

@@ -6,9 +6,9 @@ use Rattle.qc_entry.specs.declared.line.Line.{Line}
 use Rattle.qc_entry.specs.declared.line.Op.{Op}
 use Rattle.qc_entry.specs.declared.line.OwnLine.{OwnLine}
 use Rattle.qc_entry.specs.declared.line.ReadLock.{ReadLock}
-use Rattle.theory_machine.specs.Names.{AppendRequest, Closes, Decision, Deed, Granted, Grants, Installs, Item}
-use Rattle.theory_machine.specs.Names.{LearnsAbort, LearnsCommit, Lock, Own, Prepares, Rises, Snapshot, Verdict}
-use Rattle.theory_machine.specs.Names.{YesVote}
+use Rattle.theory_machine.specs.Vocabulary.{AppendRequest, Closes, Decision, Deed, Granted, Grants, Installs, Item}
+use Rattle.theory_machine.specs.Vocabulary.{LearnsAbort, LearnsCommit, Lock, Own, Prepares, Rises, Snapshot, Verdict}
+use Rattle.theory_machine.specs.Vocabulary.{YesVote}
 use Rattle.theory_witnesses.proofs.Finding.{both, same_number}
 
 abbrev pub same_list : {A : Type 0} → ((x y : A) → Option (x ≡ y)) → (xs ys : List A) → Option (xs ≡ ys)

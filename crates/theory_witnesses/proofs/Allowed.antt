@@ -4,23 +4,24 @@ use Rattle.std.proofs.Common.{option_map, refl, subst}
 use Rattle.qc_stamp.specs.declared.stamp.TxId.{TxId}
 use Rattle.qc_entry.specs.declared.record.Commit.{Commit as CommitRecord}
 use Rattle.qc_plan.specs.declared.plan.Plan.{Plan}
-use Rattle.qc_decl.specs.Names.{append_need_of, plan_in}
+use Rattle.qc_decl.specs.Vocabulary.{append_need_of, plan_in}
 use Rattle.qc_decl.specs.declared.declaration.Declaration.{Declaration}
-use Rattle.theory_onecopy.specs.Names.{Executed, own_line}
-use Rattle.qc_list.specs.Names.{In}
-use Rattle.theory_machine.specs.Names.{Abort, Aborted, AbortsBeforeRecord, AbsentHasNoResponse, Act, Active, Announce}
-use Rattle.theory_machine.specs.Names.{AppendQuorumIsMet, AppendRequest, AppendsWhatIsChosen, Asked, Begin}
-use Rattle.theory_machine.specs.Names.{BeginsInPlannedEpoch, BeginsOnce, Choose, ChoosesOneAtATime, ChosenHasResponse}
-use Rattle.theory_machine.specs.Names.{Close, Commit, CommitUnknown, Committed, Count, CountsInItsEpoch}
-use Rattle.theory_machine.specs.Names.{CountsWhatWasGranted, CountsWhileActive, Decide, Execute, ExecuteAbsent, Grant}
-use Rattle.theory_machine.specs.Names.{GrantTellsDeeds, GrantTellsLife, Granted, GrantsWhatWasRequested, Guard}
-use Rattle.theory_machine.specs.Names.{HasQuorum, HasRecord, Install, InstallsLaterEpoch, InstallsWhatWasDecided}
-use Rattle.theory_machine.specs.Names.{IsAllowedBy, IsAppendOfBy, IsLive, IsRunBy, Item, Learn, LearnsWhatWasAnnounced}
-use Rattle.theory_machine.specs.Names.{MayPrepare, NotBegun, OperatesWhileActive, Own, Pending, Prepare, PrepareLost}
-use Rattle.theory_machine.specs.Names.{PreparesOnce, PreparesWhenExecuted, RecordsPrepareWhenAsked, Recover, Rise}
-use Rattle.theory_machine.specs.Names.{RiseClient, RisesPastRecords, RisesWithNoneRunning, SendAppend}
-use Rattle.theory_machine.specs.Names.{SnapshotTellsDeeds, State, Status, TakeSnapshot, Vote, VotesInGrantedLife}
-use Rattle.theory_machine.specs.Names.{VotesWhenAsked, Voting, epoch_from, state}
+use Rattle.theory_onecopy.specs.Vocabulary.{Executed, own_line}
+use Rattle.qc_list.specs.Vocabulary.{In}
+use Rattle.theory_machine.specs.Vocabulary.{Abort, Aborted, AbortsBeforeRecord, AbsentHasNoResponse, Act, Active}
+use Rattle.theory_machine.specs.Vocabulary.{Announce, AppendQuorumIsMet, AppendRequest, AppendsWhatIsChosen, Asked}
+use Rattle.theory_machine.specs.Vocabulary.{Begin, BeginsInPlannedEpoch, BeginsOnce, Choose, ChoosesOneAtATime}
+use Rattle.theory_machine.specs.Vocabulary.{ChosenHasResponse, Close, Commit, CommitUnknown, Committed, Count}
+use Rattle.theory_machine.specs.Vocabulary.{CountsInItsEpoch, CountsWhatWasGranted, CountsWhileActive, Decide, Execute}
+use Rattle.theory_machine.specs.Vocabulary.{ExecuteAbsent, Grant, GrantTellsDeeds, GrantTellsLife, Granted}
+use Rattle.theory_machine.specs.Vocabulary.{GrantsWhatWasRequested, Guard, HasQuorum, HasRecord, Install}
+use Rattle.theory_machine.specs.Vocabulary.{InstallsLaterEpoch, InstallsWhatWasDecided, IsAllowedBy, IsAppendOfBy}
+use Rattle.theory_machine.specs.Vocabulary.{IsLive, IsRunBy, Item, Learn, LearnsWhatWasAnnounced, MayPrepare, NotBegun}
+use Rattle.theory_machine.specs.Vocabulary.{OperatesWhileActive, Own, Pending, Prepare, PrepareLost, PreparesOnce}
+use Rattle.theory_machine.specs.Vocabulary.{PreparesWhenExecuted, RecordsPrepareWhenAsked, Recover, Rise, RiseClient}
+use Rattle.theory_machine.specs.Vocabulary.{RisesPastRecords, RisesWithNoneRunning, SendAppend, SnapshotTellsDeeds}
+use Rattle.theory_machine.specs.Vocabulary.{State, Status, TakeSnapshot, Vote, VotesInGrantedLife, VotesWhenAsked}
+use Rattle.theory_machine.specs.Vocabulary.{Voting, epoch_from, state}
 use Rattle.theory_witnesses.proofs.Alike.{same_decision, same_deed, same_granted, same_list, same_verdict}
 use Rattle.theory_witnesses.proofs.AllowedClients.{append_of, executed_from, is_active, is_new, may_commit}
 use Rattle.theory_witnesses.proofs.AllowedDecisions.{may_decide}
@@ -29,7 +30,7 @@ use Rattle.theory_witnesses.proofs.Begun.{begun, new_or_begun}
 use Rattle.theory_witnesses.proofs.Finding.{where_asked, at_most, below, both, every, member, same_number, where_same}
 use Rattle.theory_witnesses.proofs.Finding.{where_same_tx}
 use Rattle.theory_witnesses.proofs.Quorums.{quorum}
-use Rattle.theory_witnesses.specs.Names.{Move, acts_from, acts_of}
+use Rattle.theory_witnesses.specs.Vocabulary.{Move, acts_from, acts_of}
 
 abbrev none_chosen : (o : Option Executed) → Option (o ≡ None)
 none_chosen None = Some refl

@@ -7,15 +7,16 @@ use Rattle.qc_entry.specs.declared.line.OwnLine.{OwnLine}
 use Rattle.qc_entry.specs.declared.record.Commit.{Commit as CommitRecord}
 use Rattle.qc_table.specs.declared.kind.Kind.{Kind}
 use Rattle.qc_decl.specs.declared.declaration.Declaration.{Declaration}
-use Rattle.qc_decl.specs.Names.{append_need_of, read_need_of}
-use Rattle.theory_onecopy.specs.Names.{Executed, kind_at, own_line}
-use Rattle.qc_list.specs.Names.{In}
-use Rattle.theory_machine.specs.Names.{Active, AllHaveVoted, AnswersFromView, AppendCarriesEarlierLines}
-use Rattle.theory_machine.specs.Names.{AppendCarriesOnlyOwnLines, AppendCarriesView, AppendRequest, CommitsWhenVoting}
-use Rattle.theory_machine.specs.Names.{Granted, Guard, InvocationIsDeclared, IsAppendOfBy, IsExecutedFromBy, IsShown}
-use Rattle.theory_machine.specs.Names.{Item, Lock, MayCommitBy, NotBegun, OperationsAreNumbered, Own, OwnLinesAreKept}
-use Rattle.theory_machine.specs.Names.{ReadQuorumIsMet, RecordHasOperations, StampIsItsClients, StampPassesClock, State}
-use Rattle.theory_machine.specs.Names.{Status, ViewIsWhole, ViewWasShown, Voting, YesVote, op_of, own_on, read_lock}
+use Rattle.qc_decl.specs.Vocabulary.{append_need_of, read_need_of}
+use Rattle.theory_onecopy.specs.Vocabulary.{Executed, kind_at, own_line}
+use Rattle.qc_list.specs.Vocabulary.{In}
+use Rattle.theory_machine.specs.Vocabulary.{Active, AllHaveVoted, AnswersFromView, AppendCarriesEarlierLines}
+use Rattle.theory_machine.specs.Vocabulary.{AppendCarriesOnlyOwnLines, AppendCarriesView, AppendRequest}
+use Rattle.theory_machine.specs.Vocabulary.{CommitsWhenVoting, Granted, Guard, InvocationIsDeclared, IsAppendOfBy}
+use Rattle.theory_machine.specs.Vocabulary.{IsExecutedFromBy, IsShown, Item, Lock, MayCommitBy, NotBegun}
+use Rattle.theory_machine.specs.Vocabulary.{OperationsAreNumbered, Own, OwnLinesAreKept, ReadQuorumIsMet}
+use Rattle.theory_machine.specs.Vocabulary.{RecordHasOperations, StampIsItsClients, StampPassesClock, State, Status}
+use Rattle.theory_machine.specs.Vocabulary.{ViewIsWhole, ViewWasShown, Voting, YesVote, op_of, own_on, read_lock}
 use Rattle.theory_witnesses.proofs.Cases.{none_some, one_some}
 use Rattle.theory_witnesses.proofs.Alike.{same_item, same_line, same_list, same_op, same_own, same_vote}
 use Rattle.theory_witnesses.proofs.Answered.{is_answered}

@@ -5,17 +5,17 @@ use Rattle.qc_stamp.specs.declared.stamp.Stamp.{Stamp}
 use Rattle.qc_entry.specs.declared.line.Line.{Line}
 use Rattle.qc_entry.specs.declared.line.OwnLine.{OwnLine}
 use Rattle.qc_plan.proofs.Least.{close_weight_is_least}
-use Rattle.qc_plan.specs.Names.{Closes as Closing, closing_needs, total, weight}
+use Rattle.qc_plan.specs.Vocabulary.{Closes as Closing, closing_needs, total, weight}
 use Rattle.qc_plan.specs.declared.plan.Plan.{Plan}
-use Rattle.qc_decl.specs.Names.{plan_in}
+use Rattle.qc_decl.specs.Vocabulary.{plan_in}
 use Rattle.qc_decl.specs.declared.declaration.Declaration.{Declaration}
-use Rattle.theory_onecopy.specs.Names.{committed_line}
-use Rattle.qc_list.specs.Names.{In}
-use Rattle.theory_machine.specs.Names.{Asked, ClosedSitesAnswered, ClosesEnough, DecidePassesCommitted}
-use Rattle.theory_machine.specs.Names.{DecidePassesSnapshots, DecidesByPlan, DecidesFromSnapshots, DecidesNextEpoch}
-use Rattle.theory_machine.specs.Names.{Decision, Guard, IsMerged, IsResolvedBy, Item, Lock, MayDecideBy}
-use Rattle.theory_machine.specs.Names.{MergesEveryEntry, MergesLogs, MergesOnlyCommitted, Own, Promise}
-use Rattle.theory_machine.specs.Names.{ResolvesPrepared, Snapshot, State, Verdict, epoch_from, site_after}
+use Rattle.theory_onecopy.specs.Vocabulary.{committed_line}
+use Rattle.qc_list.specs.Vocabulary.{In}
+use Rattle.theory_machine.specs.Vocabulary.{Asked, ClosedSitesAnswered, ClosesEnough, DecidePassesCommitted}
+use Rattle.theory_machine.specs.Vocabulary.{DecidePassesSnapshots, DecidesByPlan, DecidesFromSnapshots}
+use Rattle.theory_machine.specs.Vocabulary.{DecidesNextEpoch, Decision, Guard, IsMerged, IsResolvedBy, Item, Lock}
+use Rattle.theory_machine.specs.Vocabulary.{MayDecideBy, MergesEveryEntry, MergesLogs, MergesOnlyCommitted, Own}
+use Rattle.theory_machine.specs.Vocabulary.{Promise, ResolvesPrepared, Snapshot, State, Verdict, epoch_from, site_after}
 use Rattle.theory_witnesses.proofs.Cases.{lock_own, one_own}
 use Rattle.theory_witnesses.proofs.Alike.{same_item, same_line, same_snapshot, same_verdict}
 use Rattle.theory_witnesses.proofs.Finding.{IsFound, where_asked, at_most, both, every, proof_of, member, same_number}

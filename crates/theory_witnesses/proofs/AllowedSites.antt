@@ -7,16 +7,17 @@ use Rattle.qc_entry.specs.declared.line.Line.{Line}
 use Rattle.qc_entry.specs.declared.line.OwnLine.{OwnLine}
 use Rattle.qc_entry.specs.declared.line.ReadLock.{ReadLock}
 use Rattle.qc_decl.specs.declared.declaration.Declaration.{Declaration}
-use Rattle.theory_onecopy.specs.Names.{depends_at}
-use Rattle.qc_list.specs.Names.{In}
+use Rattle.theory_onecopy.specs.Vocabulary.{depends_at}
+use Rattle.qc_list.specs.Vocabulary.{In}
 use Rattle.qc_stamp.proofs.Orders.{same_tx_is}
-use Rattle.theory_machine.specs.Names.{AppendRequest, Closes, Conflict, Deed, DoneRecord, GrantPassesDone}
-use Rattle.theory_machine.specs.Names.{GrantPassesInstalls, GrantPassesLines, GrantTellsEpoch, Granted, Grants}
-use Rattle.theory_machine.specs.Names.{GrantsUnlessClosed, GrantsWithoutConflict, Guard, Held, Installs, IsRequested}
-use Rattle.theory_machine.specs.Names.{Item, LearnsAbort, LearnsCommit, Lock, MayGrantBy, MaySnapshotBy, Own, Prepares}
-use Rattle.theory_machine.specs.Names.{Rises, Snapshot, SnapshotIsOfClosed, SnapshotPassesDone, SnapshotPassesInstalls}
-use Rattle.theory_machine.specs.Names.{done_records, empty_site, epoch_from, items_of, shut_from, site_after}
-use Rattle.qc_stamp.specs.Names.{same_tx}
+use Rattle.theory_machine.specs.Vocabulary.{AppendRequest, Closes, Conflict, Deed, DoneRecord, GrantPassesDone}
+use Rattle.theory_machine.specs.Vocabulary.{GrantPassesInstalls, GrantPassesLines, GrantTellsEpoch, Granted, Grants}
+use Rattle.theory_machine.specs.Vocabulary.{GrantsUnlessClosed, GrantsWithoutConflict, Guard, Held, Installs}
+use Rattle.theory_machine.specs.Vocabulary.{IsRequested, Item, LearnsAbort, LearnsCommit, Lock, MayGrantBy}
+use Rattle.theory_machine.specs.Vocabulary.{MaySnapshotBy, Own, Prepares, Rises, Snapshot, SnapshotIsOfClosed}
+use Rattle.theory_machine.specs.Vocabulary.{SnapshotPassesDone, SnapshotPassesInstalls, done_records, empty_site}
+use Rattle.theory_machine.specs.Vocabulary.{epoch_from, items_of, shut_from, site_after}
+use Rattle.qc_stamp.specs.Vocabulary.{same_tx}
 use Rattle.theory_witnesses.proofs.Cases.{IsInstall, one_clock}
 use Rattle.theory_witnesses.proofs.Alike.{same_append}
 use Rattle.theory_witnesses.proofs.Finding.{where_asked, at_most, both, every, is_false, is_true, member, same_number}

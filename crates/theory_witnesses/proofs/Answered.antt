@@ -3,15 +3,16 @@ use Rattle.std.proofs.Common.{◌≡◌, ℕ, ◌==◌, Bool, true, false, List,
 use Rattle.std.proofs.Common.{option_and_then, refl, ap, ◌∙◌, subst}
 use Rattle.std.specs.declared.cmp.Ordering.{Ordering}
 use Rattle.std.specs.declared.cmp.Ordering.TheVariants.{Less, Equal, Greater}
-use Rattle.qc_cert.specs.Names.{allows, state_after}
+use Rattle.qc_cert.specs.Vocabulary.{allows, state_after}
 use Rattle.qc_decl.specs.declared.declaration.Declaration.{Declaration}
-use Rattle.qc_entry.specs.Names.{line_cmp}
+use Rattle.qc_entry.specs.Vocabulary.{line_cmp}
 use Rattle.qc_entry.specs.declared.line.Line.{Line}
-use Rattle.theory_onecopy.specs.Names.{Executed, IsAnswered, IsLineBefore, IsOrdered, Replies, events_seen, kind_at}
+use Rattle.theory_onecopy.specs.Vocabulary.{Executed, IsAnswered, IsLineBefore, IsOrdered, Replies, events_seen}
+use Rattle.theory_onecopy.specs.Vocabulary.{kind_at}
 use Rattle.theory_witnesses.proofs.Cases.{none_some, one_some}
 use Rattle.theory_witnesses.proofs.Alike.{same_option}
 use Rattle.theory_witnesses.proofs.Finding.{both, every, is_true, same_number}
-use Rattle.qc_table.specs.Names.{event, event_number, events_of, next_in}
+use Rattle.qc_table.specs.Vocabulary.{event, event_number, events_of, next_in}
 use Rattle.qc_table.specs.declared.kind.Kind.{Kind}
 use Rattle.qc_table.specs.declared.row.Row.{Row}
 

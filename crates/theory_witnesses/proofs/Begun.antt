@@ -1,12 +1,13 @@
 -- The transactions that acts are of: of any other nothing has begun.
 use Rattle.std.proofs.Common.{◌≡◌, ◌⊎◌, inl, inr, List, [], ◌∷◌, refl}
 use Rattle.qc_stamp.specs.declared.stamp.TxId.{TxId}
-use Rattle.qc_list.specs.Names.{In}
+use Rattle.qc_list.specs.Vocabulary.{In}
 use Rattle.theory_machine.proofs.Names.{put_tx_case}
-use Rattle.theory_machine.specs.Names.{Abort, Aborted, Act, Active, Announce, Begin, Choose, Close, Commit}
-use Rattle.theory_machine.specs.Names.{CommitUnknown, Committed, Count, Decide, Execute, ExecuteAbsent, Grant, Install}
-use Rattle.theory_machine.specs.Names.{Learn, NotBegun, Pending, Prepare, PrepareLost, Recover, Rise, RiseClient}
-use Rattle.theory_machine.specs.Names.{SendAppend, Status, TakeSnapshot, Vote, Voting, put_tx, recover_status, state}
+use Rattle.theory_machine.specs.Vocabulary.{Abort, Aborted, Act, Active, Announce, Begin, Choose, Close, Commit}
+use Rattle.theory_machine.specs.Vocabulary.{CommitUnknown, Committed, Count, Decide, Execute, ExecuteAbsent, Grant}
+use Rattle.theory_machine.specs.Vocabulary.{Install, Learn, NotBegun, Pending, Prepare, PrepareLost, Recover, Rise}
+use Rattle.theory_machine.specs.Vocabulary.{RiseClient, SendAppend, Status, TakeSnapshot, Vote, Voting, put_tx}
+use Rattle.theory_machine.specs.Vocabulary.{recover_status, state}
 
 -- each act that changes a status, with its transaction
 abbrev pub begun : List Act → List TxId

@@ -8,18 +8,18 @@ use Rattle.qc_entry.specs.declared.line.Line.{Line}
 use Rattle.qc_entry.specs.declared.line.Op.{Op}
 use Rattle.qc_entry.specs.declared.record.Commit.{Commit as CommitRecord}
 use Rattle.qc_decl.specs.declared.declaration.Declaration.{Declaration}
-use Rattle.theory_onecopy.specs.Names.{AreApart, Goes, IsLogged, IsOperation, Walks, event_at, operations, sorted}
-use Rattle.theory_onecopy.specs.Names.{start_at, step_at, updated}
-use Rattle.qc_list.specs.Names.{In}
-use Rattle.theory_machine.specs.Names.{Act, Commit, Granted, HasEarlier, IsVerdictOf, OfSite, Shows, State, Verdict}
-use Rattle.theory_machine.specs.Names.{site_after, state}
+use Rattle.theory_onecopy.specs.Vocabulary.{AreApart, Goes, IsLogged, IsOperation, Walks, event_at, operations, sorted}
+use Rattle.theory_onecopy.specs.Vocabulary.{start_at, step_at, updated}
+use Rattle.qc_list.specs.Vocabulary.{In}
+use Rattle.theory_machine.specs.Vocabulary.{Act, Commit, Granted, HasEarlier, IsVerdictOf, OfSite, Shows, State}
+use Rattle.theory_machine.specs.Vocabulary.{Verdict, site_after, state}
 use Rattle.theory_witnesses.proofs.Cases.{none_some, one_some}
 use Rattle.theory_witnesses.proofs.Alike.{alike_tx, same_stamp}
 use Rattle.theory_witnesses.proofs.Finding.{IsFound, at_most, both, every, some, where_same_tx}
 use Rattle.theory_witnesses.proofs.Quorums.{shows}
-use Rattle.theory_witnesses.specs.Names.{Holds, LastRecordFollowsSeen, LogsHoldOperations, RecordsAreApart}
-use Rattle.theory_witnesses.specs.Names.{RecordsAreOneCopy, VerdictsAgree}
-use Rattle.qc_table.specs.Names.{event}
+use Rattle.theory_witnesses.specs.Vocabulary.{Holds, LastRecordFollowsSeen, LogsHoldOperations, RecordsAreApart}
+use Rattle.theory_witnesses.specs.Vocabulary.{RecordsAreOneCopy, VerdictsAgree}
+use Rattle.qc_table.specs.Vocabulary.{event}
 
 abbrev pub other_number : (a b : ℕ) → Option (a ≡ b → ⊥)
 other_number a b = by (a == b) refl

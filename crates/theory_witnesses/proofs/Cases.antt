@@ -3,8 +3,8 @@ use Rattle.std.proofs.Common.{◌≡◌, ℕ, List, Some, None}
 use Rattle.qc_entry.specs.declared.line.Line.{Line}
 use Rattle.qc_entry.specs.declared.line.OwnLine.{OwnLine}
 use Rattle.qc_entry.specs.declared.line.ReadLock.{ReadLock}
-use Rattle.theory_machine.specs.Names.{Closes, Deed, Grants, Installs, LearnsAbort, LearnsCommit, Lock, Own, Prepares}
-use Rattle.theory_machine.specs.Names.{Rises}
+use Rattle.theory_machine.specs.Vocabulary.{Closes, Deed, Grants, Installs, LearnsAbort, LearnsCommit, Lock, Own}
+use Rattle.theory_machine.specs.Vocabulary.{Prepares, Rises}
 
 pub none_some : {A : Type 0} {x : A} → None ≡ Some x → ⊥
 none_some {A = A} e = let never : ⊥ = cc in never

@@ -6,12 +6,12 @@ use Rattle.qc_decl.specs.declared.declaration.Declaration.{Declaration}
 use Rattle.qc_stamp.specs.declared.stamp.Stamp.{Stamp}
 use Rattle.qc_entry.specs.declared.line.Line.{Line}
 use Rattle.qc_entry.specs.declared.record.Commit.{Commit as CommitRecord}
-use Rattle.theory_onecopy.specs.Names.{Executed, committed_line, depends_at, own_line}
-use Rattle.qc_list.specs.Names.{In}
-use Rattle.theory_machine.specs.Names.{Act, State, state}
+use Rattle.theory_onecopy.specs.Vocabulary.{Executed, committed_line, depends_at, own_line}
+use Rattle.qc_list.specs.Vocabulary.{In}
+use Rattle.theory_machine.specs.Vocabulary.{Act, State, state}
 use Rattle.theory_witnesses.proofs.Broken.{other_number}
 use Rattle.theory_witnesses.proofs.Finding.{IsFound, at_most, both, is_true, same_number, some}
-use Rattle.theory_witnesses.specs.Names.{Holds, OperationsAreOrdered}
+use Rattle.theory_witnesses.specs.Vocabulary.{Holds, OperationsAreOrdered}
 
 abbrev IsMissed : Declaration → CommitRecord → Executed → CommitRecord → Executed → Type 0
 IsMissed decl c earlier d later =

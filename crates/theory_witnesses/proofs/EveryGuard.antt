@@ -1,23 +1,24 @@
 -- Each guard is needed, and a machine without a guard asks all others.
 use Rattle.std.proofs.Common.{◌≡◌, ◌↔◌, ℕ, ◌==◌, Bool, true, false, not, Some, refl, sym, ap, ◌∙◌, slice_get, eqb-true}
 use Rattle.std.proofs.Common.{eq-eqb, true≢false}
-use Rattle.theory_machine.specs.Names.{AbortsBeforeRecord, AbsentHasNoResponse, AllHaveVoted, AnswersFromView}
-use Rattle.theory_machine.specs.Names.{AppendCarriesEarlierLines, AppendCarriesOnlyOwnLines, AppendCarriesView}
-use Rattle.theory_machine.specs.Names.{AppendQuorumIsMet, AppendsWhatIsChosen, BeginsInPlannedEpoch, BeginsOnce}
-use Rattle.theory_machine.specs.Names.{ChoosesOneAtATime, ChosenHasResponse, ClosedSitesAnswered, ClosesEnough}
-use Rattle.theory_machine.specs.Names.{CommitsWhenVoting, CountsInItsEpoch, CountsWhatWasGranted, CountsWhileActive}
-use Rattle.theory_machine.specs.Names.{DecidePassesCommitted, DecidePassesSnapshots, DecidesByPlan}
-use Rattle.theory_machine.specs.Names.{DecidesFromSnapshots, DecidesNextEpoch, GrantPassesDone, GrantPassesInstalls}
-use Rattle.theory_machine.specs.Names.{GrantPassesLines, GrantTellsDeeds, GrantTellsEpoch, GrantTellsLife}
-use Rattle.theory_machine.specs.Names.{GrantsUnlessClosed, GrantsWhatWasRequested, GrantsWithoutConflict, Guard}
-use Rattle.theory_machine.specs.Names.{InstallsLaterEpoch, InstallsWhatWasDecided, InvocationIsDeclared}
-use Rattle.theory_machine.specs.Names.{LearnsWhatWasAnnounced, MergesEveryEntry, MergesLogs, MergesOnlyCommitted}
-use Rattle.theory_machine.specs.Names.{OperatesWhileActive, OperationsAreNumbered, OwnLinesAreKept, PreparesOnce}
-use Rattle.theory_machine.specs.Names.{PreparesWhenExecuted, ReadQuorumIsMet, RecordHasOperations}
-use Rattle.theory_machine.specs.Names.{RecordsPrepareWhenAsked, ResolvesPrepared, RisesPastRecords}
-use Rattle.theory_machine.specs.Names.{RisesWithNoneRunning, SnapshotIsOfClosed, SnapshotPassesDone}
-use Rattle.theory_machine.specs.Names.{SnapshotPassesInstalls, SnapshotTellsDeeds, StampIsItsClients, StampPassesClock}
-use Rattle.theory_machine.specs.Names.{ViewIsWhole, ViewWasShown, VotesInGrantedLife, VotesWhenAsked}
+use Rattle.theory_machine.specs.Vocabulary.{AbortsBeforeRecord, AbsentHasNoResponse, AllHaveVoted, AnswersFromView}
+use Rattle.theory_machine.specs.Vocabulary.{AppendCarriesEarlierLines, AppendCarriesOnlyOwnLines, AppendCarriesView}
+use Rattle.theory_machine.specs.Vocabulary.{AppendQuorumIsMet, AppendsWhatIsChosen, BeginsInPlannedEpoch, BeginsOnce}
+use Rattle.theory_machine.specs.Vocabulary.{ChoosesOneAtATime, ChosenHasResponse, ClosedSitesAnswered, ClosesEnough}
+use Rattle.theory_machine.specs.Vocabulary.{CommitsWhenVoting, CountsInItsEpoch, CountsWhatWasGranted}
+use Rattle.theory_machine.specs.Vocabulary.{CountsWhileActive, DecidePassesCommitted, DecidePassesSnapshots}
+use Rattle.theory_machine.specs.Vocabulary.{DecidesByPlan, DecidesFromSnapshots, DecidesNextEpoch, GrantPassesDone}
+use Rattle.theory_machine.specs.Vocabulary.{GrantPassesInstalls, GrantPassesLines, GrantTellsDeeds, GrantTellsEpoch}
+use Rattle.theory_machine.specs.Vocabulary.{GrantTellsLife, GrantsUnlessClosed, GrantsWhatWasRequested}
+use Rattle.theory_machine.specs.Vocabulary.{GrantsWithoutConflict, Guard, InstallsLaterEpoch, InstallsWhatWasDecided}
+use Rattle.theory_machine.specs.Vocabulary.{InvocationIsDeclared, LearnsWhatWasAnnounced, MergesEveryEntry, MergesLogs}
+use Rattle.theory_machine.specs.Vocabulary.{MergesOnlyCommitted, OperatesWhileActive, OperationsAreNumbered}
+use Rattle.theory_machine.specs.Vocabulary.{OwnLinesAreKept, PreparesOnce, PreparesWhenExecuted, ReadQuorumIsMet}
+use Rattle.theory_machine.specs.Vocabulary.{RecordHasOperations, RecordsPrepareWhenAsked, ResolvesPrepared}
+use Rattle.theory_machine.specs.Vocabulary.{RisesPastRecords, RisesWithNoneRunning, SnapshotIsOfClosed}
+use Rattle.theory_machine.specs.Vocabulary.{SnapshotPassesDone, SnapshotPassesInstalls, SnapshotTellsDeeds}
+use Rattle.theory_machine.specs.Vocabulary.{StampIsItsClients, StampPassesClock, ViewIsWhole, ViewWasShown}
+use Rattle.theory_machine.specs.Vocabulary.{VotesInGrantedLife, VotesWhenAsked}
 use Rattle.theory_witnesses.proofs.Cases.{one_some}
 use Rattle.theory_witnesses.proofs.WrongOperations.{invocations_that_a_type_lacks, absent_operations_appended}
 use Rattle.theory_witnesses.proofs.WrongOperations.{epochs_without_a_plan, lines_left_out_of_views}
@@ -49,9 +50,9 @@ use Rattle.theory_witnesses.proofs.WrongDecisions.{decide_clocks_below_a_snapsho
 use Rattle.theory_witnesses.proofs.WrongDecisions.{installs_made_up, installs_of_the_same_epoch, logs_not_merged}
 use Rattle.theory_witnesses.proofs.WrongDecisions.{merges_of_lines_made_up, merges_of_one_entry_for_several}
 use Rattle.theory_witnesses.proofs.WrongDecisions.{snapshots_made_up, snapshots_of_an_older_epoch}
-use Rattle.theory_witnesses.specs.Names.{Guarantee, IsNeeded, LastRecordFollowsSeen, LogsHoldOperations}
-use Rattle.theory_witnesses.specs.Names.{OperationsAreOrdered, RecordsAreApart, RecordsAreOneCopy, VerdictsAgree}
-use Rattle.theory_witnesses.specs.Names.{every_guard_but, guards, place_of}
+use Rattle.theory_witnesses.specs.Vocabulary.{Guarantee, IsNeeded, LastRecordFollowsSeen, LogsHoldOperations}
+use Rattle.theory_witnesses.specs.Vocabulary.{OperationsAreOrdered, RecordsAreApart, RecordsAreOneCopy, VerdictsAgree}
+use Rattle.theory_witnesses.specs.Vocabulary.{every_guard_but, guards, place_of}
 
 stands : (guard : Guard) → slice_get guards (place_of guard) ≡ Some guard
 stands BeginsOnce = refl

@@ -2,10 +2,10 @@
 use Rattle.std.proofs.Common.{◌≡◌, ℕ, ◌≤◌, ◌<◌, suc, ◌==◌, leb, Bool, true, false, List, [], ◌∷◌, Option, Some, None}
 use Rattle.std.proofs.Common.{is_some, inl, inr, refl, sym, ◌∙◌, subst, eqb-true, leb-true, true≢false}
 use Rattle.std.proofs.lemmas.Bool.{eqb-false}
-use Rattle.qc_list.specs.Names.{In}
+use Rattle.qc_list.specs.Vocabulary.{In}
 use Rattle.theory_machine.proofs.Names.{tx_test}
-use Rattle.theory_machine.specs.Names.{Asked}
-use Rattle.qc_stamp.specs.Names.{same_tx}
+use Rattle.theory_machine.specs.Vocabulary.{Asked}
+use Rattle.qc_stamp.specs.Vocabulary.{same_tx}
 use Rattle.qc_stamp.specs.declared.stamp.TxId.{TxId}
 
 -- a fact that was found

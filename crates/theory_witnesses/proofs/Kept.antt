@@ -1,14 +1,14 @@
 -- Every run of the protocol keeps each guarantee.
 use Rattle.std.proofs.Common.{List, ◌∷◌, subst}
 use Rattle.qc_entry.specs.declared.record.Commit.{Commit as CommitRecord}
-use Rattle.qc_decl.specs.Names.{IsAccepted}
+use Rattle.qc_decl.specs.Vocabulary.{IsAccepted}
 use Rattle.qc_decl.specs.declared.declaration.Declaration.{Declaration}
 use Rattle.theory_machine.proofs.ClaimLaws.{records_are_apart, follows, logs_hold_operations, runs_are_one_copy}
 use Rattle.theory_machine.proofs.ClaimLaws.{verdicts_agree}
 use Rattle.theory_machine.proofs.OrderingLaw.{dependent_operations_are_ordered}
-use Rattle.theory_machine.specs.Names.{Act, Commit, FollowsSeen, IsRun, state}
-use Rattle.theory_witnesses.specs.Names.{Guarantee, Holds, LastRecordFollowsSeen, LogsHoldOperations}
-use Rattle.theory_witnesses.specs.Names.{OperationsAreOrdered, RecordsAreApart, RecordsAreOneCopy, VerdictsAgree}
+use Rattle.theory_machine.specs.Vocabulary.{Act, Commit, FollowsSeen, IsRun, state}
+use Rattle.theory_witnesses.specs.Vocabulary.{Guarantee, Holds, LastRecordFollowsSeen, LogsHoldOperations}
+use Rattle.theory_witnesses.specs.Vocabulary.{OperationsAreOrdered, RecordsAreApart, RecordsAreOneCopy, VerdictsAgree}
 
 follows_seen : (decl : Declaration) → IsAccepted decl → (commit : CommitRecord) (older : List Act)
     → IsRun decl (Commit commit ∷ older) → FollowsSeen (state older) commit

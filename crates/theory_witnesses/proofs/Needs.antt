@@ -1,11 +1,11 @@
 -- A guard is needed, as a story shows: a run without the guard, after which a guarantee is broken.
 use Rattle.std.proofs.Common.{◌≡◌, true, List, Option, is_some}
-use Rattle.qc_decl.specs.Names.{IsAccepted}
+use Rattle.qc_decl.specs.Vocabulary.{IsAccepted}
 use Rattle.qc_decl.specs.declared.declaration.Declaration.{Declaration}
-use Rattle.theory_machine.specs.Names.{Act, Guard}
+use Rattle.theory_machine.specs.Vocabulary.{Act, Guard}
 use Rattle.theory_witnesses.proofs.Allowed.{run_of}
 use Rattle.theory_witnesses.proofs.Finding.{proof_of}
-use Rattle.theory_witnesses.specs.Names.{Guarantee, Holds, IsNeeded, Move, acts_of, every_guard_but}
+use Rattle.theory_witnesses.specs.Vocabulary.{Guarantee, Holds, IsNeeded, Move, acts_of, every_guard_but}
 
 pub shows_need : (guard : Guard) (guarantee : Guarantee) (decl : Declaration) → IsAccepted decl
     → (broken : (d : Declaration) (acts : List Act) → Option (Holds guarantee d acts → ⊥)) (story : List Move)

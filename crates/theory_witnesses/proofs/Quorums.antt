@@ -4,10 +4,10 @@ use Rattle.qc_stamp.specs.declared.stamp.TxId.{TxId}
 use Rattle.qc_entry.specs.declared.line.Line.{Line}
 use Rattle.qc_entry.specs.declared.line.ReadLock.{ReadLock}
 use Rattle.qc_decl.specs.declared.declaration.Declaration.{Declaration}
-use Rattle.qc_list.specs.Names.{In}
-use Rattle.qc_plan.specs.Names.{weight}
-use Rattle.theory_machine.specs.Names.{Granted, HasGranted, HasQuorum, IsShown, Item, Lock, Own, Shows, site_after}
-use Rattle.theory_machine.specs.Names.{weights_of}
+use Rattle.qc_list.specs.Vocabulary.{In}
+use Rattle.qc_plan.specs.Vocabulary.{weight}
+use Rattle.theory_machine.specs.Vocabulary.{Granted, HasGranted, HasQuorum, IsShown, Item, Lock, Own, Shows, site_after}
+use Rattle.theory_machine.specs.Vocabulary.{weights_of}
 use Rattle.theory_witnesses.proofs.Cases.{one_lock, own_lock}
 use Rattle.theory_witnesses.proofs.Alike.{alike_tx, same_item, same_line}
 use Rattle.theory_witnesses.proofs.Finding.{IsFound, at_most, both, every, proof_of, member, same_number, some}

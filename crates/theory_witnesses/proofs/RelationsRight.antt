@@ -1,27 +1,27 @@
 -- The relations of the runs' declarations are exact by certificates, and their plans are good.
-use Rattle.std.proofs.Common.{true, ◌≡◌, ◌≤◌, ℕ, zero, suc, List, ◌∷◌, length, Option, Some, None, option_map, refl}
+use Rattle.std.proofs.Common.{[], true, ◌≡◌, ◌≤◌, ℕ, zero, suc, List, ◌∷◌, length, Option, Some, None, option_map, refl}
 use Rattle.std.proofs.Common.{subst, arith, slice_get}
 use Rattle.qc_cert.proofs.Faultless.{inductive}
 use Rattle.qc_cert.proofs.Walk.{exact}
-use Rattle.qc_cert.specs.Names.{triple}
+use Rattle.qc_cert.specs.Vocabulary.{triple}
 use Rattle.qc_cert.specs.declared.triple.Triple.{Triple}
 use Rattle.qc_decl.proofs.BuiltInRules.{three_accepted}
-use Rattle.qc_decl.specs.Names.{AreNames, HasNames, IsGood, IsRight, greatest_threshold, greatest_weight, is_name}
-use Rattle.qc_decl.specs.Names.{register_kind}
+use Rattle.qc_decl.specs.Vocabulary.{AreNames, HasNames, IsGood, IsRight, greatest_threshold, greatest_weight, is_name}
+use Rattle.qc_decl.specs.Vocabulary.{register_kind}
 use Rattle.qc_decl.proofs.Places.{all_differ, differ}
 use Rattle.qc_decl.specs.declared.declaration.KindNames.{KindNames}
-use Rattle.qc_table.specs.Names.{IsSound}
+use Rattle.qc_table.specs.Vocabulary.{IsSound}
 use Rattle.std.specs.Prelude.{All}
 use Rattle.std.specs.List.{list_all}
 use Rattle.std.proofs.lemmas.List.Elements.{All-cons, All-nil}
 use Rattle.qc_decl.specs.declared.declaration.Declaration.{Declaration}
 use Rattle.qc_plan.proofs.Faultless as plan_proofs
-use Rattle.qc_plan.specs.Names.{fault_of}
+use Rattle.qc_plan.specs.Vocabulary.{fault_of}
 use Rattle.qc_plan.specs.declared.fault.PlanFault.{PlanFault}
 use Rattle.qc_plan.specs.declared.plan.Plan.{Plan}
 use Rattle.theory_witnesses.proofs.Cases.{none_some, one_some}
 use Rattle.theory_witnesses.proofs.Finding.{at_most, both, is_true, same_number}
-use Rattle.theory_witnesses.specs.Names.{latch, latch_kind, ticket, ticket_kind}
+use Rattle.theory_witnesses.specs.Vocabulary.{latch, latch_kind, ticket, ticket_kind}
 use Rattle.qc_table.specs.declared.kind.Kind.{Kind}
 
 pub register_right : IsRight register_kind

@@ -1,15 +1,15 @@
 -- The two runs are runs, with their records, and the conflict of the first is refused.
 use Rattle.std.proofs.Common.{◌≡◌, ℕ, refl, ◌++◌, inl, ap, arith}
 use Rattle.qc_decl.proofs.BuiltInRules.{three_accepted}
-use Rattle.qc_decl.specs.Names.{three}
-use Rattle.theory_machine.specs.Names.{Lock, Own, every_guard}
+use Rattle.qc_decl.specs.Vocabulary.{three}
+use Rattle.theory_machine.specs.Vocabulary.{Lock, Own, every_guard}
 use Rattle.qc_stamp.specs.declared.stamp.TxId.{TxId}
 use Rattle.theory_witnesses.proofs.Accepted.{three_in_two_epochs_accepted}
 use Rattle.theory_witnesses.proofs.Allowed.{run_of}
 use Rattle.theory_witnesses.proofs.Finding.{proof_of}
-use Rattle.theory_witnesses.specs.Names.{Commits, IsRefused, conflict, first, first_line, one_epoch, one_epoch_records}
-use Rattle.theory_witnesses.specs.Names.{read_under_way, second, three_in_two_epochs, two_epochs, two_epochs_records}
-use Rattle.theory_witnesses.specs.Names.{write_under_way}
+use Rattle.theory_witnesses.specs.Vocabulary.{Commits, IsRefused, conflict, first, first_line, one_epoch}
+use Rattle.theory_witnesses.specs.Vocabulary.{one_epoch_records, read_under_way, second, three_in_two_epochs}
+use Rattle.theory_witnesses.specs.Vocabulary.{two_epochs, two_epochs_records, write_under_way}
 
 pub one_epoch_commits : Commits three one_epoch one_epoch_records
 one_epoch_commits = record {

@@ -1,17 +1,18 @@
 -- Events that are appended wrongly. Each run is one without the guard that its law names.
 use Rattle.std.proofs.Common.{refl, [], ◌∷◌, ◌++◌}
 use Rattle.qc_decl.proofs.BuiltInRules.{one_accepted, three_accepted}
-use Rattle.qc_decl.specs.Names.{one, three}
-use Rattle.theory_onecopy.specs.Names.{own_line}
-use Rattle.theory_machine.specs.Names.{AppendCarriesEarlierLines, AppendCarriesOnlyOwnLines, AppendCarriesView}
-use Rattle.theory_machine.specs.Names.{AppendQuorumIsMet, AppendsWhatIsChosen, Own, SendAppend}
+use Rattle.qc_decl.specs.Vocabulary.{one, three}
+use Rattle.theory_onecopy.specs.Vocabulary.{own_line}
+use Rattle.theory_machine.specs.Vocabulary.{AppendCarriesEarlierLines, AppendCarriesOnlyOwnLines, AppendCarriesView}
+use Rattle.theory_machine.specs.Vocabulary.{AppendQuorumIsMet, AppendsWhatIsChosen, Own, SendAppend}
 use Rattle.theory_witnesses.proofs.Accepted.{latch_store_accepted}
 use Rattle.theory_witnesses.proofs.Broken.{not_one_copy, wrong_log}
 use Rattle.theory_witnesses.proofs.Needs.{shows_need}
-use Rattle.theory_witnesses.specs.Names.{IsNeeded, LogsHoldOperations, RecordsAreOneCopy, append_of, appends_at, arms}
-use Rattle.theory_witnesses.specs.Names.{begins, chooses, chosen_append, commits_at, ends_at, executes, fires, first}
-use Rattle.theory_witnesses.specs.Names.{grants_append, latch_store, locks, looks_unfired, operates, operation}
-use Rattle.theory_witnesses.specs.Names.{reads_only, reads_zero, second, second_line, third, writes, writes_one}
+use Rattle.theory_witnesses.specs.Vocabulary.{IsNeeded, LogsHoldOperations, RecordsAreOneCopy, append_of, appends_at}
+use Rattle.theory_witnesses.specs.Vocabulary.{arms, begins, chooses, chosen_append, commits_at, ends_at, executes}
+use Rattle.theory_witnesses.specs.Vocabulary.{fires, first, grants_append, latch_store, locks, looks_unfired, operates}
+use Rattle.theory_witnesses.specs.Vocabulary.{operation, reads_only, reads_zero, second, second_line, third, writes}
+use Rattle.theory_witnesses.specs.Vocabulary.{writes_one}
 
 -- A transaction that has chosen nothing sends a line, and its record lacks it.
 pub appends_of_nothing_chosen : IsNeeded AppendsWhatIsChosen LogsHoldOperations

@@ -1,18 +1,19 @@
 -- Votes, records and verdicts that are given wrongly. Each run is one without the guard that its law names.
 use Rattle.std.proofs.Common.{refl, [], ◌∷◌, ◌++◌, Some}
 use Rattle.qc_decl.proofs.BuiltInRules.{one_accepted}
-use Rattle.qc_decl.specs.Names.{one}
-use Rattle.theory_machine.specs.Names.{AbortsBeforeRecord, AllHaveVoted, Commit, CommitsWhenVoting, Learn}
-use Rattle.theory_machine.specs.Names.{LearnsWhatWasAnnounced, PreparesOnce, PreparesWhenExecuted, RecordHasOperations}
-use Rattle.theory_machine.specs.Names.{RecordsPrepareWhenAsked, RisesPastRecords, RisesWithNoneRunning}
-use Rattle.theory_machine.specs.Names.{StampIsItsClients, StampPassesClock, VotesInGrantedLife, VotesWhenAsked}
+use Rattle.qc_decl.specs.Vocabulary.{one}
+use Rattle.theory_machine.specs.Vocabulary.{AbortsBeforeRecord, AllHaveVoted, Commit, CommitsWhenVoting, Learn}
+use Rattle.theory_machine.specs.Vocabulary.{LearnsWhatWasAnnounced, PreparesOnce, PreparesWhenExecuted}
+use Rattle.theory_machine.specs.Vocabulary.{RecordHasOperations, RecordsPrepareWhenAsked, RisesPastRecords}
+use Rattle.theory_machine.specs.Vocabulary.{RisesWithNoneRunning, StampIsItsClients, StampPassesClock}
+use Rattle.theory_machine.specs.Vocabulary.{VotesInGrantedLife, VotesWhenAsked}
 use Rattle.theory_witnesses.proofs.Broken.{not_apart, not_one_copy, wrong_log, wrong_verdict}
 use Rattle.theory_witnesses.proofs.Needs.{shows_need}
-use Rattle.theory_witnesses.specs.Names.{IsNeeded, LogsHoldOperations, RecordsAreApart, RecordsAreOneCopy}
-use Rattle.theory_witnesses.specs.Names.{VerdictsAgree, aborts, announces, begins, chooses, commits, commits_at}
-use Rattle.theory_witnesses.specs.Names.{ends_at, first, first_again, grants_append, operates, prepares}
-use Rattle.theory_witnesses.specs.Names.{prepares_unheard, reads, reads_one, reads_only, reads_zero, record_of, rises}
-use Rattle.theory_witnesses.specs.Names.{rises_at, second, sends, stamp_of, votes, writes, writes_one}
+use Rattle.theory_witnesses.specs.Vocabulary.{IsNeeded, LogsHoldOperations, RecordsAreApart, RecordsAreOneCopy}
+use Rattle.theory_witnesses.specs.Vocabulary.{VerdictsAgree, aborts, announces, begins, chooses, commits, commits_at}
+use Rattle.theory_witnesses.specs.Vocabulary.{ends_at, first, first_again, grants_append, operates, prepares}
+use Rattle.theory_witnesses.specs.Vocabulary.{prepares_unheard, reads, reads_one, reads_only, reads_zero, record_of}
+use Rattle.theory_witnesses.specs.Vocabulary.{rises, rises_at, second, sends, stamp_of, votes, writes, writes_one}
 
 -- A transaction that was told to be given up is prepared and commits.
 pub prepare_after_an_abort : IsNeeded PreparesOnce VerdictsAgree

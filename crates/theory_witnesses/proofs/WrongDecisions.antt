@@ -1,16 +1,17 @@
 -- Epochs that are decided and installed wrongly. Each run is one without the guard that its law names.
 use Rattle.std.proofs.Common.{refl, [], ◌∷◌, ◌++◌, take}
-use Rattle.theory_machine.specs.Names.{ClosedSitesAnswered, ClosesEnough, Decide, DecidePassesCommitted}
-use Rattle.theory_machine.specs.Names.{DecidePassesSnapshots, DecidesByPlan, DecidesFromSnapshots, DecidesNextEpoch}
-use Rattle.theory_machine.specs.Names.{InstallsLaterEpoch, InstallsWhatWasDecided, MergesEveryEntry, MergesLogs}
-use Rattle.theory_machine.specs.Names.{MergesOnlyCommitted, ResolvesPrepared}
+use Rattle.theory_machine.specs.Vocabulary.{ClosedSitesAnswered, ClosesEnough, Decide, DecidePassesCommitted}
+use Rattle.theory_machine.specs.Vocabulary.{DecidePassesSnapshots, DecidesByPlan, DecidesFromSnapshots}
+use Rattle.theory_machine.specs.Vocabulary.{DecidesNextEpoch, InstallsLaterEpoch, InstallsWhatWasDecided}
+use Rattle.theory_machine.specs.Vocabulary.{MergesEveryEntry, MergesLogs, MergesOnlyCommitted, ResolvesPrepared}
 use Rattle.theory_witnesses.proofs.Accepted.{moving_register_accepted, two_registers_accepted}
 use Rattle.theory_witnesses.proofs.Broken.{not_one_copy}
 use Rattle.theory_witnesses.proofs.Needs.{shows_need}
-use Rattle.theory_witnesses.specs.Names.{IsNeeded, RecordsAreOneCopy, announces, begins, closes, commits, commits_at}
-use Rattle.theory_witnesses.specs.Names.{decides, decision, ends_at, first, installs, invented_line, moves_to}
-use Rattle.theory_witnesses.specs.Names.{moving_register, operates, prepares, reads, reads_one, reads_only, reads_zero}
-use Rattle.theory_witnesses.specs.Names.{second, tells, two_registers, votes, writes, writes_one}
+use Rattle.theory_witnesses.specs.Vocabulary.{IsNeeded, RecordsAreOneCopy, announces, begins, closes, commits}
+use Rattle.theory_witnesses.specs.Vocabulary.{commits_at, decides, decision, ends_at, first, installs, invented_line}
+use Rattle.theory_witnesses.specs.Vocabulary.{moves_to, moving_register, operates, prepares, reads, reads_one}
+use Rattle.theory_witnesses.specs.Vocabulary.{reads_only, reads_zero, second, tells, two_registers, votes, writes}
+use Rattle.theory_witnesses.specs.Vocabulary.{writes_one}
 
 -- By a plan without thresholds nothing must close: an epoch is decided from no snapshot.
 pub closes_by_another_plan : IsNeeded DecidesByPlan RecordsAreOneCopy

@@ -1,19 +1,19 @@
 -- Grants that sites give, and clients count, wrongly. Each run is one without the guard that its law names.
 use Rattle.std.proofs.Common.{refl, [], ◌∷◌, ◌++◌}
 use Rattle.qc_decl.proofs.BuiltInRules.{one_accepted}
-use Rattle.qc_decl.specs.Names.{one}
-use Rattle.theory_machine.specs.Names.{Count, CountsInItsEpoch, CountsWhatWasGranted, CountsWhileActive, Grant}
-use Rattle.theory_machine.specs.Names.{GrantPassesDone, GrantPassesInstalls, GrantPassesLines, GrantTellsDeeds}
-use Rattle.theory_machine.specs.Names.{GrantTellsEpoch, GrantTellsLife, GrantsUnlessClosed, GrantsWhatWasRequested}
-use Rattle.theory_machine.specs.Names.{GrantsWithoutConflict, Own}
+use Rattle.qc_decl.specs.Vocabulary.{one}
+use Rattle.theory_machine.specs.Vocabulary.{Count, CountsInItsEpoch, CountsWhatWasGranted, CountsWhileActive, Grant}
+use Rattle.theory_machine.specs.Vocabulary.{GrantPassesDone, GrantPassesInstalls, GrantPassesLines, GrantTellsDeeds}
+use Rattle.theory_machine.specs.Vocabulary.{GrantTellsEpoch, GrantTellsLife, GrantsUnlessClosed, GrantsWhatWasRequested}
+use Rattle.theory_machine.specs.Vocabulary.{GrantsWithoutConflict, Own}
 use Rattle.theory_witnesses.proofs.Accepted.{moving_register_accepted}
 use Rattle.theory_witnesses.proofs.Broken.{not_one_copy, wrong_log, wrong_order}
 use Rattle.theory_witnesses.proofs.Needs.{shows_need}
-use Rattle.theory_witnesses.specs.Names.{IsNeeded, LastRecordFollowsSeen, LogsHoldOperations, RecordsAreOneCopy, aborts}
-use Rattle.theory_witnesses.specs.Names.{append_grant, begins, chooses, commits_at, counts, ends_at, executes, first}
-use Rattle.theory_witnesses.specs.Names.{first_line, grant_of, grants_append, grants_read, locks, moves_to}
-use Rattle.theory_witnesses.specs.Names.{moving_register, operates, read_grant, reads_only, reads_zero, rises, second}
-use Rattle.theory_witnesses.specs.Names.{sends, third, writes, writes_one, writes_zero}
+use Rattle.theory_witnesses.specs.Vocabulary.{IsNeeded, LastRecordFollowsSeen, LogsHoldOperations, RecordsAreOneCopy}
+use Rattle.theory_witnesses.specs.Vocabulary.{aborts, append_grant, begins, chooses, commits_at, counts, ends_at}
+use Rattle.theory_witnesses.specs.Vocabulary.{executes, first, first_line, grant_of, grants_append, grants_read, locks}
+use Rattle.theory_witnesses.specs.Vocabulary.{moves_to, moving_register, operates, read_grant, reads_only, reads_zero}
+use Rattle.theory_witnesses.specs.Vocabulary.{rises, second, sends, third, writes, writes_one, writes_zero}
 
 -- A site grants a read lock as if it had done nothing.
 pub grants_that_show_an_older_log : IsNeeded GrantTellsDeeds RecordsAreOneCopy

@@ -1,21 +1,21 @@
 -- Operations that are begun, chosen and answered wrongly. Each run is one without the guard that its law names.
 use Rattle.std.proofs.Common.{refl, [], ◌∷◌, ◌++◌}
 use Rattle.qc_decl.proofs.BuiltInRules.{one_accepted, three_accepted}
-use Rattle.qc_decl.specs.Names.{one, three}
-use Rattle.theory_machine.specs.Names.{AbsentHasNoResponse, AnswersFromView, BeginsInPlannedEpoch, BeginsOnce, Choose}
-use Rattle.theory_machine.specs.Names.{ChoosesOneAtATime, ChosenHasResponse, InvocationIsDeclared, OperatesWhileActive}
-use Rattle.theory_machine.specs.Names.{OperationsAreNumbered, OwnLinesAreKept, ReadQuorumIsMet, ViewIsWhole}
-use Rattle.theory_machine.specs.Names.{ViewWasShown}
+use Rattle.qc_decl.specs.Vocabulary.{one, three}
+use Rattle.theory_machine.specs.Vocabulary.{AbsentHasNoResponse, AnswersFromView, BeginsInPlannedEpoch, BeginsOnce}
+use Rattle.theory_machine.specs.Vocabulary.{Choose, ChoosesOneAtATime, ChosenHasResponse, InvocationIsDeclared}
+use Rattle.theory_machine.specs.Vocabulary.{OperatesWhileActive, OperationsAreNumbered, OwnLinesAreKept}
+use Rattle.theory_machine.specs.Vocabulary.{ReadQuorumIsMet, ViewIsWhole, ViewWasShown}
 use Rattle.theory_witnesses.proofs.Accepted.{extra_store_accepted, ticket_store_accepted}
 use Rattle.theory_witnesses.proofs.Broken.{not_apart, not_one_copy, wrong_log}
 use Rattle.theory_witnesses.proofs.Disorder.{not_ordered}
 use Rattle.theory_witnesses.proofs.Needs.{shows_need}
-use Rattle.theory_witnesses.specs.Names.{IsNeeded, LogsHoldOperations, OperationsAreOrdered, RecordsAreApart}
-use Rattle.theory_witnesses.specs.Names.{RecordsAreOneCopy, asks_the_unknown, begins, chooses, commits, commits_at}
-use Rattle.theory_witnesses.specs.Names.{counts, ends_at, executes, extra_store, finds_absent, first, grants_append}
-use Rattle.theory_witnesses.specs.Names.{invented_line, locks, operates, operation, prepares, reads_one, reads_only}
-use Rattle.theory_witnesses.specs.Names.{reads_zero, second, sends, takes, takes_none, ticket_store, votes, writes}
-use Rattle.theory_witnesses.specs.Names.{writes_one, writes_zero}
+use Rattle.theory_witnesses.specs.Vocabulary.{IsNeeded, LogsHoldOperations, OperationsAreOrdered, RecordsAreApart}
+use Rattle.theory_witnesses.specs.Vocabulary.{RecordsAreOneCopy, asks_the_unknown, begins, chooses, commits, commits_at}
+use Rattle.theory_witnesses.specs.Vocabulary.{counts, ends_at, executes, extra_store, finds_absent, first}
+use Rattle.theory_witnesses.specs.Vocabulary.{grants_append, invented_line, locks, operates, operation, prepares}
+use Rattle.theory_witnesses.specs.Vocabulary.{reads_one, reads_only, reads_zero, second, sends, takes, takes_none}
+use Rattle.theory_witnesses.specs.Vocabulary.{ticket_store, votes, writes, writes_one, writes_zero}
 
 -- A transaction begins again after its commit, and commits again.
 pub transactions_that_begin_twice : IsNeeded BeginsOnce RecordsAreApart

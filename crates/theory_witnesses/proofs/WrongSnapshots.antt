@@ -1,13 +1,13 @@
 -- Snapshots that are sent wrongly. Each run is one without the guard that its law names.
 use Rattle.std.proofs.Common.{refl, [], ◌∷◌, ◌++◌}
-use Rattle.theory_machine.specs.Names.{Closes, SnapshotIsOfClosed, SnapshotPassesDone, SnapshotPassesInstalls}
-use Rattle.theory_machine.specs.Names.{SnapshotTellsDeeds, TakeSnapshot}
+use Rattle.theory_machine.specs.Vocabulary.{Closes, SnapshotIsOfClosed, SnapshotPassesDone, SnapshotPassesInstalls}
+use Rattle.theory_machine.specs.Vocabulary.{SnapshotTellsDeeds, TakeSnapshot}
 use Rattle.theory_witnesses.proofs.Accepted.{moving_register_accepted}
 use Rattle.theory_witnesses.proofs.Broken.{not_one_copy}
 use Rattle.theory_witnesses.proofs.Needs.{shows_need}
-use Rattle.theory_witnesses.specs.Names.{IsNeeded, RecordsAreOneCopy, closes, decides, ends_at, first, installs}
-use Rattle.theory_witnesses.specs.Names.{moves_to, moving_register, reads_only, reads_zero, second, snapshot, tells}
-use Rattle.theory_witnesses.specs.Names.{writes}
+use Rattle.theory_witnesses.specs.Vocabulary.{IsNeeded, RecordsAreOneCopy, closes, decides, ends_at, first, installs}
+use Rattle.theory_witnesses.specs.Vocabulary.{moves_to, moving_register, reads_only, reads_zero, second, snapshot}
+use Rattle.theory_witnesses.specs.Vocabulary.{tells, writes}
 
 -- A site that closes tells nothing of a write that it has.
 pub snapshots_of_an_older_log : IsNeeded SnapshotTellsDeeds RecordsAreOneCopy

@@ -3,10 +3,10 @@ use Rattle.std.specs.Prelude.{◌≡◌, ◌≢◌, ◌<◌, ◌⊎◌, IsSome, 
 use Rattle.qc_decl.specs.declared.declaration.Declaration.{Declaration}
 use Rattle.qc_entry.specs.declared.line.Line.{Line}
 use Rattle.qc_entry.specs.declared.record.Commit.{Commit as CommitRecord}
-use Rattle.theory_onecopy.specs.Names.{AreApart, Executed, IsLogged, OneCopy, committed_line, depends_at, own_line}
-use Rattle.theory_onecopy.specs.Names.{sorted}
-use Rattle.qc_list.specs.Names.{In}
-use Rattle.theory_machine.specs.Names.{Act, Commit, FollowsSeen, IsLogOf, IsVerdictOf, Verdict, state}
+use Rattle.theory_onecopy.specs.Vocabulary.{AreApart, Executed, IsLogged, OneCopy, committed_line, depends_at, own_line}
+use Rattle.theory_onecopy.specs.Vocabulary.{sorted}
+use Rattle.qc_list.specs.Vocabulary.{In}
+use Rattle.theory_machine.specs.Vocabulary.{Act, Commit, FollowsSeen, IsLogOf, IsVerdictOf, Verdict, state}
 
 -- the guarantees by name; `Holds` says what each is
 pub data Guarantee : Type 0 where

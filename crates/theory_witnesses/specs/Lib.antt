@@ -4,4 +4,4 @@ pub mod Moves
 pub mod Stories
 pub mod Settings
 pub mod Witnesses
-pub mod Names
+pub mod Vocabulary

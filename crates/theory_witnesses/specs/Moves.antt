@@ -7,17 +7,17 @@ use Rattle.std.specs.Prelude.{filter, fold, length, Option, None, unwrap_or, fin
 use Rattle.std.specs.List.{list_any}
 use Rattle.qc_stamp.specs.declared.stamp.Stamp.{Stamp}
 use Rattle.qc_stamp.specs.declared.stamp.TxId.{TxId}
-use Rattle.qc_entry.specs.Names.{union}
+use Rattle.qc_entry.specs.Vocabulary.{union}
 use Rattle.qc_entry.specs.declared.line.Line.{Line}
 use Rattle.qc_entry.specs.declared.record.Commit.{Commit as CommitRecord}
-use Rattle.theory_onecopy.specs.Names.{Executed, own_line}
-use Rattle.theory_machine.specs.Names.{Abort, Act, Announce, AppendRequest, Begin, Choose, Close, Commit, CommitUnknown}
-use Rattle.theory_machine.specs.Names.{Count, Decide, Decision, Deed, DoneRecord, Execute, ExecuteAbsent, Grant}
-use Rattle.theory_machine.specs.Names.{Granted, Install, Installs, Item, Learn, Lock, Own, Prepare, PrepareLost}
-use Rattle.theory_machine.specs.Names.{Promise, Recover, Rise, RiseClient, SendAppend, Snapshot, State, TakeSnapshot}
-use Rattle.theory_machine.specs.Names.{Verdict, Vote, done_records, empty_site, epoch_from, op_of, own_on, site_after}
-use Rattle.theory_machine.specs.Names.{stamped_lines, state}
-use Rattle.qc_stamp.specs.Names.{same_tx}
+use Rattle.theory_onecopy.specs.Vocabulary.{Executed, own_line}
+use Rattle.theory_machine.specs.Vocabulary.{Abort, Act, Announce, AppendRequest, Begin, Choose, Close, Commit}
+use Rattle.theory_machine.specs.Vocabulary.{CommitUnknown, Count, Decide, Decision, Deed, DoneRecord, Execute}
+use Rattle.theory_machine.specs.Vocabulary.{ExecuteAbsent, Grant, Granted, Install, Installs, Item, Learn, Lock, Own}
+use Rattle.theory_machine.specs.Vocabulary.{Prepare, PrepareLost, Promise, Recover, Rise, RiseClient, SendAppend}
+use Rattle.theory_machine.specs.Vocabulary.{Snapshot, State, TakeSnapshot, Verdict, Vote, done_records, empty_site}
+use Rattle.theory_machine.specs.Vocabulary.{epoch_from, op_of, own_on, site_after, stamped_lines, state}
+use Rattle.qc_stamp.specs.Vocabulary.{same_tx}
 
 -- an act, made from the state
 abbrev pub Move : Type 0

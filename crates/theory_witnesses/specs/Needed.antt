@@ -1,24 +1,25 @@
 -- When a guard is needed: where it isn't asked, and every other guard is, some run breaks a guarantee.
 use Rattle.std.specs.Prelude.{ℕ, ◌==◌, Bool, not, List, [], ◌∷◌}
 use Rattle.qc_decl.specs.declared.declaration.Declaration.{Declaration}
-use Rattle.qc_decl.specs.Names.{IsAccepted}
-use Rattle.theory_machine.specs.Names.{AbortsBeforeRecord, AbsentHasNoResponse, Act, AllHaveVoted, AnswersFromView}
-use Rattle.theory_machine.specs.Names.{AppendCarriesEarlierLines, AppendCarriesOnlyOwnLines, AppendCarriesView}
-use Rattle.theory_machine.specs.Names.{AppendQuorumIsMet, AppendsWhatIsChosen, BeginsInPlannedEpoch, BeginsOnce}
-use Rattle.theory_machine.specs.Names.{ChoosesOneAtATime, ChosenHasResponse, ClosedSitesAnswered, ClosesEnough}
-use Rattle.theory_machine.specs.Names.{CommitsWhenVoting, CountsInItsEpoch, CountsWhatWasGranted, CountsWhileActive}
-use Rattle.theory_machine.specs.Names.{DecidePassesCommitted, DecidePassesSnapshots, DecidesByPlan}
-use Rattle.theory_machine.specs.Names.{DecidesFromSnapshots, DecidesNextEpoch, GrantPassesDone, GrantPassesInstalls}
-use Rattle.theory_machine.specs.Names.{GrantPassesLines, GrantTellsDeeds, GrantTellsEpoch, GrantTellsLife}
-use Rattle.theory_machine.specs.Names.{GrantsUnlessClosed, GrantsWhatWasRequested, GrantsWithoutConflict, Guard}
-use Rattle.theory_machine.specs.Names.{InstallsLaterEpoch, InstallsWhatWasDecided, InvocationIsDeclared, IsRunBy}
-use Rattle.theory_machine.specs.Names.{LearnsWhatWasAnnounced, MergesEveryEntry, MergesLogs, MergesOnlyCommitted}
-use Rattle.theory_machine.specs.Names.{OperatesWhileActive, OperationsAreNumbered, OwnLinesAreKept, PreparesOnce}
-use Rattle.theory_machine.specs.Names.{PreparesWhenExecuted, ReadQuorumIsMet, RecordHasOperations}
-use Rattle.theory_machine.specs.Names.{RecordsPrepareWhenAsked, ResolvesPrepared, RisesPastRecords}
-use Rattle.theory_machine.specs.Names.{RisesWithNoneRunning, SnapshotIsOfClosed, SnapshotPassesDone}
-use Rattle.theory_machine.specs.Names.{SnapshotPassesInstalls, SnapshotTellsDeeds, StampIsItsClients, StampPassesClock}
-use Rattle.theory_machine.specs.Names.{ViewIsWhole, ViewWasShown, VotesInGrantedLife, VotesWhenAsked}
+use Rattle.qc_decl.specs.Vocabulary.{IsAccepted}
+use Rattle.theory_machine.specs.Vocabulary.{AbortsBeforeRecord, AbsentHasNoResponse, Act, AllHaveVoted, AnswersFromView}
+use Rattle.theory_machine.specs.Vocabulary.{AppendCarriesEarlierLines, AppendCarriesOnlyOwnLines, AppendCarriesView}
+use Rattle.theory_machine.specs.Vocabulary.{AppendQuorumIsMet, AppendsWhatIsChosen, BeginsInPlannedEpoch, BeginsOnce}
+use Rattle.theory_machine.specs.Vocabulary.{ChoosesOneAtATime, ChosenHasResponse, ClosedSitesAnswered, ClosesEnough}
+use Rattle.theory_machine.specs.Vocabulary.{CommitsWhenVoting, CountsInItsEpoch, CountsWhatWasGranted}
+use Rattle.theory_machine.specs.Vocabulary.{CountsWhileActive, DecidePassesCommitted, DecidePassesSnapshots}
+use Rattle.theory_machine.specs.Vocabulary.{DecidesByPlan, DecidesFromSnapshots, DecidesNextEpoch, GrantPassesDone}
+use Rattle.theory_machine.specs.Vocabulary.{GrantPassesInstalls, GrantPassesLines, GrantTellsDeeds, GrantTellsEpoch}
+use Rattle.theory_machine.specs.Vocabulary.{GrantTellsLife, GrantsUnlessClosed, GrantsWhatWasRequested}
+use Rattle.theory_machine.specs.Vocabulary.{GrantsWithoutConflict, Guard, InstallsLaterEpoch, InstallsWhatWasDecided}
+use Rattle.theory_machine.specs.Vocabulary.{InvocationIsDeclared, IsRunBy, LearnsWhatWasAnnounced, MergesEveryEntry}
+use Rattle.theory_machine.specs.Vocabulary.{MergesLogs, MergesOnlyCommitted, OperatesWhileActive, OperationsAreNumbered}
+use Rattle.theory_machine.specs.Vocabulary.{OwnLinesAreKept, PreparesOnce, PreparesWhenExecuted, ReadQuorumIsMet}
+use Rattle.theory_machine.specs.Vocabulary.{RecordHasOperations, RecordsPrepareWhenAsked, ResolvesPrepared}
+use Rattle.theory_machine.specs.Vocabulary.{RisesPastRecords, RisesWithNoneRunning, SnapshotIsOfClosed}
+use Rattle.theory_machine.specs.Vocabulary.{SnapshotPassesDone, SnapshotPassesInstalls, SnapshotTellsDeeds}
+use Rattle.theory_machine.specs.Vocabulary.{StampIsItsClients, StampPassesClock, ViewIsWhole, ViewWasShown}
+use Rattle.theory_machine.specs.Vocabulary.{VotesInGrantedLife, VotesWhenAsked}
 use Rattle.theory_witnesses.specs.Guarantees.{Guarantee, Holds}
 
 -- all guards, in the order of the acts that ask them

@@ -1,10 +1,10 @@
 -- The declarations of the runs, beside the built-in ones.
 use Rattle.std.specs.Prelude.{ℕ, List, [], ◌∷◌, ◌++◌, codes, length, take}
-use Rattle.qc_decl.specs.Names.{register, register_kind, register_names, register_pairs, register_plan, row}
+use Rattle.qc_decl.specs.Vocabulary.{register, register_kind, register_names, register_pairs, register_plan, row}
 use Rattle.qc_decl.specs.declared.declaration.Declaration.{Declaration}
 use Rattle.qc_decl.specs.declared.declaration.KindNames.{KindNames}
 use Rattle.qc_plan.specs.declared.plan.Plan.{Plan}
-use Rattle.qc_table.specs.Names.{Rules, relation_of}
+use Rattle.qc_table.specs.Vocabulary.{Rules, relation_of}
 use Rattle.qc_table.specs.declared.kind.Kind.{Kind}
 use Rattle.qc_table.specs.declared.row.Row.{Row}
 

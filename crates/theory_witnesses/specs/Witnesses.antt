@@ -1,12 +1,12 @@
 -- Two runs of the protocol, in which it does what it is for: transactions commit, whatever befalls sites, clients and
 -- messages.
 use Rattle.std.specs.Prelude.{◌≡◌, ℕ, true, List, [], ◌∷◌, ◌++◌, Some}
-use Rattle.qc_decl.specs.Names.{IsAccepted}
+use Rattle.qc_decl.specs.Vocabulary.{IsAccepted}
 use Rattle.qc_decl.specs.declared.declaration.Declaration.{Declaration}
 use Rattle.qc_entry.specs.declared.line.Op.{Op}
 use Rattle.qc_entry.specs.declared.record.Commit.{Commit as CommitRecord}
-use Rattle.theory_onecopy.specs.Names.{sorted}
-use Rattle.theory_machine.specs.Names.{IsAllowed, IsRun, state}
+use Rattle.theory_onecopy.specs.Vocabulary.{sorted}
+use Rattle.theory_machine.specs.Vocabulary.{IsAllowed, IsRun, state}
 use Rattle.theory_witnesses.specs.Moves.{Move, acts_of, aborts, announces, begins, chooses, closes, decides, executes}
 use Rattle.theory_witnesses.specs.Moves.{falls_committing, grants_append, grants_read, installs, learns, prepares}
 use Rattle.theory_witnesses.specs.Moves.{recovers, rises, rises_at, sends, tells, votes}

@@ -1,7 +1,7 @@
 use Rattle.std.proofs.Common.{◌≡◌, ◌-◌, ℕ, None, arith, subst}
-use Rattle.qc_promise.specs.Names.{Spent}
-use Rattle.qc_top.specs.Names.{IsRackBlamed, folder_in}
-use Rattle.qc_words.specs.Names.{texts_of}
+use Rattle.qc_promise.specs.Vocabulary.{Spent}
+use Rattle.qc_top.specs.Vocabulary.{IsRackBlamed, folder_in}
+use Rattle.qc_words.specs.Vocabulary.{texts_of}
 use Rattle.quorum.proofs.Calls.{is_call}
 use Rattle.quorum.proofs.run_in_folder.Goals as goal
 

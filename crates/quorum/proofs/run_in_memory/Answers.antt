@@ -1,8 +1,8 @@
 use Rattle.std.proofs.Common.{Some, arith, refl}
-use Rattle.qc_outside.specs.Names.{held}
+use Rattle.qc_outside.specs.Vocabulary.{held}
 use Rattle.qc_outside.specs.declared.mem_rack.MemRack.{MemRack}
-use Rattle.qc_top.specs.Names.{folder_in}
-use Rattle.qc_words.specs.Names.{texts_of}
+use Rattle.qc_top.specs.Vocabulary.{folder_in}
+use Rattle.qc_words.specs.Vocabulary.{texts_of}
 use Rattle.quorum.proofs.Calls.{is_call, unblamed}
 use Rattle.quorum.proofs.run_in_memory.Goals as goal
 

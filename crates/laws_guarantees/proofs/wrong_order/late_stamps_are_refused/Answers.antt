@@ -1,5 +1,5 @@
 use Rattle.std.proofs.Common.{◌<◌, inl, inr, refl, arith}
-use Rattle.laws_guarantees.specs.Names.{line}
+use Rattle.laws_guarantees.specs.Vocabulary.{line}
 use Rattle.laws_guarantees.proofs.wrong_order.late_stamps_are_refused.Goals as goal
 
 none_less : line.stamp.clock < line.stamp.clock → ⊥

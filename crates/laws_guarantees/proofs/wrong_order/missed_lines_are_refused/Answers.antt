@@ -1,6 +1,6 @@
 use Rattle.std.proofs.Common.{◌≡◌, inl, inr, refl, ap, arith}
 use Rattle.qc_stamp.specs.declared.stamp.TxId.{TxId}
-use Rattle.laws_guarantees.specs.Names.{name, write, writes}
+use Rattle.laws_guarantees.specs.Vocabulary.{name, write, writes}
 use Rattle.laws_guarantees.proofs.wrong_order.missed_lines_are_refused.Goals as goal
 
 differ : (name 0).client ≡ (name 1).client → ⊥

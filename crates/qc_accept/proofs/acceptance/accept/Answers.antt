@@ -1,7 +1,7 @@
 use Rattle.std.proofs.Common.{◌≡◌, Ok, refl}
 use Rattle.std.proofs.lemmas.Result.{err_from_is_err_and}
 use Rattle.toml.specs.View.{table_view}
-use Rattle.qc_accept.specs.Names.{accepted, all_admitted, all_certified, declared, document_of, draft_in, draft_of}
+use Rattle.qc_accept.specs.Vocabulary.{accepted, all_admitted, all_certified, declared, document_of, draft_in, draft_of}
 use Rattle.qc_accept.proofs.CheckedDrafts.{draft_checked, draft_is, draft_planned}
 use Rattle.qc_accept.proofs.Accepting.{accepted_is, accepted_named}
 use Rattle.qc_accept.proofs.Told.{then_ok, then_err}

@@ -1,4 +1,4 @@
-use Rattle.qc_accept.specs.Names.{objects_in, types_in}
+use Rattle.qc_accept.specs.Vocabulary.{objects_in, types_in}
 use Rattle.qc_accept.proofs.DraftRead.{draft_same}
 use Rattle.qc_accept.proofs.acceptance.gathered.Goals as goal
 

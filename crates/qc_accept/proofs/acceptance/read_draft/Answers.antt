@@ -1,8 +1,8 @@
 use Rattle.std.specs.Prelude.{codes}
 use Rattle.std.proofs.lemmas.Result.{err_from_is_err_and}
 use Rattle.toml.specs.View.{table_view}
-use Rattle.qc_decl.specs.Names.{most_sites}
-use Rattle.qc_accept.specs.Names.{draft_in, path_in, table_in}
+use Rattle.qc_decl.specs.Vocabulary.{most_sites}
+use Rattle.qc_accept.specs.Vocabulary.{draft_in, path_in, table_in}
 use Rattle.qc_accept.proofs.DraftRead.{lists_read, no_clients, no_sites}
 use Rattle.qc_accept.proofs.Drafted.{number_is}
 use Rattle.qc_accept.proofs.acceptance.read_draft.Goals as goal

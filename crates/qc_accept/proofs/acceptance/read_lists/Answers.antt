@@ -1,5 +1,5 @@
 use Rattle.std.proofs.lemmas.Result.{err_from_is_err_and}
-use Rattle.qc_accept.specs.Names.{draft_in, objects_in, path_in, table_in, types_in}
+use Rattle.qc_accept.specs.Vocabulary.{draft_in, objects_in, path_in, table_in, types_in}
 use Rattle.qc_accept.proofs.DraftRead.{draft_read, few_names, fits, no_objects, no_plans, no_types, other_keys}
 use Rattle.qc_accept.proofs.Kept.{types_kept}
 use Rattle.qc_accept.proofs.acceptance.read_lists.Goals as goal

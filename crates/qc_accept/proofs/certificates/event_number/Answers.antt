@@ -1,5 +1,5 @@
 use Rattle.std.proofs.Common.{Some, None, ◌∙◌, arith}
-use Rattle.qc_accept.specs.Names.{events_in, words_in}
+use Rattle.qc_accept.specs.Vocabulary.{events_in, words_in}
 use Rattle.qc_accept.proofs.Outs.{event_uncut, event_unknown, event_cut}
 use Rattle.qc_accept.proofs.Texts.{split_is_cut}
 use Rattle.qc_accept.proofs.certificates.event_number.Goals as goal

@@ -6,7 +6,7 @@ use Rattle.std.specs.Str.{bytes_eq}
 use Rattle.std.proofs.lemmas.List.{length_push}
 use Rattle.std.proofs.lemmas.Iterator.Splits.{YieldsList-from_str_split}
 use Rattle.std.proofs.lemmas.Iterator.Consumers.{YieldsList-turn, YieldsList-end}
-use Rattle.qc_accept.specs.Names.{events_in, read_each, words_in}
+use Rattle.qc_accept.specs.Vocabulary.{events_in, read_each, words_in}
 use Rattle.qc_accept.proofs.Outs.{with_event_of, joined, no_event, parted}
 use Rattle.qc_accept.proofs.Reading.{reads_on, reads_none, reads_all}
 use Rattle.qc_accept.proofs.certificates.events_out.Goals as goal

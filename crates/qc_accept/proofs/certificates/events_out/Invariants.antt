@@ -1,7 +1,7 @@
 use Rattle.std.proofs.Common.{◌≡◌, length, drop}
 use Rattle.std.specs.Prelude.{◌==◌}
 use Rattle.std.specs.List.{slice_split}
-use Rattle.qc_accept.specs.Names.{events_in, read_each, words_in}
+use Rattle.qc_accept.specs.Vocabulary.{events_in, read_each, words_in}
 use Rattle.qc_accept.proofs.Outs.{with_event_of}
 use Rattle.qc_accept.proofs.certificates.events_out.Given as goal
 

@@ -2,10 +2,10 @@ use Rattle.std.proofs.Common.{◌≡◌, ◌<◌, List, Option, Some, None, ap, 
 use Rattle.std.specs.Prelude.{All, IfSome, option_map}
 use Rattle.std.proofs.lemmas.List.Elements.{All-push}
 use Rattle.std.proofs.lemmas.Result.{err_from_is_err_and}
-use Rattle.qc_table.specs.Names.{relation_of}
+use Rattle.qc_table.specs.Vocabulary.{relation_of}
 use Rattle.qc_table.specs.declared.relation.Pair.{Pair}
-use Rattle.qc_decl.specs.Names.{most_events, most_invocations}
-use Rattle.qc_accept.specs.Names.{events_in, pair_in, words_in}
+use Rattle.qc_decl.specs.Vocabulary.{most_events, most_invocations}
+use Rattle.qc_accept.specs.Vocabulary.{events_in, pair_in, words_in}
 use Rattle.qc_accept.proofs.ListTexts.{takes, no_text, no_item}
 use Rattle.qc_accept.proofs.certificates.relation.Goals as goal
 

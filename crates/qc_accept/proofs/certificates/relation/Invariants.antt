@@ -1,7 +1,7 @@
 use Rattle.std.proofs.Common.{◌≡◌, ◌<◌, All, drop}
 use Rattle.qc_table.specs.declared.relation.Pair.{Pair}
-use Rattle.qc_decl.specs.Names.{most_events, most_invocations}
-use Rattle.qc_accept.specs.Names.{data_of, events_in, pair_in, pairs_in, read_each, with_read, words_in}
+use Rattle.qc_decl.specs.Vocabulary.{most_events, most_invocations}
+use Rattle.qc_accept.specs.Vocabulary.{data_of, events_in, pair_in, pairs_in, read_each, with_read, words_in}
 use Rattle.qc_accept.proofs.certificates.relation.Given as goal
 
 abbrev pub invariant-loop-item : goal.invariant-loop-item

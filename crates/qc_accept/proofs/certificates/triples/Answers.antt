@@ -2,7 +2,7 @@ use Rattle.std.proofs.Common.{◌≡◌, List, Some, None, All, length, sym, sub
 use Rattle.std.proofs.lemmas.List.Elements.{All-push}
 use Rattle.std.proofs.lemmas.Result.{err_from_is_err_and}
 use Rattle.qc_cert.specs.declared.triple.Triple.{Triple}
-use Rattle.qc_accept.specs.Names.{data_of, events_in, names_in, triple_in, words_in}
+use Rattle.qc_accept.specs.Vocabulary.{data_of, events_in, names_in, triple_in, words_in}
 use Rattle.qc_accept.proofs.Alike.{AreLow, low_at, no_triples}
 use Rattle.qc_accept.proofs.ListTexts.{takes, no_text, no_item}
 use Rattle.qc_accept.proofs.certificates.triples.Goals as goal

@@ -1,5 +1,5 @@
 use Rattle.std.proofs.Common.{◌≡◌, [], All, drop}
-use Rattle.qc_accept.specs.Names.{data_of, events_in, read_each, triple_in, with_read, words_in}
+use Rattle.qc_accept.specs.Vocabulary.{data_of, events_in, read_each, triple_in, with_read, words_in}
 use Rattle.qc_accept.proofs.Alike.{AreLow}
 use Rattle.qc_accept.proofs.certificates.triples.Given as goal
 

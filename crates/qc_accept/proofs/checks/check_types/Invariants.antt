@@ -1,5 +1,5 @@
 use Rattle.std.proofs.Common.{◌≡◌, drop}
-use Rattle.qc_accept.specs.Names.{all_certified}
+use Rattle.qc_accept.specs.Vocabulary.{all_certified}
 use Rattle.qc_accept.proofs.checks.check_types.Given as goal
 
 abbrev pub invariant-loop-place : goal.invariant-loop-place

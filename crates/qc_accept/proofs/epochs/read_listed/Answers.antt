@@ -1,6 +1,6 @@
 use Rattle.std.proofs.lemmas.Result.{err_from_is_err_and}
 use Rattle.toml.specs.View.{view}
-use Rattle.qc_accept.specs.Names.{data_of, listed_in, store_in, with_item}
+use Rattle.qc_accept.specs.Vocabulary.{data_of, listed_in, store_in, with_item}
 use Rattle.qc_accept.proofs.Reading.{item_seen, reads_on, reads_none}
 use Rattle.qc_accept.proofs.epochs.read_listed.Goals as goal
 

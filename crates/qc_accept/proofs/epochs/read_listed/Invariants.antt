@@ -1,5 +1,5 @@
 use Rattle.std.proofs.Common.{◌≡◌, drop}
-use Rattle.qc_accept.specs.Names.{data_of, entries_in, listed_in, read_each, store_in, with_item}
+use Rattle.qc_accept.specs.Vocabulary.{data_of, entries_in, listed_in, read_each, store_in, with_item}
 use Rattle.qc_accept.proofs.epochs.read_listed.Given as goal
 
 abbrev pub invariant-loop-item : goal.invariant-loop-item

@@ -1,6 +1,6 @@
 use Rattle.std.proofs.lemmas.Result.{err_from_is_err_and}
 use Rattle.toml.specs.View.{view}
-use Rattle.qc_accept.specs.Names.{data_of, store_in, with_plan}
+use Rattle.qc_accept.specs.Vocabulary.{data_of, store_in, with_plan}
 use Rattle.qc_accept.proofs.Reading.{item_seen, stops}
 use Rattle.qc_accept.proofs.Told.{then_ok}
 use Rattle.qc_accept.proofs.epochs.read_plans.Goals as goal

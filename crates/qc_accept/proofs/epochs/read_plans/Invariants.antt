@@ -1,5 +1,5 @@
 use Rattle.std.proofs.Common.{◌≡◌, [], length, drop}
-use Rattle.qc_accept.specs.Names.{data_of, each, store_in, with_plan}
+use Rattle.qc_accept.specs.Vocabulary.{data_of, each, store_in, with_plan}
 use Rattle.qc_accept.proofs.epochs.read_plans.Given as goal
 
 abbrev pub invariant-loop-item : goal.invariant-loop-item

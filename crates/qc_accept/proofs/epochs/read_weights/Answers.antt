@@ -2,7 +2,7 @@ use Rattle.std.proofs.Common.{◌++◌, ℕ, [], ◌∷◌, Some, ap, sym, ◌�
 use Rattle.std.specs.Prelude.{option_map}
 use Rattle.std.proofs.lemmas.Result.{err_from_is_err_and}
 use Rattle.toml.specs.View.{view}
-use Rattle.qc_accept.specs.Names.{data_of, with_weight}
+use Rattle.qc_accept.specs.Vocabulary.{data_of, with_weight}
 use Rattle.qc_accept.proofs.Reading.{item_seen, reads_on, reads_none}
 use Rattle.qc_accept.proofs.epochs.read_weights.Goals as goal
 

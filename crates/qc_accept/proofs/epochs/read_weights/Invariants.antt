@@ -1,5 +1,5 @@
 use Rattle.std.proofs.Common.{◌≡◌, [], drop}
-use Rattle.qc_accept.specs.Names.{data_of, read_each, with_weight}
+use Rattle.qc_accept.specs.Vocabulary.{data_of, read_each, with_weight}
 use Rattle.qc_accept.proofs.epochs.read_weights.Given as goal
 
 abbrev pub invariant-loop-item : goal.invariant-loop-item

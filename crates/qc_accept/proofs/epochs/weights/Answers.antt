@@ -1,6 +1,6 @@
 use Rattle.std.proofs.Common.{[], ◌++◌}
 use Rattle.std.specs.Prelude.{codes}
-use Rattle.qc_accept.specs.Names.{data_of, items, path_in, read_each, table_in, with_weight}
+use Rattle.qc_accept.specs.Vocabulary.{data_of, items, path_in, read_each, table_in, with_weight}
 use Rattle.qc_accept.proofs.Told.{then_answers, told_answers}
 use Rattle.qc_accept.proofs.epochs.weights.Goals as goal
 

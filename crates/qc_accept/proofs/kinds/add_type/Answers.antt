@@ -2,7 +2,8 @@ use Rattle.std.proofs.Common.{◌≡◌, ◌++◌, List, suc, length, Ok, ap, �
 use Rattle.std.specs.Prelude.{codes}
 use Rattle.std.proofs.lemmas.Result.{err_from_is_err_and}
 use Rattle.toml.specs.View.{view}
-use Rattle.qc_accept.specs.Names.{Answer, TypeOf, TypesOf, names_in, path_in, table_in, type_in, types_in, with_name}
+use Rattle.qc_accept.specs.Vocabulary.{Answer, TypeOf, TypesOf, names_in, path_in, table_in, type_in, types_in}
+use Rattle.qc_accept.specs.Vocabulary.{with_name}
 use Rattle.qc_accept.proofs.Answered.{told_some}
 use Rattle.qc_accept.proofs.Kept.{name_more}
 use Rattle.qc_accept.proofs.Told.{told_err, told_ok}

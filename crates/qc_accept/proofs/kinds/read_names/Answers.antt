@@ -1,5 +1,5 @@
 use Rattle.std.proofs.Common.{[], ◌++◌}
-use Rattle.qc_accept.specs.Names.{data_of, items, names_in, path_in, read_each, table_in, with_name}
+use Rattle.qc_accept.specs.Vocabulary.{data_of, items, names_in, path_in, read_each, table_in, with_name}
 use Rattle.qc_accept.proofs.Told.{then_answers, told_answers}
 use Rattle.qc_accept.proofs.kinds.read_names.Goals as goal
 

@@ -1,7 +1,7 @@
 use Rattle.std.proofs.Common.{◌++◌}
 use Rattle.std.specs.Prelude.{codes, option_map}
-use Rattle.qc_table.specs.Names.{relation_of}
-use Rattle.qc_accept.specs.Names.{data_of, events_in, optional, pairs_in, path_in, table_in, words_in}
+use Rattle.qc_table.specs.Vocabulary.{relation_of}
+use Rattle.qc_accept.specs.Vocabulary.{data_of, events_in, optional, pairs_in, path_in, table_in, words_in}
 use Rattle.qc_accept.proofs.Told.{then_answers, told_answers}
 use Rattle.qc_accept.proofs.kinds.read_relation.Goals as goal
 

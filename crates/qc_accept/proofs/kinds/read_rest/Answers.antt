@@ -1,5 +1,5 @@
 use Rattle.std.proofs.lemmas.Result.{err_from_is_err_and}
-use Rattle.qc_accept.specs.Names.{events_in, path_in, table_in, words_in}
+use Rattle.qc_accept.specs.Vocabulary.{events_in, path_in, table_in, words_in}
 use Rattle.qc_accept.proofs.Gathered.{rest_err}
 use Rattle.qc_accept.proofs.kinds.read_rest.Goals as goal
 

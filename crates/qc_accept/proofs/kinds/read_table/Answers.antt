@@ -2,8 +2,8 @@ use Rattle.std.proofs.Common.{◌++◌, List, Ok, ap, sym, ◌∙◌}
 use Rattle.std.specs.Prelude.{codes}
 use Rattle.std.proofs.lemmas.Result.{err_from_is_err_and}
 use Rattle.qc_table.specs.declared.row.Row.{Row}
-use Rattle.qc_decl.specs.Names.{most_rows}
-use Rattle.qc_accept.specs.Names.{Answer, data_of, items, path_in, rows, rows_in, table_in, words_in}
+use Rattle.qc_decl.specs.Vocabulary.{most_rows}
+use Rattle.qc_accept.specs.Vocabulary.{Answer, data_of, items, path_in, rows, rows_in, table_in, words_in}
 use Rattle.qc_accept.proofs.Told.{then_answers, then_err, then_ok, told_err, told_ok}
 use Rattle.qc_accept.proofs.TypeFields.{few_rows}
 use Rattle.qc_accept.proofs.kinds.read_table.Goals as goal

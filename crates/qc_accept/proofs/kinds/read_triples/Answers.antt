@@ -1,6 +1,6 @@
 use Rattle.std.proofs.Common.{◌++◌}
 use Rattle.std.specs.Prelude.{codes}
-use Rattle.qc_accept.specs.Names.{data_of, events_in, optional, path_in, table_in, triples_in, words_in}
+use Rattle.qc_accept.specs.Vocabulary.{data_of, events_in, optional, path_in, table_in, triples_in, words_in}
 use Rattle.qc_accept.proofs.Told.{then_answers, told_answers}
 use Rattle.qc_accept.proofs.kinds.read_triples.Goals as goal
 

@@ -1,7 +1,7 @@
 use Rattle.std.proofs.Common.{refl, sym, subst}
 use Rattle.std.proofs.lemmas.Result.{err_from_is_err_and}
-use Rattle.qc_table.specs.Names.{events_of}
-use Rattle.qc_accept.specs.Names.{IsAnswer, name_at, names_in, path_in, table_in, type_in, words_in}
+use Rattle.qc_table.specs.Vocabulary.{events_of}
+use Rattle.qc_accept.specs.Vocabulary.{IsAnswer, name_at, names_in, path_in, table_in, type_in, words_in}
 use Rattle.qc_accept.proofs.Gathered.{rest_is}
 use Rattle.qc_accept.proofs.Kept.{words_are}
 use Rattle.qc_accept.proofs.TypeFields.{few_ruled, has_words, no_ruled, no_words}

@@ -2,7 +2,7 @@ use Rattle.std.proofs.Common.{◌≡◌, ◌≤◌, suc, length, arith}
 use Rattle.std.proofs.lemmas.List.{length-map}
 use Rattle.std.proofs.lemmas.Result.{err_from_is_err_and}
 use Rattle.toml.specs.View.{view}
-use Rattle.qc_accept.specs.Names.{data_of, path_in, table_in, types_in, with_type}
+use Rattle.qc_accept.specs.Vocabulary.{data_of, path_in, table_in, types_in, with_type}
 use Rattle.qc_accept.proofs.Reading.{goes_on, stops, ends, item_seen}
 use Rattle.qc_accept.proofs.Typed.{type_named, types_read}
 use Rattle.qc_accept.proofs.kinds.read_types.Goals as goal

@@ -1,6 +1,6 @@
 use Rattle.std.proofs.Common.{◌≡◌, ◌≤◌, [], length, drop}
-use Rattle.qc_decl.specs.Names.{most_types}
-use Rattle.qc_accept.specs.Names.{data_of, each, types_in, with_type}
+use Rattle.qc_decl.specs.Vocabulary.{most_types}
+use Rattle.qc_accept.specs.Vocabulary.{data_of, each, types_in, with_type}
 use Rattle.qc_accept.proofs.kinds.read_types.Given as goal
 
 abbrev pub invariant-loop-item : goal.invariant-loop-item

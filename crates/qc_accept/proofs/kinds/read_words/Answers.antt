@@ -2,8 +2,8 @@ use Rattle.std.proofs.Common.{◌++◌, refl, arith}
 use Rattle.std.specs.Prelude.{codes}
 use Rattle.std.proofs.lemmas.Result.{err_from_is_err_and}
 use Rattle.toml.specs.View.{view}
-use Rattle.qc_decl.specs.Names.{most_invocations, most_responses, most_states}
-use Rattle.qc_accept.specs.Names.{name_among, names, names_in, path_in, required, table_in, told}
+use Rattle.qc_decl.specs.Vocabulary.{most_invocations, most_responses, most_states}
+use Rattle.qc_accept.specs.Vocabulary.{name_among, names, names_in, path_in, required, table_in, told}
 use Rattle.qc_accept.proofs.Kept.{named}
 use Rattle.qc_accept.proofs.Told.{then_err, then_ok, told_err, told_ok}
 use Rattle.qc_accept.proofs.kinds.read_words.Goals as goal

@@ -2,7 +2,7 @@ use Rattle.std.proofs.Common.{◌≡◌, [], None, sym, ap, ◌∙◌}
 use Rattle.std.proofs.lemmas.Result.{err_from_is_err_and}
 use Rattle.toml.specs.View.{view}
 use Rattle.qc_accept.specs.declared.fault.Wrong.TheVariants.{Form}
-use Rattle.qc_accept.specs.Names.{data_of, names_in, read_each, with_name}
+use Rattle.qc_accept.specs.Vocabulary.{data_of, names_in, read_each, with_name}
 use Rattle.qc_accept.proofs.Steps.{read_on, read_none, read_all}
 use Rattle.qc_accept.proofs.names.read_index.Goals as goal
 

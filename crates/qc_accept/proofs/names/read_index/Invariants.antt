@@ -1,5 +1,5 @@
 use Rattle.std.proofs.Common.{◌≡◌, [], drop}
-use Rattle.qc_accept.specs.Names.{data_of, names_in, read_each, with_name}
+use Rattle.qc_accept.specs.Vocabulary.{data_of, names_in, read_each, with_name}
 use Rattle.qc_accept.proofs.names.read_index.Given as goal
 
 abbrev pub invariant-loop-item : goal.invariant-loop-item

@@ -1,7 +1,7 @@
 use Rattle.std.proofs.Common.{◌+◌, ℕ, ap, ◌∙◌}
 use Rattle.std.proofs.lemmas.Result.{err_from_is_err_and}
 use Rattle.toml.specs.View.{view}
-use Rattle.qc_accept.specs.Names.{data_of, names_in, objects_in, with_object}
+use Rattle.qc_accept.specs.Vocabulary.{data_of, names_in, objects_in, with_object}
 use Rattle.qc_accept.proofs.Counted.{object_counted}
 use Rattle.qc_accept.proofs.Reading.{goes_on, item_seen, stops}
 use Rattle.qc_accept.proofs.Told.{then_ok}

@@ -1,5 +1,5 @@
 use Rattle.std.proofs.Common.{◌≡◌, [], length, drop}
-use Rattle.qc_accept.specs.Names.{data_of, each, names_in, objects_in, with_object}
+use Rattle.qc_accept.specs.Vocabulary.{data_of, each, names_in, objects_in, with_object}
 use Rattle.qc_accept.proofs.objects.read_objects.Given as goal
 
 abbrev pub invariant-loop-item : goal.invariant-loop-item

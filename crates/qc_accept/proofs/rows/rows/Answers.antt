@@ -1,6 +1,6 @@
 use Rattle.std.proofs.Common.{◌≡◌, Some, None, sym, ◌∙◌}
 use Rattle.std.proofs.lemmas.Result.{err_from_is_err_and}
-use Rattle.qc_accept.specs.Names.{row_in, words_in}
+use Rattle.qc_accept.specs.Vocabulary.{row_in, words_in}
 use Rattle.qc_accept.proofs.ListTexts.{takes, no_text, no_item}
 use Rattle.qc_accept.proofs.rows.rows.Goals as goal
 

@@ -1,5 +1,5 @@
 use Rattle.std.proofs.Common.{◌≡◌, drop}
-use Rattle.qc_accept.specs.Names.{data_of, read_each, row_in, rows_in, with_read, words_in}
+use Rattle.qc_accept.specs.Vocabulary.{data_of, read_each, row_in, rows_in, with_read, words_in}
 use Rattle.qc_accept.proofs.rows.rows.Given as goal
 
 abbrev pub invariant-loop-item : goal.invariant-loop-item

@@ -4,7 +4,7 @@ use Rattle.std.proofs.lemmas.Iterator.{YieldsList-from_zip}
 use Rattle.std.proofs.lemmas.Iterator.Adapters.{YieldsList-from_vec}
 use Rattle.std.proofs.lemmas.Iterator.Consumers.{YieldsList-at, YieldsList-end, YieldsList-turn}
 use Rattle.std.specs.List.{zip}
-use Rattle.qc_accept.specs.Names.{names_in, type_in}
+use Rattle.qc_accept.specs.Vocabulary.{names_in, type_in}
 use Rattle.qc_accept.proofs.Sorted.{kept_all, kept_more, kind_in, kinds_sorted, names_in_pair, names_sorted, triples_in}
 use Rattle.qc_accept.proofs.Sorted.{triples_sorted}
 use Rattle.qc_accept.proofs.sorting.sort_types.Goals as goal

@@ -1,6 +1,6 @@
 use Rattle.std.proofs.Common.{◌≡◌, length, map, take}
 use Rattle.std.specs.List.{zip}
-use Rattle.qc_accept.specs.Names.{names_in}
+use Rattle.qc_accept.specs.Vocabulary.{names_in}
 use Rattle.qc_accept.proofs.Sorted.{kind_in, triples_in, names_in_pair}
 use Rattle.qc_accept.proofs.sorting.sort_types.Given as goal
 

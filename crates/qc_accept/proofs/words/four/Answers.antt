@@ -1,5 +1,5 @@
 use Rattle.std.proofs.Common.{ℕ, List, Some, None, arith}
-use Rattle.qc_accept.specs.Names.{three}
+use Rattle.qc_accept.specs.Vocabulary.{three}
 use Rattle.qc_accept.proofs.Texts.{split_is_cut, word_more, word_none}
 use Rattle.qc_accept.proofs.words.four.Goals as goal
 

@@ -2,7 +2,7 @@ use Rattle.std.proofs.Common.{ap, sym, ◌∙◌, rules}
 use Rattle.std.proofs.lemmas.Iterator.{YieldsList-from_slice}
 use Rattle.std.proofs.lemmas.Iterator.Search.{all_from_yields_List}
 use borrow.Author.Tests.{tests}
-use Rattle.qc_decl.specs.Names.{is_name, is_name_byte}
+use Rattle.qc_decl.specs.Vocabulary.{is_name, is_name_byte}
 use Rattle.qc_accept.proofs.Texts.{named}
 use Rattle.qc_accept.proofs.words.is_name.Goals as goal
 

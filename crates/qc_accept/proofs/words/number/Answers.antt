@@ -3,8 +3,8 @@ use Rattle.std.specs.List.{list_all}
 use Rattle.std.proofs.lemmas.Iterator.{YieldsList-from_slice}
 use Rattle.std.proofs.lemmas.Iterator.Search.{all_from_yields_List}
 use borrow.Author.Tests.{tests}
-use Rattle.qc_decl.specs.Names.{is_between}
-use Rattle.qc_accept.specs.Names.{number_in}
+use Rattle.qc_decl.specs.Vocabulary.{is_between}
+use Rattle.qc_accept.specs.Vocabulary.{number_in}
 use Rattle.qc_accept.proofs.Digits.{read_number}
 use Rattle.qc_accept.proofs.words.number.Goals as goal
 

@@ -1,6 +1,6 @@
 use Rattle.std.proofs.Common.{◌≡◌, ◌+◌, ◌-◌, ◌*◌, ◌<◌, drop}
 use Rattle.std.specs.List.{fold}
-use Rattle.qc_accept.specs.Names.{value_of}
+use Rattle.qc_accept.specs.Vocabulary.{value_of}
 use Rattle.qc_accept.proofs.Digits.{limit}
 use Rattle.qc_accept.proofs.words.value.Given as goal
 

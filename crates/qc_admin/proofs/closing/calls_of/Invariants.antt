@@ -1,6 +1,6 @@
 use Rattle.std.proofs.Common.{◌≡◌, ◌+◌, ◌≤◌, ◌++◌, length, drop}
-use Rattle.qc_front.specs.Names.{awaited}
-use Rattle.qc_msg.specs.Names.{calls_from}
+use Rattle.qc_front.specs.Vocabulary.{awaited}
+use Rattle.qc_msg.specs.Vocabulary.{calls_from}
 use Rattle.qc_admin.proofs.closing.calls_of.Given as goal
 
 -- the calls so far, with those to the sites that are left, are all of them; there is one at most for each site so far

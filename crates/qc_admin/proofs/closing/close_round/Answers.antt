@@ -2,10 +2,10 @@ use Rattle.std.proofs.Common.{◌≡◌, ℕ, Some, sym, ap, ◌∙◌, arith}
 use Rattle.std.specs.Prelude.{Result, Ok, Err, IfOk}
 use Rattle.std.specs.declared.alloc.AllocError.{AllocError}
 use Rattle.qc_plan.specs.declared.plan.Plan.{Plan}
-use Rattle.qc_plan.specs.Names.{IsCloseWeight, RoundState, start}
+use Rattle.qc_plan.specs.Vocabulary.{IsCloseWeight, RoundState, start}
 use Rattle.qc_plan.proofs.Least.{close_weight_is_least}
-use Rattle.qc_decl.specs.Names.{plan_in}
-use Rattle.qc_epoch.specs.Names.{close_need, close_round, close_round_by}
+use Rattle.qc_decl.specs.Vocabulary.{plan_in}
+use Rattle.qc_epoch.specs.Vocabulary.{close_need, close_round, close_round_by}
 use Rattle.qc_admin.proofs.closing.close_round.Goals as goal
 
 -- there is one close weight

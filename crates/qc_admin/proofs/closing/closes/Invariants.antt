@@ -1,5 +1,5 @@
 use Rattle.std.proofs.Common.{◌≡◌, ◌++◌, drop, map}
-use Rattle.qc_epoch.specs.Names.{close_of}
+use Rattle.qc_epoch.specs.Vocabulary.{close_of}
 use Rattle.qc_admin.proofs.closing.closes.Given as goal
 
 -- the Closes so far, with those to the sites that are left, are all of them

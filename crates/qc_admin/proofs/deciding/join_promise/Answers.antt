@@ -1,8 +1,8 @@
 use Rattle.std.proofs.Common.{◌≡◌, None, sym, ap, ◌∙◌}
-use Rattle.qc_entry.specs.Names.{union}
+use Rattle.qc_entry.specs.Vocabulary.{union}
 use Rattle.qc_entry.proofs.Union.{union-nil}
-use Rattle.qc_epoch.specs.Names.{promised_lines}
-use Rattle.qc_admin.specs.Names.{stamp_at}
+use Rattle.qc_epoch.specs.Vocabulary.{promised_lines}
+use Rattle.qc_admin.specs.Vocabulary.{stamp_at}
 use Rattle.qc_admin.proofs.deciding.join_promise.Goals as goal
 
 pub returns-in_default : goal.returns-in_default

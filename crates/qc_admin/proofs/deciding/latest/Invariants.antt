@@ -1,5 +1,5 @@
 use Rattle.std.proofs.Common.{◌≡◌, ℕ, drop, fold, max}
-use Rattle.qc_epoch.specs.Names.{ShutSite}
+use Rattle.qc_epoch.specs.Vocabulary.{ShutSite}
 use Rattle.qc_admin.proofs.deciding.latest.Given as goal
 
 abbrev pub invariant-loop-shut : goal.invariant-loop-shut

@@ -5,8 +5,8 @@ use Rattle.std.proofs.Math.ListN.{drop_of_length-le}
 use Rattle.qc_stamp.specs.declared.stamp.Stamp.{Stamp}
 use Rattle.qc_stamp.specs.declared.stamp.TxId.{TxId}
 use Rattle.qc_entry.specs.declared.line.Line.{Line}
-use Rattle.qc_epoch.specs.Names.{merged, stamp_of}
-use Rattle.qc_admin.specs.Names.{stamp_at, with_shut_by}
+use Rattle.qc_epoch.specs.Vocabulary.{merged, stamp_of}
+use Rattle.qc_admin.specs.Vocabulary.{stamp_at, with_shut_by}
 use Rattle.qc_admin.proofs.deciding.merged.Goals as goal
 
 -- functions with the same values are the same

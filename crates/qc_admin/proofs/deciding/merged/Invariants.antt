@@ -1,5 +1,5 @@
 use Rattle.std.proofs.Common.{◌≡◌, [], drop, fold}
-use Rattle.qc_admin.specs.Names.{stamp_at, with_shut_by}
+use Rattle.qc_admin.specs.Vocabulary.{stamp_at, with_shut_by}
 use Rattle.qc_admin.proofs.deciding.merged.Given as goal
 
 abbrev pub invariant-shuts : goal.invariant-shuts

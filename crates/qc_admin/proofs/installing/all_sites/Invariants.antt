@@ -1,6 +1,6 @@
 use Rattle.std.proofs.Common.{◌≡◌, ◌-◌, ◌++◌}
 use Rattle.std.specs.List.{range_with_len}
-use Rattle.qc_epoch.specs.Names.{all_sites}
+use Rattle.qc_epoch.specs.Vocabulary.{all_sites}
 use Rattle.qc_admin.proofs.installing.all_sites.Given as goal
 
 -- the sites so far, with those that are left, are all of them

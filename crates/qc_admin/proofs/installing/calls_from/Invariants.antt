@@ -1,5 +1,5 @@
 use Rattle.std.proofs.Common.{◌≡◌, ◌+◌, ◌≤◌, ◌++◌, length, drop}
-use Rattle.qc_msg.specs.Names.{calls_from}
+use Rattle.qc_msg.specs.Vocabulary.{calls_from}
 use Rattle.qc_admin.proofs.installing.calls_from.Given as goal
 
 -- the calls so far, with those to the sites that are left, are all of them

@@ -1,5 +1,5 @@
 use Rattle.std.proofs.Common.{◌^◌, ◌<◌, get_or, arith}
-use Rattle.qc_epoch.specs.Names.{site_set}
+use Rattle.qc_epoch.specs.Vocabulary.{site_set}
 use Rattle.qc_admin.proofs.Bits.{below_16, bits_from}
 use Rattle.qc_admin.proofs.installing.site_set.Goals as goal
 

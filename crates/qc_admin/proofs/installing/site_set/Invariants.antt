@@ -1,5 +1,5 @@
 use Rattle.std.proofs.Common.{◌≡◌, ◌+◌, drop}
-use Rattle.qc_epoch.specs.Names.{site_set}
+use Rattle.qc_epoch.specs.Vocabulary.{site_set}
 use Rattle.qc_admin.proofs.installing.site_set.Given as goal
 
 abbrev pub invariant-loop-site : goal.invariant-loop-site

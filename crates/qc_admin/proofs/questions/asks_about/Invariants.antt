@@ -1,7 +1,7 @@
 use Rattle.std.proofs.Common.{◌≡◌, ◌++◌, ◌<◌, drop, map}
 use Rattle.std.specs.List.{AllByRecursion as Every}
-use Rattle.qc_decl.specs.Names.{most_clients}
-use Rattle.qc_admin.specs.Names.{ask_about}
+use Rattle.qc_decl.specs.Vocabulary.{most_clients}
+use Rattle.qc_admin.specs.Vocabulary.{ask_about}
 use Rattle.qc_admin.specs.declared.questions.Query.{Query}
 use Rattle.qc_admin.proofs.questions.asks_about.Given as goal
 

@@ -1,6 +1,6 @@
 use Rattle.std.proofs.Common.{◌≡◌, drop}
-use Rattle.qc_epoch.specs.Names.{first_doubt}
-use Rattle.qc_admin.specs.Names.{unasked}
+use Rattle.qc_epoch.specs.Vocabulary.{first_doubt}
+use Rattle.qc_admin.specs.Vocabulary.{unasked}
 use Rattle.qc_admin.proofs.questions.doubt_in.Given as goal
 
 abbrev pub invariant-queries : goal.invariant-queries

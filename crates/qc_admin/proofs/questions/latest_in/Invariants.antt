@@ -1,5 +1,5 @@
 use Rattle.std.proofs.Common.{◌≡◌, drop}
-use Rattle.qc_admin.specs.Names.{latest_of, unasked}
+use Rattle.qc_admin.specs.Vocabulary.{latest_of, unasked}
 use Rattle.qc_admin.proofs.questions.latest_in.Given as goal
 
 abbrev pub invariant-queries : goal.invariant-queries

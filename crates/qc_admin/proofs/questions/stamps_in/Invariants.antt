@@ -1,7 +1,7 @@
 use Rattle.std.proofs.Common.{◌≡◌, ◌≤◌, drop, length}
-use Rattle.qc_epoch.specs.Names.{stamp_of}
+use Rattle.qc_epoch.specs.Vocabulary.{stamp_of}
 use Rattle.qc_stamp.specs.declared.stamp.TxId.{TxId}
-use Rattle.qc_admin.specs.Names.{stamp_at, unasked}
+use Rattle.qc_admin.specs.Vocabulary.{stamp_at, unasked}
 use Rattle.qc_admin.proofs.questions.stamps_in.Given as goal
 
 abbrev pub invariant-queries : goal.invariant-queries

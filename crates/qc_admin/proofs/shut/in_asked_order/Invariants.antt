@@ -1,6 +1,6 @@
 use Rattle.std.proofs.Common.{◌≡◌, ◌++◌, drop}
-use Rattle.qc_epoch.specs.Names.{in_asked_order}
-use Rattle.qc_admin.specs.Names.{with_last}
+use Rattle.qc_epoch.specs.Vocabulary.{in_asked_order}
+use Rattle.qc_admin.specs.Vocabulary.{with_last}
 use Rattle.qc_admin.proofs.shut.in_asked_order.Given as goal
 
 abbrev pub invariant-loop-site : goal.invariant-loop-site

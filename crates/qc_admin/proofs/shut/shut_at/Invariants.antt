@@ -1,6 +1,6 @@
 use Rattle.std.proofs.Common.{◌≡◌, drop}
-use Rattle.qc_epoch.specs.Names.{shut_at}
-use Rattle.qc_admin.specs.Names.{with_last}
+use Rattle.qc_epoch.specs.Vocabulary.{shut_at}
+use Rattle.qc_admin.specs.Vocabulary.{with_last}
 use Rattle.qc_admin.proofs.shut.shut_at.Given as goal
 
 abbrev pub invariant-shuts : goal.invariant-shuts

@@ -1,5 +1,5 @@
 use Rattle.std.proofs.Common.{◌≡◌, ◌++◌, drop, map}
-use Rattle.qc_epoch.specs.Names.{ShutSite}
+use Rattle.qc_epoch.specs.Vocabulary.{ShutSite}
 use Rattle.qc_admin.proofs.shut.sites_of.Given as goal
 
 abbrev pub invariant-loop-shut : goal.invariant-loop-shut

@@ -1,5 +1,5 @@
 use Rattle.std.proofs.Common.{◌≡◌, take}
-use Rattle.qc_cert.specs.Names.{any_within}
+use Rattle.qc_cert.specs.Vocabulary.{any_within}
 use Rattle.qc_cert.proofs.blocks.any_within.Given as goal
 
 abbrev pub invariant-loop-set : goal.invariant-loop-set

@@ -1,5 +1,5 @@
 use Rattle.std.proofs.Common.{◌≡◌, false, take}
-use Rattle.qc_cert.specs.Names.{parts_within}
+use Rattle.qc_cert.specs.Vocabulary.{parts_within}
 use Rattle.qc_cert.proofs.blocks.covers.Given as goal
 
 abbrev pub invariant-loop-block : goal.invariant-loop-block

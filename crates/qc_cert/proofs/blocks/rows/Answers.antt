@@ -1,6 +1,6 @@
 use Rattle.std.proofs.Common.{◌/◌, ◌%◌, length, sym, subst, rules}
 use Rattle.qc_cert.proofs.Tables.{rows_more}
-use Rattle.qc_cert.specs.Names.{AreRows, IsRow}
+use Rattle.qc_cert.specs.Vocabulary.{AreRows, IsRow}
 use Rattle.qc_cert.proofs.blocks.rows.Goals as goal
 
 pub rows-preserved : goal.rows-preserved

@@ -1,5 +1,5 @@
 use Rattle.std.proofs.Common.{◌≡◌, length}
-use Rattle.qc_cert.specs.Names.{AreRows}
+use Rattle.qc_cert.specs.Vocabulary.{AreRows}
 use Rattle.qc_cert.proofs.blocks.rows.Given as goal
 
 abbrev pub invariant-rows : goal.invariant-rows

@@ -1,7 +1,7 @@
 use Rattle.std.proofs.Common.{◌≡◌, ◌+◌, Bool, List, ap, sym, refl, ◌∙◌, ◌++◌, ◌∷◌, [], append_assoc, take, drop, get_or}
 use Rattle.std.specs.Prelude.{not, ◌||◌}
 use Rattle.qc_cert.proofs.MarkedTriples.{order_tells, among_by, seen_with, seen_more, marks_more}
-use Rattle.qc_cert.specs.Names.{firsts_after, is_among, is_same, triple}
+use Rattle.qc_cert.specs.Vocabulary.{firsts_after, is_among, is_same, triple}
 use Rattle.qc_cert.specs.declared.triple.Triple.{Triple}
 use Rattle.qc_cert.proofs.firsts.firsts.Goals as goal
 

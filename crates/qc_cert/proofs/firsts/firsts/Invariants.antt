@@ -1,5 +1,5 @@
 use Rattle.std.proofs.Common.{◌≡◌, ◌++◌, drop, take}
-use Rattle.qc_cert.specs.Names.{firsts, firsts_after, is_among}
+use Rattle.qc_cert.specs.Vocabulary.{firsts, firsts_after, is_among}
 use Rattle.qc_cert.specs.declared.triple.Triple.{Triple}
 use Rattle.qc_cert.proofs.firsts.firsts.Given as goal
 

@@ -2,9 +2,9 @@ use Rattle.std.proofs.Common.{◌≡◌, ◌<◌, ℕ, List, ◌∷◌, length, 
 use Rattle.std.specs.Prelude.{◌||◌}
 use Rattle.std.proofs.lemmas.List.{get_or_read}
 use Rattle.std.proofs.lemmas.Result.{on_ok_weaker}
-use Rattle.qc_cert.specs.Names.{any_within, outs_at, parts_within}
+use Rattle.qc_cert.specs.Vocabulary.{any_within, outs_at, parts_within}
 use Rattle.qc_cert.proofs.Grouped.{group_added}
-use Rattle.qc_table.specs.Names.{is_within}
+use Rattle.qc_table.specs.Vocabulary.{is_within}
 use Rattle.qc_cert.proofs.groups.add_triple.Goals as goal
 
 pub returns-clause-added : goal.returns-clause-added

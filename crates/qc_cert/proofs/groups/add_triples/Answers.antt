@@ -5,7 +5,7 @@ use Rattle.qc_cert.proofs.Grouped.{group_more}
 use Rattle.qc_cert.proofs.MarkedTriples.{marked_more}
 use Rattle.qc_cert.proofs.groups.add_triples.Goals as goal
 use Rattle.qc_cert.proofs.groups.add_triples.Goals.{then-marks-place+in_ok-add_triple, else-marks-place}
-use Rattle.qc_cert.specs.Names.{any_within, marked, outs_at, parts_within, triple}
+use Rattle.qc_cert.specs.Vocabulary.{any_within, marked, outs_at, parts_within, triple}
 use Rattle.qc_cert.specs.declared.triple.Triple.{Triple}
 
 pub triples-preserved : goal.triples-preserved

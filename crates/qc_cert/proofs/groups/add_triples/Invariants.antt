@@ -1,6 +1,6 @@
 use Rattle.std.proofs.Common.{◌≡◌, ℕ, [], length, drop, slice_index_or}
 use Rattle.std.specs.Prelude.{◌||◌}
-use Rattle.qc_cert.specs.Names.{any_within, marked, outs_at, parts_within}
+use Rattle.qc_cert.specs.Vocabulary.{any_within, marked, outs_at, parts_within}
 use Rattle.qc_cert.proofs.groups.add_triples.Given as goal
 
 abbrev pub invariant-triples : goal.invariant-triples

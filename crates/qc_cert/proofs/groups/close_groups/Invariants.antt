@@ -1,5 +1,5 @@
 use Rattle.std.proofs.Common.{◌≡◌, ℕ, [], length, slice_index_or}
-use Rattle.qc_cert.specs.Names.{parts_within}
+use Rattle.qc_cert.specs.Vocabulary.{parts_within}
 use Rattle.qc_cert.proofs.groups.close_groups.Given as goal
 
 abbrev pub invariant-groups : goal.invariant-groups

@@ -1,6 +1,6 @@
 use Rattle.std.proofs.Common.{ap, ◌∙◌, get_or, rules, []}
 use Rattle.qc_cert.proofs.Grouped.{empty_more}
-use Rattle.qc_cert.specs.Names.{parts_within}
+use Rattle.qc_cert.specs.Vocabulary.{parts_within}
 use Rattle.qc_cert.proofs.groups.empty_groups.Goals as goal
 
 pub groups-preserved : goal.groups-preserved

@@ -2,9 +2,9 @@ use Rattle.std.proofs.Common.{◌≡◌, ◌<◌, ◌∷◌, ◌++◌, [], ℕ, 
 use Rattle.std.specs.Prelude.{◌||◌}
 use Rattle.std.proofs.lemmas.List.{get_or_read}
 use Rattle.std.proofs.lemmas.Result.{on_ok_weaker}
-use Rattle.qc_cert.specs.Names.{parts_within}
+use Rattle.qc_cert.specs.Vocabulary.{parts_within}
 use Rattle.qc_cert.proofs.Shared.{part_grown}
-use Rattle.qc_table.specs.Names.{is_within}
+use Rattle.qc_table.specs.Vocabulary.{is_within}
 use Rattle.qc_cert.proofs.parts.add.Goals as goal
 
 pub returns-clause-added : goal.returns-clause-added

@@ -1,5 +1,5 @@
 use Rattle.std.proofs.Common.{◌≡◌, ◌<◌, ◌^◌, ◌*◌, ◌/◌, ◌%◌, ℕ, Bool, true, false, refl, sym, ◌∙◌, arith}
-use Rattle.qc_cert.specs.Names.{parts_within}
+use Rattle.qc_cert.specs.Vocabulary.{parts_within}
 use Rattle.qc_cert.proofs.Shared.{none_looked}
 use Rattle.qc_cert.proofs.parts.covers.Goals as goal
 

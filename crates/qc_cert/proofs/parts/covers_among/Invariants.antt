@@ -1,6 +1,6 @@
 use Rattle.std.proofs.Common.{◌≡◌, ◌<◌, ◌≤◌, ◌^◌, ℕ, [], true, false, slice_index_or}
-use Rattle.qc_cert.specs.Names.{any_within}
-use Rattle.qc_table.specs.Names.{has}
+use Rattle.qc_cert.specs.Vocabulary.{any_within}
+use Rattle.qc_table.specs.Vocabulary.{has}
 use Rattle.qc_cert.proofs.parts.covers_among.Given as goal
 
 abbrev pub invariant-turns : goal.invariant-turns

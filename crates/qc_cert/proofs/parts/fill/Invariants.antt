@@ -1,5 +1,5 @@
 use Rattle.std.proofs.Common.{◌≡◌, ℕ, length}
-use Rattle.qc_cert.specs.Names.{AreParted, parts_within}
+use Rattle.qc_cert.specs.Vocabulary.{AreParted, parts_within}
 use Rattle.qc_cert.proofs.parts.fill.Given as goal
 
 abbrev pub invariant-parts : goal.invariant-parts

@@ -1,5 +1,5 @@
 use Rattle.std.proofs.Common.{◌≡◌, ◌<◌, true}
-use Rattle.qc_table.specs.Names.{has}
+use Rattle.qc_table.specs.Vocabulary.{has}
 use Rattle.qc_cert.proofs.parts.shortest.Given as goal
 
 abbrev pub invariant-loop-event : goal.invariant-loop-event

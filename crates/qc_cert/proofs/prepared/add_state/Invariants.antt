@@ -1,5 +1,5 @@
 use Rattle.std.proofs.Common.{◌≡◌, ◌+◌, ◌*◌, length}
-use Rattle.qc_cert.specs.Names.{AreLegal}
+use Rattle.qc_cert.specs.Vocabulary.{AreLegal}
 use Rattle.qc_cert.proofs.prepared.add_state.Given as goal
 
 abbrev pub invariant-invs : goal.invariant-invs

@@ -1,6 +1,6 @@
 use Rattle.std.proofs.Common.{◌≡◌, ◌<◌, ℕ, true}
-use Rattle.qc_cert.specs.Names.{inv_of}
-use Rattle.qc_table.specs.Names.{has}
+use Rattle.qc_cert.specs.Vocabulary.{inv_of}
+use Rattle.qc_table.specs.Vocabulary.{has}
 use Rattle.qc_cert.proofs.prepared.events.Given as goal
 
 abbrev pub invariant-loop-event : goal.invariant-loop-event

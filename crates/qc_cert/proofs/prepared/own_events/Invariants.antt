@@ -1,5 +1,5 @@
 use Rattle.std.proofs.Common.{◌≡◌, length}
-use Rattle.qc_cert.specs.Names.{AreOwn}
+use Rattle.qc_cert.specs.Vocabulary.{AreOwn}
 use Rattle.qc_cert.proofs.prepared.own_events.Given as goal
 
 abbrev pub invariant-invs : goal.invariant-invs

@@ -1,7 +1,7 @@
 use Rattle.std.proofs.Common.{◌≡◌, None, rules}
 use Rattle.qc_cert.proofs.Faultless.{inductive}
 use Rattle.qc_cert.proofs.Walk.{exact}
-use Rattle.qc_cert.specs.Names.{fault_of}
+use Rattle.qc_cert.specs.Vocabulary.{fault_of}
 use Rattle.qc_cert.proofs.rules.check.Goals as goal
 
 pub returns-clause-inductive : goal.returns-clause-inductive

@@ -1,6 +1,6 @@
 use Rattle.std.proofs.Common.{rules, ◌≡◌, ◌<◌, length, ap, ◌∙◌}
 use Rattle.qc_list.proofs.Search.{first_found}
-use Rattle.qc_table.specs.Names.{events_of}
+use Rattle.qc_table.specs.Vocabulary.{events_of}
 use Rattle.qc_table.specs.declared.kind.Kind.{Kind}
 use Rattle.qc_cert.proofs.rules.of_left_out.Goals as goal
 

@@ -1,6 +1,6 @@
 use Rattle.std.proofs.Common.{◌≡◌, None}
-use Rattle.qc_cert.specs.Names.{left_out_fault}
-use Rattle.qc_list.specs.Names.{first_below}
+use Rattle.qc_cert.specs.Vocabulary.{left_out_fault}
+use Rattle.qc_list.specs.Vocabulary.{first_below}
 use Rattle.qc_cert.proofs.rules.of_left_out.Given as goal
 
 abbrev pub invariant-loop-event : goal.invariant-loop-event

@@ -1,6 +1,6 @@
 use Rattle.std.proofs.Common.{rules, ◌<◌, sym, ap, arith, subst}
 use Rattle.qc_cert.proofs.Allowed.{equal_everywhere, unequal_here}
-use Rattle.qc_cert.specs.Names.{AreAllowed}
+use Rattle.qc_cert.specs.Vocabulary.{AreAllowed}
 use Rattle.qc_list.proofs.Search.{first_found, below_none}
 use Rattle.qc_table.specs.declared.kind.Kind.{Kind}
 use Rattle.qc_cert.proofs.rules.of_responses.Goals as goal

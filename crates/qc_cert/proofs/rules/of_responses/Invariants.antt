@@ -1,6 +1,6 @@
 use Rattle.std.proofs.Common.{◌≡◌, None}
-use Rattle.qc_cert.specs.Names.{unequal_fault}
-use Rattle.qc_list.specs.Names.{first_below}
+use Rattle.qc_cert.specs.Vocabulary.{unequal_fault}
+use Rattle.qc_list.specs.Vocabulary.{first_below}
 use Rattle.qc_cert.proofs.rules.of_responses.Given as goal
 
 abbrev pub invariant-loop-resp : goal.invariant-loop-resp

@@ -2,9 +2,9 @@ use Rattle.std.proofs.Common.{◌≡◌, ◌<◌, ◌≤◌, ◌^◌, None, leng
 use Rattle.std.specs.Int.{trailing_zeros}
 use Rattle.qc_cert.proofs.Shared.{left_more, none_left, none_past, without_small}
 use Rattle.qc_cert.proofs.Told.{less_within, lowest_found, none_more}
-use Rattle.qc_cert.specs.Names.{taken_fault}
+use Rattle.qc_cert.specs.Vocabulary.{taken_fault}
 use Rattle.qc_list.proofs.Search.{below_none}
-use Rattle.qc_table.specs.Names.{events_of}
+use Rattle.qc_table.specs.Vocabulary.{events_of}
 use Rattle.qc_cert.proofs.rules.of_taken.Goals as goal
 
 pub returns-then-rest-eq0 : goal.returns-then-rest-eq0

@@ -1,6 +1,6 @@
 use Rattle.std.proofs.Common.{◌≡◌, ◌<◌, ◌≤◌, ◌^◌, ℕ, None, true, false, length}
-use Rattle.qc_cert.specs.Names.{taken_fault}
-use Rattle.qc_table.specs.Names.{events_of, has}
+use Rattle.qc_cert.specs.Vocabulary.{taken_fault}
+use Rattle.qc_table.specs.Vocabulary.{events_of, has}
 use Rattle.qc_cert.proofs.rules.of_taken.Given as goal
 
 abbrev pub invariant-turns : goal.invariant-turns

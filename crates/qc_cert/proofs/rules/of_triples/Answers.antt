@@ -3,7 +3,7 @@ use Rattle.qc_cert.proofs.MarkedTriples.{length_firsts}
 use Rattle.qc_cert.proofs.Repeats.{fault_of_firsts, fault_more, fault_past, found_here, found_later}
 use Rattle.qc_cert.proofs.rules.of_triples.Goals as goal
 use Rattle.qc_cert.proofs.rules.of_triples.Goals.{then-firsts-place+else-is_some, else-firsts-place}
-use Rattle.qc_cert.specs.Names.{triple}
+use Rattle.qc_cert.specs.Vocabulary.{triple}
 
 pub bounds-firsts-place : goal.bounds-firsts-place
 bounds-firsts-place c =

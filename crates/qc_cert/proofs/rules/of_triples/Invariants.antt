@@ -1,5 +1,5 @@
 use Rattle.std.proofs.Common.{◌≡◌, drop}
-use Rattle.qc_cert.specs.Names.{marked_fault}
+use Rattle.qc_cert.specs.Vocabulary.{marked_fault}
 use Rattle.qc_cert.proofs.rules.of_triples.Given as goal
 
 abbrev pub invariant-loop-place : goal.invariant-loop-place

@@ -1,4 +1,4 @@
-use Rattle.qc_client.specs.Names.{after_inputs, new_client}
+use Rattle.qc_client.specs.Vocabulary.{after_inputs, new_client}
 use Rattle.qc_client.proofs.Names.{all-well}
 use Rattle.qc_client.proofs.Outcomes.{takes-tells}
 use Rattle.qc_client.proofs.laws.decisions_tell_outcomes.Goals as goal

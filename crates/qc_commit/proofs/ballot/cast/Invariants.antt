@@ -1,5 +1,5 @@
 use Rattle.std.proofs.Common.{◌≡◌, ◌≤◌, ◌-◌, ◌++◌, length, drop}
-use Rattle.qc_commit.specs.Names.{cast}
+use Rattle.qc_commit.specs.Vocabulary.{cast}
 use Rattle.qc_commit.proofs.ballot.cast.Given as goal
 
 -- the ballots so far, with those that are left, are all of them

@@ -1,5 +1,5 @@
 use Rattle.std.proofs.Common.{◌≡◌, drop}
-use Rattle.qc_commit.specs.Names.{first_against}
+use Rattle.qc_commit.specs.Vocabulary.{first_against}
 use Rattle.qc_commit.proofs.ballot.first_against.Given as goal
 
 abbrev pub invariant-ballots : goal.invariant-ballots

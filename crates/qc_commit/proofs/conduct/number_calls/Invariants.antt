@@ -1,6 +1,6 @@
 use Rattle.std.proofs.Common.{◌≡◌, ◌≤◌, ◌+◌, ◌++◌, length, drop}
-use Rattle.qc_msg.specs.Names.{calls_from}
-use Rattle.qc_commit.specs.Names.{awaited}
+use Rattle.qc_msg.specs.Vocabulary.{calls_from}
+use Rattle.qc_commit.specs.Vocabulary.{awaited}
 use Rattle.qc_commit.proofs.conduct.number_calls.Given as goal
 
 -- the calls so far, with those of the ballots that are left, are all of them

@@ -1,4 +1,4 @@
-use Rattle.qc_commit.specs.Names.{after_calls, new_desk}
+use Rattle.qc_commit.specs.Vocabulary.{after_calls, new_desk}
 use Rattle.qc_commit.proofs.Rising.{all-rise, clock-rises, stamps-apart}
 use Rattle.qc_commit.proofs.laws.stamps_rise.Goals as goal
 

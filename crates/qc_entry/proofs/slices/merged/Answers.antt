@@ -1,5 +1,5 @@
 use Rattle.std.proofs.Common.{◌⊎◌, inl, inr, ◌≤◌, ◌≡◌, ◌++◌, take, drop, length, arith, rules, sym, ◌∙◌, ap}
-use Rattle.qc_entry.specs.Names.{union}
+use Rattle.qc_entry.specs.Vocabulary.{union}
 use Rattle.qc_entry.proofs.Behind.{from}
 use Rattle.qc_entry.proofs.Walks.{whole-rest, union-ends}
 use Rattle.qc_entry.proofs.slices.merged.Goals.{then-lines-test+else-j-b, else-lines-test}

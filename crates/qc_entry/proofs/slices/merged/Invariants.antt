@@ -1,5 +1,5 @@
 use Rattle.std.proofs.Common.{length, ◌-◌, ◌+◌}
-use Rattle.qc_entry.specs.Names.{union}
+use Rattle.qc_entry.specs.Vocabulary.{union}
 use Rattle.qc_entry.proofs.Walks.{IsWalk}
 use Rattle.qc_entry.proofs.slices.merged.Given as goal
 

@@ -1,5 +1,5 @@
 use Rattle.std.proofs.Common.{◌≡◌, ◌++◌, drop}
-use Rattle.qc_entry.specs.Names.{of_object}
+use Rattle.qc_entry.specs.Vocabulary.{of_object}
 use Rattle.qc_entry.proofs.slices.of_one.Given as goal
 
 -- the lines found so far, with those of the object that are left, are all of them

@@ -1,5 +1,5 @@
 use Rattle.std.proofs.Common.{length, ◌-◌, ◌+◌}
-use Rattle.qc_entry.specs.Names.{without}
+use Rattle.qc_entry.specs.Vocabulary.{without}
 use Rattle.qc_entry.proofs.Walks.{IsWalk}
 use Rattle.qc_entry.proofs.slices.others_of.Given as goal
 

@@ -1,6 +1,6 @@
 use Rattle.std.proofs.Common.{sym}
 use Rattle.qc_list.proofs.Order.{ascends-drop}
-use Rattle.qc_entry.specs.Names.{line_cmp}
+use Rattle.qc_entry.specs.Vocabulary.{line_cmp}
 use Rattle.qc_entry.proofs.Walks.{whole-rest}
 use Rattle.qc_entry.proofs.Without.{without-shared}
 use Rattle.qc_entry.proofs.slices.rest_of.Goals as goal

@@ -1,7 +1,7 @@
 use Rattle.std.proofs.Common.{◌≡◌, ◌+◌, length, sym, ap, ◌∙◌, arith}
-use Rattle.qc_msg.specs.Names.{sents, told, wrote}
-use Rattle.qc_pass.specs.Names.{number}
-use Rattle.qc_fabric.specs.Names.{CanFeed}
+use Rattle.qc_msg.specs.Vocabulary.{sents, told, wrote}
+use Rattle.qc_pass.specs.Vocabulary.{number}
+use Rattle.qc_fabric.specs.Vocabulary.{CanFeed}
 use Rattle.qc_fabric.proofs.Fed.{can_rest, can_start, fed_join, grown_join, length-by, length-done, length-sents}
 use Rattle.qc_fabric.proofs.feed.feed_done.Goals as goal
 

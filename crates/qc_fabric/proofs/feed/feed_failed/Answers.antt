@@ -1,6 +1,6 @@
 use Rattle.std.proofs.Common.{◌≡◌, ◌+◌, length, sym, ap, arith}
-use Rattle.qc_msg.specs.Names.{sents, told}
-use Rattle.qc_pass.specs.Names.{number}
+use Rattle.qc_msg.specs.Vocabulary.{sents, told}
+use Rattle.qc_pass.specs.Vocabulary.{number}
 use Rattle.qc_fabric.proofs.Fed.{can_rest, can_start, fed_join, grown_join, length-by, length-failed, length-sents}
 use Rattle.qc_fabric.proofs.feed.feed_failed.Goals as goal
 

@@ -1,5 +1,5 @@
 use Rattle.std.proofs.Common.{sym, subst}
-use Rattle.qc_fabric.specs.Names.{Fed, steps_of_rising}
+use Rattle.qc_fabric.specs.Vocabulary.{Fed, steps_of_rising}
 use Rattle.qc_fabric.specs.declared.rising.Rising.{Rising}
 use Rattle.qc_fabric.proofs.Fed.{fed_more, fed_one}
 use Rattle.qc_fabric.proofs.feed.feed_rising.Goals as goal

@@ -1,8 +1,8 @@
 use Rattle.std.proofs.Common.{rules, ◌≡◌, ◌+◌, ◌∷◌, List, length, ap, ◌∙◌, arith, subst}
 use Rattle.std.specs.Vec.Iter.{into_iter_items}
 use Rattle.qc_msg.specs.declared.turn.Posting.{Posting}
-use Rattle.qc_msg.specs.Names.{sents}
-use Rattle.qc_fabric.specs.Names.{CanFeed, Feeding}
+use Rattle.qc_msg.specs.Vocabulary.{sents}
+use Rattle.qc_fabric.specs.Vocabulary.{CanFeed, Feeding}
 use Rattle.qc_fabric.proofs.Fed.{can_rest, feeding_more}
 use Rattle.qc_fabric.proofs.feed.feed_sents.Goals as goal
 

@@ -1,8 +1,8 @@
 use Rattle.std.proofs.Common.{◌≡◌, ◌+◌, length}
 use Rattle.std.specs.Vec.Iter.{into_iter_items}
-use Rattle.qc_msg.specs.Names.{sents}
-use Rattle.qc_pass.specs.Names.{pass_table, right_table, table_of}
-use Rattle.qc_fabric.specs.Names.{CanFeed, Feeding}
+use Rattle.qc_msg.specs.Vocabulary.{sents}
+use Rattle.qc_pass.specs.Vocabulary.{pass_table, right_table, table_of}
+use Rattle.qc_fabric.specs.Vocabulary.{CanFeed, Feeding}
 use Rattle.qc_fabric.proofs.feed.feed_sents.Given as goal
 
 abbrev pub invariant-loop-to : goal.invariant-loop-to

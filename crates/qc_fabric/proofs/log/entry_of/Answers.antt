@@ -1,5 +1,5 @@
 use Rattle.std.proofs.Common.{◌≡◌, ℕ, ◌<◌, List, length, get_or, sym, ap, ◌∙◌, subst, arith}
-use Rattle.qc_msg.specs.Names.{mail}
+use Rattle.qc_msg.specs.Vocabulary.{mail}
 use Rattle.qc_fabric.proofs.Placed.{entry_is, entry_there, length-places}
 use Rattle.qc_fabric.proofs.log.entry_of.Goals as goal
 

@@ -1,5 +1,5 @@
 use Rattle.std.proofs.Common.{◌≡◌, ◌^◌, ◌-◌, min, take}
-use Rattle.qc_msg.specs.Names.{carried_back}
+use Rattle.qc_msg.specs.Vocabulary.{carried_back}
 use Rattle.qc_fabric.proofs.weigh.carried_back.Given as goal
 
 abbrev pub invariant-loop-record : goal.invariant-loop-record

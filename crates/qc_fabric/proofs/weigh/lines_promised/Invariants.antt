@@ -1,5 +1,5 @@
 use Rattle.std.proofs.Common.{◌≡◌, ◌^◌, ◌-◌, min, take}
-use Rattle.qc_msg.specs.Names.{lines_promised}
+use Rattle.qc_msg.specs.Vocabulary.{lines_promised}
 use Rattle.qc_fabric.proofs.weigh.lines_promised.Given as goal
 
 abbrev pub invariant-loop-promise : goal.invariant-loop-promise

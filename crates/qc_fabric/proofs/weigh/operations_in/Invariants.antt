@@ -1,5 +1,5 @@
 use Rattle.std.proofs.Common.{◌≡◌, ◌^◌, ◌-◌, min, take}
-use Rattle.qc_msg.specs.Names.{answered_in_all}
+use Rattle.qc_msg.specs.Vocabulary.{answered_in_all}
 use Rattle.qc_fabric.proofs.weigh.operations_in.Given as goal
 
 abbrev pub invariant-loop-record : goal.invariant-loop-record

@@ -1,5 +1,5 @@
 use Rattle.std.proofs.Common.{◌≡◌, ◌++◌, drop, filter}
-use Rattle.qc_front.specs.Names.{weighs}
+use Rattle.qc_front.specs.Vocabulary.{weighs}
 use Rattle.qc_front.proofs.appending.own_weighing.Given as goal
 
 -- the lines so far, with those that are left, are all of them

@@ -1,5 +1,5 @@
 use Rattle.std.proofs.Common.{◌≡◌, ◌++◌, length}
-use Rattle.qc_plan.specs.Names.{asking_in_turn}
+use Rattle.qc_plan.specs.Vocabulary.{asking_in_turn}
 use Rattle.qc_front.proofs.asking.ask_all.Given as goal
 
 -- the sites so far, with those that are asked from here on, are all of them, and lead to the same round

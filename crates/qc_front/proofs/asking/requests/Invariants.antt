@@ -1,5 +1,5 @@
 use Rattle.std.proofs.Common.{◌≡◌, ◌++◌, drop, map}
-use Rattle.qc_front.specs.Names.{request_of}
+use Rattle.qc_front.specs.Vocabulary.{request_of}
 use Rattle.qc_front.proofs.asking.requests.Given as goal
 
 -- the requests so far, with those to the sites that are left, are all of them

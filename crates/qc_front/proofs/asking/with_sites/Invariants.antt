@@ -1,5 +1,5 @@
 use Rattle.std.proofs.Common.{◌≡◌, drop, fold}
-use Rattle.qc_msg.specs.Names.{with_site}
+use Rattle.qc_msg.specs.Vocabulary.{with_site}
 use Rattle.qc_front.proofs.asking.with_sites.Given as goal
 
 -- the sites that are left lead from those so far to where all lead from the first

@@ -1,5 +1,5 @@
 use Rattle.std.proofs.Common.{◌≡◌, replicate}
-use Rattle.qc_view.specs.Names.{empty_view}
+use Rattle.qc_view.specs.Vocabulary.{empty_view}
 use Rattle.qc_front.proofs.transaction.empty_views.Given as goal
 
 -- so far one for each object

@@ -1,6 +1,6 @@
 use Rattle.std.proofs.Common.{◌≡◌, ◌<◌, ◌-◌, ◌++◌}
-use Rattle.qc_gen.specs.Names.{lines_from, load_text, modulus}
-use Rattle.qc_script.specs.Names.{text_of_lines}
+use Rattle.qc_gen.specs.Vocabulary.{lines_from, load_text, modulus}
+use Rattle.qc_script.specs.Vocabulary.{text_of_lines}
 use Rattle.qc_gen.proofs.load.load_script.Given as goal
 
 abbrev pub invariant-transactions : goal.invariant-transactions

@@ -3,9 +3,9 @@ use Rattle.std.proofs.lemmas.List.Elements.{All-push}
 use Rattle.std.specs.declared.alloc.Global.{Global}
 use Rattle.std.proofs.Common.{◌+◌, ◌≤◌, ℕ, List, Vec, length, sym, ◌∙◌, ap, subst, arith}
 use Rattle.std.proofs.lemmas.Result.{err_from_is_err_and}
-use Rattle.qc_outside.specs.Names.{as_read}
+use Rattle.qc_outside.specs.Vocabulary.{as_read}
 use Rattle.qc_outside.proofs.Fuses.{uncounted_burns, uncounted_refused, passed_more}
-use Rattle.qc_journal.specs.Names.{AreShort, Passed, lists}
+use Rattle.qc_journal.specs.Vocabulary.{AreShort, Passed, lists}
 use Rattle.qc_journal.proofs.Gates.{lists_push, one_body_more}
 use Rattle.qc_journal.proofs.Fuses.{disk_refused, refusal_more}
 use Rattle.qc_journal.proofs.reading.read_records.Goals as goal

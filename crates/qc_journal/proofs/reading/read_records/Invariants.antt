@@ -1,6 +1,6 @@
 use Rattle.std.proofs.Common.{◌≡◌, ℕ, ◌-◌, ◌*◌, ◌<◌, ◌≤◌, length, Some}
-use Rattle.qc_outside.specs.Names.{Fuse, HasPassed, Told, as_read}
-use Rattle.qc_journal.specs.Names.{AreShort, Passed, lists}
+use Rattle.qc_outside.specs.Vocabulary.{Fuse, HasPassed, Told, as_read}
+use Rattle.qc_journal.specs.Vocabulary.{AreShort, Passed, lists}
 use Rattle.qc_journal.proofs.reading.read_records.Given as goal
 
 pub record Reading (same : Type 0) (x y : Fuse) (before now at len count : ℕ) (each passed : Type 0) : Type 0 where

@@ -1,8 +1,8 @@
 use Rattle.std.proofs.Common.{Option, sym, ◌∙◌, ap, subst, arith}
 use Rattle.std.proofs.lemmas.Result.{err_from_is_err_and}
-use Rattle.qc_outside.specs.Names.{HasPassed, Since, Tells, Told, as_read}
+use Rattle.qc_outside.specs.Vocabulary.{HasPassed, Since, Tells, Told, as_read}
 use Rattle.qc_outside.proofs.Fuses.{uncounted_burns, one_burns, one_refused, passed_more, refused_more}
-use Rattle.qc_journal.specs.Names.{Holds, IsAtRest, IsLeftAtOpen, lists}
+use Rattle.qc_journal.specs.Vocabulary.{Holds, IsAtRest, IsLeftAtOpen, lists}
 use Rattle.qc_journal.proofs.Opening.{short_writes, short_opened, long_moments}
 use Rattle.qc_journal.proofs.Fuses.{disk_refused, journal_more, reading_passed, reading_refused}
 use Rattle.qc_journal.proofs.reading.start.Goals as goal

@@ -1,5 +1,5 @@
 use Rattle.std.proofs.lemmas.Result.{IfOk-weaker, IfErr-weaker}
-use Rattle.qc_journal.specs.Names.{lists}
+use Rattle.qc_journal.specs.Vocabulary.{lists}
 use Rattle.qc_journal.proofs.Again.{read_again, never_torn}
 use Rattle.qc_journal.proofs.restart.add_and_fall.Goals as goal
 

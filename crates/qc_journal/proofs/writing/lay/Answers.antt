@@ -1,7 +1,7 @@
 use Rattle.std.proofs.lemmas.Result.{on_ok_weaker}
 use Rattle.std.proofs.Common.{arith}
 use Rattle.qc_outside.proofs.Fuses.{burns_more, burns_wider}
-use Rattle.qc_journal.specs.Names.{HoldsWithOrWithout}
+use Rattle.qc_journal.specs.Vocabulary.{HoldsWithOrWithout}
 use Rattle.qc_journal.proofs.Append.{without, both}
 use Rattle.qc_journal.proofs.writing.lay.Goals as goal
 

@@ -1,6 +1,6 @@
 use Rattle.std.proofs.lemmas.Result.{on_ok_weaker, err_from_is_err_and}
 use Rattle.std.proofs.Common.{arith}
-use Rattle.qc_outside.specs.Names.{HasPassed}
+use Rattle.qc_outside.specs.Vocabulary.{HasPassed}
 use Rattle.qc_outside.proofs.Fuses.{burns_more, burns_wider, one_burns, one_refused, refused_wider}
 use Rattle.qc_journal.proofs.Append.{written_through, lasts_through}
 use Rattle.qc_journal.proofs.writing.write_through.Goals as goal

@@ -2,7 +2,7 @@ use Rattle.std.proofs.Common.{List, Option, take, sym, subst, ◌+◌}
 use Rattle.std.proofs.lemmas.List.{take_all}
 use Rattle.qc_entry.specs.declared.line.OwnLine.{OwnLine}
 use Rattle.qc_lock.specs.declared.clash.Clash.{Clash}
-use Rattle.qc_lock.specs.Names.{IsAppendPlaced, IsLinePlaced, IsSmallest}
+use Rattle.qc_lock.specs.Vocabulary.{IsAppendPlaced, IsLinePlaced, IsSmallest}
 use Rattle.qc_lock.proofs.Smallest.{lines_more}
 use Rattle.qc_lock.proofs.clash.append_clash.Goals as goal
 

@@ -1,5 +1,5 @@
 use Rattle.std.proofs.Common.{take}
-use Rattle.qc_lock.specs.Names.{IsAppendPlaced, IsSmallest}
+use Rattle.qc_lock.specs.Vocabulary.{IsAppendPlaced, IsSmallest}
 use Rattle.qc_lock.proofs.clash.append_clash.Given as goal
 
 abbrev pub invariant-own : goal.invariant-own

@@ -1,6 +1,6 @@
 use Rattle.std.proofs.Common.{ℕ, ◌<◌, ◌+◌, Option, sym, subst, arith}
 use Rattle.qc_lock.specs.declared.clash.Clash.{Clash}
-use Rattle.qc_lock.specs.Names.{IsPlaced, IsSmallest}
+use Rattle.qc_lock.specs.Vocabulary.{IsPlaced, IsSmallest}
 use Rattle.qc_lock.proofs.Smallest.{smallest_all, smallest_more, smallest_none}
 use Rattle.qc_lock.proofs.clash.line_clash.Goals as goal
 

@@ -1,5 +1,5 @@
 use Rattle.std.proofs.Common.{ℕ, ◌<◌}
-use Rattle.qc_lock.specs.Names.{IsPlaced, IsSmallest}
+use Rattle.qc_lock.specs.Vocabulary.{IsPlaced, IsSmallest}
 use Rattle.qc_lock.proofs.clash.line_clash.Given as goal
 
 abbrev pub invariant-invs : goal.invariant-invs

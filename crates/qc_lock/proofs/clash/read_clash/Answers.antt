@@ -2,10 +2,10 @@ use Rattle.std.proofs.Common.{◌<◌, ◌≤◌, ◌^◌, Option, sym, subst, a
 use Rattle.std.specs.Int.{trailing_zeros}
 use Rattle.std.proofs.lemmas.Nat.Bits.{bit_at-trailing_zeros}
 use Rattle.qc_lock.specs.declared.clash.Clash.{Clash}
-use Rattle.qc_lock.specs.Names.{IsPlaced, IsSmallest}
+use Rattle.qc_lock.specs.Vocabulary.{IsPlaced, IsSmallest}
 use Rattle.qc_lock.proofs.Lowest.{Passed, left_more, none_left, none_passed, none_past, passed_all, passed_more}
 use Rattle.qc_lock.proofs.Lowest.{without, without_small}
-use Rattle.qc_table.specs.Names.{has}
+use Rattle.qc_table.specs.Vocabulary.{has}
 use Rattle.qc_lock.proofs.clash.read_clash.Goals as goal
 
 pub turns-init : goal.turns-init

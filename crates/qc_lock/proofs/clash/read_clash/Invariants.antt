@@ -1,7 +1,7 @@
 use Rattle.std.proofs.Common.{◌≡◌, ◌<◌, ◌≤◌, ◌^◌, ℕ, true}
-use Rattle.qc_lock.specs.Names.{IsPlaced, IsSmallest}
+use Rattle.qc_lock.specs.Vocabulary.{IsPlaced, IsSmallest}
 use Rattle.qc_lock.proofs.Lowest.{Passed}
-use Rattle.qc_table.specs.Names.{has}
+use Rattle.qc_table.specs.Vocabulary.{has}
 use Rattle.qc_lock.proofs.clash.read_clash.Given as goal
 
 abbrev pub invariant-turns : goal.invariant-turns

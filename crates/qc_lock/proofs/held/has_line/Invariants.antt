@@ -1,5 +1,5 @@
 use Rattle.std.proofs.Common.{◌≡◌, drop}
-use Rattle.qc_lock.specs.Names.{has_line}
+use Rattle.qc_lock.specs.Vocabulary.{has_line}
 use Rattle.qc_lock.proofs.held.has_line.Given as goal
 
 abbrev pub invariant-own : goal.invariant-own

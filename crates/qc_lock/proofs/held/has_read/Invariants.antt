@@ -1,5 +1,5 @@
 use Rattle.std.proofs.Common.{◌≡◌, drop}
-use Rattle.qc_lock.specs.Names.{has_read}
+use Rattle.qc_lock.specs.Vocabulary.{has_read}
 use Rattle.qc_lock.proofs.held.has_read.Given as goal
 
 abbrev pub invariant-locks : goal.invariant-locks

@@ -3,7 +3,7 @@ use Rattle.std.proofs.Common.{subst}
 use Rattle.std.proofs.lemmas.List.{take_all}
 use Rattle.std.proofs.lemmas.List.Folds.{list_any_more}
 use Rattle.qc_entry.specs.declared.line.OwnLine.{OwnLine}
-use Rattle.qc_lock.specs.Names.{Widens, has_line}
+use Rattle.qc_lock.specs.Vocabulary.{Widens, has_line}
 use Rattle.qc_lock.proofs.Widening.{part_passes, widens_more, widens_none, widens_part}
 use Rattle.qc_lock.proofs.places.add_lines.Goals as goal
 

@@ -1,5 +1,5 @@
 use Rattle.std.proofs.Common.{true, take}
-use Rattle.qc_lock.specs.Names.{Widens, has_read}
+use Rattle.qc_lock.specs.Vocabulary.{Widens, has_read}
 use Rattle.qc_lock.proofs.places.add_reads.Given as goal
 
 abbrev pub invariant-locks : goal.invariant-locks

@@ -1,5 +1,5 @@
 use Rattle.std.proofs.Common.{take}
-use Rattle.qc_lock.specs.Names.{Narrows, has_line}
+use Rattle.qc_lock.specs.Vocabulary.{Narrows, has_line}
 use Rattle.qc_lock.proofs.places.drop_lines.Given as goal
 
 abbrev pub invariant-own : goal.invariant-own

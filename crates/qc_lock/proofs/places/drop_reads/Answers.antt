@@ -2,7 +2,7 @@ use Rattle.std.proofs.Common.{◌<◌, ◌+◌, ◌==◌, ◌&&◌, take, get_or
 use Rattle.std.proofs.lemmas.List.Folds.{list_any_more}
 use Rattle.qc_entry.specs.declared.line.ReadLock.{ReadLock}
 use Rattle.qc_lock.specs.declared.places.Place.{Place}
-use Rattle.qc_lock.specs.Names.{Narrows, has_read}
+use Rattle.qc_lock.specs.Vocabulary.{Narrows, has_read}
 use Rattle.qc_lock.proofs.Widening.{narrows_more, narrows_spared, Grows}
 use Rattle.qc_lock.proofs.places.drop_reads.Goals as goal
 use Rattle.qc_lock.proofs.places.drop_reads.Goals.{then-not-has_read, else-not-has_read}

@@ -1,5 +1,5 @@
 use Rattle.std.proofs.Common.{take}
-use Rattle.qc_lock.specs.Names.{Narrows, has_read}
+use Rattle.qc_lock.specs.Vocabulary.{Narrows, has_read}
 use Rattle.qc_lock.proofs.places.drop_reads.Given as goal
 
 abbrev pub invariant-locks : goal.invariant-locks

@@ -6,7 +6,7 @@ use Rattle.std.specs.declared.ops.Bound.{Bound}
 use Rattle.std.specs.declared.ops.Bound.TheVariants.{Included, Unbounded}
 use Rattle.qc_stamp.specs.declared.stamp.TxId.{TxId}
 use Rattle.qc_lock.specs.declared.places.Place.{Place}
-use Rattle.qc_lock.specs.Names.{IsFirst, place_cmp}
+use Rattle.qc_lock.specs.Vocabulary.{IsFirst, place_cmp}
 use Rattle.qc_lock.proofs.Holding.{none_before, none_found, one_found, place, place_at}
 use Rattle.qc_lock.proofs.places.first_holder.Goals as goal
 

@@ -1,6 +1,6 @@
 use Rattle.std.proofs.Common.{◌≡◌, Some, true, sym, subst}
 use Rattle.qc_stamp.specs.declared.stamp.TxId.{TxId}
-use Rattle.qc_lock.specs.Names.{IsFirst}
+use Rattle.qc_lock.specs.Vocabulary.{IsFirst}
 use Rattle.qc_lock.proofs.Entries.{tx_apart}
 use Rattle.qc_lock.proofs.Holding.{beside_next}
 use Rattle.qc_lock.proofs.places.holder_beside.Goals as goal

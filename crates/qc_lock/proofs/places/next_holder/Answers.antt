@@ -7,9 +7,9 @@ use Rattle.std.specs.declared.cmp.Ordering.TheVariants.{Less, Equal, Greater}
 use Rattle.std.specs.declared.ops.Bound.{Bound}
 use Rattle.std.specs.declared.ops.Bound.TheVariants.{Excluded, Unbounded}
 use Rattle.qc_stamp.specs.declared.stamp.TxId.{TxId}
-use Rattle.qc_stamp.specs.Names.{tx_cmp}
+use Rattle.qc_stamp.specs.Vocabulary.{tx_cmp}
 use Rattle.qc_lock.specs.declared.places.Place.{Place}
-use Rattle.qc_lock.specs.Names.{IsFirst, place_cmp}
+use Rattle.qc_lock.specs.Vocabulary.{IsFirst, place_cmp}
 use Rattle.qc_lock.proofs.Holding.{none_found, one_found, place, place_at}
 use Rattle.qc_lock.proofs.places.next_holder.Goals as goal
 

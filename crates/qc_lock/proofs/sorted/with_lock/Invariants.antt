@@ -1,5 +1,5 @@
 use Rattle.std.proofs.Common.{◌≡◌, ◌≤◌, ◌-◌, ◌++◌, length, drop}
-use Rattle.qc_lock.specs.Names.{with_lock}
+use Rattle.qc_lock.specs.Vocabulary.{with_lock}
 use Rattle.qc_lock.proofs.sorted.with_lock.Given as goal
 
 abbrev pub invariant-locks : goal.invariant-locks

@@ -1,5 +1,5 @@
 use Rattle.std.proofs.Common.{◌≡◌, drop}
-use Rattle.qc_lock.specs.Names.{with_locks}
+use Rattle.qc_lock.specs.Vocabulary.{with_locks}
 use Rattle.qc_lock.proofs.sorted.with_locks.Given as goal
 
 abbrev pub invariant-others : goal.invariant-others

@@ -1,5 +1,5 @@
 use Rattle.std.proofs.Common.{◌≡◌, ◌≤◌, ◌-◌, ◌++◌, length, drop}
-use Rattle.qc_lock.specs.Names.{with_own}
+use Rattle.qc_lock.specs.Vocabulary.{with_own}
 use Rattle.qc_lock.proofs.sorted.with_own.Given as goal
 
 abbrev pub invariant-own : goal.invariant-own

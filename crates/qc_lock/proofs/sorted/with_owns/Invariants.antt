@@ -1,5 +1,5 @@
 use Rattle.std.proofs.Common.{◌≡◌, drop}
-use Rattle.qc_lock.specs.Names.{with_owns}
+use Rattle.qc_lock.specs.Vocabulary.{with_owns}
 use Rattle.qc_lock.proofs.sorted.with_owns.Given as goal
 
 abbrev pub invariant-others : goal.invariant-others

@@ -1,6 +1,5 @@
 use Rattle.std.proofs.Common.{◌<◌, ◌+◌, arith, length}
-use Rattle.qc_inbox.specs.Names.{tray_asked}
-use Rattle.qc_mailbox.specs.Names.{IsPrepared}
+use Rattle.qc_mailbox.specs.Vocabulary.{tray_asked, IsPrepared}
 use Rattle.qc_mailbox.proofs.Each.{every_weaker}
 use Rattle.qc_mailbox.proofs.Room.{asked_set, changed, prepared_less}
 use Rattle.qc_mailbox.proofs.boxes.ask_command.Goals as goal

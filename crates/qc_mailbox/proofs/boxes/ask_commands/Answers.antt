@@ -1,7 +1,6 @@
 use Rattle.std.proofs.Common.{◌≡◌, ◌+◌, ◌-◌, ◌<◌, ◌∙◌, ap, arith, drop, length, map, subst, sym}
 use Rattle.std.specs.List.{AllByRecursion as Every}
-use Rattle.qc_inbox.specs.Names.{with_commands}
-use Rattle.qc_mailbox.specs.Names.{IsPrepared, tray}
+use Rattle.qc_mailbox.specs.Vocabulary.{with_commands, IsPrepared, tray}
 use Rattle.qc_mailbox.proofs.Each.{drop_next}
 use Rattle.qc_mailbox.proofs.boxes.ask_commands.Goals as goal
 

@@ -1,8 +1,7 @@
 use Rattle.std.proofs.Common.{◌<◌, ◌∙◌, ap, arith, length, subst, sym}
 use Rattle.std.proofs.lemmas.List.{length-set}
-use Rattle.qc_inbox.specs.Names.{tray_begun}
-use Rattle.qc_script.specs.Names.{is_up}
-use Rattle.qc_mailbox.specs.Names.{HasRoom, tray}
+use Rattle.qc_mailbox.specs.Vocabulary.{tray_begun, HasRoom, tray}
+use Rattle.qc_script.specs.Vocabulary.{is_up}
 use Rattle.qc_mailbox.proofs.Changed.{each_on}
 use Rattle.qc_mailbox.proofs.Each.{every_get}
 use Rattle.qc_mailbox.proofs.Room.{kept_set}

@@ -1,5 +1,5 @@
 use Rattle.std.proofs.Common.{◌<◌, arith, length}
-use Rattle.qc_inbox.specs.Names.{tray_comes}
+use Rattle.qc_mailbox.specs.Vocabulary.{tray_comes}
 use Rattle.qc_mailbox.proofs.Room.{changed, used_set}
 use Rattle.qc_mailbox.proofs.boxes.come.Goals as goal
 

@@ -1,7 +1,6 @@
 use Rattle.std.proofs.Common.{◌≡◌, map, replicate}
 use Rattle.std.specs.List.{AllByRecursion as Every}
-use Rattle.qc_inbox.specs.Names.{empty_tray}
-use Rattle.qc_mailbox.specs.Names.{HasRoom, tray}
+use Rattle.qc_mailbox.specs.Vocabulary.{empty_tray, HasRoom, tray}
 use Rattle.qc_mailbox.proofs.boxes.empty.Given as goal
 
 abbrev pub invariant-actors : goal.invariant-actors

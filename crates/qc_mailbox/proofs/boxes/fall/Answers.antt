@@ -1,5 +1,5 @@
 use Rattle.std.proofs.Common.{◌<◌, arith, length}
-use Rattle.qc_inbox.specs.Names.{tray_emptied}
+use Rattle.qc_mailbox.specs.Vocabulary.{tray_emptied}
 use Rattle.qc_mailbox.proofs.Room.{changed, kept_set}
 use Rattle.qc_mailbox.proofs.boxes.fall.Goals as goal
 

@@ -1,7 +1,6 @@
 use Rattle.std.proofs.Common.{◌<◌, ◌∙◌, ap, arith, length, subst, sym}
 use Rattle.std.proofs.lemmas.List.{length-set}
-use Rattle.qc_inbox.specs.Names.{tray_losing}
-use Rattle.qc_mailbox.specs.Names.{HasRoom, tray}
+use Rattle.qc_mailbox.specs.Vocabulary.{tray_losing, HasRoom, tray}
 use Rattle.qc_mailbox.proofs.Each.{every_get, map_on}
 use Rattle.qc_mailbox.proofs.Room.{kept_set}
 use Rattle.qc_mailbox.proofs.boxes.lose.Goals as goal

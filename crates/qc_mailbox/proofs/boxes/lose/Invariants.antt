@@ -1,9 +1,8 @@
 use Rattle.std.proofs.Common.{◌≡◌, ◌++◌, ℕ, drop, length, map, take}
 use Rattle.std.specs.List.{AllByRecursion as Every}
-use Rattle.qc_inbox.specs.Names.{tray_losing}
-use Rattle.qc_mailbox.specs.Names.{HasRoom, tray}
+use Rattle.qc_mailbox.specs.Vocabulary.{tray_losing, HasRoom, tray}
 use Rattle.qc_mailbox.proofs.boxes.lose.Given as goal
-use Rattle.qc_link.specs.Names.{most_actors}
+use Rattle.qc_link.specs.Vocabulary.{most_actors}
 
 abbrev pub invariant-actors : goal.invariant-actors
 invariant-actors l = record {

@@ -1,6 +1,6 @@
 use Rattle.std.proofs.Common.{◌<◌, ◌∙◌, arith, length}
 use Rattle.std.proofs.lemmas.List.{length-set}
-use Rattle.qc_mailbox.specs.Names.{HasRoom}
+use Rattle.qc_mailbox.specs.Vocabulary.{HasRoom}
 use Rattle.qc_mailbox.proofs.Each.{front_next}
 use Rattle.qc_mailbox.proofs.Room.{kept_set, same_set}
 use Rattle.qc_mailbox.proofs.boxes.reserve.Goals as goal

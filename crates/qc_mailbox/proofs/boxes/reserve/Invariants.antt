@@ -1,8 +1,8 @@
 use Rattle.std.proofs.Common.{◌≡◌, ℕ, length, map, take}
 use Rattle.std.specs.List.{AllByRecursion as Every}
-use Rattle.qc_mailbox.specs.Names.{HasRoom, tray}
+use Rattle.qc_mailbox.specs.Vocabulary.{HasRoom, tray}
 use Rattle.qc_mailbox.proofs.boxes.reserve.Given as goal
-use Rattle.qc_link.specs.Names.{most_actors}
+use Rattle.qc_link.specs.Vocabulary.{most_actors}
 
 abbrev pub invariant-actors : goal.invariant-actors
 invariant-actors l = record {

@@ -1,5 +1,5 @@
 use Rattle.std.proofs.Common.{◌<◌, arith, length}
-use Rattle.qc_inbox.specs.Names.{tray_told}
+use Rattle.qc_mailbox.specs.Vocabulary.{tray_told}
 use Rattle.qc_mailbox.proofs.Room.{changed}
 use Rattle.qc_mailbox.proofs.boxes.tell.Goals as goal
 

@@ -1,6 +1,6 @@
 use Rattle.std.proofs.Common.{◌≡◌, length}
-use Rattle.qc_script.specs.Names.{acting}
-use Rattle.qc_mailbox.specs.Names.{items}
+use Rattle.qc_script.specs.Vocabulary.{acting}
+use Rattle.qc_mailbox.specs.Vocabulary.{items}
 use Rattle.qc_mailbox.proofs.lines.pass_idle.Given as goal
 
 abbrev pub invariant-lines : goal.invariant-lines

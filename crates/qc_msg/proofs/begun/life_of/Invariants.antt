@@ -1,5 +1,5 @@
 use Rattle.std.proofs.Common.{◌≡◌, drop}
-use Rattle.qc_msg.specs.Names.{life_of}
+use Rattle.qc_msg.specs.Vocabulary.{life_of}
 use Rattle.qc_msg.proofs.begun.life_of.Given as goal
 
 abbrev pub invariant-lives : goal.invariant-lives

@@ -1,5 +1,5 @@
 use Rattle.std.proofs.Common.{◌≡◌, ◌≤◌, ◌-◌, ◌++◌, length, drop}
-use Rattle.qc_msg.specs.Names.{with_site}
+use Rattle.qc_msg.specs.Vocabulary.{with_site}
 use Rattle.qc_msg.proofs.begun.with_site.Given as goal
 
 -- the sites so far, with those that are left, are all of them

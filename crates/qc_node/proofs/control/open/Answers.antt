@@ -1,6 +1,6 @@
 use Rattle.std.proofs.Common.{rules}
 use Rattle.std.proofs.lemmas.Result.{on_err_weaker}
-use Rattle.qc_process.specs.Names.{HasRisen, bodies_of}
+use Rattle.qc_process.specs.Vocabulary.{HasRisen, bodies_of}
 use Rattle.qc_node.proofs.control.open.Goals as goal
 
 -- the journal of a process that rose was opened, and closed again

@@ -1,7 +1,7 @@
 use Rattle.std.proofs.Common.{rules, ◌≡◌, ◌+◌, ◌≤◌, ◌∙◌, ℕ, ap, length, subst, sym}
 use Rattle.std.specs.Prelude.{is_some, option_copied, vec_len}
 use Rattle.std.specs.Vec.Iter.{into_iter_items}
-use Rattle.qc_decl.specs.Names.{actors}
+use Rattle.qc_decl.specs.Vocabulary.{actors}
 use Rattle.qc_node.proofs.Starts.{just_handed, more_unwritten, one_more_started, one_started, rack_refused}
 use Rattle.qc_node.proofs.Starts.{started_tells}
 use Rattle.qc_node.proofs.Unstarted.{rack_gave_up}

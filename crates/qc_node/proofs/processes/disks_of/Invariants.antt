@@ -1,7 +1,7 @@
 use Rattle.std.proofs.Common.{◌≡◌, ◌≤◌}
 use Rattle.std.specs.Prelude.{is_some, option_copied, vec_capacity, vec_len}
-use Rattle.qc_decl.specs.Names.{actors}
-use Rattle.qc_node.specs.Names.{AreStarted, AreUnwritten}
+use Rattle.qc_decl.specs.Vocabulary.{actors}
+use Rattle.qc_node.specs.Vocabulary.{AreStarted, AreUnwritten}
 use Rattle.qc_node.proofs.processes.disks_of.Given as goal
 
 -- the disks of those so far were handed out, and are unwritten

@@ -2,11 +2,11 @@ use Rattle.std.proofs.Common.{rules, ◌≡◌, ◌+◌, ◌<◌, ◌∷◌, ◌
 use Rattle.std.proofs.Common.{length-append, subst, sym}
 use Rattle.std.specs.Prelude.{is_some, slice_get, vec_len, option_copied}
 use Rattle.std.specs.Vec.Iter.{into_iter_items}
-use Rattle.qc_outside.specs.Names.{IsPutBack}
-use Rattle.qc_process.specs.Names.{IsOnDisk, IsProcess}
-use Rattle.laws_bounds.specs.Names.{place_of}
-use Rattle.qc_store.specs.Names.{DiskHasJournal}
-use Rattle.qc_node.specs.Names.{IsGivenBack}
+use Rattle.qc_outside.specs.Vocabulary.{IsPutBack}
+use Rattle.qc_process.specs.Vocabulary.{IsOnDisk, IsProcess}
+use Rattle.laws_bounds.specs.Vocabulary.{place_of}
+use Rattle.qc_store.specs.Vocabulary.{DiskHasJournal}
+use Rattle.qc_node.specs.Vocabulary.{IsGivenBack}
 use Rattle.qc_node.proofs.News.{at_place}
 use Rattle.qc_node.proofs.Unstarted.{handed_at, none_back, one_more_back}
 use Rattle.qc_node.proofs.processes.give_back.Goals as goal

@@ -1,7 +1,7 @@
 use Rattle.std.specs.Prelude.{option_copied}
 use Rattle.std.proofs.Common.{◌≡◌, ◌++◌, length}
 use Rattle.std.specs.Vec.Iter.{into_iter_items}
-use Rattle.qc_node.specs.Names.{IsGivenBack}
+use Rattle.qc_node.specs.Vocabulary.{IsGivenBack}
 use Rattle.qc_node.proofs.processes.give_back.Given as goal
 
 -- the disks of those so far came back

@@ -1,9 +1,9 @@
 use Rattle.std.proofs.Common.{rules, ◌≡◌, ◌+◌, ◌∷◌, ◌++◌, ℕ, [], ap, arith, length, length-append, subst, sym}
 use Rattle.std.specs.Prelude.{is_some, option_copied}
 use Rattle.std.specs.Vec.Iter.{into_iter_items}
-use Rattle.qc_outside.specs.Names.{IsPutBack}
-use Rattle.laws_bounds.specs.Names.{place_of}
-use Rattle.qc_node.specs.Names.{IsBackFrom}
+use Rattle.qc_outside.specs.Vocabulary.{IsPutBack}
+use Rattle.laws_bounds.specs.Vocabulary.{place_of}
+use Rattle.qc_node.specs.Vocabulary.{IsBackFrom}
 use Rattle.qc_node.proofs.Starts.{first_unwritten, rest_unwritten}
 use Rattle.qc_node.proofs.Unwritten.{one_more_from}
 use Rattle.qc_node.proofs.processes.give_back_disks.Goals as goal

@@ -1,7 +1,7 @@
 use Rattle.std.proofs.Common.{◌≡◌, ◌+◌, length}
 use Rattle.std.specs.Prelude.{is_some, option_copied}
 use Rattle.std.specs.Vec.Iter.{into_iter_items}
-use Rattle.qc_node.specs.Names.{AreUnwritten, IsBackFrom}
+use Rattle.qc_node.specs.Vocabulary.{AreUnwritten, IsBackFrom}
 use Rattle.qc_node.proofs.processes.give_back_disks.Given as goal
 
 -- so many disks came back, from the first actor's on, and the others are left

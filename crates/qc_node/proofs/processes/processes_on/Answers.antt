@@ -1,10 +1,10 @@
 use Rattle.std.proofs.Common.{rules, ◌≡◌, ◌+◌, ◌≤◌, ◌∙◌, ℕ, [], ap, arith, length, refl, subst, sym}
 use Rattle.std.specs.Prelude.{IfSome, IsSome, is_some, option_copied, vec_len}
 use Rattle.std.specs.Vec.Iter.{into_iter_items}
-use Rattle.qc_decl.specs.Names.{actors}
-use Rattle.qc_process.specs.Names.{IsProcess, IsUp}
-use Rattle.laws_bounds.specs.Names.{AreHandedOut, place_of}
-use Rattle.qc_node.specs.Names.{AreBackBelow, AreProcesses, AreUnbegun, AreUp}
+use Rattle.qc_decl.specs.Vocabulary.{actors}
+use Rattle.qc_process.specs.Vocabulary.{IsProcess, IsUp}
+use Rattle.laws_bounds.specs.Vocabulary.{AreHandedOut, place_of}
+use Rattle.qc_node.specs.Vocabulary.{AreBackBelow, AreProcesses, AreUnbegun, AreUp}
 use Rattle.qc_node.proofs.Starts.{fewer_handed, first_unwritten, more_processes, more_up, none_each, put_tells}
 use Rattle.qc_node.proofs.Starts.{rest_unwritten, same_unwritten, still_unwritten}
 use Rattle.qc_node.proofs.Unbegun.{unbegun}

@@ -1,8 +1,8 @@
 use Rattle.std.proofs.Common.{◌≡◌, ◌+◌, ◌≤◌, Bool, true, length}
 use Rattle.std.specs.Prelude.{IsSome, is_some, vec_capacity, vec_len}
 use Rattle.std.specs.Vec.Iter.{into_iter_items}
-use Rattle.qc_decl.specs.Names.{actors}
-use Rattle.qc_node.specs.Names.{AreProcesses, AreUnwritten, AreUp}
+use Rattle.qc_decl.specs.Vocabulary.{actors}
+use Rattle.qc_node.specs.Vocabulary.{AreProcesses, AreUnwritten, AreUp}
 use Rattle.qc_node.proofs.processes.processes_on.Given as goal
 
 -- the processes of those so far were started, and the disks of the others are left

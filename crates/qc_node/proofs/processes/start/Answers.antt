@@ -1,8 +1,8 @@
 use Rattle.std.proofs.Common.{◌≡◌, ◌∙◌, Bool, true}
 use Rattle.std.specs.Prelude.{IsSome, option_copied}
 use Rattle.std.proofs.lemmas.Result.{IfErr-weaker, IfOk-weaker}
-use Rattle.qc_decl.specs.Names.{actors}
-use Rattle.qc_node.specs.Names.{AreProcesses, AreUnbegun}
+use Rattle.qc_decl.specs.Vocabulary.{actors}
+use Rattle.qc_node.specs.Vocabulary.{AreProcesses, AreUnbegun}
 use Rattle.qc_node.proofs.Starts.{started_tells}
 use Rattle.qc_node.proofs.Unbegun.{never_begun}
 use Rattle.qc_node.proofs.processes.start.Goals as goal

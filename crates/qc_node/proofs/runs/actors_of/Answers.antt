@@ -2,9 +2,9 @@ use Rattle.std.proofs.Common.{rules, ◌≡◌, ◌+◌, ◌≤◌, ◌∷◌, �
 use Rattle.std.proofs.Common.{length-append, subst, sym}
 use Rattle.std.specs.Prelude.{slice_get}
 use Rattle.std.specs.Vec.Iter.{into_iter_items, into_iter_len}
-use Rattle.qc_decl.specs.Names.{actors}
-use Rattle.qc_pass.specs.Names.{number}
-use Rattle.qc_process.specs.Names.{IsProcess}
+use Rattle.qc_decl.specs.Vocabulary.{actors}
+use Rattle.qc_pass.specs.Vocabulary.{number}
+use Rattle.qc_process.specs.Vocabulary.{IsProcess}
 use Rattle.qc_node.proofs.News.{is_below, is_new, left_here, left_more, number_here}
 use Rattle.qc_node.proofs.runs.actors_of.Goals as goal
 

@@ -1,7 +1,7 @@
 use Rattle.std.proofs.Common.{◌≡◌, ◌+◌, ◌≤◌, ◌++◌, ℕ, length}
 use Rattle.std.specs.Prelude.{slice_get, vec_capacity, vec_len}
 use Rattle.std.specs.Vec.Iter.{into_iter_items, into_iter_len}
-use Rattle.qc_decl.specs.Names.{actors}
+use Rattle.qc_decl.specs.Vocabulary.{actors}
 use Rattle.qc_node.proofs.runs.actors_of.Given as goal
 
 -- there is a cell for each pass so far, and the processes of the others are left

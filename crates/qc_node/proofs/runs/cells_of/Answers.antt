@@ -1,5 +1,5 @@
 use Rattle.std.proofs.Common.{rules, ◌≡◌, ◌+◌, ◌∷◌, ◌++◌, [], length}
-use Rattle.qc_decl.specs.Names.{controller}
+use Rattle.qc_decl.specs.Vocabulary.{controller}
 use Rattle.qc_node.proofs.News.{front_new, last_new}
 use Rattle.qc_node.proofs.runs.cells_of.Goals as goal
 

@@ -1,12 +1,12 @@
 use Rattle.std.specs.Prelude.{option_copied}
 use Rattle.std.proofs.Common.{◌≡◌, ◌∙◌, ◌-◌, List, None, subst, sym}
-use Rattle.qc_core.specs.Names.{IsLawfulWithFalls}
-use Rattle.qc_fabric.specs.Names.{before_last_event, full_of}
-use Rattle.qc_msg.specs.Names.{Entry}
-use Rattle.qc_promise.specs.Names.{Kept, Spent}
-use Rattle.qc_script.specs.Names.{RunsWithFalls}
-use Rattle.laws_bounds.specs.Names.{HoldJournals}
-use Rattle.qc_node.specs.Names.{HasEnded, IsScriptEnd, fits_of}
+use Rattle.qc_core.specs.Vocabulary.{IsLawfulWithFalls}
+use Rattle.qc_fabric.specs.Vocabulary.{before_last_event, full_of}
+use Rattle.qc_msg.specs.Vocabulary.{Entry}
+use Rattle.qc_promise.specs.Vocabulary.{Kept, Spent}
+use Rattle.qc_script.specs.Vocabulary.{RunsWithFalls}
+use Rattle.laws_bounds.specs.Vocabulary.{HoldJournals}
+use Rattle.qc_node.specs.Vocabulary.{HasEnded, IsScriptEnd, fits_of}
 use Rattle.qc_node.proofs.Settled.{settled_kept, settled_places, settled_spent}
 use Rattle.qc_node.proofs.runs.run_cells.Goals as goal
 

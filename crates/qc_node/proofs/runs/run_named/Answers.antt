@@ -1,9 +1,9 @@
 use Rattle.std.proofs.Common.{◌≡◌, ◌∙◌, subst}
 use Rattle.std.specs.Prelude.{vec_len, option_copied}
-use Rattle.qc_decl.specs.Names.{actors, controller}
+use Rattle.qc_decl.specs.Vocabulary.{actors, controller}
 use Rattle.qc_decl.specs.declared.declaration.Declaration.{Declaration}
 use Rattle.laws_turns.proofs.Downs.{tells}
-use Rattle.qc_node.specs.Names.{AreProcesses, IsHandedBelow}
+use Rattle.qc_node.specs.Vocabulary.{AreProcesses, IsHandedBelow}
 use Rattle.qc_node.proofs.Starts.{all_handed, empty_before, started_tells}
 use Rattle.qc_node.proofs.runs.run_named.Goals as goal
 

@@ -1,5 +1,5 @@
 use Rattle.std.specs.Prelude.{is_some}
-use Rattle.qc_pass.specs.Names.{table_of}
+use Rattle.qc_pass.specs.Vocabulary.{table_of}
 use Rattle.qc_node.proofs.runs.run_script.Given as goal
 
 -- the declaration and the script that were given, the table that was just made, and whether the rack tells

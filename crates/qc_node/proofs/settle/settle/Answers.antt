@@ -1,7 +1,7 @@
 use Rattle.std.specs.Prelude.{option_copied}
 use Rattle.std.proofs.Common.{rules, ◌≡◌, ◌+◌, ◌∷◌, ◌++◌, ◌∙◌, ℕ, [], arith, length, length-append, refl, subst, sym}
-use Rattle.qc_decl.specs.Names.{actors}
-use Rattle.qc_node.specs.Names.{IsSettling}
+use Rattle.qc_decl.specs.Vocabulary.{actors}
+use Rattle.qc_node.specs.Vocabulary.{IsSettling}
 use Rattle.qc_node.proofs.Settling.{settling_none}
 use Rattle.qc_node.proofs.settle.settle.Goals as goal
 

@@ -1,7 +1,7 @@
 use Rattle.std.proofs.Common.{◌≡◌, ◌+◌, length}
 use Rattle.std.specs.Prelude.{vec_len, option_copied}
 use Rattle.std.specs.Vec.Iter.{into_iter_items}
-use Rattle.qc_node.specs.Names.{IsSettling}
+use Rattle.qc_node.specs.Vocabulary.{IsSettling}
 use Rattle.qc_node.proofs.settle.settle.Given as goal
 
 -- the history stays, and the disk of each cell so far went back

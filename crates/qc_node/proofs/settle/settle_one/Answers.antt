@@ -1,8 +1,8 @@
 use Rattle.std.specs.Prelude.{option_copied}
 use Rattle.std.proofs.Common.{◌<◌, [], arith}
-use Rattle.qc_decl.specs.Names.{controller}
-use Rattle.qc_pass.specs.Names.{number, seen}
-use Rattle.qc_process.specs.Names.{Goes, IsOnDisk}
+use Rattle.qc_decl.specs.Vocabulary.{controller}
+use Rattle.qc_pass.specs.Vocabulary.{number, seen}
+use Rattle.qc_process.specs.Vocabulary.{Goes, IsOnDisk}
 use Rattle.qc_node.proofs.Settling.{called_one, goes_now, known_on_disk}
 use Rattle.qc_node.proofs.settle.settle_one.Goals as goal
 

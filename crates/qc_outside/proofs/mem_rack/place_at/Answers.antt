@@ -1,5 +1,5 @@
 use Rattle.std.proofs.Common.{◌+◌, ℕ, sym, ◌∙◌, ap, option_copied}
-use Rattle.qc_outside.specs.Names.{Place, is_at}
+use Rattle.qc_outside.specs.Vocabulary.{Place, is_at}
 use Rattle.qc_outside.proofs.Racks.{none_next}
 use Rattle.qc_outside.proofs.mem_rack.place_at.Goals as goal
 

@@ -1,5 +1,5 @@
 use Rattle.std.proofs.Common.{◌≡◌, None, take, find, option_copied}
-use Rattle.qc_outside.specs.Names.{is_at}
+use Rattle.qc_outside.specs.Vocabulary.{is_at}
 use Rattle.qc_outside.proofs.mem_rack.place_at.Given as goal
 
 abbrev pub invariant-loop-kept : goal.invariant-loop-kept

@@ -1,5 +1,5 @@
 use Rattle.std.proofs.Common.{◌≡◌, drop}
-use Rattle.qc_outside.specs.Names.{contents, file_named}
+use Rattle.qc_outside.specs.Vocabulary.{contents, file_named}
 use Rattle.qc_outside.proofs.mem_shelf.file_named.Given as goal
 
 abbrev pub invariant-loop-file : goal.invariant-loop-file

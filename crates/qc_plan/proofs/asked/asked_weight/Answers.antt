@@ -1,5 +1,5 @@
 use Rattle.std.proofs.Common.{arith}
-use Rattle.qc_plan.specs.Names.{is_asked}
+use Rattle.qc_plan.specs.Vocabulary.{is_asked}
 use Rattle.qc_plan.proofs.Sums.{weight_more}
 use Rattle.qc_plan.proofs.asked.asked_weight.Goals as goal
 

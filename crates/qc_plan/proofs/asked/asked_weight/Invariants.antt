@@ -1,5 +1,5 @@
 use Rattle.std.proofs.Common.{◌≡◌, ◌≤◌, ◌*◌, take}
-use Rattle.qc_plan.specs.Names.{is_asked, weight}
+use Rattle.qc_plan.specs.Vocabulary.{is_asked, weight}
 use Rattle.qc_plan.proofs.asked.asked_weight.Given as goal
 
 abbrev pub invariant-sites : goal.invariant-sites

@@ -1,5 +1,5 @@
 use Rattle.std.proofs.Common.{arith}
-use Rattle.qc_plan.specs.Names.{has_granted}
+use Rattle.qc_plan.specs.Vocabulary.{has_granted}
 use Rattle.qc_plan.proofs.Sums.{weight_more}
 use Rattle.qc_plan.proofs.asked.granted_weight.Goals as goal
 

@@ -1,5 +1,5 @@
 use Rattle.std.proofs.Common.{◌≡◌, ◌≤◌, ◌*◌, take}
-use Rattle.qc_plan.specs.Names.{has_granted, weight}
+use Rattle.qc_plan.specs.Vocabulary.{has_granted, weight}
 use Rattle.qc_plan.proofs.asked.granted_weight.Given as goal
 
 abbrev pub invariant-sites : goal.invariant-sites

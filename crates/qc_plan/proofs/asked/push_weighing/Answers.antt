@@ -1,6 +1,6 @@
 use Rattle.std.proofs.Common.{◌≡◌, ◌+◌, ◌-◌, ◌++◌, ◌∷◌, [], List, None, Vec, Global, ◌∙◌, ap, map, refl}
 use Rattle.std.specs.List.{range_with_len}
-use Rattle.qc_plan.specs.Names.{weighing}
+use Rattle.qc_plan.specs.Vocabulary.{weighing}
 use Rattle.qc_plan.specs.declared.standing.Asked.{Asked}
 use Rattle.qc_plan.proofs.Rounds.{weighing_on, weighing_past}
 use Rattle.qc_plan.proofs.asked.push_weighing.Goals as goal

@@ -1,6 +1,6 @@
 use Rattle.std.proofs.Common.{◌≡◌, ◌-◌, ◌++◌, map}
 use Rattle.std.specs.List.{range_with_len}
-use Rattle.qc_plan.specs.Names.{weighing}
+use Rattle.qc_plan.specs.Vocabulary.{weighing}
 use Rattle.qc_plan.specs.declared.standing.Asked.{Asked}
 use Rattle.qc_plan.proofs.asked.push_weighing.Given as goal
 

@@ -1,5 +1,5 @@
 use Rattle.std.proofs.Common.{◌≡◌, ◌∙◌, ap, max, subst, sym}
-use Rattle.qc_plan.specs.Names.{IsCloseWeight, closing_needs, total}
+use Rattle.qc_plan.specs.Vocabulary.{IsCloseWeight, closing_needs, total}
 use Rattle.qc_plan.proofs.Least.{close_weight_is_least}
 use Rattle.qc_plan.proofs.close.close_weight.Goals as goal
 

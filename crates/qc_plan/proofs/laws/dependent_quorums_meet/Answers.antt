@@ -1,5 +1,5 @@
 use Rattle.std.proofs.Common.{◌+◌, ◌<◌, arith}
-use Rattle.qc_plan.specs.Names.{need_of, total}
+use Rattle.qc_plan.specs.Vocabulary.{need_of, total}
 use Rattle.qc_plan.proofs.Meet.{meet}
 use Rattle.qc_plan.proofs.laws.dependent_quorums_meet.Goals as goal
 

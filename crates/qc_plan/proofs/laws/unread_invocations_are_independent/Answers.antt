@@ -1,7 +1,7 @@
 use Rattle.std.proofs.Common.{◌+◌, ◌<◌, ◌≤◌, arith}
 use Rattle.std.proofs.lemmas.Bool.{false_from_ne_true}
-use Rattle.qc_plan.specs.Names.{need_of, total}
-use Rattle.qc_table.specs.Names.{depends}
+use Rattle.qc_plan.specs.Vocabulary.{need_of, total}
+use Rattle.qc_table.specs.Vocabulary.{depends}
 use Rattle.qc_plan.proofs.laws.unread_invocations_are_independent.Goals as goal
 
 pub returns : goal.returns

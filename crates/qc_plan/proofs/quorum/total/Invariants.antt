@@ -1,5 +1,5 @@
 use Rattle.std.proofs.Common.{◌≡◌, ◌≤◌, ◌*◌, take}
-use Rattle.qc_plan.specs.Names.{total}
+use Rattle.qc_plan.specs.Vocabulary.{total}
 use Rattle.qc_plan.proofs.quorum.total.Given as goal
 
 abbrev pub invariant-loop-weight : goal.invariant-loop-weight

@@ -1,5 +1,5 @@
 use Rattle.std.proofs.Common.{arith}
-use Rattle.qc_table.specs.Names.{has}
+use Rattle.qc_table.specs.Vocabulary.{has}
 use Rattle.qc_plan.proofs.Sums.{weight_more}
 use Rattle.qc_plan.proofs.quorum.weight.Goals as goal
 

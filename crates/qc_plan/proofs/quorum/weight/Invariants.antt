@@ -1,6 +1,6 @@
 use Rattle.std.proofs.Common.{◌≡◌, ◌≤◌, ◌*◌, take}
-use Rattle.qc_table.specs.Names.{has}
-use Rattle.qc_plan.specs.Names.{weight}
+use Rattle.qc_table.specs.Vocabulary.{has}
+use Rattle.qc_plan.specs.Vocabulary.{weight}
 use Rattle.qc_plan.proofs.quorum.weight.Given as goal
 
 abbrev pub invariant-loop-site : goal.invariant-loop-site

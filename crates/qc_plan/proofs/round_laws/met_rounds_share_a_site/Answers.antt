@@ -1,5 +1,5 @@
 use Rattle.std.proofs.Common.{◌≡◌, ℕ, ◌+◌, ◌<◌, ◌≤◌, List, arith, subst, sym}
-use Rattle.qc_plan.specs.Names.{RoundState, has_granted, need_of, total, verdict, weight}
+use Rattle.qc_plan.specs.Vocabulary.{RoundState, has_granted, need_of, total, verdict, weight}
 use Rattle.qc_plan.specs.declared.standing.Verdict.TheVariants.{Met}
 use Rattle.qc_plan.proofs.Meet.{meet}
 use Rattle.qc_plan.proofs.RoundsMet.{met_weighs}

@@ -1,6 +1,6 @@
 use Rattle.std.proofs.Common.{rules, ◌≡◌, [], refl, ◌∙◌, ap, subst, length}
-use Rattle.qc_journal.specs.Names.{Rests, lists}
-use Rattle.qc_process.specs.Names.{OpenJournal}
+use Rattle.qc_journal.specs.Vocabulary.{Rests, lists}
+use Rattle.qc_process.specs.Vocabulary.{OpenJournal}
 use Rattle.qc_process.proofs.Beginnings.{begun, none_in, not_begun_as}
 use Rattle.qc_process.proofs.beginning.begin.Goals as goal
 

@@ -1,7 +1,7 @@
 use Rattle.std.proofs.Common.{List}
-use Rattle.qc_msg.specs.Names.{Entry, own}
-use Rattle.qc_promise.specs.Names.{journal_of}
-use Rattle.qc_process.specs.Names.{journal_fits}
+use Rattle.qc_msg.specs.Vocabulary.{Entry, own}
+use Rattle.qc_promise.specs.Vocabulary.{journal_of}
+use Rattle.qc_process.specs.Vocabulary.{journal_fits}
 use Rattle.qc_process.proofs.Seen.{kept_at}
 use Rattle.qc_process.proofs.laws.records_are_kept_where_they_fit.Goals as goal
 

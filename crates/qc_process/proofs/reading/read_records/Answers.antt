@@ -1,10 +1,10 @@
 use Rattle.std.proofs.Common.{rules, ◌≡◌, suc, ◌+◌, ◌*◌, ◌<◌, ◌≤◌, Option, Some, None, ◌∷◌, ◌++◌, [], drop, false, true}
 use Rattle.std.proofs.Common.{length, sym, ◌∙◌, ap, subst, arith}
-use Rattle.qc_fit.specs.Names.{fits, most_records}
-use Rattle.qc_journal.specs.Names.{lists}
+use Rattle.qc_fit.specs.Vocabulary.{fits, most_records}
+use Rattle.qc_journal.specs.Vocabulary.{lists}
 use Rattle.qc_msg.specs.declared.record.Record.{Record}
-use Rattle.qc_record.specs.Names.{is_legal, spelled}
-use Rattle.qc_process.specs.Names.{ReadsOne, bodies_of}
+use Rattle.qc_record.specs.Vocabulary.{is_legal, spelled}
+use Rattle.qc_process.specs.Vocabulary.{ReadsOne, bodies_of}
 use Rattle.qc_process.proofs.Fit.{all_more, first_here, fits_few, legal_more, length_more, offset_more, spells_more}
 use Rattle.qc_process.proofs.Fit.{unfit_here, whole}
 use Rattle.qc_process.proofs.reading.read_records.Goals as goal

@@ -1,7 +1,7 @@
 use Rattle.std.proofs.Common.{◌≡◌, ◌≤◌, ◌*◌, true, ◌++◌, drop, length}
-use Rattle.qc_fit.specs.Names.{most_records}
-use Rattle.qc_journal.specs.Names.{lists}
-use Rattle.qc_process.specs.Names.{AreLegal, all_fit, bodies_of, bytes_of}
+use Rattle.qc_fit.specs.Vocabulary.{most_records}
+use Rattle.qc_journal.specs.Vocabulary.{lists}
+use Rattle.qc_process.specs.Vocabulary.{AreLegal, all_fit, bodies_of, bytes_of}
 use Rattle.qc_process.proofs.reading.read_records.Given as goal
 
 pub record ReadSoFar (legal spell fit place offset few bound : Type 0) : Type 0 where

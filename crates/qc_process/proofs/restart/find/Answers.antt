@@ -1,8 +1,8 @@
 use Rattle.std.proofs.Common.{rules, ◌≡◌, ◌≤◌, length, sym, ◌∙◌, ap, subst}
-use Rattle.qc_core.specs.Names.{actor_rises, moved}
-use Rattle.qc_fit.specs.Names.{most_records}
-use Rattle.qc_journal.specs.Names.{lists}
-use Rattle.qc_process.specs.Names.{HasFewRecords, ReadsAs, ReadsFit, StoreView}
+use Rattle.qc_core.specs.Vocabulary.{actor_rises, moved}
+use Rattle.qc_fit.specs.Vocabulary.{most_records}
+use Rattle.qc_journal.specs.Vocabulary.{lists}
+use Rattle.qc_process.specs.Vocabulary.{HasFewRecords, ReadsAs, ReadsFit, StoreView}
 use Rattle.qc_process.specs.declared.reading.Reading.{Reading}
 use Rattle.qc_process.specs.declared.reading.Reading.TheVariants.{Fit}
 use Rattle.qc_process.proofs.Restarts.{few_bodies, life_few, life_may_wait, life_waits, risen_is_up}

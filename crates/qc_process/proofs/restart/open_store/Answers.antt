@@ -1,7 +1,7 @@
 use Rattle.std.proofs.Common.{ℕ, IfOk, List, Vec, subst}
 use Rattle.std.specs.declared.alloc.Global.{Global}
-use Rattle.qc_journal.specs.Names.{lists}
-use Rattle.qc_process.specs.Names.{FoundAs}
+use Rattle.qc_journal.specs.Vocabulary.{lists}
+use Rattle.qc_process.specs.Vocabulary.{FoundAs}
 use Rattle.qc_process.specs.declared.restart.Found.{Found}
 use Rattle.qc_process.proofs.Restarts.{not_opened, not_opened_err, opens_err, opens_ok}
 use Rattle.qc_process.proofs.restart.open_store.Goals as goal

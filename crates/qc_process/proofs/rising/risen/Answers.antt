@@ -1,5 +1,5 @@
 use Rattle.std.proofs.Common.{◌≤◌, length, arith}
-use Rattle.qc_fit.specs.Names.{most_records}
+use Rattle.qc_fit.specs.Vocabulary.{most_records}
 use Rattle.qc_process.proofs.Fit.{clients, few}
 use Rattle.qc_process.proofs.rising.risen.Goals as goal
 

@@ -1,6 +1,6 @@
 use Rattle.std.proofs.Common.{None}
 use Rattle.std.proofs.lemmas.Result.{err_from_is_err_and}
-use Rattle.qc_record.specs.Names.{items_at}
+use Rattle.qc_record.specs.Vocabulary.{items_at}
 use Rattle.qc_record.proofs.Loop.{goes_on, ends, is_done}
 use Rattle.qc_record.proofs.item.items.Goals as goal
 

@@ -1,5 +1,5 @@
 use Rattle.std.proofs.Common.{◌≡◌, ◌-◌, None}
-use Rattle.qc_record.specs.Names.{items_at}
+use Rattle.qc_record.specs.Vocabulary.{items_at}
 use Rattle.qc_record.proofs.Loop.{with_front}
 use Rattle.qc_record.proofs.item.items.Given as goal
 

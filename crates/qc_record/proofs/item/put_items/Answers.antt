@@ -1,5 +1,5 @@
 use Rattle.std.proofs.Common.{◌++◌, ap, ◌∙◌, None}
-use Rattle.qc_record.specs.Names.{items_spelled}
+use Rattle.qc_record.specs.Vocabulary.{items_spelled}
 use Rattle.qc_record.proofs.Loop.{put_more, take_whole}
 use Rattle.qc_record.proofs.item.put_items.Goals as goal
 

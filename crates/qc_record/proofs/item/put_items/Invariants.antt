@@ -1,5 +1,5 @@
 use Rattle.std.proofs.Common.{◌≡◌, ◌++◌, take, None}
-use Rattle.qc_record.specs.Names.{items_spelled}
+use Rattle.qc_record.specs.Vocabulary.{items_spelled}
 use Rattle.qc_record.proofs.item.put_items.Given as goal
 
 abbrev pub invariant-loop-item : goal.invariant-loop-item

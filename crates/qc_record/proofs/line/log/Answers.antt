@@ -1,5 +1,5 @@
 use Rattle.std.proofs.Common.{arith, sym, subst}
-use Rattle.qc_entry.specs.Names.{IsAscending}
+use Rattle.qc_entry.specs.Vocabulary.{IsAscending}
 use Rattle.qc_record.proofs.Logs.{read_ascends}
 use Rattle.qc_record.proofs.line.log.Goals as goal
 

@@ -1,5 +1,5 @@
 use Rattle.std.proofs.Common.{ap, subst, ◌∙◌, arith}
-use Rattle.qc_record.specs.Names.{Answers, record_at}
+use Rattle.qc_record.specs.Vocabulary.{Answers, record_at}
 use Rattle.qc_record.proofs.Whole.{is_found, again}
 use Rattle.qc_record.proofs.reading.read_bytes.Goals as goal
 

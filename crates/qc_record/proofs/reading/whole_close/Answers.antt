@@ -1,5 +1,5 @@
 use Rattle.qc_msg.specs.declared.record.Record.TheVariants as records
-use Rattle.qc_record.specs.Names.{body_at, epoch_form}
+use Rattle.qc_record.specs.Vocabulary.{body_at, epoch_form}
 use Rattle.qc_record.proofs.reading.whole_close.Goals as goal
 
 pub returns : goal.returns

@@ -1,4 +1,4 @@
-use Rattle.qc_record.specs.Names.{body_at, decide_of, start_form}
+use Rattle.qc_record.specs.Vocabulary.{body_at, decide_of, start_form}
 use Rattle.qc_record.proofs.reading.whole_decide.Goals as goal
 
 pub returns : goal.returns

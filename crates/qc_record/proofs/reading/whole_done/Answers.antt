@@ -1,4 +1,4 @@
-use Rattle.qc_record.specs.Names.{body_at, done_form, done_of}
+use Rattle.qc_record.specs.Vocabulary.{body_at, done_form, done_of}
 use Rattle.qc_record.proofs.reading.whole_done.Goals as goal
 
 pub returns : goal.returns

@@ -1,4 +1,4 @@
-use Rattle.qc_record.specs.Names.{body_at, install_of, start_form}
+use Rattle.qc_record.specs.Vocabulary.{body_at, install_of, start_form}
 use Rattle.qc_record.proofs.reading.whole_install.Goals as goal
 
 pub returns : goal.returns

@@ -1,6 +1,6 @@
 use Rattle.std.proofs.Common.{refl}
 use Rattle.qc_msg.specs.declared.record.Record.TheVariants as records
-use Rattle.qc_record.specs.Names.{body_at, nothing}
+use Rattle.qc_record.specs.Vocabulary.{body_at, nothing}
 use Rattle.qc_record.proofs.reading.whole_life.Goals as goal
 
 pub returns : goal.returns

@@ -1,5 +1,5 @@
 use Rattle.byteorder.specs.Endian.{big_bytes}
-use Rattle.qc_record.specs.Names.{ops_form, tx_form}
+use Rattle.qc_record.specs.Vocabulary.{ops_form, tx_form}
 use Rattle.qc_record.proofs.Puts.{on_ok, three, as_spelled}
 use Rattle.qc_record.proofs.writing.put_commit.Goals as goal
 

@@ -1,5 +1,5 @@
 use Rattle.byteorder.specs.Endian.{big_bytes}
-use Rattle.qc_record.specs.Names.{lines_form, locks_form, owns_form, tx_form}
+use Rattle.qc_record.specs.Vocabulary.{lines_form, locks_form, owns_form, tx_form}
 use Rattle.qc_record.proofs.Puts.{on_ok, five, as_bytes, as_spelled}
 use Rattle.qc_record.proofs.writing.put_prepared.Goals as goal
 

@@ -1,4 +1,4 @@
-use Rattle.qc_recover.specs.Names.{nothing_kept}
+use Rattle.qc_recover.specs.Vocabulary.{nothing_kept}
 use Rattle.qc_recover.proofs.SiteLaws.{clocks_passed}
 use Rattle.qc_recover.proofs.laws.clocks_pass_records.Goals as goal
 

@@ -1,6 +1,6 @@
 use Rattle.std.proofs.Common.{◌∷◌, [], ap}
 use Rattle.qc_msg.specs.declared.record.Record.TheVariants as records
-use Rattle.qc_site.specs.Names.{SiteState}
+use Rattle.qc_site.specs.Vocabulary.{SiteState}
 use Rattle.qc_recover.proofs.SiteLaws.{site_more}
 use Rattle.qc_recover.proofs.laws.installs_begin_anew.Goals as goal
 

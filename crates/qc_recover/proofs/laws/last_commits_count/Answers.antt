@@ -1,6 +1,6 @@
 use Rattle.std.proofs.Common.{◌∷◌, [], ◌∙◌, ap, false}
-use Rattle.qc_client.specs.Names.{outcome_by}
-use Rattle.qc_commit.specs.Names.{known_by, record_of}
+use Rattle.qc_client.specs.Vocabulary.{outcome_by}
+use Rattle.qc_commit.specs.Vocabulary.{known_by, record_of}
 use Rattle.qc_msg.specs.declared.record.Record.TheVariants as records
 use Rattle.qc_recover.specs.Clients.{Kept, kept_by}
 use Rattle.qc_recover.proofs.ClientLaws.{kept_more, last_known, none_known, others_known}

@@ -1,8 +1,8 @@
 use Rattle.std.proofs.Common.{◌∙◌, ap}
 use Rattle.qc_msg.specs.declared.record.Record.TheVariants as records
-use Rattle.qc_site.specs.Names.{prepared_of}
+use Rattle.qc_site.specs.Vocabulary.{prepared_of}
 use Rattle.qc_site.proofs.Votes.{prepared-without, prepared-without_other}
-use Rattle.qc_recover.specs.Names.{kept_by}
+use Rattle.qc_recover.specs.Vocabulary.{kept_by}
 use Rattle.qc_recover.proofs.SiteLaws.{promise_found, promise_other, promises_more}
 use Rattle.qc_recover.proofs.laws.last_prepares_are_promises.Goals as goal
 

@@ -1,6 +1,6 @@
 use Rattle.std.proofs.Common.{arith, ◌<◌, ◌^◌, ◌∷◌, [], ◌++◌, List, inl, inr, sym, subst}
 use Rattle.qc_entry.specs.declared.record.Commit.{Commit}
-use Rattle.qc_list.specs.Names.{In}
+use Rattle.qc_list.specs.Vocabulary.{In}
 use Rattle.qc_msg.specs.declared.record.Record.{Record}
 use Rattle.qc_msg.specs.declared.record.Record.TheVariants as records
 use Rattle.qc_recover.specs.Clients.{Kept, kept_by, nothing_kept}

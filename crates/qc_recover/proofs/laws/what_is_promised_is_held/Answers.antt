@@ -1,4 +1,4 @@
-use Rattle.qc_recover.specs.Names.{kept_by}
+use Rattle.qc_recover.specs.Vocabulary.{kept_by}
 use Rattle.qc_recover.proofs.SiteLaws.{just_held, locks_held, own_held}
 use Rattle.qc_recover.proofs.laws.what_is_promised_is_held.Goals as goal
 

@@ -2,9 +2,9 @@ use Rattle.std.proofs.Common.{rules, ◌≡◌, ◌-◌, length, Some, true, sym
 use Rattle.std.specs.List.{slice_get}
 use Rattle.std.specs.Ordering.{is_eq}
 use Rattle.qc_entry.specs.declared.line.Line.{Line}
-use Rattle.qc_entry.specs.Names.{line_cmp}
+use Rattle.qc_entry.specs.Vocabulary.{line_cmp}
 use Rattle.qc_entry.proofs.Orders.{line_order}
-use Rattle.qc_list.specs.Names.{In}
+use Rattle.qc_list.specs.Vocabulary.{In}
 use Rattle.qc_list.proofs.Members.{every-at, every-from_In}
 use Rattle.qc_lock.proofs.NumberedEntries.{equal_is}
 use Rattle.qc_recover.proofs.lines.is_last.Goals as goal

@@ -1,10 +1,10 @@
 use Rattle.std.proofs.Common.{◌≡◌, ◌<◌, ◌-◌, ◌++◌, ℕ, List, [], ◌∷◌, map, take, sym, ◌∙◌, ap, subst, arith}
 use Rattle.std.specs.List.{AllByRecursion as Every}
-use Rattle.qc_decl.specs.Names.{most_clients}
+use Rattle.qc_decl.specs.Vocabulary.{most_clients}
 use Rattle.qc_msg.specs.declared.message.Message.TheVariants as messages
 use Rattle.qc_msg.specs.declared.turn.Posting.{Posting}
 use Rattle.qc_stamp.specs.declared.stamp.TxId.{TxId}
-use Rattle.qc_recover.specs.Names.{inquiry, most_inquiries}
+use Rattle.qc_recover.specs.Vocabulary.{inquiry, most_inquiries}
 use Rattle.qc_site.proofs.InOrder.{each_key, keys_in_order}
 use Rattle.qc_recover.proofs.Asked.{asked_more}
 use Rattle.qc_recover.proofs.site.inquiries.Goals as goal

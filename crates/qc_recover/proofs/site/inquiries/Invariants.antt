@@ -1,8 +1,8 @@
 use Rattle.std.proofs.Common.{◌≡◌, ◌<◌, ◌++◌, map, take}
 use Rattle.std.specs.List.{AllByRecursion as Every}
-use Rattle.qc_decl.specs.Names.{most_clients}
+use Rattle.qc_decl.specs.Vocabulary.{most_clients}
 use Rattle.qc_stamp.specs.declared.stamp.TxId.{TxId}
-use Rattle.qc_recover.specs.Names.{inquiries, inquiry}
+use Rattle.qc_recover.specs.Vocabulary.{inquiries, inquiry}
 use Rattle.qc_recover.proofs.site.inquiries.Given as goal
 
 abbrev pub invariant-transactions : goal.invariant-transactions

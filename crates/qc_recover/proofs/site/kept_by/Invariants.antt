@@ -1,5 +1,5 @@
 use Rattle.std.proofs.Common.{◌≡◌, ◌+◌, ◌≤◌, drop, fold}
-use Rattle.qc_recover.specs.Names.{keeps, kept_by}
+use Rattle.qc_recover.specs.Vocabulary.{keeps, kept_by}
 use Rattle.qc_recover.proofs.site.kept_by.Given as goal
 
 abbrev pub invariant-records : goal.invariant-records

@@ -1,7 +1,7 @@
 use Rattle.std.proofs.Common.{◌∙◌, sym, ap, subst}
-use Rattle.qc_site.specs.Names.{AreByClients, AreOfClients, held_by}
+use Rattle.qc_site.specs.Vocabulary.{AreByClients, AreOfClients, held_by}
 use Rattle.qc_site.proofs.Holders.{clients-promised}
-use Rattle.qc_recover.specs.Names.{Kept}
+use Rattle.qc_recover.specs.Vocabulary.{Kept}
 use Rattle.qc_recover.proofs.site.site_by.Goals as goal
 
 pub risen-requires-clause-held : goal.risen-requires-clause-held

@@ -1,8 +1,8 @@
 use Rattle.std.proofs.Common.{◌<◌, ◌∙◌, sym, ap, subst, arith}
 use Rattle.std.specs.List.{AllByRecursion as Every}
-use Rattle.qc_decl.specs.Names.{most_clients}
+use Rattle.qc_decl.specs.Vocabulary.{most_clients}
 use Rattle.qc_entry.specs.declared.record.Prepared.{Prepared}
-use Rattle.qc_recover.specs.Names.{Kept, nothing_kept}
+use Rattle.qc_recover.specs.Vocabulary.{Kept, nothing_kept}
 use Rattle.qc_recover.proofs.Lives.{site_lives}
 use Rattle.qc_recover.proofs.Promised.{each_promise}
 use Rattle.qc_recover.proofs.site.site_of.Goals as goal

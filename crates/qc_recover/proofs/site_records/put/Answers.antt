@@ -1,8 +1,8 @@
 use Rattle.std.proofs.Common.{◌∙◌, ap}
 use Rattle.qc_entry.specs.declared.record.Prepared.{Prepared}
 use Rattle.qc_lock.proofs.Entries.{find-none}
-use Rattle.qc_site.specs.Names.{prepared_of}
-use Rattle.qc_stamp.specs.Names.{same_tx}
+use Rattle.qc_site.specs.Vocabulary.{prepared_of}
+use Rattle.qc_stamp.specs.Vocabulary.{same_tx}
 use Rattle.qc_recover.proofs.site_records.put.Goals as goal
 
 pub add-requires : goal.add-requires

@@ -4,7 +4,7 @@ use Rattle.std.proofs.lemmas.Result.{err_from_is_err_and}
 use Rattle.std.proofs.lemmas.Iterator.Splits.{YieldsList-from_slice_split}
 use Rattle.std.proofs.lemmas.Iterator.Consumers.{YieldsList-turn, YieldsList-end}
 use borrow.Author.Tests.{tests}
-use Rattle.qc_script.specs.Names.{IsTold, lines_of, numbered, with_line}
+use Rattle.qc_script.specs.Vocabulary.{IsTold, lines_of, numbered, with_line}
 use Rattle.qc_script.proofs.Reading.{reads_on, reads_refused, reads_all}
 use Rattle.qc_script.proofs.reader.read.Goals as goal
 

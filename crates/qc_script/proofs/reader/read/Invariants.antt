@@ -1,5 +1,5 @@
 use Rattle.std.proofs.Common.{◌≡◌, length}
-use Rattle.qc_script.specs.Names.{lines_of, script_of}
+use Rattle.qc_script.specs.Vocabulary.{lines_of, script_of}
 use Rattle.qc_script.proofs.Reading.{IsReadTo}
 use Rattle.qc_script.proofs.reader.read.Given as goal
 

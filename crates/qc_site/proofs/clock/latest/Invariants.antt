@@ -1,5 +1,5 @@
 use Rattle.std.proofs.Common.{◌≡◌, drop}
-use Rattle.qc_site.specs.Names.{latest}
+use Rattle.qc_site.specs.Vocabulary.{latest}
 use Rattle.qc_site.proofs.clock.latest.Given as goal
 
 abbrev pub invariant-lines : goal.invariant-lines

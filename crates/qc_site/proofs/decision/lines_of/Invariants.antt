@@ -1,5 +1,5 @@
 use Rattle.std.proofs.Common.{◌≡◌, drop, fold}
-use Rattle.qc_site.specs.Names.{lines_of, with_stamped}
+use Rattle.qc_site.specs.Vocabulary.{lines_of, with_stamped}
 use Rattle.qc_site.proofs.decision.lines_of.Given as goal
 
 abbrev pub invariant-own : goal.invariant-own

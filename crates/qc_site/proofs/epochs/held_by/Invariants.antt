@@ -1,5 +1,5 @@
 use Rattle.std.proofs.Common.{◌≡◌, fold}
-use Rattle.qc_site.specs.Names.{held_by, holds}
+use Rattle.qc_site.specs.Vocabulary.{held_by, holds}
 use Rattle.qc_site.proofs.epochs.held_by.Given as goal
 
 abbrev pub invariant-promises : goal.invariant-promises

@@ -2,7 +2,7 @@ use Rattle.std.proofs.Common.{◌≡◌, ◌++◌, List, sym, ◌∙◌, ap, map
 use Rattle.std.specs.List.{filter_map}
 use Rattle.qc_entry.specs.declared.record.Prepared.{Prepared}
 use Rattle.qc_stamp.specs.declared.stamp.TxId.{TxId}
-use Rattle.qc_site.specs.Names.{prepared_of}
+use Rattle.qc_site.specs.Vocabulary.{prepared_of}
 use Rattle.qc_site.proofs.InOrder.{in_order_by_txs, keys_in_order}
 use Rattle.qc_site.proofs.epochs.promises_in_order.Goals as goal
 

@@ -1,6 +1,6 @@
 use Rattle.std.proofs.Common.{◌≡◌, ◌++◌}
 use Rattle.std.specs.List.{filter_map}
-use Rattle.qc_site.specs.Names.{prepared_of, promises_in_order}
+use Rattle.qc_site.specs.Vocabulary.{prepared_of, promises_in_order}
 use Rattle.qc_site.proofs.epochs.promises_in_order.Given as goal
 
 abbrev pub invariant-transactions : goal.invariant-transactions

@@ -1,4 +1,4 @@
-use Rattle.qc_journal.specs.Names.{lists}
+use Rattle.qc_journal.specs.Vocabulary.{lists}
 use Rattle.qc_store.proofs.Contents.{never_torn, opening_gives, refusal_holds, still, still_then}
 use Rattle.qc_store.proofs.store.rise.Goals as goal
 

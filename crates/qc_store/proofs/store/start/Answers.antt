@@ -1,5 +1,5 @@
 use Rattle.std.proofs.Common.{Option, IsSome, sym, subst}
-use Rattle.qc_outside.specs.Names.{Told}
+use Rattle.qc_outside.specs.Vocabulary.{Told}
 use Rattle.qc_store.proofs.Contents.{still}
 use Rattle.qc_store.proofs.store.start.Goals as goal
 

@@ -1,6 +1,6 @@
 use Rattle.std.proofs.Common.{◌≡◌, ap, arith, length, None}
 use Rattle.qc_table.specs.declared.row.Event.{Event}
-use Rattle.qc_table.specs.Names.{ranked, with_event}
+use Rattle.qc_table.specs.Vocabulary.{ranked, with_event}
 use Rattle.qc_table.proofs.Few.{too_many}
 use Rattle.qc_table.proofs.rows.events.Goals as goal
 

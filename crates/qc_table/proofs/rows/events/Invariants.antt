@@ -1,6 +1,6 @@
 use Rattle.std.proofs.Common.{◌≡◌, ◌≤◌, length, drop}
 use Rattle.std.specs.List.{fold}
-use Rattle.qc_table.specs.Names.{event_of, events_of, with_event}
+use Rattle.qc_table.specs.Vocabulary.{event_of, events_of, with_event}
 use Rattle.qc_table.proofs.rows.events.Given as goal
 
 abbrev pub invariant-loop-row : goal.invariant-loop-row

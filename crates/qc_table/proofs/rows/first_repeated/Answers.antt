@@ -1,7 +1,7 @@
 use Rattle.std.proofs.Common.{arith, ◌≡◌, ℕ, false, length, List, get_or, ap, sym, ◌∙◌, refl}
 use Rattle.std.proofs.lemmas.List.{length-set}
 use Rattle.qc_table.specs.declared.row.Row.{Row}
-use Rattle.qc_table.specs.Names.{has_case}
+use Rattle.qc_table.specs.Vocabulary.{has_case}
 use Rattle.qc_table.proofs.Seen.{none_seen, seen_more, repeat_later}
 use Rattle.qc_table.proofs.rows.first_repeated.Goals as goal
 

@@ -1,7 +1,7 @@
 use Rattle.std.proofs.Common.{◌≡◌, take, drop}
 use Rattle.std.specs.List.{list_any}
 use Rattle.qc_table.specs.declared.row.Row.{Row}
-use Rattle.qc_table.specs.Names.{IsSmall, first_repeat, has_case, repeat_after, same_case}
+use Rattle.qc_table.specs.Vocabulary.{IsSmall, first_repeat, has_case, repeat_after, same_case}
 use Rattle.qc_table.proofs.rows.first_repeated.Given as goal
 
 abbrev pub invariant-loop-place : goal.invariant-loop-place

@@ -1,5 +1,5 @@
 use Rattle.std.proofs.Common.{◌≡◌, ◌++◌, map}
-use Rattle.qc_text.specs.Names.{commit_of}
+use Rattle.qc_text.specs.Vocabulary.{commit_of}
 use Rattle.qc_text.proofs.committed.commits_of.Given as goal
 
 abbrev pub invariant-keys : goal.invariant-keys

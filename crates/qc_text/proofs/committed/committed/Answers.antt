@@ -1,5 +1,5 @@
 use Rattle.std.proofs.Common.{map, sym, ap, ◌∙◌}
-use Rattle.qc_text.specs.Names.{commit_of}
+use Rattle.qc_text.specs.Vocabulary.{commit_of}
 use Rattle.qc_text.proofs.Keys.{step_added, nothing_added}
 use Rattle.qc_text.proofs.committed.committed.Goals as goal
 use Rattle.qc_text.proofs.committed.committed.Goals.{then-is_client+in_ok-keys, else-is_client}

@@ -1,6 +1,6 @@
 use Rattle.std.proofs.Common.{◌≡◌, map, take}
-use Rattle.qc_promise.specs.Names.{committed}
-use Rattle.qc_text.specs.Names.{commit_of}
+use Rattle.qc_promise.specs.Vocabulary.{committed}
+use Rattle.qc_text.specs.Vocabulary.{commit_of}
 use Rattle.qc_text.proofs.committed.committed.Given as goal
 
 abbrev pub invariant-entries : goal.invariant-entries

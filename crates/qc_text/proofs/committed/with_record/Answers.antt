@@ -1,5 +1,5 @@
 use Rattle.std.proofs.Common.{map, refl, ap, ◌∙◌}
-use Rattle.qc_text.specs.Names.{commit_of}
+use Rattle.qc_text.specs.Vocabulary.{commit_of}
 use Rattle.qc_text.proofs.Keys.{commit_added, other_left}
 use Rattle.qc_text.proofs.committed.with_record.Goals as goal
 use Rattle.qc_text.proofs.committed.with_record.Goals.{in-Commit+in_ok-key_of+in_ok-_is_new, in_default}

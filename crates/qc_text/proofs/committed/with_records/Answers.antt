@@ -2,8 +2,8 @@ use Rattle.std.proofs.Common.{List, map, ap, sym, ◌∙◌}
 use Rattle.std.specs.Prelude.{fold, option_to_list}
 use Rattle.qc_entry.specs.declared.record.Commit.{Commit}
 use Rattle.qc_msg.specs.Counts as counts
-use Rattle.theory_onecopy.specs.Names.{with_commit}
-use Rattle.qc_text.specs.Names.{commit_of}
+use Rattle.theory_onecopy.specs.Vocabulary.{with_commit}
+use Rattle.qc_text.specs.Vocabulary.{commit_of}
 use Rattle.qc_text.proofs.Keys.{record_more}
 use Rattle.qc_text.proofs.committed.with_records.Goals as goal
 

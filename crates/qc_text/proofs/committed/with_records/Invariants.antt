@@ -1,8 +1,8 @@
 use Rattle.std.proofs.Common.{◌≡◌, fold, map, take}
 use Rattle.std.specs.List.{filter_map}
 use Rattle.qc_msg.specs.Counts as counts
-use Rattle.theory_onecopy.specs.Names.{with_commit}
-use Rattle.qc_text.specs.Names.{commit_of}
+use Rattle.theory_onecopy.specs.Vocabulary.{with_commit}
+use Rattle.qc_text.specs.Vocabulary.{commit_of}
 use Rattle.qc_text.proofs.committed.with_records.Given as goal
 
 abbrev pub invariant-records : goal.invariant-records

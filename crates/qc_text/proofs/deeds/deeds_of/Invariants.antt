@@ -1,6 +1,6 @@
 use Rattle.std.proofs.Common.{◌≡◌, [], ◌++◌, drop, map}
-use Rattle.qc_msg.specs.Names.{deeds}
-use Rattle.qc_text.specs.Names.{deed_of, envelope_in}
+use Rattle.qc_msg.specs.Vocabulary.{deeds}
+use Rattle.qc_text.specs.Vocabulary.{deed_of, envelope_in}
 use Rattle.qc_text.proofs.deeds.deeds_of.Given as goal
 
 abbrev pub invariant-entries : goal.invariant-entries

@@ -1,8 +1,8 @@
 use Rattle.std.proofs.Common.{◌≡◌, List, length, ap, map, sym, ◌∙◌}
 use Rattle.std.specs.Prelude.{[], fold}
 use Rattle.std.proofs.lemmas.List.{drop_all}
-use Rattle.qc_promise.specs.Names.{Holding}
-use Rattle.qc_text.specs.Names.{deed_of, held_by, holders_from, holders_with, parted, promised_at}
+use Rattle.qc_promise.specs.Vocabulary.{Holding}
+use Rattle.qc_text.specs.Vocabulary.{deed_of, held_by, holders_from, holders_with, parted, promised_at}
 use Rattle.qc_text.specs.declared.deeds.Deed.{Deed}
 use Rattle.qc_text.proofs.Promised.{holders_counted}
 use Rattle.qc_text.proofs.grants.count_holders.Goals as goal

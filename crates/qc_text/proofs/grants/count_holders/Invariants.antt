@@ -1,7 +1,7 @@
 use Rattle.std.proofs.Common.{◌≡◌, List, [], drop, map}
 use Rattle.std.specs.Prelude.{fold}
 use Rattle.qc_stamp.specs.declared.stamp.TxId.{TxId}
-use Rattle.qc_text.specs.Names.{IsSetOf, deed_of, holders_from, holders_with, promised_at}
+use Rattle.qc_text.specs.Vocabulary.{IsSetOf, deed_of, holders_from, holders_with, promised_at}
 use Rattle.qc_text.proofs.grants.count_holders.Given as goal
 
 abbrev pub invariant-deeds : goal.invariant-deeds

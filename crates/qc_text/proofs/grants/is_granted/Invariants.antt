@@ -1,6 +1,6 @@
 use Rattle.std.proofs.Common.{◌≡◌, drop, map}
-use Rattle.qc_promise.specs.Names.{is_granted}
-use Rattle.qc_text.specs.Names.{deed_of}
+use Rattle.qc_promise.specs.Vocabulary.{is_granted}
+use Rattle.qc_text.specs.Vocabulary.{deed_of}
 use Rattle.qc_text.proofs.grants.is_granted.Given as goal
 
 abbrev pub invariant-deeds : goal.invariant-deeds

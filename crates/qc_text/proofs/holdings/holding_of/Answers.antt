@@ -1,6 +1,6 @@
 use Rattle.std.proofs.Common.{◌≡◌, ℕ, ◌+◌, ◌-◌, List, length, map, take, drop, ap, sym, subst, ◌∙◌, arith, length-drop}
 use Rattle.std.proofs.lemmas.List.{take_all}
-use Rattle.qc_text.specs.Names.{deed_of}
+use Rattle.qc_text.specs.Vocabulary.{deed_of}
 use Rattle.qc_text.specs.declared.deeds.Deed.{Deed as Found}
 use Rattle.qc_text.proofs.Cuts.{AreNoCuts, found_parted, not_parted}
 use Rattle.qc_text.proofs.holdings.holding_of.Goals as goal

@@ -1,5 +1,5 @@
 use Rattle.std.proofs.Common.{drop, map}
-use Rattle.qc_text.specs.Names.{deed_of}
+use Rattle.qc_text.specs.Vocabulary.{deed_of}
 use Rattle.qc_text.proofs.Cuts.{AreNoCuts}
 use Rattle.qc_text.proofs.holdings.holding_of.Given as goal
 

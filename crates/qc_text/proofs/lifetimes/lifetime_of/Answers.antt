@@ -1,7 +1,7 @@
 use Rattle.std.proofs.Common.{◌≡◌, ℕ, ◌+◌, ◌-◌, List, length, map, take, drop, ap, sym, subst, ◌∙◌, arith, length-drop}
 use Rattle.std.proofs.lemmas.List.{take_all}
 use Rattle.qc_promise.proofs.Lifetimes.{AreNoRises, first_life}
-use Rattle.qc_text.specs.Names.{deed_of}
+use Rattle.qc_text.specs.Vocabulary.{deed_of}
 use Rattle.qc_text.specs.declared.deeds.Deed.{Deed}
 use Rattle.qc_text.proofs.Risen.{rose_at}
 use Rattle.qc_text.proofs.lifetimes.lifetime_of.Goals as goal

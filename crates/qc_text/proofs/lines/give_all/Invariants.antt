@@ -1,6 +1,6 @@
 use Rattle.std.proofs.Common.{◌≡◌, [], drop, take}
-use Rattle.qc_promise.specs.Names.{recorded_from}
-use Rattle.qc_text.specs.Names.{AreLast}
+use Rattle.qc_promise.specs.Vocabulary.{recorded_from}
+use Rattle.qc_text.specs.Vocabulary.{AreLast}
 use Rattle.qc_text.proofs.lines.give_all.Given as goal
 
 abbrev pub invariant-records : goal.invariant-records

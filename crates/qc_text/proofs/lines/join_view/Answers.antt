@@ -1,5 +1,5 @@
 use Rattle.std.proofs.Common.{map, sym, ◌∙◌}
-use Rattle.qc_text.specs.Names.{deed_of, envelope_in}
+use Rattle.qc_text.specs.Vocabulary.{deed_of, envelope_in}
 use Rattle.qc_text.proofs.Granted.{joins_no_view, joins_nothing}
 use Rattle.qc_text.proofs.lines.join_view.Goals as goal
 

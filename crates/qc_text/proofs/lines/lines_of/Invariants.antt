@@ -1,9 +1,9 @@
 use Rattle.std.proofs.Common.{◌≡◌, ◌∷◌, [], List, drop}
 use Rattle.std.specs.Prelude.{fold}
-use Rattle.qc_entry.specs.Names.{union}
+use Rattle.qc_entry.specs.Vocabulary.{union}
 use Rattle.qc_entry.specs.declared.line.Line.{Line}
 use Rattle.qc_entry.specs.declared.line.OwnLine.{OwnLine}
-use Rattle.qc_promise.specs.Names.{lines_of, stamped}
+use Rattle.qc_promise.specs.Vocabulary.{lines_of, stamped}
 use Rattle.qc_text.proofs.lines.lines_of.Given as goal
 
 abbrev pub invariant-own : goal.invariant-own

@@ -1,6 +1,6 @@
 use Rattle.std.proofs.Common.{[], ap, ◌∙◌, map}
-use Rattle.qc_promise.specs.Names.{Lines, lines_from, recorded_from}
-use Rattle.qc_text.specs.Names.{deed_of}
+use Rattle.qc_promise.specs.Vocabulary.{Lines, lines_from, recorded_from}
+use Rattle.qc_text.specs.Vocabulary.{deed_of}
 use Rattle.qc_text.proofs.lines.log_of.Goals as goal
 
 pub deeds-init : goal.deeds-init

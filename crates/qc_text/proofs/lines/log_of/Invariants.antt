@@ -1,7 +1,7 @@
 use Rattle.std.proofs.Common.{◌≡◌, List, drop, map}
 use Rattle.qc_msg.specs.declared.record.Record.{Record}
-use Rattle.qc_promise.specs.Names.{lines_from}
-use Rattle.qc_text.specs.Names.{AreLast, deed_of, lines_in, present}
+use Rattle.qc_promise.specs.Vocabulary.{lines_from}
+use Rattle.qc_text.specs.Vocabulary.{AreLast, deed_of, lines_in, present}
 use Rattle.qc_text.proofs.lines.log_of.Given as goal
 
 abbrev pub invariant-deeds : goal.invariant-deeds

@@ -1,5 +1,5 @@
 use Rattle.std.proofs.Common.{◌≡◌, ◌≤◌, ◌+◌, count_by, drop}
-use Rattle.qc_text.specs.Names.{tells_aborted}
+use Rattle.qc_text.specs.Vocabulary.{tells_aborted}
 use Rattle.qc_text.proofs.loads.aborted.Given as goal
 
 abbrev pub invariant-entries : goal.invariant-entries

@@ -1,6 +1,6 @@
 use Rattle.std.proofs.Common.{◌≡◌, drop}
 use Rattle.std.specs.Prelude.{fold}
-use Rattle.qc_text.specs.Names.{greatest_stamp, with_stamp}
+use Rattle.qc_text.specs.Vocabulary.{greatest_stamp, with_stamp}
 use Rattle.qc_text.proofs.loads.greatest_stamp.Given as goal
 
 abbrev pub invariant-commits : goal.invariant-commits

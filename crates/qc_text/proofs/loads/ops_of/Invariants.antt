@@ -1,5 +1,5 @@
 use Rattle.std.proofs.Common.{◌≡◌, ◌++◌, drop}
-use Rattle.qc_text.specs.Names.{ops_of}
+use Rattle.qc_text.specs.Vocabulary.{ops_of}
 use Rattle.qc_text.proofs.loads.ops_of.Given as goal
 
 abbrev pub invariant-commits : goal.invariant-commits

@@ -1,7 +1,7 @@
 use Rattle.std.proofs.Common.{◌≡◌, ◌++◌, drop, codes}
 use denote.Text.{Utf8}
 use denote.Shadow.{shadow}
-use Rattle.qc_text.specs.Names.{ops_text}
+use Rattle.qc_text.specs.Vocabulary.{ops_text}
 use Rattle.qc_text.proofs.log.put_ops.Given as goal
 
 abbrev pub invariant-ops : goal.invariant-ops

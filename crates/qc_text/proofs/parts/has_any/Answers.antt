@@ -1,5 +1,5 @@
 use Rattle.std.proofs.Common.{sym, ◌∙◌}
-use Rattle.qc_table.specs.Names.{has}
+use Rattle.qc_table.specs.Vocabulary.{has}
 use Rattle.qc_text.proofs.Sections.{any_below}
 use Rattle.qc_text.proofs.parts.has_any.Goals as goal
 

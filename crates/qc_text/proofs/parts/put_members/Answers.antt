@@ -1,4 +1,4 @@
-use Rattle.qc_text.specs.Names.{member_text}
+use Rattle.qc_text.specs.Vocabulary.{member_text}
 use Rattle.qc_text.proofs.Sections.{numbered_more}
 use Rattle.qc_text.proofs.parts.put_members.Goals as goal
 

@@ -1,5 +1,5 @@
 use Rattle.std.proofs.Common.{◌≡◌, ◌<◌, ℕ, [], length, take, slice_index_or}
-use Rattle.qc_text.specs.Names.{told_of}
+use Rattle.qc_text.specs.Vocabulary.{told_of}
 use Rattle.qc_text.proofs.queues.add_replies.Given as goal
 
 abbrev pub invariant-entries : goal.invariant-entries

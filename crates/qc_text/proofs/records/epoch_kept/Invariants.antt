@@ -1,7 +1,7 @@
 use Rattle.std.proofs.Common.{◌≡◌, drop}
 use Rattle.std.specs.Prelude.{fold}
-use Rattle.qc_msg.specs.Names.{first_epoch}
-use Rattle.qc_promise.specs.Names.{epoch_by}
+use Rattle.qc_msg.specs.Vocabulary.{first_epoch}
+use Rattle.qc_promise.specs.Vocabulary.{epoch_by}
 use Rattle.qc_text.proofs.records.epoch_kept.Given as goal
 
 abbrev pub invariant-records : goal.invariant-records

@@ -1,7 +1,7 @@
 use Rattle.std.proofs.Common.{◌≡◌, ◌≤◌, ◌+◌, drop}
 use Rattle.std.specs.Prelude.{fold}
-use Rattle.qc_promise.specs.Names.{life_by}
-use Rattle.qc_stamp.specs.Names.{first_life}
+use Rattle.qc_promise.specs.Vocabulary.{life_by}
+use Rattle.qc_stamp.specs.Vocabulary.{first_life}
 use Rattle.qc_text.proofs.records.life_kept.Given as goal
 
 abbrev pub invariant-records : goal.invariant-records

@@ -1,5 +1,5 @@
 use Rattle.std.proofs.Common.{◌≡◌, ◌<◌, ◌++◌, ℕ, [], length, take, drop, slice_index_or}
-use Rattle.qc_text.specs.Names.{asked, reply_lines, told_of}
+use Rattle.qc_text.specs.Vocabulary.{asked, reply_lines, told_of}
 use Rattle.qc_text.proofs.replies.put_lines.Given as goal
 
 abbrev pub invariant-commands : goal.invariant-commands

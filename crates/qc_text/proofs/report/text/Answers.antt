@@ -1,10 +1,10 @@
 use Rattle.std.proofs.Common.{◌≡◌, ◌++◌, ℕ, List, ap, ◌∙◌}
 use Rattle.std.specs.Prelude.{Option}
 use Rattle.qc_entry.specs.declared.record.Commit.{Commit}
-use Rattle.qc_msg.specs.Names.{Entry}
-use Rattle.qc_promise.specs.Names.{committed}
-use Rattle.qc_text.specs.Names.{log_text, replies_text, sites_text, states_text}
-use Rattle.theory_onecopy.specs.Names.{replay}
+use Rattle.qc_msg.specs.Vocabulary.{Entry}
+use Rattle.qc_promise.specs.Vocabulary.{committed}
+use Rattle.qc_text.specs.Vocabulary.{log_text, replies_text, sites_text, states_text}
+use Rattle.theory_onecopy.specs.Vocabulary.{replay}
 use Rattle.qc_text.proofs.Sections.{sections}
 use Rattle.qc_text.proofs.report.text.Goals as goal
 

@@ -1,7 +1,7 @@
 use Rattle.std.proofs.Common.{◌≡◌, drop}
 use Rattle.std.specs.Prelude.{fold}
-use Rattle.qc_msg.specs.Names.{own}
-use Rattle.qc_text.specs.Names.{down_after, is_down}
+use Rattle.qc_msg.specs.Vocabulary.{own}
+use Rattle.qc_text.specs.Vocabulary.{down_after, is_down}
 use Rattle.qc_text.proofs.sites.is_down.Given as goal
 
 abbrev pub invariant-entries : goal.invariant-entries

@@ -1,4 +1,4 @@
-use Rattle.qc_text.specs.Names.{site_line}
+use Rattle.qc_text.specs.Vocabulary.{site_line}
 use Rattle.qc_text.proofs.Sections.{numbered_more}
 use Rattle.qc_text.proofs.sites.put_sites.Goals as goal
 

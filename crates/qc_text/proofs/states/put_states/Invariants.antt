@@ -1,6 +1,6 @@
 use Rattle.std.proofs.Common.{◌≡◌, ◌++◌, option_map}
 use Rattle.std.specs.List.{flat_map, range_with_len}
-use Rattle.qc_text.specs.Names.{state_line}
+use Rattle.qc_text.specs.Vocabulary.{state_line}
 use Rattle.qc_text.proofs.states.put_states.Given as goal
 
 abbrev pub invariant-objects : goal.invariant-objects

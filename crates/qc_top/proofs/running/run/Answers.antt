@@ -1,11 +1,11 @@
 use Rattle.std.proofs.Common.{◌∙◌, subst, sym}
 use Rattle.std.specs.Prelude.{option_copied}
-use Rattle.qc_node.specs.Names.{HasEnded}
+use Rattle.qc_node.specs.Vocabulary.{HasEnded}
 use Rattle.qc_script.specs.declared.script.Script.{Script}
 use Rattle.qc_top.proofs.Ends.{leaves_unbegun, unbegun_full}
 use Rattle.qc_top.proofs.Idle.{ran_places, ran_used, unbegun_places, unbegun_used}
 use Rattle.qc_top.proofs.Runs.{begun_below}
-use Rattle.qc_top.specs.Names.{IsFullCause, IsRunnable, LeavesRun}
+use Rattle.qc_top.specs.Vocabulary.{IsFullCause, IsRunnable, LeavesRun}
 use Rattle.qc_report.specs.declared.cause.Cause.{Cause}
 use Rattle.qc_top.proofs.running.run.Goals as goal
 

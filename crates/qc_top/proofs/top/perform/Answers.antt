@@ -1,13 +1,13 @@
 use Rattle.std.proofs.Common.{refl, subst, sym, ◌∙◌, List}
-use Rattle.qc_msg.specs.Names.{Entry}
+use Rattle.qc_msg.specs.Vocabulary.{Entry}
 use Rattle.qc_report.specs.declared.cause.Cause.{Cause}
 use Rattle.qc_top.proofs.Blame.{blames}
 use Rattle.qc_top.proofs.Ends.{leaves_refused, refused_full, refused_no_rack, refused_no_usage}
 use Rattle.qc_top.proofs.Idle.{idle_rack, idle_used}
 use Rattle.qc_top.proofs.Runs.{begun_below}
 use Rattle.qc_top.proofs.Right.{work_is}
-use Rattle.qc_top.specs.Names.{Caused, IsFullCause, IsRefusal, Leaves, LeavesRack, folder_of, work_of}
-use Rattle.qc_words.specs.Names.{asked_in}
+use Rattle.qc_top.specs.Vocabulary.{Caused, IsFullCause, IsRefusal, Leaves, LeavesRack, folder_of, work_of}
+use Rattle.qc_words.specs.Vocabulary.{asked_in}
 use Rattle.qc_top.specs.declared.work.Work.{Work}
 use Rattle.qc_top.proofs.top.perform.Goals as goal
 

@@ -6,9 +6,9 @@ use Rattle.qc_top.proofs.Ends.{unread_due, unread_full, unread_no_rack, unread_n
 use Rattle.qc_top.proofs.Idle.{begun_kept, begun_spent}
 use Rattle.qc_top.proofs.Runs.{begun_below}
 use Rattle.qc_top.proofs.Takes.{answers_short}
-use Rattle.qc_top.specs.Names.{IsRackBlamed, folder_of}
+use Rattle.qc_top.specs.Vocabulary.{IsRackBlamed, folder_of}
 use Rattle.qc_words.proofs.Askable.{asks_askable}
-use Rattle.qc_words.specs.Names.{AskedOf, asked, asked_in, texts_of}
+use Rattle.qc_words.specs.Vocabulary.{AskedOf, asked, asked_in, texts_of}
 use Rattle.qc_top.proofs.top.quorum_words.Goals as goal
 
 -- words that were read

@@ -1,7 +1,7 @@
 use Rattle.std.proofs.Common.{◌∙◌, Ok}
 use Rattle.qc_top.proofs.Loads.{load_made, load_wanting}
 use Rattle.qc_top.proofs.Takes.{err_as}
-use Rattle.qc_top.specs.Names.{Gives, load_work}
+use Rattle.qc_top.specs.Vocabulary.{Gives, load_work}
 use Rattle.qc_top.proofs.work.load_work.Goals as goal
 
 pub returns-in_err-script-clause-work : goal.returns-in_err-script-clause-work

@@ -1,6 +1,6 @@
 use Rattle.std.proofs.Common.{◌≡◌, drop, map}
 use Rattle.qc_entry.specs.declared.line.Line.{Line}
-use Rattle.qc_table.specs.Names.{after, reached, step_of}
+use Rattle.qc_table.specs.Vocabulary.{after, reached, step_of}
 use Rattle.qc_view.proofs.view.committed_state.Given as goal
 
 -- the lines that are left lead from the state so far to where all lead from the start

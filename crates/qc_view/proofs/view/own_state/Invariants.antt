@@ -1,5 +1,5 @@
 use Rattle.std.proofs.Common.{◌≡◌, drop}
-use Rattle.qc_table.specs.Names.{reached, step_of}
+use Rattle.qc_table.specs.Vocabulary.{reached, step_of}
 use Rattle.qc_view.proofs.view.own_state.Given as goal
 
 -- the events that are left lead from the state so far to where all lead from the first state

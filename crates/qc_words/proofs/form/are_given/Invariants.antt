@@ -1,5 +1,5 @@
 use Rattle.std.proofs.Common.{◌≡◌, drop, map}
-use Rattle.qc_words.specs.Names.{are_given, part_in, texts_of}
+use Rattle.qc_words.specs.Vocabulary.{are_given, part_in, texts_of}
 use Rattle.qc_words.proofs.form.are_given.Given as goal
 
 abbrev pub invariant-names : goal.invariant-names

@@ -1,5 +1,5 @@
 use Rattle.std.proofs.Common.{◌≡◌, drop}
-use Rattle.qc_words.specs.Names.{form_in, nothing_read, texts_of, with_words}
+use Rattle.qc_words.specs.Vocabulary.{form_in, nothing_read, texts_of, with_words}
 use Rattle.qc_words.proofs.form.has_form.Given as goal
 
 abbrev pub invariant-words : goal.invariant-words

@@ -1,5 +1,5 @@
 use Rattle.std.proofs.Common.{◌≡◌, drop}
-use Rattle.qc_words.specs.Names.{is_among, texts_of}
+use Rattle.qc_words.specs.Vocabulary.{is_among, texts_of}
 use Rattle.qc_words.proofs.form.is_named.Given as goal
 
 abbrev pub invariant-names : goal.invariant-names

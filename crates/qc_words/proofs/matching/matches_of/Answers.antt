@@ -1,6 +1,6 @@
 use Rattle.std.proofs.lemmas.Result.{IfErr-weaker, IfOk-weaker}
 use Rattle.clap.specs.Simple.{app_of}
-use Rattle.qc_words.specs.Names.{form_in, texts_of}
+use Rattle.qc_words.specs.Vocabulary.{form_in, texts_of}
 use Rattle.qc_words.proofs.Walks.{gives_values, takes_words}
 use Rattle.qc_words.proofs.matching.matches_of.Goals as goal
 

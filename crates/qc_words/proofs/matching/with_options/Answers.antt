@@ -1,7 +1,7 @@
 use Rattle.std.proofs.Common.{◌∙◌, ap}
 use Rattle.clap.specs.Simple.{app_of, with_rule}
 use Rattle.qc_words.proofs.Commands.{rule_added}
-use Rattle.qc_words.specs.Names.{option_rule}
+use Rattle.qc_words.specs.Vocabulary.{option_rule}
 use Rattle.qc_words.proofs.matching.with_options.Goals as goal
 
 pub names-preserved : goal.names-preserved

@@ -1,6 +1,6 @@
 use Rattle.std.proofs.Common.{◌≡◌, drop, map}
 use Rattle.clap.specs.Simple.{app_of}
-use Rattle.qc_words.specs.Names.{place_rule, texts_of, with_rules}
+use Rattle.qc_words.specs.Vocabulary.{place_rule, texts_of, with_rules}
 use Rattle.qc_words.proofs.matching.with_places.Given as goal
 
 abbrev pub invariant-names : goal.invariant-names

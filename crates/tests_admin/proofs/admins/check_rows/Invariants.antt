@@ -1,5 +1,5 @@
 -- He fits over his inputs.
-use Rattle.qc_admin.specs.Names.{AdminFits}
+use Rattle.qc_admin.specs.Vocabulary.{AdminFits}
 use Rattle.tests_admin.proofs.admins.check_rows.Given as goal
 
 abbrev pub invariant-loop-row : goal.invariant-loop-row

@@ -1,5 +1,5 @@
 use Rattle.std.proofs.Common.{sym, subst}
-use Rattle.qc_admin.specs.Names.{AdminFits}
+use Rattle.qc_admin.specs.Vocabulary.{AdminFits}
 use Rattle.qc_admin.proofs.Fitting.{sent_fits}
 use Rattle.tests_admin.proofs.admins.number.Goals as goal
 

@@ -1,5 +1,5 @@
 use Rattle.std.specs.Prelude.{false}
-use Rattle.qc_pass.specs.Names.{table_of}
+use Rattle.qc_pass.specs.Vocabulary.{table_of}
 use Rattle.tests_fabric.proofs.top.run.Given as goal
 
 -- the declaration and the script that were given, and the table that was just made; no disk is there to tell

@@ -1,4 +1,4 @@
-use Rattle.theory_machine.specs.Names.{state}
+use Rattle.theory_machine.specs.Vocabulary.{state}
 use Rattle.theory_machine.proofs.Plain.{first, plain_epoch, plain_shut}
 use Rattle.theory_machine.proofs.held.plain_runs_have_one_life_and_epoch.Goals as goal
 

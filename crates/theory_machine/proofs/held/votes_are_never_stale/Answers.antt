@@ -1,5 +1,5 @@
 use Rattle.std.proofs.Common.{sym, ◌∙◌}
-use Rattle.theory_machine.specs.Names.{state}
+use Rattle.theory_machine.specs.Vocabulary.{state}
 use Rattle.theory_machine.proofs.Holdings.{granted_items_are_held}
 use Rattle.theory_machine.proofs.Keeps.{laws}
 use Rattle.theory_machine.proofs.Plain.{first, plain_epoch}

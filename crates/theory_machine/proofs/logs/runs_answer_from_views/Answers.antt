@@ -1,7 +1,7 @@
-use Rattle.theory_onecopy.specs.Names.{sorted}
+use Rattle.theory_onecopy.specs.Vocabulary.{sorted}
 use Rattle.theory_onecopy.proofs.Committed.{records_are_sorted}
 use Rattle.theory_onecopy.proofs.Seen.{answers_are_from_views}
-use Rattle.theory_machine.specs.Names.{placed, state}
+use Rattle.theory_machine.specs.Vocabulary.{placed, state}
 use Rattle.theory_machine.proofs.ClaimLaws.{records_are_apart}
 use Rattle.theory_machine.proofs.OneCopyLaw.{from_views}
 use Rattle.theory_machine.proofs.logs.runs_answer_from_views.Goals as goal

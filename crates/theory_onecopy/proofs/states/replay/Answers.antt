@@ -1,6 +1,6 @@
 use Rattle.std.proofs.Common.{◌≡◌, List, ℕ, Some, None, sym, ap, ◌∙◌}
 use Rattle.std.specs.Prelude.{fold}
-use Rattle.theory_onecopy.specs.Names.{replayed}
+use Rattle.theory_onecopy.specs.Vocabulary.{replayed}
 use Rattle.theory_onecopy.proofs.Missing.{commit_missing}
 use Rattle.theory_onecopy.proofs.states.replay.Goals as goal
 

@@ -1,6 +1,6 @@
 use Rattle.std.proofs.Common.{◌≡◌, Some, drop}
 use Rattle.std.specs.Prelude.{fold}
-use Rattle.theory_onecopy.specs.Names.{replay, replay_commit}
+use Rattle.theory_onecopy.specs.Vocabulary.{replay, replay_commit}
 use Rattle.theory_onecopy.proofs.states.replay.Given as goal
 
 abbrev pub invariant-commits : goal.invariant-commits

@@ -1,6 +1,6 @@
 use Rattle.std.proofs.Common.{◌≡◌, Some, drop}
 use Rattle.std.specs.Prelude.{fold}
-use Rattle.theory_onecopy.specs.Names.{replayed}
+use Rattle.theory_onecopy.specs.Vocabulary.{replayed}
 use Rattle.theory_onecopy.proofs.states.replay_ops.Given as goal
 
 abbrev pub invariant-ops : goal.invariant-ops

@@ -1,5 +1,5 @@
 use Rattle.std.proofs.Common.{◌≡◌, map, take}
-use Rattle.theory_onecopy.specs.Names.{start_of}
+use Rattle.theory_onecopy.specs.Vocabulary.{start_of}
 use Rattle.theory_onecopy.proofs.states.starts.Given as goal
 
 abbrev pub invariant-objects : goal.invariant-objects

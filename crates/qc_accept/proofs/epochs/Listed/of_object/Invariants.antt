@@ -1,5 +1,5 @@
 use Rattle.std.proofs.Common.{◌≡◌}
-use Rattle.qc_accept.specs.Names.{listed_in, thresholds}
+use Rattle.qc_accept.specs.Vocabulary.{listed_in, thresholds}
 use Rattle.qc_accept.proofs.epochs.Listed.of_object.Given as goal
 
 abbrev pub invariant-loop-place : goal.invariant-loop-place

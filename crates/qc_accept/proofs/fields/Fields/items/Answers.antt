@@ -5,8 +5,8 @@ use Rattle.toml.specs.Data.{Data}
 use Rattle.toml.specs.View.{view, array_view}
 use Rattle.toml.specs.declared.value.Value.{Value}
 use Rattle.qc_accept.specs.declared.fault.DeclFault.{DeclFault}
-use Rattle.qc_list.specs.Names.{and_then}
-use Rattle.qc_accept.specs.Names.{Answer, items_between, path_in, told}
+use Rattle.qc_list.specs.Vocabulary.{and_then}
+use Rattle.qc_accept.specs.Vocabulary.{Answer, items_between, path_in, told}
 use Rattle.qc_accept.proofs.Tables.{items_within, items_outside, items_none}
 use Rattle.qc_accept.proofs.fields.Fields.items.Goals as goal
 use Rattle.qc_accept.proofs.fields.Fields.items.Goals.{in_default-via-in-Some+then-least-len+else-len-most}

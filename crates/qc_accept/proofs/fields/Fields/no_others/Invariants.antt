@@ -1,5 +1,5 @@
 use Rattle.std.proofs.Common.{◌≡◌, map}
-use Rattle.qc_accept.specs.Names.{first_other, table_in}
+use Rattle.qc_accept.specs.Vocabulary.{first_other, table_in}
 use Rattle.qc_accept.proofs.Tables.{other_of}
 use Rattle.qc_accept.proofs.fields.Fields.no_others.Given as goal
 

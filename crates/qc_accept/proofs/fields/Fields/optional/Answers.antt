@@ -7,7 +7,7 @@ use Rattle.toml.specs.Data.{Data, Items, as_array}
 use Rattle.toml.specs.View.{view, array_view}
 use Rattle.toml.specs.declared.value.Value.{Value}
 use Rattle.qc_accept.specs.declared.fault.DeclFault.{DeclFault}
-use Rattle.qc_accept.specs.Names.{Answer, listed, path_in, told}
+use Rattle.qc_accept.specs.Vocabulary.{Answer, listed, path_in, told}
 use Rattle.qc_accept.proofs.Tables.{listed_view}
 use Rattle.qc_accept.proofs.fields.Fields.optional.Goals as goal
 

@@ -5,7 +5,7 @@ use Rattle.toml.proofs.Views.{table_get}
 use Rattle.toml.specs.View.{view}
 use Rattle.toml.specs.declared.value.Value.{Value}
 use Rattle.qc_accept.specs.declared.fault.DeclFault.{DeclFault}
-use Rattle.qc_accept.specs.Names.{path_in, told}
+use Rattle.qc_accept.specs.Vocabulary.{path_in, told}
 use Rattle.qc_accept.proofs.fields.Fields.required.Goals as goal
 
 pub returns-in-Some : goal.returns-in-Some

@@ -1,11 +1,11 @@
 use Rattle.std.proofs.Common.{◌≡◌, sym, ap, ◌∙◌}
 use Rattle.std.specs.Option.{option_copied}
-use Rattle.qc_epoch.specs.Names.{Admin, AdminMove, answered, moved}
+use Rattle.qc_epoch.specs.Vocabulary.{Admin, AdminMove, answered, moved}
 use Rattle.qc_epoch.specs.Admin as admins
 use Rattle.qc_admin.specs.declared.admin.Admin.TheInside.{Inside}
 use Rattle.qc_admin.specs.declared.doing.Doing.TheVariants.{Resting, Closing, Asking, Installing}
 use Rattle.qc_admin.specs.declared.next.Next.{Next}
-use Rattle.qc_admin.specs.Names.{asking_of, becomes, closing_of, doing_of, installing_of}
+use Rattle.qc_admin.specs.Vocabulary.{asking_of, becomes, closing_of, doing_of, installing_of}
 use Rattle.qc_admin.proofs.Moves.{took}
 use Rattle.qc_admin.proofs.admin.Admin.answer.Goals as goal
 use Rattle.qc_admin.proofs.admin.Admin.answer.Goals.{in-Resting, in-Closing+in_ok-next-in-Closing}

@@ -1,8 +1,8 @@
 use Rattle.std.proofs.Common.{map, sym, ap, ◌∙◌, Option}
 use Rattle.std.specs.Option.{option_copied}
-use Rattle.qc_epoch.specs.Names.{taken_for}
+use Rattle.qc_epoch.specs.Vocabulary.{taken_for}
 use Rattle.qc_msg.specs.declared.message.Outcome.{Outcome}
-use Rattle.qc_admin.specs.Names.{asking_of}
+use Rattle.qc_admin.specs.Vocabulary.{asking_of}
 use Rattle.qc_admin.proofs.Moves.{asked_last}
 use Rattle.qc_admin.proofs.asking.Asking.answer.Goals as goal
 

@@ -1,9 +1,9 @@
 use Rattle.std.proofs.Common.{Option, sym, ap, ◌∙◌, subst}
 use Rattle.std.specs.Option.{option_copied}
-use Rattle.qc_plan.specs.Names.{RoundState, note}
+use Rattle.qc_plan.specs.Vocabulary.{RoundState, note}
 use Rattle.qc_plan.specs.declared.standing.Standing.{Standing}
-use Rattle.qc_epoch.specs.Names.{ShutSite}
-use Rattle.qc_admin.specs.Names.{ShutsFit, closing_of, with_last}
+use Rattle.qc_epoch.specs.Vocabulary.{ShutSite}
+use Rattle.qc_admin.specs.Vocabulary.{ShutsFit, closing_of, with_last}
 use Rattle.qc_admin.proofs.Moves.{answered_on, last_fits}
 use Rattle.qc_admin.proofs.closing.Closing.answer.Goals as goal
 

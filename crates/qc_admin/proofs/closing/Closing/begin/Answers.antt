@@ -1,5 +1,5 @@
 use Rattle.std.proofs.Common.{sym, ap, ◌∙◌}
-use Rattle.qc_admin.specs.Names.{becomes}
+use Rattle.qc_admin.specs.Vocabulary.{becomes}
 use Rattle.qc_admin.proofs.Moves.{begins_on}
 use Rattle.qc_admin.proofs.closing.Closing.begin.Goals as goal
 

@@ -1,7 +1,7 @@
 use Rattle.std.proofs.Common.{List, sym, ap, ◌∙◌, subst}
 use Rattle.qc_plan.specs.declared.standing.Asked.{Asked}
-use Rattle.qc_epoch.specs.Names.{ShutSite, in_asked_order}
-use Rattle.qc_admin.specs.Names.{ShutsFit, closing_of, with_last}
+use Rattle.qc_epoch.specs.Vocabulary.{ShutSite, in_asked_order}
+use Rattle.qc_admin.specs.Vocabulary.{ShutsFit, closing_of, with_last}
 use Rattle.qc_admin.proofs.Moves.{closed_met, ordered_fit}
 use Rattle.qc_admin.proofs.closing.Closing.go_on.Goals as goal
 

@@ -1,5 +1,5 @@
 use Rattle.std.proofs.Common.{◌≡◌, ◌++◌, drop, map}
-use Rattle.qc_epoch.specs.Names.{install_of}
+use Rattle.qc_epoch.specs.Vocabulary.{install_of}
 use Rattle.qc_admin.proofs.decided.Decided.installs.Given as goal
 
 -- the Installs so far, with those to the sites that are left, are all of them

@@ -4,7 +4,7 @@ use Rattle.std.specs.List.{AllByRecursion as Every, count_by}
 use Rattle.std.specs.Prelude.{min}
 use Rattle.std.proofs.lemmas.List.Sums.{sum_by-cons}
 use Rattle.qc_msg.specs.declared.message.Outcome.{Outcome}
-use Rattle.qc_epoch.specs.Names.{most_asks}
+use Rattle.qc_epoch.specs.Vocabulary.{most_asks}
 use Rattle.qc_admin.specs.declared.questions.Query.{Query}
 use Rattle.qc_admin.proofs.draft.Draft.finish.Goals as goal
 

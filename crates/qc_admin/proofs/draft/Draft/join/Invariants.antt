@@ -1,5 +1,5 @@
 use Rattle.std.proofs.Common.{◌≡◌, drop, fold}
-use Rattle.qc_epoch.specs.Names.{with_question, with_questions}
+use Rattle.qc_epoch.specs.Vocabulary.{with_question, with_questions}
 use Rattle.qc_admin.proofs.draft.Draft.join.Given as goal
 
 abbrev pub invariant-loop-promise : goal.invariant-loop-promise

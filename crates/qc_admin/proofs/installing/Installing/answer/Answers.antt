@@ -1,6 +1,6 @@
 use Rattle.std.proofs.Common.{◌≡◌, ◌++◌, ◌∷◌, [], Some, sym, ap, ◌∙◌, arith}
-use Rattle.qc_epoch.specs.Names.{site_set}
-use Rattle.qc_msg.specs.Names.{site_called}
+use Rattle.qc_epoch.specs.Vocabulary.{site_set}
+use Rattle.qc_msg.specs.Vocabulary.{site_called}
 use Rattle.qc_admin.specs.declared.installing.Installing.{Installing}
 use Rattle.qc_admin.proofs.Bits.{last_bit, taken_bit}
 use Rattle.qc_admin.proofs.installing.Installing.answer.Goals as goal

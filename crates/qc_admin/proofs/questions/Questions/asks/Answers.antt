@@ -4,11 +4,11 @@ use Rattle.std.specs.Prelude.{Result, Ok, Err, IfOk, min}
 use Rattle.std.specs.declared.alloc.AllocError.{AllocError}
 use Rattle.std.proofs.lemmas.List.{take_min}
 use Rattle.qc_stamp.specs.declared.stamp.TxId.{TxId}
-use Rattle.qc_decl.specs.Names.{most_clients}
-use Rattle.qc_epoch.specs.Names.{Question, ask_of, most_asks}
+use Rattle.qc_decl.specs.Vocabulary.{most_clients}
+use Rattle.qc_epoch.specs.Vocabulary.{Question, ask_of, most_asks}
 use Rattle.qc_msg.specs.declared.turn.Posting.{Posting}
 use Rattle.qc_admin.specs.declared.questions.Query.{Query}
-use Rattle.qc_admin.specs.Names.{ask_about}
+use Rattle.qc_admin.specs.Vocabulary.{ask_about}
 use Rattle.qc_admin.proofs.Asked.{asks_shown, shown_every}
 use Rattle.qc_admin.proofs.questions.Questions.asks.Goals as goal
 

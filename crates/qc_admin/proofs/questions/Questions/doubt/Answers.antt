@@ -1,6 +1,6 @@
 use Rattle.std.proofs.Common.{option_map, ap, ◌∙◌}
-use Rattle.qc_epoch.specs.Names.{first_doubt}
-use Rattle.qc_admin.specs.Names.{in_doubt, unasked}
+use Rattle.qc_epoch.specs.Vocabulary.{first_doubt}
+use Rattle.qc_admin.specs.Vocabulary.{in_doubt, unasked}
 use Rattle.qc_admin.proofs.Asked.{doubt_shown}
 use Rattle.qc_admin.proofs.questions.Questions.doubt.Goals as goal
 

@@ -1,8 +1,8 @@
 use Rattle.std.proofs.Common.{◌≡◌, ◌==◌, ℕ, suc, List, Some, None, map, get_or, set, Bool, true, false, refl, sym, ap}
 use Rattle.std.proofs.Common.{◌∙◌, eqb-true, arith}
 use Rattle.std.proofs.lemmas.Bool.{eq-eqb, ne_eqb}
-use Rattle.qc_epoch.specs.Names.{all_taken, taken_for}
-use Rattle.qc_admin.specs.Names.{open_at, waiting_in}
+use Rattle.qc_epoch.specs.Vocabulary.{all_taken, taken_for}
+use Rattle.qc_admin.specs.Vocabulary.{open_at, waiting_in}
 use Rattle.qc_admin.specs.declared.questions.Query.{Query}
 use Rattle.qc_admin.proofs.Taken.{all_shown, taken_none, taken_some, waiting_less}
 use Rattle.qc_admin.proofs.questions.Questions.ends_with.Goals as goal

@@ -1,5 +1,5 @@
 use Rattle.std.proofs.Common.{ap, ◌∙◌}
-use Rattle.qc_admin.specs.Names.{latest_of, unasked}
+use Rattle.qc_admin.specs.Vocabulary.{latest_of, unasked}
 use Rattle.qc_admin.proofs.Asked.{latest_shown}
 use Rattle.qc_admin.proofs.questions.Questions.latest.Goals as goal
 

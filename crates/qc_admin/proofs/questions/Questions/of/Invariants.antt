@@ -1,5 +1,5 @@
 use Rattle.std.proofs.Common.{◌≡◌, drop, fold}
-use Rattle.qc_epoch.specs.Names.{questions_of, with_questions}
+use Rattle.qc_epoch.specs.Vocabulary.{questions_of, with_questions}
 use Rattle.qc_admin.proofs.questions.Questions.of.Given as goal
 
 abbrev pub invariant-loop-shut : goal.invariant-loop-shut

@@ -1,6 +1,6 @@
 use Rattle.std.proofs.Common.{◌≡◌, ℕ, true, false, List, Option, Some, None, is_some, refl, sym, ap, ◌∙◌}
-use Rattle.qc_epoch.specs.Names.{Question}
-use Rattle.qc_admin.specs.Names.{shown, with_numbers}
+use Rattle.qc_epoch.specs.Vocabulary.{Question}
+use Rattle.qc_admin.specs.Vocabulary.{shown, with_numbers}
 use Rattle.qc_admin.specs.declared.questions.Query.{Query}
 use Rattle.qc_admin.proofs.Numbers.{numbers_shown, numbers_stay}
 use Rattle.qc_admin.proofs.questions.Questions.sent.Goals as goal

@@ -2,8 +2,8 @@ use Rattle.std.proofs.Common.{◌≡◌, List, ap, ◌∙◌}
 use Rattle.std.specs.Prelude.{Result, Ok, Err, IfOk}
 use Rattle.std.specs.declared.alloc.AllocError.{AllocError}
 use Rattle.qc_stamp.specs.declared.stamp.TxId.{TxId}
-use Rattle.qc_epoch.specs.Names.{Question, stamp_of}
-use Rattle.qc_admin.specs.Names.{stamp_at, unasked}
+use Rattle.qc_epoch.specs.Vocabulary.{Question, stamp_of}
+use Rattle.qc_admin.specs.Vocabulary.{stamp_at, unasked}
 use Rattle.qc_admin.specs.declared.stamps.Stamps.{Stamps}
 use Rattle.qc_admin.proofs.Asked.{stamp_shown}
 use Rattle.qc_admin.proofs.questions.Questions.stamps.Goals as goal

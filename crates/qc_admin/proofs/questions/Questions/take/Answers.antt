@@ -1,6 +1,6 @@
 use Rattle.std.proofs.Common.{◌≡◌, ◌-◌, ◌<◌, ℕ, Some, None, length, map, get_or, set, sym, ap, ◌∙◌, subst, arith}
-use Rattle.qc_epoch.specs.Names.{taken_for}
-use Rattle.qc_admin.specs.Names.{open_at, shown, waiting_in}
+use Rattle.qc_epoch.specs.Vocabulary.{taken_for}
+use Rattle.qc_admin.specs.Vocabulary.{open_at, shown, waiting_in}
 use Rattle.qc_admin.specs.declared.questions.Query.{Query}
 use Rattle.qc_admin.proofs.Taken.{place_inside, taken_none, taken_some, waiting_less}
 use Rattle.qc_admin.proofs.questions.Questions.take.Goals as goal

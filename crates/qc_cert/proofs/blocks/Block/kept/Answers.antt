@@ -2,7 +2,7 @@ use Rattle.std.proofs.Common.{◌≡◌, ◌+◌, ◌*◌, ◌<◌, length, get_
 use Rattle.std.proofs.lemmas.List.{get_or_read}
 use Rattle.qc_cert.proofs.PieceTables.{piece_small}
 use Rattle.qc_cert.proofs.Tables.{row_at}
-use Rattle.qc_cert.specs.Names.{IsRow, no_row, piece}
+use Rattle.qc_cert.specs.Vocabulary.{IsRow, no_row, piece}
 use Rattle.qc_cert.proofs.blocks.Block.kept.Goals as goal
 
 pub returns : goal.returns

@@ -1,4 +1,4 @@
-use Rattle.qc_cert.specs.Names.{IsLeft}
+use Rattle.qc_cert.specs.Vocabulary.{IsLeft}
 use Rattle.qc_cert.proofs.blocks.Block.left.Given as goal
 
 abbrev pub invariant-loop-number : goal.invariant-loop-number

@@ -1,5 +1,5 @@
 use Rattle.std.proofs.Common.{subst}
-use Rattle.qc_cert.specs.Names.{AreRows}
+use Rattle.qc_cert.specs.Vocabulary.{AreRows}
 use Rattle.qc_cert.proofs.blocks.Block.new.Goals as goal
 
 pub invariant_of-result : goal.invariant_of-result

@@ -1,6 +1,6 @@
 use Rattle.std.proofs.Common.{ℕ, List, ◌≤◌, ◌<◌, ◌⊎◌, length, arith, ◌≡◌, ◌∙◌, ap, inl, inr, sym, get_or, []}
 use Rattle.std.proofs.lemmas.List.{get_or_read}
-use Rattle.qc_cert.specs.Names.{AreStates, any_within, distinct, is_covered, outs_at, parts_within, place_of}
+use Rattle.qc_cert.specs.Vocabulary.{AreStates, any_within, distinct, is_covered, outs_at, parts_within, place_of}
 use Rattle.qc_cert.proofs.Grouped.{covered_in, uncovered_past}
 use Rattle.qc_cert.proofs.MarkedTriples.{All-distinct, covered_once}
 use Rattle.qc_cert.proofs.groups.Grouped.covers.Goals as goal

@@ -1,5 +1,5 @@
 use Rattle.std.proofs.Common.{◌≡◌, drop}
-use Rattle.qc_commit.specs.Names.{record_of}
+use Rattle.qc_commit.specs.Vocabulary.{record_of}
 use Rattle.qc_commit.proofs.desk.Desk.outcome.Given as goal
 
 abbrev pub invariant-commits : goal.invariant-commits

@@ -1,5 +1,5 @@
 use Rattle.std.proofs.Common.{subst, rules, ◌≡◌}
-use Rattle.qc_entry.specs.Names.{IsAscending, union}
+use Rattle.qc_entry.specs.Vocabulary.{IsAscending, union}
 use Rattle.qc_entry.proofs.Union.{ascending-union}
 use Rattle.qc_entry.proofs.log.Log.merge_apart.Goals as goal
 

@@ -2,7 +2,7 @@ use Rattle.std.proofs.Common.{◌≡◌, rules, true, ◌==◌}
 use Rattle.std.specs.List.{list_all}
 use Rattle.qc_list.proofs.Order.{ascends-filter}
 use Rattle.qc_entry.specs.declared.line.Line.{Line}
-use Rattle.qc_entry.specs.Names.{line_cmp, of_object}
+use Rattle.qc_entry.specs.Vocabulary.{line_cmp, of_object}
 use Rattle.qc_entry.proofs.OneObject.{all_on}
 use Rattle.qc_entry.proofs.log.Log.of.Goals as goal
 

@@ -1,5 +1,5 @@
 use Rattle.std.proofs.Common.{rules, ◌≡◌, subst}
-use Rattle.qc_entry.specs.Names.{IsAscending, union}
+use Rattle.qc_entry.specs.Vocabulary.{IsAscending, union}
 use Rattle.qc_entry.proofs.Union.{ascending-union}
 use Rattle.qc_entry.proofs.log.Log.union.Goals.{in-Some+in_ok-lines-in-Some, in-None+in_ok-lines-in-None}
 use Rattle.qc_entry.proofs.log.Log.union.Goals as goal

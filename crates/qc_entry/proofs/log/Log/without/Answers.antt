@@ -1,5 +1,5 @@
 use Rattle.qc_list.proofs.Order.{ascends-filter}
-use Rattle.qc_entry.specs.Names.{line_cmp}
+use Rattle.qc_entry.specs.Vocabulary.{line_cmp}
 use Rattle.qc_entry.proofs.log.Log.without.Goals as goal
 
 pub invariant_of-result : goal.invariant_of-result

@@ -1,7 +1,7 @@
 use Rattle.std.proofs.Common.{rules, ◌≡◌, ℕ, ◌<◌, ◌++◌, ◌∷◌, [], List, get_or, length, length-append, length-set, ap}
 use Rattle.std.proofs.Common.{sym, ◌∙◌, arith}
-use Rattle.qc_msg.specs.Names.{Entry, tally_of}
-use Rattle.qc_fabric.specs.Names.{named_actors, place_of, stored}
+use Rattle.qc_msg.specs.Vocabulary.{Entry, tally_of}
+use Rattle.qc_fabric.specs.Vocabulary.{named_actors, place_of, stored}
 use Rattle.qc_fabric.proofs.Logged.{carried_more, operations_more, places_more, standing_at}
 use Rattle.qc_fabric.proofs.log.HistoryStore.add.Goals as goal
 

@@ -1,6 +1,6 @@
 use Rattle.std.proofs.Common.{rules, ◌≡◌, ◌+◌, ◌≤◌, ◌∙◌, Some, None, arith, length, refl, sym, slice_get, subst}
-use Rattle.qc_script.specs.Names.{controls_left}
-use Rattle.qc_fabric.specs.Names.{Shown, full_of, most_history}
+use Rattle.qc_script.specs.Vocabulary.{controls_left}
+use Rattle.qc_fabric.specs.Vocabulary.{Shown, full_of, most_history}
 use Rattle.qc_fabric.proofs.KeptParts.{other_memory}
 use Rattle.qc_fabric.proofs.Ordered.{acts_on, first_within}
 use Rattle.qc_fabric.proofs.state.FabricState.act.Goals as goal

@@ -1,9 +1,9 @@
 use Rattle.std.proofs.Common.{rules, ◌≡◌, ◌+◌, ◌≤◌, ◌∙◌, ◌∷◌, ◌++◌, [], ap, arith, length, refl, sym, subst}
-use Rattle.qc_msg.specs.Names.{marked}
+use Rattle.qc_msg.specs.Vocabulary.{marked}
 use Rattle.qc_msg.specs.declared.step.Control.TheVariants as controls
 use Rattle.qc_msg.specs.declared.step.Step.TheVariants as steps
-use Rattle.qc_pass.specs.Names.{Met, all, number, room}
-use Rattle.qc_fabric.specs.Names.{Arms, HasGrown, MayDo, Shown, most_history}
+use Rattle.qc_pass.specs.Vocabulary.{Met, all, number, room}
+use Rattle.qc_fabric.specs.Vocabulary.{Arms, HasGrown, MayDo, Shown, most_history}
 use Rattle.qc_fabric.proofs.KeptParts.{other_memory}
 use Rattle.qc_fabric.proofs.Lines.{armed, arms_on}
 use Rattle.qc_fabric.proofs.Ordered.{first_within}

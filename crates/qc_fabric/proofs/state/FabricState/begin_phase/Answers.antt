@@ -4,7 +4,7 @@ use Rattle.std.proofs.lemmas.Option.{slice_get-get_or}
 use Rattle.qc_msg.specs.declared.step.Control.TheVariants.{Phase}
 use Rattle.qc_script.specs.declared.script.PhaseLines.{PhaseLines}
 use Rattle.qc_script.specs.declared.script.Script.{Script}
-use Rattle.qc_fabric.specs.Names.{MayDo, Shown, most_history}
+use Rattle.qc_fabric.specs.Vocabulary.{MayDo, Shown, most_history}
 use Rattle.qc_fabric.proofs.KeptParts.{other_memory}
 use Rattle.qc_fabric.proofs.Ordered.{begins_on}
 use Rattle.qc_fabric.proofs.state.FabricState.begin_phase.Goals as goal

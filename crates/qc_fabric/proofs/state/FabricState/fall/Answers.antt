@@ -1,8 +1,8 @@
 use Rattle.std.proofs.Common.{rules, ◌≡◌, ◌+◌, ◌≤◌, ◌∙◌, ap, arith, length, refl, sym, subst}
-use Rattle.qc_inbox.specs.Names.{Inboxes, after_fall_by_line, with_control_gone}
+use Rattle.qc_mailbox.specs.Vocabulary.{Inboxes, after_fall_by_line, with_control_gone}
 use Rattle.qc_msg.specs.declared.step.Control.TheVariants.{Crash}
-use Rattle.qc_pass.specs.Names.{number}
-use Rattle.qc_fabric.specs.Names.{FallsByLine, MayDo, Shown, most_history}
+use Rattle.qc_pass.specs.Vocabulary.{number}
+use Rattle.qc_fabric.specs.Vocabulary.{FallsByLine, MayDo, Shown, most_history}
 use Rattle.qc_fabric.proofs.KeptParts.{other_memory}
 use Rattle.qc_fabric.proofs.Lines.{falls_on, fell_by_line}
 use Rattle.qc_fabric.proofs.state.FabricState.fall.Goals as goal

@@ -1,5 +1,5 @@
 use Rattle.std.proofs.Common.{◌∙◌, [], sym, subst}
-use Rattle.qc_pass.specs.Names.{Met}
+use Rattle.qc_pass.specs.Vocabulary.{Met}
 use Rattle.qc_fabric.proofs.Gains.{saw}
 use Rattle.qc_fabric.proofs.KeptParts.{looks_on, unarmed_of}
 use Rattle.qc_fabric.proofs.state.FabricState.look.Goals as goal

@@ -1,8 +1,8 @@
 use Rattle.std.proofs.Common.{◌≡◌, ◌+◌, ◌∙◌, ap, replicate, false}
-use Rattle.qc_decl.specs.Names.{actors}
+use Rattle.qc_decl.specs.Vocabulary.{actors}
 use Rattle.qc_decl.specs.declared.declaration.Declaration.{Declaration}
-use Rattle.qc_inbox.specs.Names.{empty_inboxes}
-use Rattle.qc_fabric.specs.Names.{Logged}
+use Rattle.qc_mailbox.specs.Vocabulary.{empty_inboxes}
+use Rattle.qc_fabric.specs.Vocabulary.{Logged}
 use Rattle.qc_fabric.proofs.Kept.{starts}
 use Rattle.qc_fabric.proofs.state.FabricState.make.Goals as goal
 

@@ -1,6 +1,6 @@
 use Rattle.std.proofs.Common.{sym}
-use Rattle.qc_inbox.proofs.Picking.{some_picked}
-use Rattle.qc_mailbox.specs.Names.{either}
+use Rattle.qc_mailbox.proofs.Picking.{some_picked}
+use Rattle.qc_mailbox.specs.Vocabulary.{either}
 use Rattle.qc_fabric.proofs.state.FabricState.next.Goals as goal
 
 pub returns-in-Some-next_actor-clause-named : goal.returns-in-Some-next_actor-clause-named

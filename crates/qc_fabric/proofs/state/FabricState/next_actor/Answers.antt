@@ -1,9 +1,9 @@
 use Rattle.std.proofs.Common.{rules, ◌≡◌, ◌≤◌, arith, subst}
-use Rattle.qc_decl.specs.Names.{actors}
-use Rattle.qc_inbox.proofs.Picking.{picked_kept}
-use Rattle.qc_fabric.specs.Names.{Shown, next_actor}
+use Rattle.qc_decl.specs.Vocabulary.{actors}
+use Rattle.qc_mailbox.proofs.Picking.{picked_kept}
+use Rattle.qc_fabric.specs.Vocabulary.{Shown, next_actor}
 use Rattle.qc_fabric.proofs.state.FabricState.next_actor.Goals as goal
-use Rattle.qc_link.specs.Names.{most_actors}
+use Rattle.qc_link.specs.Vocabulary.{most_actors}
 
 pub returns : goal.returns
 returns g c =

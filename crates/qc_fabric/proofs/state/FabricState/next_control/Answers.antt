@@ -1,8 +1,8 @@
 use Rattle.std.proofs.Common.{◌≡◌, ◌∙◌, List, ap, slice_get, subst}
-use Rattle.qc_inbox.proofs.Bounds.{controls_shown}
+use Rattle.qc_mailbox.proofs.Bounds.{controls_shown}
 use Rattle.qc_msg.specs.declared.step.Control.{Control}
-use Rattle.qc_script.specs.Names.{controls_left}
-use Rattle.qc_fabric.specs.Names.{Shown}
+use Rattle.qc_script.specs.Vocabulary.{controls_left}
+use Rattle.qc_fabric.specs.Vocabulary.{Shown}
 use Rattle.qc_fabric.proofs.state.FabricState.next_control.Goals as goal
 
 pub returns : goal.returns

@@ -1,5 +1,5 @@
 use Rattle.std.proofs.Common.{◌≡◌, None, sym, slice_get}
-use Rattle.qc_script.specs.Names.{controls_left}
+use Rattle.qc_script.specs.Vocabulary.{controls_left}
 use Rattle.qc_fabric.proofs.Advancing.{nothing_comes}
 use Rattle.qc_fabric.proofs.state.FabricState.next_order.Goals as goal
 

@@ -1,5 +1,5 @@
 use Rattle.std.proofs.Common.{◌≤◌, length, arith}
-use Rattle.qc_script.specs.Names.{phase_of}
+use Rattle.qc_script.specs.Vocabulary.{phase_of}
 use Rattle.qc_fabric.proofs.Phased.{phase_few}
 use Rattle.qc_fabric.proofs.state.FabricState.next_phase.Goals as goal
 

@@ -1,9 +1,9 @@
 use Rattle.std.proofs.Common.{◌≡◌, ℕ, ◌-◌, ◌∙◌, [], suc, arith, ap, sym, subst}
-use Rattle.qc_inbox.specs.Names.{after_post_as}
-use Rattle.qc_msg.specs.Names.{by, posted_as}
+use Rattle.qc_mailbox.specs.Vocabulary.{after_post_as}
+use Rattle.qc_msg.specs.Vocabulary.{by, posted_as}
 use Rattle.qc_msg.proofs.GrownMail.{length-mail}
-use Rattle.qc_pass.specs.Names.{Met, number, room}
-use Rattle.qc_fabric.specs.Names.{HasGrown, size_of}
+use Rattle.qc_pass.specs.Vocabulary.{Met, number, room}
+use Rattle.qc_fabric.specs.Vocabulary.{HasGrown, size_of}
 use Rattle.qc_fabric.proofs.Fed.{length-posted, sends_few}
 use Rattle.qc_fabric.proofs.Kept.{room_kept}
 use Rattle.qc_fabric.proofs.Posted.{posted_told, posts_on, receivers_as}

@@ -1,12 +1,11 @@
 use Rattle.std.proofs.Common.{rules, ◌≡◌, ◌≤◌, None, true, false, arith, sym, slice_get, subst}
 use Rattle.std.specs.Prelude.{is_some}
-use Rattle.qc_decl.specs.Names.{actors}
-use Rattle.qc_inbox.specs.Names.{picked_in}
-use Rattle.qc_mailbox.specs.Names.{either}
-use Rattle.qc_fabric.specs.Names.{IsStopped, Shown, has_any}
+use Rattle.qc_decl.specs.Vocabulary.{actors}
+use Rattle.qc_mailbox.specs.Vocabulary.{picked_in, either}
+use Rattle.qc_fabric.specs.Vocabulary.{IsStopped, Shown, has_any}
 use Rattle.qc_fabric.proofs.Stopped.{is_nothing, not_some, stopped_inputs, stopped_picks, stops, was_nothing}
 use Rattle.qc_fabric.proofs.state.FabricState.quiet.Goals as goal
-use Rattle.qc_link.specs.Names.{most_actors}
+use Rattle.qc_link.specs.Vocabulary.{most_actors}
 
 pub returns-then-any-clause-all : goal.returns-then-any-clause-all
 returns-then-any-clause-all g c = λ s.

@@ -1,7 +1,7 @@
 use Rattle.std.proofs.Common.{rules, ◌≡◌, ◌+◌, ◌≤◌, ◌∙◌, Some, true, arith, length, refl, sym, slice_get}
-use Rattle.qc_inbox.specs.Names.{is_held}
-use Rattle.qc_pass.specs.Names.{number}
-use Rattle.qc_fabric.specs.Names.{most_history}
+use Rattle.qc_mailbox.specs.Vocabulary.{is_held}
+use Rattle.qc_pass.specs.Vocabulary.{number}
+use Rattle.qc_fabric.specs.Vocabulary.{most_history}
 use Rattle.qc_fabric.proofs.Fed.{bit_set}
 use Rattle.qc_fabric.proofs.Gains.{saw}
 use Rattle.qc_fabric.proofs.KeptParts.{other_memory, unarmed_of}

@@ -1,9 +1,9 @@
 use Rattle.std.proofs.Common.{◌≡◌, ◌∙◌, [], arith, ap, sym, subst}
 use Rattle.qc_msg.specs.declared.step.Control.TheVariants.{Restart}
-use Rattle.qc_msg.specs.Names.{by}
+use Rattle.qc_msg.specs.Vocabulary.{by}
 use Rattle.qc_msg.proofs.GrownMail.{length-mail}
-use Rattle.qc_pass.specs.Names.{Met, number, room, seen}
-use Rattle.qc_fabric.specs.Names.{HasGrown, MayDo, Shown, after_rising, size_of_rising, steps_of_rising}
+use Rattle.qc_pass.specs.Vocabulary.{Met, number, room, seen}
+use Rattle.qc_fabric.specs.Vocabulary.{HasGrown, MayDo, Shown, after_rising, size_of_rising, steps_of_rising}
 use Rattle.qc_fabric.proofs.Risen.{length-rising, risen_told, rises_on, rises_to, rising_sends_few}
 use Rattle.qc_fabric.proofs.state.FabricState.rise.Goals as goal
 

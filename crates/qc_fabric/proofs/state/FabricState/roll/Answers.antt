@@ -1,7 +1,7 @@
 use Rattle.std.proofs.Common.{◌∙◌, sym, subst, List}
-use Rattle.qc_msg.specs.Names.{Entry}
-use Rattle.qc_fabric.specs.Names.{ArmsNoneBehind}
-use Rattle.qc_pass.specs.Names.{ends}
+use Rattle.qc_msg.specs.Vocabulary.{Entry}
+use Rattle.qc_fabric.specs.Vocabulary.{ArmsNoneBehind}
+use Rattle.qc_pass.specs.Vocabulary.{ends}
 use Rattle.qc_fabric.proofs.state.FabricState.roll.Goals as goal
 
 pub invariant_of-result : goal.invariant_of-result

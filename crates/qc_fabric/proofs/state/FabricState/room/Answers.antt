@@ -1,5 +1,5 @@
 use Rattle.std.proofs.Common.{rules, ◌+◌, ◌≤◌, arith, length, refl}
-use Rattle.qc_fabric.specs.Names.{most_history}
+use Rattle.qc_fabric.specs.Vocabulary.{most_history}
 use Rattle.qc_fabric.proofs.KeptParts.{other_memory, other_spare}
 use Rattle.qc_fabric.proofs.state.FabricState.room.Goals as goal
 

@@ -1,15 +1,15 @@
 use Rattle.std.proofs.Common.{rules, ◌≡◌, ◌+◌, ◌<◌, ◌≤◌, ◌∙◌, ◌∷◌, ◌++◌, [], Some, None, length, arith, ap, refl, sym}
 use Rattle.std.proofs.Common.{subst}
-use Rattle.qc_inbox.specs.Names.{after_take, tray_at}
-use Rattle.qc_inbox.proofs.Bounds.{calls_few}
-use Rattle.qc_msg.specs.Names.{marked, step_of}
-use Rattle.qc_pass.specs.Names.{Met, all, number, room}
-use Rattle.qc_fabric.specs.Names.{HasGrown, HasNext, HasNone, IsInputFor, Shown, most_history}
+use Rattle.qc_mailbox.specs.Vocabulary.{after_take, tray_at}
+use Rattle.qc_mailbox.proofs.Bounds.{calls_few}
+use Rattle.qc_msg.specs.Vocabulary.{marked, step_of}
+use Rattle.qc_pass.specs.Vocabulary.{Met, all, number, room}
+use Rattle.qc_fabric.specs.Vocabulary.{HasGrown, HasNext, HasNone, IsInputFor, Shown, most_history}
 use Rattle.qc_fabric.proofs.KeptParts.{other_memory}
 use Rattle.qc_fabric.proofs.Ready.{input_as, input_there}
 use Rattle.qc_fabric.proofs.Taking.{next_for, none_for, takes_on, took, waits}
 use Rattle.qc_fabric.proofs.state.FabricState.take.Goals as goal
-use Rattle.qc_link.specs.Names.{most_actors}
+use Rattle.qc_link.specs.Vocabulary.{most_actors}
 
 pub input_for-requires : goal.input_for-requires
 input_for-requires g c = omega (arith, c.requires.actor, c.self.invariant.few, c.number-actor.ensures)

@@ -2,7 +2,7 @@ use Rattle.std.proofs.Common.{◌≡◌, List, None, Some, cond, length, sym, �
 use Rattle.std.specs.BTreeMap.{get}
 use Rattle.std.specs.Ordering.{is_eq}
 use Rattle.qc_link.specs.declared.plan.Link.{Link}
-use Rattle.qc_link.specs.Names.{IsIndex, pattern_cmp}
+use Rattle.qc_link.specs.Vocabulary.{IsIndex, pattern_cmp}
 use Rattle.qc_link.proofs.Indexed.{index_more, index_again, not_some}
 use Rattle.qc_link.proofs.plan.LinkPlan.add.Goals as goal
 

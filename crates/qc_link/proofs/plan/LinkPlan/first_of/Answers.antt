@@ -1,6 +1,6 @@
 use Rattle.std.proofs.Common.{◌≡◌, List, length, sym, ◌∙◌, subst, arith}
 use Rattle.qc_link.specs.declared.plan.Link.{Link}
-use Rattle.qc_link.specs.Names.{first, has_pattern}
+use Rattle.qc_link.specs.Vocabulary.{first, has_pattern}
 use Rattle.qc_link.proofs.Firsts.{first_found, first_none}
 use Rattle.qc_link.proofs.plan.LinkPlan.first_of.Goals as goal
 

@@ -1,8 +1,8 @@
 use Rattle.std.proofs.Common.{◌≡◌, ◌==◌, ◌&&◌, ◌<◌, ◌+◌, ◌||◌, Bool, true, false, length, refl, sym, ap, subst, List}
 use Rattle.qc_entry.specs.declared.line.OwnLine.{OwnLine}
 use Rattle.qc_entry.specs.declared.line.ReadLock.{ReadLock}
-use Rattle.qc_lock.specs.Names.{AreSorted, has_line, has_read, lock_cmp, own_cmp, with_locks, with_owns}
-use Rattle.qc_list.specs.Names.{Ascends}
+use Rattle.qc_lock.specs.Vocabulary.{AreSorted, has_line, has_read, lock_cmp, own_cmp, with_locks, with_owns}
+use Rattle.qc_list.specs.Vocabulary.{Ascends}
 use Rattle.qc_lock.proofs.Entries.{entry_some}
 use Rattle.qc_lock.proofs.Indexing.{fold_any}
 use Rattle.qc_lock.proofs.Order.{sorted-find, ascends-locks, ascends-owns}

@@ -1,5 +1,5 @@
 use Rattle.std.proofs.Common.{List, ◌∙◌, ap}
-use Rattle.qc_lock.specs.Names.{append_clash}
+use Rattle.qc_lock.specs.Vocabulary.{append_clash}
 use Rattle.qc_lock.specs.declared.held.Held.{Held}
 use Rattle.qc_lock.proofs.Searching.{append_found}
 use Rattle.qc_lock.proofs.locks.Locks.append_clash.Goals as goal

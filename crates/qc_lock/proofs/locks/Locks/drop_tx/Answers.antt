@@ -2,7 +2,8 @@ use Rattle.std.proofs.Common.{◌≡◌, List, refl, sym, subst, ◌∙◌}
 use Rattle.qc_entry.specs.declared.line.OwnLine.{OwnLine}
 use Rattle.qc_entry.specs.declared.line.ReadLock.{ReadLock}
 use Rattle.qc_lock.specs.declared.held.Held.{Held}
-use Rattle.qc_lock.specs.Names.{AreIndexed, Narrows, has_line, has_read, held_of, lines_held, reads_held, without_held}
+use Rattle.qc_lock.specs.Vocabulary.{AreIndexed, Narrows, has_line, has_read, held_of, lines_held, reads_held}
+use Rattle.qc_lock.specs.Vocabulary.{without_held}
 use Rattle.qc_lock.proofs.Indexing.{held_found, lines_part, reads_part, taken_done}
 use Rattle.qc_lock.proofs.Numbers.{without_none}
 use Rattle.qc_lock.proofs.Ones.{holder}

@@ -1,6 +1,6 @@
 use Rattle.std.proofs.Common.{List, sym, subst}
 use Rattle.qc_lock.specs.declared.held.Held.{Held}
-use Rattle.qc_lock.specs.Names.{AreIndexed}
+use Rattle.qc_lock.specs.Vocabulary.{AreIndexed}
 use Rattle.qc_lock.proofs.locks.Locks.new.Goals as goal
 
 pub invariant_of-result : goal.invariant_of-result

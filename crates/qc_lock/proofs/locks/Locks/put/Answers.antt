@@ -2,8 +2,8 @@ use Rattle.std.proofs.Common.{◌≡◌, ℕ, ◌||◌, List, [], true, false, s
 use Rattle.qc_entry.specs.declared.line.OwnLine.{OwnLine}
 use Rattle.qc_entry.specs.declared.line.ReadLock.{ReadLock}
 use Rattle.qc_lock.specs.declared.held.Held.{Held}
-use Rattle.qc_lock.specs.Names.{AreIndexed, IsIndex, Narrows, has_line, has_read, held_of, lines_held, reads_held}
-use Rattle.qc_lock.specs.Names.{with_entry}
+use Rattle.qc_lock.specs.Vocabulary.{AreIndexed, IsIndex, Narrows, has_line, has_read, held_of, lines_held, reads_held}
+use Rattle.qc_lock.specs.Vocabulary.{with_entry}
 use Rattle.qc_lock.proofs.Indexing.{held_found, held_none, index_undone, lines_part, narrows_empty, put_done}
 use Rattle.qc_lock.proofs.Indexing.{reads_part}
 use Rattle.qc_lock.proofs.Order.{sound-put}

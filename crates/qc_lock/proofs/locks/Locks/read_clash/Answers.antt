@@ -1,5 +1,5 @@
 use Rattle.std.proofs.Common.{List, ◌∙◌, ap}
-use Rattle.qc_lock.specs.Names.{read_clash}
+use Rattle.qc_lock.specs.Vocabulary.{read_clash}
 use Rattle.qc_lock.specs.declared.held.Held.{Held}
 use Rattle.qc_lock.proofs.Searching.{read_found}
 use Rattle.qc_lock.proofs.locks.Locks.read_clash.Goals as goal

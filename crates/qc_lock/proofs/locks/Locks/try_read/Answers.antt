@@ -1,5 +1,5 @@
 use Rattle.std.proofs.Common.{rules, ◌≡◌, true, sym, subst}
-use Rattle.qc_lock.specs.Names.{AreSorted, has_lock}
+use Rattle.qc_lock.specs.Vocabulary.{AreSorted, has_lock}
 use Rattle.qc_lock.proofs.Order.{held_already}
 use Rattle.qc_lock.proofs.locks.Locks.try_read.Goals as goal
 

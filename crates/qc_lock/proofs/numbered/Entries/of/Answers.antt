@@ -1,6 +1,6 @@
 use Rattle.std.proofs.Common.{◌≡◌, Some, None, sym, ◌∙◌, ap, subst}
 use Rattle.std.specs.Option.{MatchOption, option_copied}
-use Rattle.qc_lock.specs.Names.{entry_of, number_of}
+use Rattle.qc_lock.specs.Vocabulary.{entry_of, number_of}
 use Rattle.qc_lock.proofs.NumberedEntries.{entry_at, entry_none}
 use Rattle.qc_lock.proofs.Numbers.{lent}
 use Rattle.qc_lock.proofs.Ones.{holder}

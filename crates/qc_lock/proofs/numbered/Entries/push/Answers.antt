@@ -1,7 +1,7 @@
 use Rattle.std.proofs.Common.{rules, ◌≡◌, ◌+◌, List, None, sym, ◌∙◌, ap, subst}
 use Rattle.std.specs.Map.{values_of}
 use Rattle.qc_lock.specs.declared.held.Held.{Held}
-use Rattle.qc_lock.specs.Names.{AreNumbered, entry_of, number_of, with_entry}
+use Rattle.qc_lock.specs.Vocabulary.{AreNumbered, entry_of, number_of, with_entry}
 use Rattle.qc_lock.proofs.NumberedEntries.{number_none}
 use Rattle.qc_lock.proofs.Numbers.{lookup_new, values_new}
 use Rattle.qc_lock.proofs.Numbering.{numbered_again, numbered_new}

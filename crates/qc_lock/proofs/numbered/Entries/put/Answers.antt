@@ -1,7 +1,7 @@
 use Rattle.std.proofs.Common.{◌≡◌, IfOk, Option, None, Some, sym, ◌∙◌, ap, subst}
 use Rattle.std.specs.Map.{values_of}
 use Rattle.qc_lock.specs.declared.held.Held.{Held}
-use Rattle.qc_lock.specs.Names.{entry_of, number_of, with_entry}
+use Rattle.qc_lock.specs.Vocabulary.{entry_of, number_of, with_entry}
 use Rattle.qc_lock.proofs.NumberedEntries.{entry_at, entry_none, values_known}
 use Rattle.qc_lock.proofs.Numbering.{numbered_known}
 use Rattle.qc_lock.proofs.Ones.{holder, put_entry}

@@ -1,6 +1,6 @@
 use Rattle.std.proofs.Common.{◌≡◌, None, Some, sym, ◌∙◌, ap, subst}
 use Rattle.std.specs.Map.{values_of}
-use Rattle.qc_lock.specs.Names.{entry_of, number_of, without_held}
+use Rattle.qc_lock.specs.Vocabulary.{entry_of, number_of, without_held}
 use Rattle.qc_lock.proofs.NumberedEntries.{entry_at, entry_none}
 use Rattle.qc_lock.proofs.Numbers.{values_taken, without_none}
 use Rattle.qc_lock.proofs.Numbering.{numbered_taken}

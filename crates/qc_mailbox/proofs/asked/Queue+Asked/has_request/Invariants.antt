@@ -1,6 +1,6 @@
 use Rattle.std.proofs.Common.{◌≡◌, ◌-◌, ◌≤◌, drop, length}
-use Rattle.qc_script.specs.Names.{has_request}
-use Rattle.qc_mailbox.specs.Names.{asked, items}
+use Rattle.qc_script.specs.Vocabulary.{has_request}
+use Rattle.qc_mailbox.specs.Vocabulary.{asked, items}
 use Rattle.qc_mailbox.proofs.asked.Queue+Asked.has_request.Given as goal
 
 abbrev pub invariant-requests : goal.invariant-requests

@@ -1,7 +1,7 @@
 use Rattle.std.proofs.Common.{rules, List, ◌≡◌, ◌+◌, ◌≤◌, ◌∙◌, ◌==◌, ap, arith, length, not, refl, sym}
 use Rattle.std.proofs.lemmas.Fn.{filter_same}
-use Rattle.qc_script.specs.Names.{SentRequest, requests_to, requests_to_others}
-use Rattle.qc_mailbox.specs.Names.{asked, items}
+use Rattle.qc_script.specs.Vocabulary.{SentRequest, requests_to, requests_to_others}
+use Rattle.qc_mailbox.specs.Vocabulary.{asked, items}
 use Rattle.qc_mailbox.specs.declared.asked.Asked.{Asked}
 use Rattle.qc_mailbox.proofs.Requested.{asked-others, few_to, parts, length-asked}
 use Rattle.qc_mailbox.proofs.asked.Queue+Asked.lose.Goals as goal

@@ -1,6 +1,6 @@
 use Rattle.std.proofs.Common.{◌≡◌, ◌+◌, ◌-◌, ◌≤◌, drop, length}
-use Rattle.qc_script.specs.Names.{requests_to, with_lost}
-use Rattle.qc_mailbox.specs.Names.{asked, items, spare}
+use Rattle.qc_script.specs.Vocabulary.{requests_to, with_lost}
+use Rattle.qc_mailbox.specs.Vocabulary.{asked, items, spare}
 use Rattle.qc_mailbox.proofs.asked.Queue+Asked.lose.Given as goal
 
 abbrev pub invariant-requests : goal.invariant-requests

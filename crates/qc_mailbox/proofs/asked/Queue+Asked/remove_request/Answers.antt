@@ -1,6 +1,6 @@
 use Rattle.std.proofs.Common.{rules, ◌∙◌, ◌==◌, ap, not}
 use Rattle.std.proofs.lemmas.Fn.{filter_same}
-use Rattle.qc_mailbox.specs.Names.{asked, items}
+use Rattle.qc_mailbox.specs.Vocabulary.{asked, items}
 use Rattle.qc_mailbox.specs.declared.asked.Asked.{Asked}
 use Rattle.qc_mailbox.proofs.Requested.{asked-without}
 use Rattle.qc_mailbox.proofs.asked.Queue+Asked.remove_request.Goals as goal

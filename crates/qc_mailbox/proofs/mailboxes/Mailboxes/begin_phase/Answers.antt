@@ -1,6 +1,6 @@
 use Rattle.std.proofs.Common.{rules, ◌≡◌, ◌*◌, ◌∙◌, arith, subst}
 use Rattle.std.specs.List.{AllByRecursion as Every}
-use Rattle.qc_mailbox.specs.Names.{HasRoom}
+use Rattle.qc_mailbox.specs.Vocabulary.{HasRoom}
 use Rattle.qc_mailbox.proofs.mailboxes.Mailboxes.begin_phase.Goals as goal
 
 pub invariant_of-self-2 : goal.invariant_of-self-2

@@ -1,6 +1,5 @@
 use Rattle.std.proofs.Common.{◌≡◌}
-use Rattle.qc_inbox.specs.Names.{first_of, rank_in}
-use Rattle.qc_mailbox.specs.Names.{either}
+use Rattle.qc_mailbox.specs.Vocabulary.{first_of, rank_in, either}
 use Rattle.qc_mailbox.proofs.mailboxes.Mailboxes.pick.Given as goal
 
 abbrev pub invariant-actors : goal.invariant-actors

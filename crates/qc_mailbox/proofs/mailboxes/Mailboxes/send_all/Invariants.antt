@@ -1,9 +1,9 @@
 use Rattle.std.proofs.Common.{◌≡◌, ◌+◌, ◌<◌, drop}
 use Rattle.std.specs.List.{AllByRecursion as Every}
 use Rattle.qc_msg.specs.declared.turn.Posting.{Posting}
-use Rattle.qc_inbox.specs.Names.{after_sends}
+use Rattle.qc_mailbox.specs.Vocabulary.{after_sends}
 use Rattle.qc_mailbox.proofs.mailboxes.Mailboxes.send_all.Given as goal
-use Rattle.qc_link.specs.Names.{most_actors}
+use Rattle.qc_link.specs.Vocabulary.{most_actors}
 
 abbrev pub invariant-postings : goal.invariant-postings
 invariant-postings l = record {

@@ -1,6 +1,6 @@
 use Rattle.std.proofs.Common.{◌≡◌, ◌++◌, drop, length, take, ◌-◌, ◌≤◌}
-use Rattle.qc_script.specs.Names.{with_number}
-use Rattle.qc_mailbox.specs.Names.{items}
+use Rattle.qc_script.specs.Vocabulary.{with_number}
+use Rattle.qc_mailbox.specs.Vocabulary.{items}
 use Rattle.qc_mailbox.proofs.queue.Queue+u32.place_of.Given as goal
 
 abbrev pub invariant-numbers : goal.invariant-numbers

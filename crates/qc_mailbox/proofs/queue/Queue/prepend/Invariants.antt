@@ -1,5 +1,5 @@
 use Rattle.std.proofs.Common.{◌≡◌, ◌+◌, ◌≤◌, ◌++◌, length}
-use Rattle.qc_mailbox.specs.Names.{items, spare}
+use Rattle.qc_mailbox.specs.Vocabulary.{items, spare}
 use Rattle.qc_mailbox.proofs.queue.Queue.prepend.Given as goal
 
 abbrev pub invariant-items : goal.invariant-items

@@ -1,5 +1,5 @@
 use Rattle.std.proofs.Common.{◌≡◌, ◌+◌, ◌≤◌, length, take}
-use Rattle.qc_mailbox.specs.Names.{items, spare}
+use Rattle.qc_mailbox.specs.Vocabulary.{items, spare}
 use Rattle.qc_mailbox.proofs.queue.Queue.refill.Given as goal
 
 abbrev pub invariant-loop-item : goal.invariant-loop-item

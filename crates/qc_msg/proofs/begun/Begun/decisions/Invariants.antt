@@ -1,5 +1,5 @@
 use Rattle.std.proofs.Common.{◌≡◌, ◌++◌, drop}
-use Rattle.qc_msg.specs.Names.{decisions}
+use Rattle.qc_msg.specs.Vocabulary.{decisions}
 use Rattle.qc_msg.proofs.begun.Begun.decisions.Given as goal
 
 -- the messages so far, with those to the sites that are left, are all of them

@@ -1,5 +1,5 @@
 use Rattle.std.proofs.Common.{◌≡◌, ◌≤◌, ◌++◌, length, drop}
-use Rattle.qc_msg.specs.Names.{without_call}
+use Rattle.qc_msg.specs.Vocabulary.{without_call}
 use Rattle.qc_msg.proofs.call.Calls.without_call.Given as goal
 
 abbrev pub invariant-calls : goal.invariant-calls

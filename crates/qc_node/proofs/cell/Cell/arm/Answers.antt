@@ -1,6 +1,6 @@
 use Rattle.std.proofs.Common.{rules, ◌≡◌, Bool, false, sym, subst}
 use Rattle.qc_msg.specs.declared.step.Control.TheVariants as controls
-use Rattle.qc_node.specs.Names.{IsCell}
+use Rattle.qc_node.specs.Vocabulary.{IsCell}
 use Rattle.qc_node.proofs.Ordered.{armed_cell, armed_some}
 use Rattle.qc_node.proofs.cell.Cell.arm.Goals as goal
 

@@ -2,9 +2,9 @@ use Rattle.std.proofs.Common.{rules, ◌∙◌, Bool, false, sym, subst}
 use Rattle.qc_msg.specs.declared.step.Control.TheVariants as controls
 use Rattle.qc_msg.specs.declared.step.Step.{Step}
 use Rattle.qc_pass.specs.declared.token.Pass.{Pass}
-use Rattle.qc_pass.specs.Names.{number}
-use Rattle.qc_fabric.specs.Names.{MayDo}
-use Rattle.qc_node.specs.Names.{IsCell}
+use Rattle.qc_pass.specs.Vocabulary.{number}
+use Rattle.qc_fabric.specs.Vocabulary.{MayDo}
+use Rattle.qc_node.specs.Vocabulary.{IsCell}
 use Rattle.qc_node.proofs.Kept.{cell_over_others}
 use Rattle.qc_node.proofs.Ordered.{fallen_cell, is_up}
 use Rattle.qc_node.proofs.cell.Cell.crash.Goals as goal

@@ -1,12 +1,12 @@
 use Rattle.std.proofs.Common.{rules, ◌≡◌, ◌∙◌, Bool, false, sym, subst}
-use Rattle.qc_core.specs.Names.{IsLawfulWithFalls}
+use Rattle.qc_core.specs.Vocabulary.{IsLawfulWithFalls}
 use Rattle.qc_core.specs.declared.actor.Actor.TheVariants.{Down}
 use Rattle.qc_decl.specs.declared.declaration.Declaration.{Declaration}
 use Rattle.qc_msg.specs.declared.step.Control.TheVariants as controls
-use Rattle.qc_pass.specs.Names.{number, seen}
-use Rattle.qc_process.specs.Names.{IsProcess, OpensAs, ProcessView, StaysOnDisk}
-use Rattle.qc_fabric.specs.Names.{MayDo, RisesAs}
-use Rattle.qc_node.specs.Names.{IsCell, fits_of, opened_of}
+use Rattle.qc_pass.specs.Vocabulary.{number, seen}
+use Rattle.qc_process.specs.Vocabulary.{IsProcess, OpensAs, ProcessView, StaysOnDisk}
+use Rattle.qc_fabric.specs.Vocabulary.{MayDo, RisesAs}
+use Rattle.qc_node.specs.Vocabulary.{IsCell, fits_of, opened_of}
 use Rattle.qc_node.proofs.Kept.{cell_over_others}
 use Rattle.qc_node.proofs.Ordered.{few_actors, is_down, opened_cell, risen_cell}
 use Rattle.qc_node.proofs.Rises.{risen_asks, risen_lawful, risen_numbers, risen_process}

@@ -1,13 +1,13 @@
 use Rattle.std.proofs.Common.{rules, ◌≡◌, ◌∙◌, Bool, true, false, ap, sym, subst, refl}
-use Rattle.qc_core.specs.Names.{IsLawfulWithFalls, actor_takes, moved}
+use Rattle.qc_core.specs.Vocabulary.{IsLawfulWithFalls, actor_takes, moved}
 use Rattle.qc_core.specs.declared.actor.Actor.TheVariants.{Down}
-use Rattle.qc_fabric.specs.Names.{Posts, Sees, Takes, Waits}
+use Rattle.qc_fabric.specs.Vocabulary.{Posts, Sees, Takes, Waits}
 use Rattle.qc_msg.specs.declared.turn.Appended.TheVariants.{Done}
 use Rattle.qc_pass.specs.declared.token.Pass.{Pass}
-use Rattle.qc_pass.specs.Names.{number, seen}
+use Rattle.qc_pass.specs.Vocabulary.{number, seen}
 use Rattle.qc_msg.specs.declared.step.Step.{Step}
-use Rattle.qc_process.specs.Names.{IsProcess, ProcessView}
-use Rattle.qc_node.specs.Names.{IsCell, IsIdle, IsKnown, IsServed, Known, fits_of}
+use Rattle.qc_process.specs.Vocabulary.{IsProcess, ProcessView}
+use Rattle.qc_node.specs.Vocabulary.{IsCell, IsIdle, IsKnown, IsServed, Known, fits_of}
 use Rattle.qc_node.proofs.Kept.{cell_over_input, cell_over_others, idle}
 use Rattle.qc_node.proofs.Posted.{IsSpelled, cell_posted, cell_unwritten, ends, few, few_then, is_spelled}
 use Rattle.qc_node.proofs.Served.{input_fits, input_readable, lawful_now, may_write, numbers_left, served, to_actors}

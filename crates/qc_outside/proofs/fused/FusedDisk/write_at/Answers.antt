@@ -1,5 +1,5 @@
 use Rattle.qc_outside.proofs.Images.{since_weaker, image_wrote, tells_weaker}
-use Rattle.qc_outside.specs.Names.{IsImage, Since, Write, wrote}
+use Rattle.qc_outside.specs.Vocabulary.{IsImage, Since, Write, wrote}
 use Rattle.qc_outside.proofs.Counted.{counted_fail, counted_stop}
 use Rattle.qc_outside.proofs.fused.FusedDisk.write_at.Goals as goal
 

@@ -1,5 +1,5 @@
 use Rattle.std.proofs.Common.{take, sym, ◌∙◌, ap, arith}
-use Rattle.qc_outside.specs.Names.{IsImage, Told, as_read, counts, left_by, settled, told_by}
+use Rattle.qc_outside.specs.Vocabulary.{IsImage, Told, as_read, counts, left_by, settled, told_by}
 use Rattle.qc_outside.specs.declared.mem_disk.Change.TheVariants.{Fell}
 use Rattle.qc_outside.proofs.Kept.{left_is_image, settled_leaves}
 use Rattle.qc_outside.proofs.Memory.{told_change, counts_push, since_step}

@@ -1,5 +1,6 @@
 use Rattle.std.proofs.Common.{ℕ, List, [], ◌∷◌, ◌++◌, take, length, length-append, refl, sym, ◌∙◌, ap, arith}
-use Rattle.qc_outside.specs.Names.{IsImage, Told, Write, as_read, counts, left_by, overwritten, told_by, torn_by, wrote}
+use Rattle.qc_outside.specs.Vocabulary.{IsImage, Told, Write, as_read, counts, left_by, overwritten, told_by, torn_by}
+use Rattle.qc_outside.specs.Vocabulary.{wrote}
 use Rattle.qc_outside.specs.declared.mem_disk.Change.TheVariants.{Wrote}
 use Rattle.qc_outside.proofs.Memory.{told_write, counts_push, since_step, since_same}
 use Rattle.qc_outside.proofs.Images.{image_wrote}

@@ -1,5 +1,5 @@
 use Rattle.std.proofs.Common.{Some, None, refl, subst, List, option_copied}
-use Rattle.qc_outside.specs.Names.{IsFirstAt, Place}
+use Rattle.qc_outside.specs.Vocabulary.{IsFirstAt, Place}
 use Rattle.qc_outside.specs.declared.mem_rack.Kept.{Kept}
 use Rattle.qc_outside.proofs.Racks.{holds_some, holds_none, held_more}
 use Rattle.qc_outside.proofs.mem_rack.MemRack.lend.Goals as goal

@@ -1,5 +1,5 @@
 use Rattle.std.proofs.Common.{Some, refl, sym, subst, List, option_copied}
-use Rattle.qc_outside.specs.Names.{IsFirstAt, Place, as_read, told_by}
+use Rattle.qc_outside.specs.Vocabulary.{IsFirstAt, Place, as_read, told_by}
 use Rattle.qc_outside.specs.declared.mem_rack.Kept.{Kept}
 use Rattle.qc_outside.proofs.Racks.{held_put}
 use Rattle.qc_outside.proofs.mem_rack.MemRackRack.keep.Goals as goal

@@ -1,5 +1,5 @@
 use Rattle.std.proofs.Common.{length, ◌-◌, ◌≤◌}
-use Rattle.qc_pass.specs.Names.{IsSetUp, table_of}
+use Rattle.qc_pass.specs.Vocabulary.{IsSetUp, table_of}
 use Rattle.qc_pass.proofs.token.Passes.fill.Given as goal
 
 abbrev pub invariant-loop-right : goal.invariant-loop-right

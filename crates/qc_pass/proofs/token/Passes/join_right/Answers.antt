@@ -1,5 +1,5 @@
 use Rattle.std.proofs.Common.{rules, ap}
-use Rattle.qc_pass.proofs.Passes.{joins}
+use Rattle.qc_pass.proofs.PassSteps.{joins}
 use Rattle.qc_pass.proofs.token.Passes.join_right.Goals as goal
 
 pub join_seat-requires : goal.join_seat-requires

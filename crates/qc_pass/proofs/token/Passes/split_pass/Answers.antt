@@ -1,5 +1,5 @@
 use Rattle.std.proofs.Common.{rules, ap}
-use Rattle.qc_pass.proofs.Passes.{makes}
+use Rattle.qc_pass.proofs.PassSteps.{makes}
 use Rattle.qc_pass.proofs.token.Passes.split_pass.Goals as goal
 
 pub split_seat-seat-requires : goal.split_seat-seat-requires

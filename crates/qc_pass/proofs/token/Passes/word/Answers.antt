@@ -1,4 +1,4 @@
-use Rattle.qc_pass.proofs.Passes.{opens}
+use Rattle.qc_pass.proofs.PassSteps.{opens}
 use Rattle.qc_pass.proofs.token.Passes.word.Goals as goal
 
 pub of_words-requires : goal.of_words-requires

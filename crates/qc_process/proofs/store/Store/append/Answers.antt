@@ -1,5 +1,5 @@
 use Rattle.std.proofs.Common.{rules, ◌≡◌, Some, None, refl, sym, subst}
-use Rattle.qc_process.specs.Names.{OpenJournal, StoreView}
+use Rattle.qc_process.specs.Vocabulary.{OpenJournal, StoreView}
 use Rattle.qc_process.proofs.Appending.{Shows, broken_appended, done_appended, none_appended}
 use Rattle.qc_process.proofs.store.Store.append.Goals as goal
 

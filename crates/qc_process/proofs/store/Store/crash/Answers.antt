@@ -1,5 +1,5 @@
 use Rattle.std.proofs.Common.{rules, ◌≡◌, Some, None, refl, subst}
-use Rattle.qc_process.specs.Names.{OpenJournal, StoreView}
+use Rattle.qc_process.specs.Vocabulary.{OpenJournal, StoreView}
 use Rattle.qc_process.proofs.Appending.{Shows}
 use Rattle.qc_process.proofs.Crashes.{crash_of, damaged_of, given_up_of}
 use Rattle.qc_process.proofs.store.Store.crash.Goals as goal

@@ -1,5 +1,5 @@
 use Rattle.std.proofs.Common.{rules, ◌≡◌, Some, refl, subst}
-use Rattle.qc_process.specs.Names.{OpenJournal, StoreView}
+use Rattle.qc_process.specs.Vocabulary.{OpenJournal, StoreView}
 use Rattle.qc_process.proofs.Appending.{Shows}
 use Rattle.qc_process.proofs.Beginnings.{stays_begun}
 use Rattle.qc_process.proofs.store.Store.into_disk.Goals as goal

@@ -1,5 +1,5 @@
 use Rattle.std.proofs.Common.{◌≡◌, refl, ◌∙◌, ap, length}
-use Rattle.qc_outside.specs.Names.{Stored, as_read}
+use Rattle.qc_outside.specs.Vocabulary.{Stored, as_read}
 use Rattle.qc_process.proofs.store.Store.new.Goals as goal
 
 pub returns-in-Ok-eq0-clause-stored : goal.returns-in-Ok-eq0-clause-stored

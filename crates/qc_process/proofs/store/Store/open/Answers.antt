@@ -1,7 +1,7 @@
 use Rattle.std.proofs.Common.{rules, ◌≡◌, Some, None, refl, sym, ◌∙◌, subst}
-use Rattle.qc_journal.specs.Names.{IsNoJournal, lists}
-use Rattle.qc_outside.specs.Names.{Told, as_read}
-use Rattle.qc_process.specs.Names.{OpenJournal, StoreView}
+use Rattle.qc_journal.specs.Vocabulary.{IsNoJournal, lists}
+use Rattle.qc_outside.specs.Vocabulary.{Told, as_read}
+use Rattle.qc_process.specs.Vocabulary.{OpenJournal, StoreView}
 use Rattle.qc_process.proofs.Appending.{Shows}
 use Rattle.qc_process.proofs.Openings.{said_of_old}
 use Rattle.qc_process.proofs.Reopened.{fell_of, length_lists, opened_of, torn_of}

@@ -1,6 +1,6 @@
 use Rattle.std.proofs.Common.{◌++◌, ◌∙◌, ap, List, ℕ}
 use Rattle.byteorder.specs.Endian.{big_bytes}
-use Rattle.qc_record.specs.Names.{tx_form}
+use Rattle.qc_record.specs.Vocabulary.{tx_form}
 use Rattle.qc_record.proofs.Puts.{on_ok, five, wide, as_bytes}
 use Rattle.qc_record.proofs.line.LineItem.put.Goals as goal
 

@@ -7,8 +7,8 @@ use Rattle.std.specs.List.{list_any}
 use Rattle.qc_entry.specs.declared.record.Commit.{Commit}
 use Rattle.qc_lock.proofs.NumberedEntries.{tx_same}
 use Rattle.qc_stamp.specs.declared.stamp.TxId.{TxId}
-use Rattle.qc_stamp.specs.Names.{same_tx, tx_cmp}
-use Rattle.qc_recover.specs.Names.{last_of}
+use Rattle.qc_stamp.specs.Vocabulary.{same_tx, tx_cmp}
+use Rattle.qc_recover.specs.Vocabulary.{last_of}
 use Rattle.qc_recover.proofs.Last.{same_turned, seen_again, seen_first, seen_none, unseen}
 use Rattle.qc_recover.proofs.commits.LastCommits.into_list.Goals as goal
 

@@ -1,8 +1,8 @@
 use Rattle.std.proofs.Common.{◌≡◌, ◌++◌, length, reverse}
 use Rattle.std.specs.BTreeSet.{contains}
-use Rattle.qc_stamp.specs.Names.{tx_cmp}
+use Rattle.qc_stamp.specs.Vocabulary.{tx_cmp}
 use Rattle.qc_stamp.specs.declared.stamp.TxId.{TxId}
-use Rattle.qc_recover.specs.Names.{last_of}
+use Rattle.qc_recover.specs.Vocabulary.{last_of}
 use Rattle.qc_recover.proofs.Last.{unseen}
 use Rattle.qc_recover.proofs.commits.LastCommits.into_list.Given as goal
 

@@ -1,10 +1,10 @@
 use Rattle.std.proofs.Common.{rules, ◌≡◌, ◌+◌, ◌<◌, ◌≤◌, ℕ, length, List, drop, fold, get_or, sym, ◌∙◌, ap, subst}
 use Rattle.std.proofs.Math.ListN.{drop_of_length-le}
 use Rattle.qc_entry.specs.declared.line.Line.{Line}
-use Rattle.qc_entry.specs.Names.{IsAscending}
+use Rattle.qc_entry.specs.Vocabulary.{IsAscending}
 use Rattle.qc_entry.proofs.Walks.{from-place}
-use Rattle.qc_list.specs.Names.{In}
-use Rattle.qc_recover.specs.Names.{log_of, with_line}
+use Rattle.qc_list.specs.Vocabulary.{In}
+use Rattle.qc_recover.specs.Vocabulary.{log_of, with_line}
 use Rattle.qc_recover.proofs.Logs.{log_again, log_moved, one_more}
 use Rattle.qc_recover.proofs.lines.LineSet.into_log.Goals as goal
 use Rattle.qc_recover.proofs.lines.LineSet.into_log.Goals.{then-not-is_last+in_ok-add, else-not-is_last}

@@ -1,6 +1,6 @@
 use Rattle.std.proofs.Common.{◌≡◌, drop, fold}
-use Rattle.qc_entry.specs.Names.{IsAscending}
-use Rattle.qc_recover.specs.Names.{log_of, with_line}
+use Rattle.qc_entry.specs.Vocabulary.{IsAscending}
+use Rattle.qc_recover.specs.Vocabulary.{log_of, with_line}
 use Rattle.qc_recover.proofs.lines.LineSet.into_log.Given as goal
 
 abbrev pub invariant-lines : goal.invariant-lines

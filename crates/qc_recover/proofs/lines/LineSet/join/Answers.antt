@@ -1,6 +1,6 @@
 use Rattle.std.proofs.Common.{◌∙◌, ap}
-use Rattle.qc_entry.specs.Names.{union}
-use Rattle.qc_recover.specs.Names.{log_of}
+use Rattle.qc_entry.specs.Vocabulary.{union}
+use Rattle.qc_recover.specs.Vocabulary.{log_of}
 use Rattle.qc_recover.proofs.Logs.{log_joined}
 use Rattle.qc_recover.proofs.lines.LineSet.join.Goals as goal
 

@@ -1,5 +1,5 @@
 use Rattle.std.proofs.Common.{refl, ap, sym, rules}
-use Rattle.qc_script.specs.Names.{with_command}
+use Rattle.qc_script.specs.Vocabulary.{with_command}
 use Rattle.qc_script.specs.declared.script.PhaseLines.{PhaseLines}
 use Rattle.qc_script.proofs.Lasts.{script_changed}
 use Rattle.qc_script.proofs.draft.Draft.add_command.Goals as goal

@@ -1,5 +1,5 @@
 use Rattle.std.proofs.Common.{◌==◌, List, length, ap, sym, ◌∙◌}
-use Rattle.qc_script.specs.Names.{is_at_controls}
+use Rattle.qc_script.specs.Vocabulary.{is_at_controls}
 use Rattle.qc_script.specs.declared.script.CommandLine.{CommandLine}
 use Rattle.qc_script.specs.declared.script.Script.{Script}
 use Rattle.qc_script.proofs.Lasts.{at_controls, no_command}

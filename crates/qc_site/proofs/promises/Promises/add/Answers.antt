@@ -1,12 +1,12 @@
 use Rattle.std.proofs.Common.{rules, ◌≡◌, ◌++◌, ◌∷◌, [], ◌+◌, List, None, sym, ◌∙◌, ap, subst}
 use Rattle.std.specs.Map.{values_of}
 use Rattle.qc_entry.specs.declared.record.Prepared.{Prepared}
-use Rattle.qc_lock.specs.Names.{AreNumbered, number_of}
+use Rattle.qc_lock.specs.Vocabulary.{AreNumbered, number_of}
 use Rattle.qc_lock.proofs.NumberedEntries.{number_none}
 use Rattle.qc_lock.proofs.Numbers.{values_new}
 use Rattle.qc_lock.proofs.Numbering.{numbered_again, numbered_new}
 use Rattle.qc_lock.proofs.Ones.{put_last}
-use Rattle.qc_site.specs.Names.{prepared_of}
+use Rattle.qc_site.specs.Vocabulary.{prepared_of}
 use Rattle.qc_site.proofs.Promised.{promiser}
 use Rattle.qc_site.proofs.promises.Promises.add.Goals as goal
 use Rattle.qc_site.proofs.promises.Promises.add.Goals.{in-Some-1, in-None-1}

@@ -1,7 +1,7 @@
 use Rattle.std.proofs.Common.{◌≡◌, Some, None, sym, ◌∙◌, ap, subst}
 use Rattle.std.specs.Option.{MatchOption, option_copied}
-use Rattle.qc_site.specs.Names.{prepared_of}
-use Rattle.qc_lock.specs.Names.{number_of}
+use Rattle.qc_site.specs.Vocabulary.{prepared_of}
+use Rattle.qc_lock.specs.Vocabulary.{number_of}
 use Rattle.qc_lock.proofs.NumberedEntries.{entry_at, entry_none}
 use Rattle.qc_lock.proofs.Numbers.{lent}
 use Rattle.qc_site.proofs.Promised.{promiser}

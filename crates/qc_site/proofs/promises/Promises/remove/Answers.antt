@@ -1,10 +1,10 @@
 use Rattle.std.proofs.Common.{◌≡◌, None, Some, sym, ◌∙◌, ap, subst}
 use Rattle.std.specs.Map.{values_of}
-use Rattle.qc_lock.specs.Names.{number_of}
+use Rattle.qc_lock.specs.Vocabulary.{number_of}
 use Rattle.qc_lock.proofs.NumberedEntries.{entry_none}
 use Rattle.qc_lock.proofs.Numbers.{values_taken, without_none}
 use Rattle.qc_lock.proofs.Numbering.{numbered_taken}
-use Rattle.qc_site.specs.Names.{prepared_of, without_prepared}
+use Rattle.qc_site.specs.Vocabulary.{prepared_of, without_prepared}
 use Rattle.qc_site.proofs.Promised.{promiser}
 use Rattle.qc_site.proofs.promises.Promises.remove.Goals as goal
 use Rattle.qc_site.proofs.promises.Promises.remove.Goals.{in-Some-1, in-None-1}

@@ -2,10 +2,10 @@ use Rattle.std.proofs.Common.{◌≡◌, ℕ, Bool, true, false, cond, List, [],
 use Rattle.std.specs.Map.{values_of}
 use Rattle.std.specs.Prelude.{is_some}
 use Rattle.qc_entry.specs.declared.record.Prepared.{Prepared}
-use Rattle.qc_lock.specs.Names.{number_of}
+use Rattle.qc_lock.specs.Vocabulary.{number_of}
 use Rattle.qc_lock.specs.Numbered.{same_tx}
 use Rattle.qc_stamp.specs.declared.stamp.TxId.{TxId}
-use Rattle.qc_site.specs.Names.{is_prepared, prepared_of}
+use Rattle.qc_site.specs.Vocabulary.{is_prepared, prepared_of}
 use Rattle.qc_site.proofs.Promised.{promiser}
 use Rattle.qc_site.proofs.promises.Promises.transactions.Goals as goal
 

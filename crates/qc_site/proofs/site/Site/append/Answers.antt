@@ -1,8 +1,8 @@
 use Rattle.std.proofs.Common.{◌≡◌, ◌<◌, subst, sym, [], Some}
-use Rattle.qc_decl.specs.Names.{most_clients}
+use Rattle.qc_decl.specs.Vocabulary.{most_clients}
 use Rattle.qc_lock.specs.declared.clash.Clash.{Clash}
-use Rattle.qc_lock.specs.Names.{append_clash}
-use Rattle.qc_site.specs.Names.{AreOfClients}
+use Rattle.qc_lock.specs.Vocabulary.{append_clash}
+use Rattle.qc_site.specs.Vocabulary.{AreOfClients}
 use Rattle.qc_site.proofs.Holders.{clients-held, append_client}
 use Rattle.qc_site.proofs.site.Site.append.Goals as goal
 

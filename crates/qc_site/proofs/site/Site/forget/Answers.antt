@@ -1,5 +1,5 @@
 use Rattle.std.proofs.Common.{subst, sym}
-use Rattle.qc_site.specs.Names.{AreByClients, AreOfClients}
+use Rattle.qc_site.specs.Vocabulary.{AreByClients, AreOfClients}
 use Rattle.qc_site.proofs.Holders.{by_clients-without, clients-without}
 use Rattle.qc_site.proofs.site.Site.forget.Goals as goal
 

@@ -1,8 +1,8 @@
 use Rattle.std.proofs.Common.{◌≡◌, List, [], sym, ◌∙◌, ap, subst, unwrap_or}
 use Rattle.std.specs.Prelude.{IfOk}
 use Rattle.qc_entry.specs.declared.line.Line.{Line}
-use Rattle.qc_entry.specs.Names.{union}
-use Rattle.qc_site.specs.Names.{SiteState, learned}
+use Rattle.qc_entry.specs.Vocabulary.{union}
+use Rattle.qc_site.specs.Vocabulary.{SiteState, learned}
 use Rattle.qc_site.proofs.FirstEpoch.{learned_first, no_lines}
 use Rattle.qc_site.proofs.site.Site.learned.Goals as goal
 

@@ -1,5 +1,5 @@
 use Rattle.std.proofs.Common.{subst, sym, [], ◌∷◌}
-use Rattle.qc_site.specs.Names.{AreOfClients}
+use Rattle.qc_site.specs.Vocabulary.{AreOfClients}
 use Rattle.qc_site.proofs.Holders.{clients-held, read_client}
 use Rattle.qc_site.proofs.site.Site.read.Goals as goal
 

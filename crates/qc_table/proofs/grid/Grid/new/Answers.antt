@@ -2,7 +2,7 @@ use Rattle.std.proofs.Common.{ℕ, Option, List, length, ap, sym, subst, get_or,
 use Rattle.std.proofs.lemmas.List.{take_all}
 use Rattle.qc_table.specs.declared.row.Row.{Row}
 use Rattle.qc_table.specs.declared.row.Event.{Event}
-use Rattle.qc_table.specs.Names.{IsSmall, event_number, event_of, grid_next}
+use Rattle.qc_table.specs.Vocabulary.{IsSmall, event_number, event_of, grid_next}
 use Rattle.qc_table.proofs.Distinct.{AreDistinct, events_distinct}
 use Rattle.qc_table.proofs.Gridded.{step_by, grid_more, length_row}
 use Rattle.qc_table.proofs.grid.Grid.new.Goals as goal

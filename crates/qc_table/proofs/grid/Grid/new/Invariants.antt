@@ -1,5 +1,5 @@
 use Rattle.std.proofs.Common.{◌≡◌, ℕ, length, take}
-use Rattle.qc_table.specs.Names.{grid_next}
+use Rattle.qc_table.specs.Vocabulary.{grid_next}
 use Rattle.qc_table.proofs.Gridded.{step_by}
 use Rattle.qc_table.proofs.grid.Grid.new.Given as goal
 

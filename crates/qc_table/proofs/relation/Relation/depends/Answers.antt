@@ -1,6 +1,6 @@
 use Rattle.std.proofs.Common.{◌≡◌, false, sym, ◌∙◌}
 use Rattle.std.proofs.lemmas.Bool.{le-ltb}
-use Rattle.qc_table.specs.Names.{has}
+use Rattle.qc_table.specs.Vocabulary.{has}
 use Rattle.qc_table.proofs.Related.{has_past}
 use Rattle.qc_table.proofs.relation.Relation.depends.Goals as goal
 

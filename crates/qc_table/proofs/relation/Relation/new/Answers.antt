@@ -1,7 +1,7 @@
 use Rattle.std.proofs.Common.{◌≡◌, ap, sym, subst, ◌∙◌}
 use Rattle.std.specs.List.{fold}
 use Rattle.std.proofs.lemmas.List.{drop_all}
-use Rattle.qc_table.specs.Names.{depends, is_given, relation_of, with_pair}
+use Rattle.qc_table.specs.Vocabulary.{depends, is_given, relation_of, with_pair}
 use Rattle.qc_table.proofs.Related.{depends_given}
 use Rattle.qc_table.proofs.relation.Relation.new.Goals as goal
 

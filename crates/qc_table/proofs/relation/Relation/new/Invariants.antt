@@ -1,6 +1,6 @@
 use Rattle.std.proofs.Common.{◌≡◌, drop}
 use Rattle.std.specs.List.{fold}
-use Rattle.qc_table.specs.Names.{relation_of, with_pair}
+use Rattle.qc_table.specs.Vocabulary.{relation_of, with_pair}
 use Rattle.qc_table.proofs.relation.Relation.new.Given as goal
 
 abbrev pub invariant-loop-pair : goal.invariant-loop-pair

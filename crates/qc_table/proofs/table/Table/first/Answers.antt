@@ -1,7 +1,7 @@
 use Rattle.std.proofs.Common.{◌≡◌, List, Some, None, sym, ap, ◌∙◌}
 use Rattle.std.specs.Int.{trailing_zeros, w32}
 use Rattle.qc_table.specs.declared.row.Event.{Event}
-use Rattle.qc_table.specs.Names.{event, event_number, events_of, lowest_in}
+use Rattle.qc_table.specs.Vocabulary.{event, event_number, events_of, lowest_in}
 use Rattle.qc_table.proofs.Answered.{no_lowest, lowest_is, first_is}
 use Rattle.qc_table.proofs.Numbered.{found_is_lowest, first_some}
 use Rattle.qc_table.proofs.table.Table.first.Goals as goal

@@ -2,7 +2,7 @@ use Rattle.std.proofs.Common.{◌≡◌, ◌<◌, true, false, List, All, length
 use Rattle.std.specs.Prelude.{◌&&◌}
 use Rattle.std.proofs.lemmas.List.{take_all}
 use Rattle.qc_table.specs.declared.row.Event.{Event}
-use Rattle.qc_table.specs.Names.{Rules, event, events_of}
+use Rattle.qc_table.specs.Vocabulary.{Rules, event, events_of}
 use Rattle.qc_table.proofs.Legal.{is_legal}
 use Rattle.qc_table.proofs.Numbered.{is_among}
 use Rattle.qc_table.proofs.Answered.{answer_step, told}

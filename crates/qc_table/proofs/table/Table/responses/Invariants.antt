@@ -1,6 +1,6 @@
 use Rattle.std.proofs.Common.{◌≡◌, ℕ, take}
 use Rattle.std.specs.Prelude.{◌&&◌}
-use Rattle.qc_table.specs.Names.{event, events_of, has}
+use Rattle.qc_table.specs.Vocabulary.{event, events_of, has}
 use Rattle.qc_table.proofs.Legal.{is_legal}
 use Rattle.qc_table.proofs.Numbered.{is_among}
 use Rattle.qc_table.proofs.table.Table.responses.Given as goal

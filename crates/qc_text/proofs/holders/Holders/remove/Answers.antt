@@ -1,5 +1,5 @@
 use Rattle.std.proofs.Common.{sym, subst}
-use Rattle.qc_text.specs.Names.{IsSetOf}
+use Rattle.qc_text.specs.Vocabulary.{IsSetOf}
 use Rattle.qc_text.proofs.SetOf.{set_without}
 use Rattle.qc_text.proofs.holders.Holders.remove.Goals as goal
 

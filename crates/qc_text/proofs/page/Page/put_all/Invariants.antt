@@ -1,5 +1,5 @@
 use Rattle.std.proofs.Common.{◌≡◌, ◌++◌, drop}
-use Rattle.qc_text.specs.Names.{joined}
+use Rattle.qc_text.specs.Vocabulary.{joined}
 use Rattle.qc_text.proofs.page.Page.put_all.Given as goal
 
 abbrev pub invariant-pieces : goal.invariant-pieces

@@ -1,6 +1,6 @@
 use Rattle.std.proofs.Common.{List, Option, ℕ, map, ◌∙◌, ap}
 use Rattle.qc_entry.specs.declared.line.Line.{Line}
-use Rattle.qc_table.specs.Names.{after, reached, step_of}
+use Rattle.qc_table.specs.Vocabulary.{after, reached, step_of}
 use Rattle.qc_view.proofs.Runs.{state_joined}
 use Rattle.qc_view.proofs.view.View.state.Goals as goal
 

@@ -1,5 +1,0 @@
-use Rattle.qc_inbox.proofs.Controlling.{kept_damage}
-use Rattle.qc_inbox.proofs.fall_trays.damaged_journals_keep_trays.Goals as goal
-
-pub returns : goal.returns
-returns c = kept_damage

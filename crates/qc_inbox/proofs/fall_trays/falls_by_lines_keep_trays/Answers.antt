@@ -1,5 +1,0 @@
-use Rattle.qc_inbox.proofs.FallTrays.{kept_fall_by_line}
-use Rattle.qc_inbox.proofs.fall_trays.falls_by_lines_keep_trays.Goals as goal
-
-pub returns : goal.returns
-returns c = kept_fall_by_line

@@ -1,5 +1,0 @@
-use Rattle.qc_inbox.proofs.FallLaws.{lines_hold_back}
-use Rattle.qc_inbox.proofs.falls.nothing_is_ready_while_a_line_is_left.Goals as goal
-
-pub returns : goal.returns
-returns c = lines_hold_back

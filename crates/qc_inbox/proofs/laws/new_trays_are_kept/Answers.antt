@@ -1,5 +1,0 @@
-use Rattle.qc_inbox.proofs.Keeping.{kept_begins}
-use Rattle.qc_inbox.proofs.laws.new_trays_are_kept.Goals as goal
-
-pub returns : goal.returns
-returns c = kept_begins

@@ -1,5 +1,0 @@
-use Rattle.qc_inbox.proofs.Controlling.{kept_phase}
-use Rattle.qc_inbox.proofs.laws.phases_keep_trays.Goals as goal
-
-pub returns : goal.returns
-returns c = kept_phase

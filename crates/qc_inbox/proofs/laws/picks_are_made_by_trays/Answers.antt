@@ -1,5 +1,0 @@
-use Rattle.qc_inbox.proofs.Picking.{picked_kept}
-use Rattle.qc_inbox.proofs.laws.picks_are_made_by_trays.Goals as goal
-
-pub returns : goal.returns
-returns c = picked_kept

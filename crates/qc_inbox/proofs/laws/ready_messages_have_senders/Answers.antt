@@ -1,5 +1,0 @@
-use Rattle.qc_inbox.proofs.Among.{sender_within}
-use Rattle.qc_inbox.proofs.laws.ready_messages_have_senders.Goals as goal
-
-pub returns : goal.returns
-returns c = sender_within

@@ -1,5 +1,0 @@
-use Rattle.qc_inbox.proofs.Among.{ready_found}
-use Rattle.qc_inbox.proofs.laws.ready_messages_were_sent.Goals as goal
-
-pub returns : goal.returns
-returns c = ready_found

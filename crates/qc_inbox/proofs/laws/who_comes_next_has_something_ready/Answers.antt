@@ -1,5 +1,0 @@
-use Rattle.qc_inbox.proofs.Picking.{none_picked, none_ready, some_picked}
-use Rattle.qc_inbox.proofs.laws.who_comes_next_has_something_ready.Goals as goal
-
-pub returns : goal.returns
-returns c = record { none = none_ready; only = none_picked; some = some_picked }
