@@ -52,7 +52,7 @@ abbrev pub round_with : Declaration → ℕ → ℕ → ℕ → List ClientReque
 round_with decl client epoch need hs =
     let asked : List Asked = map asked_by hs in
     let fresh : RoundState = start (weights_of decl epoch) (first_site decl client) need in
-    record fresh { asked = asked; rest = drop (length asked) fresh.rest }
+    pub record fresh { asked = asked; rest = drop (length asked) fresh.rest }
 
 -- requests that aren't open are no matter of what is taken
 pub reads_kept : (n : ℕ) (answer : Option Answer) (qs : List ClientRequest) → Every (IsOpenIn is_append) qs
@@ -111,10 +111,10 @@ pub record DoesCommit (d : Account) : Type 0 where
   pub all : Every (λ (q : ClientRequest). is_prepare q.want ≡ true) d.requests
 
 pub data Goes (decl : Declaration) (d : Account) : Type 0 where
-  asks_none : d.requests ≡ [] → Goes decl d
-  does_read : DoesRead d → Goes decl d
-  does_append : DoesAppend decl d → Goes decl d
-  does_commit : DoesCommit d → Goes decl d
+  pub asks_none : d.requests ≡ [] → Goes decl d
+  pub does_read : DoesRead d → Goes decl d
+  pub does_append : DoesAppend decl d → Goes decl d
+  pub does_commit : DoesCommit d → Goes decl d
 
 -- so it is where the client has no open input
 pub goes_of : (decl : Declaration) (d : Account) (c : Client) → Ties decl d c → Goes decl d

@@ -42,7 +42,7 @@ ActorPlanned decl actor.Down = Unit {0}
 
 record MovePlanned (decl : Declaration) (m : ActorMove) : Type 0 where
   state : ActorPlanned decl m.actor
-  turn : TurnPlanned decl m.turn
+  pub turn : TurnPlanned decl m.turn
 
 abbrev pub RisesOfPlanned : Declaration → Deed → Type 0
 RisesOfPlanned decl (Takes given) = Unit {0}

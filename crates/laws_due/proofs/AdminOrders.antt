@@ -29,7 +29,7 @@ use Rattle.laws_due.proofs.Ordered.{sends_ordered}
 
 -- his commands are epochs
 
-abbrev OfEpoch : Option Command → Type 0
+abbrev pub OfEpoch : Option Command → Type 0
 OfEpoch None = Unit {0}
 OfEpoch (Some c) = IsEpoch c
 

@@ -40,7 +40,7 @@ lost_stays (r ∷ rs) ns n member = lost_stays rs (with_number ns r.number) n (n
 
 -- the requests to one actor are lost, those to others stay
 
-abbrev IsParted : ℕ → List SentRequest → ℕ → Type 0
+abbrev pub IsParted : ℕ → List SentRequest → ℕ → Type 0
 IsParted b rs n =
     (ns : List ℕ) → In n (with_lost (requests_to b rs) ns) ⊎ In n (request_numbers (requests_to_others b rs))
 

@@ -49,7 +49,7 @@ use Rattle.laws_due.proofs.Telling.{broken_down}
 use Rattle.laws_due.proofs.Covered.{Awaits, one_step, others_steps, own_take, own_turn, step_in}
 
 module _ (decl : Declaration) (script : Script) (a : ℕ) where
-  abbrev AwaitsIn : List Entry → Type 0
+  abbrev pub AwaitsIn : List Entry → Type 0
   AwaitsIn h = Awaits a (actor_after decl a (deeds a [] h)).actor (inbox script a h)
 
   inbox_more : (h k : List Entry) → inbox script a (h ++ k) ≡ fold (step_in decl script a) (inbox script a h) k
@@ -93,7 +93,7 @@ module _ (decl : Declaration) (script : Script) (a : ℕ) where
       (alive : (kept : List Record) → (actor_rises decl a kept).actor ≡ actors.Down → ⊥)
       (rises_awaited : (kept : List Record) (i : Inbox) → is_up i.up a ≡ true
       → Awaits a (actor_rises decl a kept).actor i) where
-    abbrev IsRun : List Entry → List Bool → Type 0
+    abbrev pub IsRun : List Entry → List Bool → Type 0
     IsRun h open_inputs = RunsWithFalls (IsLawfulWithFalls decl) fits decl script h open_inputs
 
     not_controller : (controller decl == a) ≡ false

@@ -26,11 +26,11 @@ use Rattle.laws_due.specs.Vocabulary.{IsDeclaredCommand, IsDeclaredDeed, IsPlann
 
 -- an account of a client that is up, which knows, has begun and runs what is declared
 
-abbrev HasPlan : Declaration → Option Current → Type 0
+abbrev pub HasPlan : Declaration → Option Current → Type 0
 HasPlan decl None = Unit {0}
 HasPlan decl (Some t) = IsPlanned decl t.epoch
 
-abbrev HasTable : Declaration → Option Command → Type 0
+abbrev pub HasTable : Declaration → Option Command → Type 0
 HasTable decl None = Unit {0}
 HasTable decl (Some command) = IsDeclaredCommand decl command
 

@@ -40,16 +40,16 @@ module _ (decl : Declaration) (number : ℕ) (d : Account) (desk : Desk) (t : Cu
     (sites : AreApart (sites_in (filter (λ (q : ClientRequest). is_read q.want) qs)))
     (numbers : AreApart (numbers_open qs))
     (awaits : all_noted (round_at decl d t is_read (read_need_of decl t.epoch object inv) qs).asked ≡ false) where
-  abbrev x : Transaction
+  abbrev pub x : Transaction
   x = transaction_of t asked views
 
-  abbrev round : RoundState
+  abbrev pub round : RoundState
   round = round_at decl d t is_read (read_need_of decl t.epoch object inv) qs
 
-  abbrev now : Front
+  abbrev pub now : Front
   now = front_of d (Some x) (Reading object inv (calls_in qs) round)
 
-  abbrev here : Client
+  abbrev pub here : Client
   here = record { front = now; desk = desk }
 
   -- with what was learned, the round goes on

@@ -49,19 +49,19 @@ module _ (decl : Declaration) (number : ℕ) (d : Account) (t : Current) (asked 
     (clock epoch desk_epoch : ℕ) (commits : List Commit)
     (live : t.doomed ≡ false) (logs : LogsAre (view_of t) views) (low : clock ≤ d.clock)
     (known : max epoch desk_epoch ≡ d.known) where
-  abbrev x : Transaction
+  abbrev pub x : Transaction
   x = transaction_of t asked views
 
-  abbrev b : Begun
+  abbrev pub b : Begun
   b = begun_of t asked
 
-  abbrev front : Front
+  abbrev pub front : Front
   front = voting_front d x clock epoch
 
-  abbrev desk : Option Voting → Desk
+  abbrev pub desk : Option Voting → Desk
   desk voting = voting_desk d desk_epoch commits voting
 
-  abbrev next : Stamp
+  abbrev pub next : Stamp
   next = record { clock = d.clock + 1; client = d.client }
 
   -- the transaction has ended

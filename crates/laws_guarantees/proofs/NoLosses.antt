@@ -49,13 +49,13 @@ IsNoLoss (Tells reply) = Unit {0}
 IsNoLoss (Falls cause pending) = Unit {0}
 IsNoLoss (Rises records) = Unit {0}
 
-abbrev NoneLost : Account → Type 0
+abbrev pub NoneLost : Account → Type 0
 NoneLost d = (q : ClientRequest) → In q d.requests → q.taken ≡ Some None → ⊥
 
 counted_lost : (d : Account) (n : ℕ) (answer : Answer) → NoneLost d → NoneLost (counted d n (Some answer))
 counted_lost d n answer none q among is = by (find (is_open n) d.requests) among
   where
-    taken : In q d.requests ⊎ IsTakenNow d.requests n (Some answer) q → ⊥
+    pub taken : In q d.requests ⊎ IsTakenNow d.requests n (Some answer) q → ⊥
     taken (inl old) = none q old is
     taken (inr now) =
         let new : q.taken ≡ Some (Some answer) = ap (λ (y : ClientRequest). y.taken) now.is in

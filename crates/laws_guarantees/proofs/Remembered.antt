@@ -42,7 +42,7 @@ use Rattle.laws_guarantees.proofs.Against.{IsForgottenVote, IsVote, due_why, tak
 module _ (decl : Declaration) (script : Script) (accepted : IsAccepted decl) (sound : IsScriptFor decl script) where
   -- what counts
 
-  abbrev AreRemembered : List Entry → Type 0
+  abbrev pub AreRemembered : List Entry → Type 0
   AreRemembered h =
       (a : ℕ) (q : ClientRequest) (x : Answer) → is_client decl a ≡ true → IsVote (account decl a h) q x → Forgets x → ⊥
 
@@ -146,7 +146,7 @@ module _ (decl : Declaration) (script : Script) (accepted : IsAccepted decl) (so
       by (Some w) (inl same) = absurd (let never : ⊥ = cc in never)
       by (Some w) (inr there) = sends_tell n turn.sends turn.told reply there
 
-  abbrev IsNeverTold : List Entry → Type 0
+  abbrev pub IsNeverTold : List Entry → Type 0
   IsNeverTold h = (a site : ℕ) → In (Tells (replies.Aborted (causes.Forgot site))) (deeds a [] h) → ⊥
 
   posted_tells : (h : List Entry) (open_inputs : List Bool) (run : Runs (IsLawful decl) decl script h open_inputs)

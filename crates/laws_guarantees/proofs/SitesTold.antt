@@ -122,7 +122,7 @@ module _ (s : ℕ) (x : TxId) where
   -- verdicts
 
   record IsPast (y : TxId) (sites : List ℕ) (before : Bool) : Type 0 where
-    was : before ≡ true
+    pub was : before ≡ true
     apart : y ≡ x → In s sites → ⊥
 
   decided : (y : TxId) (v : Outcome) → is_final v ≡ true → (sites : List ℕ) (before : Bool)

@@ -87,7 +87,7 @@ untold (Some r) none = absurd (none refl)
 
 module _ (decl : Declaration) (script : Script) (accepted : IsAccepted decl) (asks : AsksDeclared decl script)
     (calm : IsUndisturbed script) where
-  abbrev Still : ℕ → List Entry → Type 0
+  abbrev pub Still : ℕ → List Entry → Type 0
   Still c h = IsStill decl script c h
 
   -- an actor takes an input

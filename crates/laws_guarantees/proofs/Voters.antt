@@ -22,8 +22,8 @@ use Rattle.qc_promise.specs.Vocabulary.{account_written, answer_of, append_need,
 use Rattle.qc_promise.specs.Vocabulary.{command_asks, commit_asks, do_asks, is_append, is_asked_for, is_next_voter}
 use Rattle.qc_promise.specs.Vocabulary.{is_of, is_read, is_this, new_account, requests_for, round_of}
 use Rattle.laws_due.specs.Vocabulary.{AreByRows, IsSendDue}
-use Rattle.laws_guarantees.proofs.AskingOrder.{order, sites_in, count_in, IsInOrder, first_drop, first_of_two}
-use Rattle.laws_guarantees.proofs.AskingOrder.{second_of_two, IsHalf, taken_order, written_order}
+use Rattle.laws_guarantees.proofs.AskingOrder.{order, sites_in, count_in, IsInOrder, first_drop, first_of_two, of_reads}
+use Rattle.laws_guarantees.proofs.AskingOrder.{of_appends, second_of_two, IsHalf, taken_order, written_order}
 
 -- the first of the sites that a half hasn't asked
 abbrev is_left_first : Declaration → Account → Current → (Want → Bool) → ℕ → Bool

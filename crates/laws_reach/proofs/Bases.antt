@@ -142,7 +142,7 @@ module _ (tx : TxId) (ops : List Op) where
 
   abbrev pub begun_with : Gist → TxId → Gist
   begun_with g other =
-      record g { count = g.count + 1; command = None; written = None; begun = Some (record { tx = other; ops = [] }) }
+      pub record g { count = g.count + 1; command = None; written = None; begun = Some (record { tx = other; ops = [] }) }
 
   not_behind : (g : Gist) (other : TxId) → other.life ≡ g.life → other.number ≡ g.count + 1 → other ≡ tx
       → IsBehind false g → ⊥
@@ -213,7 +213,7 @@ module _ (tx : TxId) (ops : List Op) where
     begun_is : is_begun tx x.begun ≡ same_tx o.tx tx
     begun_is = ap (is_begun tx) (s.base.begun ∙ ap (λ (b : Option Going). option_map (λ (e : Going). e.tx) b) is)
 
-    abbrev after : List Op → Gist
+    abbrev pub after : List Op → Gist
     after os = record g { command = None; written = None; begun = Some (record { tx = o.tx; ops = os }) }
 
     told_one : same_tx o.tx tx ≡ true → dealt tx x resp ≡ record x { ops = x.ops ++ more }

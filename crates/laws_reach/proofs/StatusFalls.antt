@@ -76,10 +76,10 @@ lives_grow xs ys =
 -- what rises leaves the status, or it committed by one of the records
 
 module _ (tx : TxId) where
-  record Rose (rs : List Record) (s : Status) : Type 0 where
-    stamp : Stamp
-    is : s ≡ Committed stamp
-    listed : IsRecorded tx stamp rs
+  pub record Rose (rs : List Record) (s : Status) : Type 0 where
+    pub stamp : Stamp
+    pub is : s ≡ Committed stamp
+    pub listed : IsRecorded tx stamp rs
 
   rose : (s : Status) (rs : List Record) → (fold (status_written tx) s rs ≡ s) ⊎ Rose rs (fold (status_written tx) s rs)
   rose s [] = inl refl
@@ -105,7 +105,7 @@ module _ (tx : TxId) where
     same w is (inl still) = inl (still ∙ is)
     same w is (inr r) = inr (later w (fold (status_written tx) (status_written tx s w) rs) r)
 
-    commits : (c : Commit) (t : Bool) → same_tx c.tx tx ≡ t
+    pub commits : (c : Commit) (t : Bool) → same_tx c.tx tx ≡ t
         → (fold (status_written tx) (cond t (Committed c.stamp) s) rs ≡ cond t (Committed c.stamp) s)
         ⊎ Rose rs (fold (status_written tx) (cond t (Committed c.stamp) s) rs)
         → (fold (status_written tx) (cond t (Committed c.stamp) s) rs ≡ s)

@@ -35,7 +35,7 @@ use Rattle.laws_refinement.proofs.ClientRecords.{client_kept_more, found_with}
 use Rattle.laws_refinement.proofs.Kepts.{no_client, no_ruling}
 use Rattle.laws_refinement.proofs.Machine.{put_other}
 use Rattle.laws_refinement.proofs.SiteNets.{place}
-use Rattle.laws_refinement.proofs.ClientTurnsKeep.{IsKept, Keeping, take_keeps}
+use Rattle.laws_refinement.proofs.ClientTurnsKeep.{IsKept, Keeping, take_keeps, nothing, commits_one}
 
 module _ (decl : Declaration) where
   -- numbers of messages change neither

@@ -89,7 +89,7 @@ in_life s epoch life = by (nat_lt s.epoch epoch) (nat_lt epoch s.epoch)
     by false false is = closed s.closed_for is
 
 module _ (decl : Declaration) where
-  abbrev InLife : SiteState → ℕ → SiteMove → Type 0
+  abbrev pub InLife : SiteState → ℕ → SiteMove → Type 0
   InLife s life move =
       (p : Posting) → In p move.turn.sends → (to clock : ℕ) → p.message ≡ messages.Answer to (answers.Yes clock)
       → (life ≡ 0) ⊎ (life ≡ s.life)

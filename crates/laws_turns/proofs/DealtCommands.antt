@@ -60,7 +60,7 @@ pub record IsAfter (k : ℕ) (tx : TxId) (d : Dealing) (c : Client) (m : ClientM
   pub written : m.client.desk.commits ≡ c.desk.commits ++ commits_of m.turn.write
 
 module _ (decl : Declaration) (k : ℕ) (tx : TxId) (d : Dealing) (c : Client) (w : Keeps k tx d d c) where
-  abbrev After : ClientMove → Type 0
+  abbrev pub After : ClientMove → Type 0
   After m = IsAfter k tx d c m
 
   none_written : (o : Option Record) → o ≡ None → c.desk.commits ≡ c.desk.commits ++ commits_of o

@@ -63,7 +63,7 @@ no_lines bound (suc n) = (tt, no_lines bound n)
 
 module _ (bound : ℕ) where
   -- another view of an object
-  abbrev ViewWithin : Option View → Type 0
+  abbrev pub ViewWithin : Option View → Type 0
   ViewWithin None = Unit {0}
   ViewWithin (Some v) = LinesWithin bound v.log
 

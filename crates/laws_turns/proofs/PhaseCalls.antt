@@ -97,7 +97,7 @@ left_phase a i (Some p) =
     })
 
 module _ (script : Script) (a : ℕ) where
-  abbrev left : List Entry → List Command
+  abbrev pub left : List Entry → List Command
   left h = (inbox script a h).commands
 
   pub left_more : (h : List Entry) (b : ℕ) (step : Step)

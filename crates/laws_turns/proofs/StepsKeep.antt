@@ -216,7 +216,7 @@ module _ (script : Script) (X : Envelope → Type 0) (a : ℕ) where
             differ : to < a → (to == a) ≡ false
             differ less = by (to == a) refl
               where
-                by : (t : Bool) → (to == a) ≡ t → t ≡ false
+                pub by : (t : Bool) → (to == a) ≡ t → t ≡ false
                 by true same = let it : to ≡ a = eqb-true to a same in absurd (omega arith)
                 by false other = refl
 

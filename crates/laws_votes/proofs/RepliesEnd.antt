@@ -39,7 +39,7 @@ use Rattle.qc_script.specs.Vocabulary.{IsScriptFor, RunsWithFalls, begins, contr
 use Rattle.qc_script.specs.Vocabulary.{posts, rises, takes, unopened}
 use Rattle.qc_script.specs.declared.script.Script.{Script}
 use Rattle.laws_votes.proofs.Untold.{reply_of, tells, silent_none, silent_one, silent_taken, silent_line}
-use Rattle.laws_votes.proofs.RepliesLast.{IsToldIn, told_in}
+use Rattle.laws_votes.proofs.RepliesLast.{IsToldIn, told_in, at_end, as_failed, as_stopped}
 
 -- a turn that tells nothing
 never_told : (end : Appended) (b n : ℕ) (turn : Turn) → turn.told ≡ None → turn.failed_told ≡ None

@@ -16,9 +16,9 @@ use Rattle.laws_votes.proofs.Untold.{tells, AreSilent, silent_none, silent_one, 
 
 -- where a reply stands in a post: nothing comes behind it, or the fall
 
-record IsOwn (b : ℕ) (o : Option Reply) (a : ℕ) (reply : Reply) : Type 0 where
-  actor : b ≡ a
-  told : o ≡ Some reply
+pub record IsOwn (b : ℕ) (o : Option Reply) (a : ℕ) (reply : Reply) : Type 0 where
+  pub actor : b ≡ a
+  pub told : o ≡ Some reply
 
 told_last : (b : ℕ) (o : Option Reply) (rest : List Step) → AreSilent (by b rest)
     → (m : List Entry) (a : ℕ) (reply : Reply) (after : List Entry) → by b (told o ++ rest) ≡ m ++ tells a reply ∷ after
@@ -48,10 +48,10 @@ behind_silent b first o rest before_it behind_it m a reply after is =
 
 -- by the end of a post's record
 pub data IsToldIn (b n : ℕ) (turn : Turn) (a : ℕ) (reply : Reply) (m after : List Entry) : Appended → Type 0 where
-  at_end : IsOwn b turn.told a reply → after ≡ [] → IsToldIn b n turn a reply m after ends.Done
-  as_failed : IsOwn b turn.failed_told a reply → m ≡ by b (sents n turn.failed_sends)
+  pub at_end : IsOwn b turn.told a reply → after ≡ [] → IsToldIn b n turn a reply m after ends.Done
+  pub as_failed : IsOwn b turn.failed_told a reply → m ≡ by b (sents n turn.failed_sends)
       → after ≡ marked b (steps.Fell causes.Disk turn.write) ∷ [] → IsToldIn b n turn a reply m after ends.Failed
-  as_stopped : IsOwn b turn.failed_told a reply → m ≡ [] → after ≡ marked b (steps.Fell causes.Stop turn.write) ∷ []
+  pub as_stopped : IsOwn b turn.failed_told a reply → m ≡ [] → after ≡ marked b (steps.Fell causes.Stop turn.write) ∷ []
       → IsToldIn b n turn a reply m after ends.Stopped
 
 pub told_in : (end : Appended) (b n : ℕ) (turn : Turn) (m : List Entry) (a : ℕ) (reply : Reply) (after : List Entry)

@@ -70,7 +70,7 @@ takes_life decl s (given.Lost number) stays = refl
 
 -- what tells no vote, where the site closes
 
-abbrev TellsNone : SiteMove → Type 0
+abbrev pub TellsNone : SiteMove → Type 0
 TellsNone m = closes_in m.turn ≡ true → (p : Posting) → In p m.turn.sends → (to : ℕ) → IsVote p to → ⊥
 
 promised_none : (s : SiteState) (from number : ℕ) (tx : TxId) → TellsNone (prepares s from number tx)

@@ -126,10 +126,10 @@ module _ (decl : Declaration) where
 
 -- what is taken while votes are awaited changes no more than what was taken
 
-record IsSameRequest (q p : ClientRequest) : Type 0 where
-  site : p.site ≡ q.site
-  life : p.life ≡ q.life
-  want : p.want ≡ q.want
+pub record IsSameRequest (q p : ClientRequest) : Type 0 where
+  pub site : p.site ≡ q.site
+  pub life : p.life ≡ q.life
+  pub want : p.want ≡ q.want
 
 pub in_taken : (number : ℕ) (answer : Option Answer) (q : ClientRequest) (qs : List ClientRequest) → In q qs
     → (p : ClientRequest) × In p (taken_for number answer qs) × IsSameRequest q p

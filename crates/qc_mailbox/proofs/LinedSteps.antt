@@ -32,9 +32,9 @@ pub record Lined (inputs : List Bool) (i : Inbox) : Type 0 where
 
 -- steps while no line is left: none is left then, and as many actors are known
 
-record Calm (i j : Inbox) : Type 0 where
-  long : length j.up ≡ length i.up
-  left : i.controls ≡ [] → j.controls ≡ []
+pub record Calm (i j : Inbox) : Type 0 where
+  pub long : length j.up ≡ length i.up
+  pub left : i.controls ≡ [] → j.controls ≡ []
 
 calm_same : (i j : Inbox) → j.up ≡ i.up → j.controls ≡ i.controls → Calm i j
 calm_same i j up lines = record { long = ap (λ (v : List Bool). length v) up; left = λ none. lines ∙ none }
@@ -59,7 +59,7 @@ fell_calm b i r = record {
 }
 
 -- a step of a post, or an input
-abbrev IsActors : Step → Type 0
+abbrev pub IsActors : Step → Type 0
 IsActors (steps.Phase k) = ⊥
 IsActors (steps.Cut x y) = ⊥
 IsActors (steps.Heal x y) = ⊥
@@ -124,7 +124,7 @@ told_alone (Some reply) = (tt, tt)
 pub post_actors : (end : Appended) (n : ℕ) (turn : Turn) → Every IsActors (posted_as end n turn)
 post_actors Done n turn = at turn.write
   where
-    at : (w : Option Record) → Every IsActors (wrote w ++ (sents n turn.sends ++ told turn.told))
+    pub at : (w : Option Record) → Every IsActors (wrote w ++ (sents n turn.sends ++ told turn.told))
     at None = sents_actors n turn.sends (told turn.told) (told_alone turn.told)
     at (Some written) = (tt, sents_actors n turn.sends (told turn.told) (told_alone turn.told))
 post_actors Failed n turn = sents_actors n turn.failed_sends _ (tells_actors turn.failed_told _ (tt, tt))

@@ -14,7 +14,7 @@ pub counted : (n k : ℕ) → n ≡ k % 2 ^ 64 → (n + 1) % 2 ^ 64 ≡ (k + 1) 
 counted n k e = rw e (mod-add-mod k (2 ^ 64) 1)
 
 module _ {E : Type 0} where
-  abbrev first_view : View E
+  abbrev pub first_view : View E
   first_view = right_view [] [] []
 
   -- the word is made, with the right as its first seat

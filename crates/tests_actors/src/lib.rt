@@ -36,6 +36,8 @@ mod journals;
 #[cfg(test)]
 mod many;
 #[cfg(test)]
+mod messages;
+#[cfg(test)]
 mod promises;
 #[cfg(test)]
 mod refusals;

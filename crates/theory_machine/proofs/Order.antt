@@ -21,6 +21,7 @@ use Rattle.theory_machine.proofs.SiteHolds.{held_after}
 use Rattle.theory_machine.proofs.Outcomes.{committed_record}
 use Rattle.theory_machine.proofs.Keeps.{laws}
 use Rattle.theory_machine.proofs.Grants.{places, spares_front, between, site_laws, holds_granted, done_at, found_some}
+use Rattle.theory_machine.proofs.Grants.{First, Second, Same}
 
 -- the first Done after a fresh grant is a record
 pub first_done_recorded : (g : Granted) (item : Item) (m : List Deed)
