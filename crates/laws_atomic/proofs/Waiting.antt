@@ -111,10 +111,10 @@ pub record DoesCommit (d : Account) : Type 0 where
   pub all : Every (λ (q : ClientRequest). is_prepare q.want ≡ true) d.requests
 
 pub data Goes (decl : Declaration) (d : Account) : Type 0 where
-  pub asks_none : d.requests ≡ [] → Goes decl d
-  pub does_read : DoesRead d → Goes decl d
-  pub does_append : DoesAppend decl d → Goes decl d
-  pub does_commit : DoesCommit d → Goes decl d
+  asks_none : d.requests ≡ [] → Goes decl d
+  does_read : DoesRead d → Goes decl d
+  does_append : DoesAppend decl d → Goes decl d
+  does_commit : DoesCommit d → Goes decl d
 
 -- so it is where the client has no open input
 pub goes_of : (decl : Declaration) (d : Account) (c : Client) → Ties decl d c → Goes decl d

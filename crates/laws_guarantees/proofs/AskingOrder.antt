@@ -178,5 +178,5 @@ second_of_two false y is = absurd (let never : ⊥ = cc in never)
 
 -- the halves of a `do`
 pub data IsHalf : (Want → Bool) → Type 0 where
-  pub of_reads : IsHalf is_read
-  pub of_appends : IsHalf is_append
+  of_reads : IsHalf is_read
+  of_appends : IsHalf is_append

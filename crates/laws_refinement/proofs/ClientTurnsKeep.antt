@@ -30,8 +30,8 @@ use Rattle.qc_front.proofs.Unwritten.{IsCalm, front_called, front_takes}
 
 -- a turn writes nothing, or one commit record that its desk then has
 pub data IsKept (before after : List CommitRecord) : Option Record → Type 0 where
-  pub nothing : after ≡ before → IsKept before after None
-  pub commits_one : (r : CommitRecord) → after ≡ before ++ r ∷ [] → IsKept before after (Some (records.Commit r))
+  nothing : after ≡ before → IsKept before after None
+  commits_one : (r : CommitRecord) → after ≡ before ++ r ∷ [] → IsKept before after (Some (records.Commit r))
 
 pub record Keeping (c : Client) (move : ClientMove) : Type 0 where
   pub life : move.client.front.life ≡ c.front.life

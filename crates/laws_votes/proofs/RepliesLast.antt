@@ -48,10 +48,10 @@ behind_silent b first o rest before_it behind_it m a reply after is =
 
 -- by the end of a post's record
 pub data IsToldIn (b n : ℕ) (turn : Turn) (a : ℕ) (reply : Reply) (m after : List Entry) : Appended → Type 0 where
-  pub at_end : IsOwn b turn.told a reply → after ≡ [] → IsToldIn b n turn a reply m after ends.Done
-  pub as_failed : IsOwn b turn.failed_told a reply → m ≡ by b (sents n turn.failed_sends)
+  at_end : IsOwn b turn.told a reply → after ≡ [] → IsToldIn b n turn a reply m after ends.Done
+  as_failed : IsOwn b turn.failed_told a reply → m ≡ by b (sents n turn.failed_sends)
       → after ≡ marked b (steps.Fell causes.Disk turn.write) ∷ [] → IsToldIn b n turn a reply m after ends.Failed
-  pub as_stopped : IsOwn b turn.failed_told a reply → m ≡ [] → after ≡ marked b (steps.Fell causes.Stop turn.write) ∷ []
+  as_stopped : IsOwn b turn.failed_told a reply → m ≡ [] → after ≡ marked b (steps.Fell causes.Stop turn.write) ∷ []
       → IsToldIn b n turn a reply m after ends.Stopped
 
 pub told_in : (end : Appended) (b n : ℕ) (turn : Turn) (m : List Entry) (a : ℕ) (reply : Reply) (after : List Entry)

@@ -19,9 +19,9 @@ use Rattle.theory_machine.proofs.Epochs.{epoch-append, none_between, rising-righ
 
 -- two places in one list
 pub data Places (a b : List Deed) (x y : Deed) (p q : List Deed) : Type 0 where
-  pub First : (m : List Deed) → b ≡ a ++ x ∷ m → p ≡ m ++ y ∷ q → Places a b x y p q
-  pub Second : (m : List Deed) → a ≡ b ++ y ∷ m → q ≡ m ++ x ∷ p → Places a b x y p q
-  pub Same : x ≡ y → Places a b x y p q
+  First : (m : List Deed) → b ≡ a ++ x ∷ m → p ≡ m ++ y ∷ q → Places a b x y p q
+  Second : (m : List Deed) → a ≡ b ++ y ∷ m → q ≡ m ++ x ∷ p → Places a b x y p q
+  Same : x ≡ y → Places a b x y p q
 
 pub places : (a b : List Deed) (x y : Deed) (p q : List Deed) → a ++ x ∷ p ≡ b ++ y ∷ q → Places a b x y p q
 places [] [] x y p q e = Same (cc)
