@@ -52,7 +52,7 @@ abbrev pub round_with : Declaration → ℕ → ℕ → ℕ → List ClientReque
 round_with decl client epoch need hs =
     let asked : List Asked = map asked_by hs in
     let fresh : RoundState = start (weights_of decl epoch) (first_site decl client) need in
-    pub record fresh { asked = asked; rest = drop (length asked) fresh.rest }
+    record fresh { asked = asked; rest = drop (length asked) fresh.rest }
 
 -- requests that aren't open are no matter of what is taken
 pub reads_kept : (n : ℕ) (answer : Option Answer) (qs : List ClientRequest) → Every (IsOpenIn is_append) qs

@@ -28,7 +28,7 @@ use Rattle.laws_due.proofs.Views.{LogsAre}
 -- the account while a `do` runs
 abbrev pub run : Account → Current → ℕ → ℕ → List ClientRequest → Account
 run d t object inv qs =
-    pub record d { command = Some (commands.Do object inv); requests = qs; written = None; current = Some t }
+    record d { command = Some (commands.Do object inv); requests = qs; written = None; current = Some t }
 
 -- what holds while a `do` runs
 pub record Runs (decl : Declaration) (d : Account) (desk : Desk) (t : Current) (views : List View) : Type 0 where

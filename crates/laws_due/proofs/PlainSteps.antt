@@ -63,7 +63,7 @@ last_plain a (Some reply) = (tt, tt)
 pub post_plain : (a n : ℕ) (end : Appended) (t : Turn) → ArePlain (by a (posted_as end n t))
 post_plain a n Done t = at t.write
   where
-    pub at : (w : Option Record) → ArePlain (by a (wrote w ++ (sents n t.sends ++ told t.told)))
+    at : (w : Option Record) → ArePlain (by a (wrote w ++ (sents n t.sends ++ told t.told)))
     at None = sents_plain a n t.sends (told t.told) (last_plain a t.told)
     at (Some written) = (tt, sents_plain a n t.sends (told t.told) (last_plain a t.told))
 post_plain a n Failed t =
@@ -149,7 +149,7 @@ emptied_left false i = same_left i i refl refl
 fell_left : (a : ℕ) (i : Inbox) (r : ℕ) → Leaves i (actor_fell a i r)
 fell_left a i r =
     let less : Inbox =
-    pub record i {
+    record i {
       up = set i.up r false;
       unanswered = requests_to_others r i.unanswered;
       lost = with_lost (requests_to r i.unanswered) i.lost;

@@ -184,7 +184,7 @@ module _ (decl : Declaration) (script : Script) (fits : ℕ → List Record → 
               by (own_copies script decl b (inbox script b older) g s.envelope rdy
               (subst (λ (k : ℕ). In s.envelope (inbox script k older).copies) (sym is) there))
             where
-              pub by : (g ≡ inputs.Got s.envelope)
+              by : (g ≡ inputs.Got s.envelope)
                   ⊎ In s.envelope (inbox_at script b (inbox script b older) b (step_of g)).copies
                   → In s.envelope (inbox script s.envelope.to (older ++ marked b (step_of g) ∷ [])).copies
                   ⊎ IsTaken (older ++ marked b (step_of g) ∷ []) (slice_set before b true) s.envelope

@@ -55,7 +55,7 @@ NoneLost d = (q : ClientRequest) → In q d.requests → q.taken ≡ Some None �
 counted_lost : (d : Account) (n : ℕ) (answer : Answer) → NoneLost d → NoneLost (counted d n (Some answer))
 counted_lost d n answer none q among is = by (find (is_open n) d.requests) among
   where
-    pub taken : In q d.requests ⊎ IsTakenNow d.requests n (Some answer) q → ⊥
+    taken : In q d.requests ⊎ IsTakenNow d.requests n (Some answer) q → ⊥
     taken (inl old) = none q old is
     taken (inr now) =
         let new : q.taken ≡ Some (Some answer) = ap (λ (y : ClientRequest). y.taken) now.is in

@@ -52,7 +52,7 @@ module _ (decl : Declaration) where
 
   abbrev more_requests : Account → ℕ → ℕ → ℕ → Want → Account
   more_requests d n to life want =
-      pub record d
+      record d
       { requests = d.requests ++ record { number = n; site = to; life = life; want = want; taken = None } ∷ [] }
 
   requested_grounds : (ds : List Deed) (d : Account) (n to : ℕ) (tx : TxId) (epoch life : ℕ) (want : Want)

@@ -142,7 +142,7 @@ module _ (tx : TxId) (ops : List Op) where
 
   abbrev pub begun_with : Gist → TxId → Gist
   begun_with g other =
-      pub record g { count = g.count + 1; command = None; written = None; begun = Some (record { tx = other; ops = [] }) }
+      record g { count = g.count + 1; command = None; written = None; begun = Some (record { tx = other; ops = [] }) }
 
   not_behind : (g : Gist) (other : TxId) → other.life ≡ g.life → other.number ≡ g.count + 1 → other ≡ tx
       → IsBehind false g → ⊥
@@ -213,7 +213,7 @@ module _ (tx : TxId) (ops : List Op) where
     begun_is : is_begun tx x.begun ≡ same_tx o.tx tx
     begun_is = ap (is_begun tx) (s.base.begun ∙ ap (λ (b : Option Going). option_map (λ (e : Going). e.tx) b) is)
 
-    abbrev pub after : List Op → Gist
+    abbrev after : List Op → Gist
     after os = record g { command = None; written = None; begun = Some (record { tx = o.tx; ops = os }) }
 
     told_one : same_tx o.tx tx ≡ true → dealt tx x resp ≡ record x { ops = x.ops ++ more }
@@ -272,7 +272,7 @@ module _ (tx : TxId) (ops : List Op) where
             ap (λ (v : Going). v.tx) (some_is (record { tx = o.tx; ops = o.ops ++ more }) e at) ∙ named in
             true_false (same_tx o.tx tx) (ap (λ (t : TxId). same_tx t tx) is_tx ∙ same_tx_itself tx) other
 
-    pub adds : Both off (after (o.ops ++ more)) (dealt tx x resp) K
+    adds : Both off (after (o.ops ++ more)) (dealt tx x resp) K
     adds = by (same_tx o.tx tx) refl
       where
         by : (b : Bool) → same_tx o.tx tx ≡ b → Both off (after (o.ops ++ more)) (dealt tx x resp) K

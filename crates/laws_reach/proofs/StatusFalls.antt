@@ -105,7 +105,7 @@ module _ (tx : TxId) where
     same w is (inl still) = inl (still ∙ is)
     same w is (inr r) = inr (later w (fold (status_written tx) (status_written tx s w) rs) r)
 
-    pub commits : (c : Commit) (t : Bool) → same_tx c.tx tx ≡ t
+    commits : (c : Commit) (t : Bool) → same_tx c.tx tx ≡ t
         → (fold (status_written tx) (cond t (Committed c.stamp) s) rs ≡ cond t (Committed c.stamp) s)
         ⊎ Rose rs (fold (status_written tx) (cond t (Committed c.stamp) s) rs)
         → (fold (status_written tx) (cond t (Committed c.stamp) s) rs ≡ s)
@@ -162,7 +162,7 @@ module _ (tx : TxId) where
         by (inl is) = let never : ⊥ = cc in never
         by (inr is) = let never : ⊥ = cc in never
 
-    pub rises_from : ((stamp : Stamp) → IsRecorded tx stamp j.records → IsRecorded tx stamp rs)
+    rises_from : ((stamp : Stamp) → IsRecorded tx stamp j.records → IsRecorded tx stamp rs)
         → (kept_by j.records).life ≤ (kept_by rs).life → Risen (status_risen tx s rs) rs k
     rises_from more low = record {
       listed = λ stamp is. by_listed stamp is (rose (given_up s) rs);

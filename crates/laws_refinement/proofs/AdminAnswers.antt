@@ -118,7 +118,7 @@ module _ (decl : Declaration) (acts : List Act) (net : Net) (run : IsRun decl ac
       → Goes decl acts net run m up ((moves_to decl net.admin number))
   called_case number planned = by (number == net.admin.epoch) (number == net.admin.epoch + 1) refl
     where
-      pub round : RoundMirrors decl net.admin.epoch (close_round decl net.admin.epoch) []
+      round : RoundMirrors decl net.admin.epoch (close_round decl net.admin.epoch) []
       round =
           subst (λ (o : Option Plan). RoundMirrors decl net.admin.epoch (close_round_by o) [])
           (sym (m.admin up).planned.1) (record {

@@ -211,7 +211,7 @@ kept_prepares decl k status life ds p m none same whole lines ascends begun = re
   ];
 }
   where
-    pub s : Site
+    s : Site
     s = site_after ds
 
     after : site_after (ds ++ Prepares p.tx ∷ []) ≡ after_prepare p.tx None (site_after ds)

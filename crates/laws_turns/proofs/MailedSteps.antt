@@ -35,7 +35,7 @@ found_more : (ms more : List Envelope) (n : ℕ) (P : Option Envelope → Type 0
     → P (slice_get (ms ++ more) n)
 found_more ms more n P never is = by (slice_get ms n) refl is
   where
-    pub by : (o : Option Envelope) → slice_get ms n ≡ o → P o → P (slice_get (ms ++ more) n)
+    by : (o : Option Envelope) → slice_get ms n ≡ o → P o → P (slice_get (ms ++ more) n)
     by None none holds = absurd (never holds)
     by (Some e) found holds = subst P (sym (slice_get-more ms more n e found)) holds
 

@@ -216,7 +216,7 @@ module _ (script : Script) (X : Envelope → Type 0) (a : ℕ) where
             differ : to < a → (to == a) ≡ false
             differ less = by (to == a) refl
               where
-                pub by : (t : Bool) → (to == a) ≡ t → t ≡ false
+                by : (t : Bool) → (to == a) ≡ t → t ≡ false
                 by true same = let it : to ≡ a = eqb-true to a same in absurd (omega arith)
                 by false other = refl
 
@@ -247,7 +247,7 @@ module _ (script : Script) (X : Envelope → Type 0) (a : ℕ) where
         (sents_somewhere (h ++ marked b (steps.Sent n p.to p.message) ∷ []) b (n + 1) ps reply
         (up_on h b (steps.Sent n p.to p.message) tt up) proper.1 (one_sent h b n p.to p.message up proper.0 are))
 
-    pub turn_somewhere : (h : List Entry) (b n : ℕ) (turn : Turn) → AllUp h
+    turn_somewhere : (h : List Entry) (b n : ℕ) (turn : Turn) → AllUp h
         → IsMailProper decl (envelopes b n turn.sends) → AreSomewhere script X h a
         → AreSomewhere script X (h ++ by b (posted n turn)) a
     turn_somewhere h b n turn up proper are = on turn.write

@@ -90,7 +90,7 @@ pub entry_same : (c : CommitRecord) (a : ℕ) (h : List Entry) (e : Entry)
     → IsKnown c (journal_of (own a h))
 entry_same c a h e silent known = by (e.actor == a) refl
   where
-    pub by : (t : Bool) → (e.actor == a) ≡ t → IsKnown c (journal_of (own a h))
+    by : (t : Bool) → (e.actor == a) ≡ t → IsKnown c (journal_of (own a h))
     by true same = silent (journal_of (own a h)) (subst (IsKnown c) (journal_next a h e true same) known)
     by false other = subst (IsKnown c) (journal_next a h e false other) known
 

@@ -168,7 +168,7 @@ performs_holds decl front None object inv here same = same
 performs_holds decl front (Some t) object inv here same =
     by t.begun.doomed (nat_le most_transaction_operations (length t.begun.ops)) refl
   where
-    pub need : ℕ
+    need : ℕ
     need = read_need_of decl t.begun.epoch object inv
 
     by : (doomed long : Bool) → nat_le most_transaction_operations (length t.begun.ops) ≡ long

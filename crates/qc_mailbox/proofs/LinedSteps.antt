@@ -124,7 +124,7 @@ told_alone (Some reply) = (tt, tt)
 pub post_actors : (end : Appended) (n : ℕ) (turn : Turn) → Every IsActors (posted_as end n turn)
 post_actors Done n turn = at turn.write
   where
-    pub at : (w : Option Record) → Every IsActors (wrote w ++ (sents n turn.sends ++ told turn.told))
+    at : (w : Option Record) → Every IsActors (wrote w ++ (sents n turn.sends ++ told turn.told))
     at None = sents_actors n turn.sends (told turn.told) (told_alone turn.told)
     at (Some written) = (tt, sents_actors n turn.sends (told turn.told) (told_alone turn.told))
 post_actors Failed n turn = sents_actors n turn.failed_sends _ (tells_actors turn.failed_told _ (tt, tt))

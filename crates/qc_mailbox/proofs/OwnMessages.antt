@@ -136,7 +136,7 @@ pub owns_message : (links : List Link) (ms : List Envelope) (a : ℕ) (i : Inbox
     → Owns (ms ++ e ∷ []) a (goes links a (comes links a i e) e)
 owns_message links ms a i e o = at (e.from == a) refl (is_request e.message) refl
   where
-    pub j : Inbox
+    j : Inbox
     j = comes links a i e
 
     f : Fate

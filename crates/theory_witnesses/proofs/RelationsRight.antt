@@ -88,7 +88,7 @@ good_plan decl plan =
     (both (at_most (length plan.initial) (length decl.objects))
     (both (at_most (length plan.last) (length decl.objects)) (no_fault (fault_of plan decl.kinds decl.objects)))))
   where
-    pub made : (length plan.weights ≡ decl.sites)
+    made : (length plan.weights ≡ decl.sites)
         × ((length plan.initial ≤ length decl.objects)
         × ((length plan.last ≤ length decl.objects) × (fault_of plan decl.kinds decl.objects ≡ None)))
         → IsGood decl plan
@@ -104,7 +104,7 @@ abbrev pub each_place : {A : Type 0} (P : A → Type 0) → ((x : A) → Option 
 each_place {A = A} P look [] = Some (λ place x e. absurd (none_some e))
 each_place {A = A} P look (y ∷ ys) = option_map made (both (look y) (each_place P look ys))
   where
-    pub made : P y × ((place : ℕ) (x : A) → slice_get ys place ≡ Some x → P x) → (place : ℕ) (x : A)
+    made : P y × ((place : ℕ) (x : A) → slice_get ys place ≡ Some x → P x) → (place : ℕ) (x : A)
         → slice_get (y ∷ ys) place ≡ Some x → P x
     made f zero x e = subst P (one_some e) f.0
     made f (suc place) x e = f.1 place x e
@@ -114,7 +114,7 @@ abbrev pub each_item : {A : Type 0} (P : A → Type 0) → ((x : A) → Option (
 each_item P look [] = Some (All-nil P)
 each_item P look (x ∷ xs) = option_map made (both (look x) (each_item P look xs))
   where
-    pub made : P x × All P xs → All P (x ∷ xs)
+    made : P x × All P xs → All P (x ∷ xs)
     made f = All-cons P x xs f.0 f.1
 
 -- names are found to be well formed and different
@@ -123,7 +123,7 @@ names_found many names =
     option_map made
     (both (same_number (length names) many) (both (is_true (list_all is_name names)) (is_true (differ names))))
   where
-    pub made : (length names ≡ many) × ((list_all is_name names ≡ true) × (differ names ≡ true)) → AreNames many names
+    made : (length names ≡ many) × ((list_all is_name names ≡ true) × (differ names ≡ true)) → AreNames many names
     made f = record { count = f.0; formed = (f.1).0; distinct = all_differ names (f.1).1 }
 
 abbrev pub parts_found : (kind : Kind) (names : KindNames) → Option (HasNames kind names)
@@ -132,7 +132,7 @@ parts_found kind names =
     (both (names_found kind.table.states names.states)
     (both (names_found kind.table.invs names.invs) (names_found kind.table.resps names.resps)))
   where
-    pub made : AreNames kind.table.states names.states
+    made : AreNames kind.table.states names.states
         × (AreNames kind.table.invs names.invs × AreNames kind.table.resps names.resps) → HasNames kind names
     made f = record { states = f.0; invs = (f.1).0; resps = (f.1).1 }
 
