@@ -26,7 +26,7 @@ use Rattle.laws_atomic.proofs.Ended.{asks_none, counted_goes, none_open}
 use Rattle.laws_atomic.proofs.Founded.{AreFounded}
 use Rattle.laws_atomic.proofs.Seeing.{Sees}
 use Rattle.laws_atomic.proofs.SightsTaken.{answer_sees, called_sees}
-use Rattle.laws_atomic.proofs.Sights.{lost_sees}
+use Rattle.laws_atomic.proofs.SightsTaken.{lost_sees}
 
 -- nothing is waited for
 abbrev pub IsFree : Sight → Type 0

@@ -40,7 +40,8 @@ use Rattle.laws_bounds.proofs.ActorsWithin.{deeds_post}
 use Rattle.laws_bounds.proofs.AskedNamed.{given_named}
 use Rattle.laws_bounds.proofs.AnswersToAsks.{ActorTold, MailTold, MessageTold, SendsTold, TurnTold, actor_more}
 use Rattle.laws_bounds.proofs.AnswersToAsks.{mail_more, sends_more}
-use Rattle.laws_bounds.proofs.AsksAnswered.{AreReady, given_told, posted_asked, posts_told, takes_told}
+use Rattle.laws_bounds.proofs.AnswersSaid.{takes_told}
+use Rattle.laws_bounds.proofs.AsksAnswered.{AreReady, given_told, posted_asked, posts_told}
 use Rattle.laws_bounds.proofs.AsksReady.{new_told, open_ready, risen_ready, rises_told}
 use Rattle.laws_bounds.proofs.CountBounds.{history_counts}
 use Rattle.laws_bounds.proofs.ActorsInForm.{MoveInForm, TurnInForm, down_form, new_form, posts_form, rises_form}

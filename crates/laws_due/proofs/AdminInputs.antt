@@ -37,7 +37,7 @@ module _ (decl : Declaration) (some : (decl.sites == 0) ≡ false) where
     goes : Goes decl first (admin_taken (account_is decl ds) g) (admin_takes decl s.state g)
     goes = takes_go decl some n first low (account_is decl ds) s.state s.ties g ((input_due decl n ds r g may).2)
 
-    takes_to : actor_after decl (administrator decl) (ds ++ Takes g ∷ []) ≡ by_admin (admin_takes decl s.state g)
+    pub takes_to : actor_after decl (administrator decl) (ds ++ Takes g ∷ []) ≡ by_admin (admin_takes decl s.state g)
     takes_to = actor_more decl ds (Takes g ∷ []) ∙ ap (λ (v : Actor). actor_takes decl v g) s.actor
 
     posted_account : (more : List Deed)
@@ -138,7 +138,7 @@ module _ (decl : Declaration) (some : (decl.sites == 0) ≡ false) where
         (λ i. tells_of (sym fails.told i) ++ Falls causes.Stop (sym is i) ∷ [])
         (fault_rest k causes.Stop tt w fails)
 
-    posted_as : (end : Appended) → MayEnd (admin_takes decl s.state g).turn.write end
+    pub posted_as : (end : Appended) → MayEnd (admin_takes decl s.state g).turn.write end
         → IsAtRest decl (first + length (sends_as end (admin_takes decl s.state g).turn))
         ((ds ++ Takes g ∷ []) ++ deeds_as end first (admin_takes decl s.state g).turn)
     posted_as Done ends = written_rest
@@ -194,7 +194,7 @@ module _ (decl : Declaration) (some : (decl.sites == 0) ≡ false) where
       };
     }
 
-    down_as : (k : ℕ) (end : Appended) (first : ℕ) → MayEnd None end
+    pub down_as : (k : ℕ) (end : Appended) (first : ℕ) → MayEnd None end
         → IsAtRest decl k ((ds ++ Takes (inputs.Called command) ∷ []) ++ deeds_as end first (telling replies.Down))
     down_as k Done first ends = down_rest k
     down_as k Failed first ends = absurd ends

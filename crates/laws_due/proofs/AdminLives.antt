@@ -20,6 +20,7 @@ use Rattle.laws_due.proofs.Standing.{no_act}
 use Rattle.laws_due.proofs.Fallings.{as_record}
 use Rattle.laws_due.proofs.AdminRest.{IsAtRest, IsFallen, IsTied, Stands, actor_more, input_due}
 use Rattle.laws_due.proofs.AdminRises.{falls_alone, first_rest, rises_rest, turn_is, unopened_rest}
+use Rattle.laws_due.proofs.AdminInputs.{down_as, posted_as, takes_to}
 
 module _ (decl : Declaration) (some : (decl.sites == 0) ≡ false) where
   -- the turn for an input
@@ -33,9 +34,9 @@ module _ (decl : Declaration) (some : (decl.sites == 0) ≡ false) where
       subst (λ (t : Turn). MayEnd t.write turn.append
       → IsAtRest decl (first + length (sends_as turn.append t))
       ((before ++ Takes g ∷ []) ++ deeds_as turn.append first t))
-      (sym (ap (λ (m : ActorMove). m.turn) (takes_to n first low before r same s g may))
+      (sym (ap (λ (m : ActorMove). m.turn) (takes_to decl some n first low before r same s g may))
       ∙ turn_is decl (before ++ Takes g ∷ []) turn law)
-      (posted_as n first low before r same s g may turn.append) law.may_end
+      (posted_as decl some n first low before r same s g may turn.append) law.may_end
 
   fallen_rest : (n first k : ℕ) (before : List Deed) (r : IsAtRest decl n before) → r.up ≡ false → IsFallen decl before
       → (g : Input) → MayTake before g → MayReach (is_up before) g
@@ -48,7 +49,7 @@ module _ (decl : Declaration) (some : (decl.sites == 0) ≡ false) where
       (actor_more decl before (Takes (inputs.Called command) ∷ [])
       ∙ ap (λ (v : Actor). actor_takes decl v (inputs.Called command)) s.actor))
       ∙ turn_is decl (before ++ Takes (inputs.Called command) ∷ []) turn law)
-      (down_as n before r same s command may k turn.append first) law.may_end
+      (down_as decl some n before r same s command may k turn.append first) law.may_end
   fallen_rest n first k before r same s (inputs.Got envelope) may reach turn law =
       absurd (let no : true ≡ false = sym reach ∙ r.is ∙ same in let never : ⊥ = cc in never)
   fallen_rest n first k before r same s (inputs.Lost number) may reach turn law =

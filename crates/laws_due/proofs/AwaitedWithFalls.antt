@@ -20,6 +20,7 @@ use Rattle.qc_script.proofs.AllUp.{is_up-everybody}
 use Rattle.qc_script.specs.declared.script.Script.{Script}
 use Rattle.qc_script.specs.Vocabulary.{Inbox, RunsWithFalls, empty_inbox, everybody, inbox, is_up}
 use Rattle.laws_due.proofs.Covered.{Awaits}
+use Rattle.laws_due.proofs.ClientsAwait.{run_awaits}
 
 -- and so is each of the administrator
 

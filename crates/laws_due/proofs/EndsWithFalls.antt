@@ -31,7 +31,7 @@ use Rattle.qc_script.specs.Vocabulary.{control, controls_left, copy_taken, damag
 use Rattle.qc_script.specs.Vocabulary.{inbox, inbox_at, loss_taken, phase, phase_of, posts, ready, rises, takes}
 use Rattle.qc_script.specs.Vocabulary.{unopened}
 use Rattle.qc_script.specs.declared.script.Script.{Script}
-use Rattle.laws_due.proofs.AwaitedWithFalls.{open_requests_awaited}
+use Rattle.laws_due.proofs.ClientsAwait.{open_requests_awaited}
 use Rattle.laws_due.proofs.Places.{client_within, few_actors}
 use Rattle.laws_due.proofs.PlainSteps.{ArePlain, inbox_then, line_plain, post_plain}
 use Rattle.laws_due.proofs.Plain.{entries_idle, entries_left}

@@ -30,7 +30,7 @@ use qc_script::ConductWithFalls;
 /// Each open request of a client that is up is awaited in its inbox: that it is
 /// lost isn't taken yet, also where the site that was asked fell since, or it is
 /// unanswered, or a copy of its answer is ready.
-#[tactic(auto, using(crate::proofs::AwaitedWithFalls::open_requests_awaited))]
+#[tactic(auto, using(crate::proofs::ClientsAwait::open_requests_awaited))]
 pub fn open_requests_are_awaited_with_falls<C: ConductWithFalls>()
     ensures { (decl : Declaration) (script : Script) → actors decl ≤ most_actors
         → (a : ℕ) → is_client decl a ≡ true → (h : List Entry) (open_inputs : List Bool)

@@ -32,6 +32,7 @@ use Rattle.laws_guarantees.proofs.SiteLocks.{Asks, locks_were_asked}
 use Rattle.laws_atomic.proofs.FirstSites.{IsCalmGiven, IsCalmMessage}
 use Rattle.laws_guarantees.proofs.NetMessages.{both, WasEnded, ended_more, AreFullMessages, IsGrantedBy}
 use Rattle.laws_guarantees.proofs.SiteHolds.{granted_before}
+use Rattle.laws_guarantees.proofs.SiteHolds.{site_step}
 
 module _ (decl : Declaration) (accepted : IsAccepted decl) where
   abbrev HoldsOrEnded : Net → ℕ → TxId → Type 0
@@ -60,7 +61,7 @@ module _ (decl : Declaration) (accepted : IsAccepted decl) where
       (λ e among. full e
       (In-first e before.mail
       (envelopes a (length before.mail) (site_takes decl (before.sites a) input).turn.sends) among)) in
-      site_step before a input r served came same site tx less (granted_or_ended before r less site tx is) g
+      site_step decl accepted before a input r served came same site tx less (granted_or_ended before r less site tx is) g
   granted_or_ended net (calm.takes a input before r client came ready) full site tx is g =
       client_step before a (client_takes decl (before.clients a) input).turn.sends r client site tx is
       (granted_or_ended before r

@@ -23,7 +23,7 @@ use Rattle.qc_commit.specs.Vocabulary.{known_by, record_of}
 use Rattle.qc_client.specs.Vocabulary.{is_begun, moved, outcome_by, outcome_of}
 use Rattle.laws_refinement.specs.Vocabulary.{Backed, ClientMirrors, IsMessage, Mirrors, Net, OwnMirrors, Refines}
 use Rattle.laws_refinement.specs.Vocabulary.{after_client}
-use Rattle.laws_refinement.proofs.ClientEnds.{mid_announce}
+use Rattle.laws_refinement.proofs.ClientEnding.{mid_announce}
 use Rattle.laws_refinement.proofs.RequestsSent.{IsAsking}
 use Rattle.laws_refinement.proofs.ClientSteps.{mid_first, refined, turns}
 use Rattle.laws_refinement.proofs.Frames.{keep_client}

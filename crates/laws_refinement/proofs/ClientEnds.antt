@@ -31,6 +31,7 @@ use Rattle.laws_refinement.proofs.Planned.{planned_max}
 use Rattle.laws_refinement.proofs.RequestsSent.{IsAsking}
 use Rattle.laws_refinement.proofs.ClientSteps.{Mid, Turned, turns}
 use Rattle.laws_refinement.proofs.ClientEnding.{Ending, ends_mine, Remains, own_put}
+use Rattle.laws_refinement.proofs.ClientEnding.{mid_abort, mid_announce, mid_commit}
 
 module _ (decl : Declaration) where
   -- decisions
@@ -77,8 +78,8 @@ module _ (decl : Declaration) where
       → commits_in move.turn.write ≡ [] → Turned decl w net a move
   aborts_it w acts net a c t move its m records e gone same sends unwritten =
       turns decl w net a move (Announce tx ∷ Abort tx ∷ acts)
-      (mid_announce w (Abort tx ∷ acts) (net.clients a).front.client
-      (mid_abort w acts (net.clients a).front.client m tx (ends_mine decl (state acts) a c t e ∙ its) e.live) tx)
+      (mid_announce decl w (Abort tx ∷ acts) (net.clients a).front.client
+      (mid_abort decl w acts (net.clients a).front.client m tx (ends_mine decl (state acts) a c t e ∙ its) e.live) tx)
       (records ∙ ap (λ (rs : List CommitRecord). rs ++ w.records) (sym unwritten))
       (gone_mirrors (state (Announce tx ∷ Abort tx ∷ acts)) net.mail a c move gone
       (own_put decl (state acts) (state (Announce tx ∷ Abort tx ∷ acts)) a c move.client t Aborted None e refl
@@ -133,8 +134,8 @@ module _ (decl : Declaration) where
       → Turned decl w net a (by_desk c (decides c.desk t.begun))
   commits_it w acts net a c t its m records e voting clock votes =
       turns decl w net a (by_desk c (decides c.desk t.begun)) (Announce t.begun.tx ∷ Commit x ∷ acts)
-      (mid_announce w (Commit x ∷ acts) (net.clients a).front.client
-      (mid_commit w acts (net.clients a).front.client m x (ends_mine decl (state acts) a c t e ∙ its) may)
+      (mid_announce decl w (Commit x ∷ acts) (net.clients a).front.client
+      (mid_commit decl w acts (net.clients a).front.client m x (ends_mine decl (state acts) a c t e ∙ its) may)
       t.begun.tx)
       (ap (λ (rs : List CommitRecord). commit_of (next_stamp c.desk) t.begun ∷ rs) records)
       (gone_mirrors (state (Announce t.begun.tx ∷ Commit x ∷ acts)) net.mail a c (by_desk c (decides c.desk t.begun))

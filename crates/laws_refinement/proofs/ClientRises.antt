@@ -24,7 +24,7 @@ use Rattle.qc_recover.specs.Vocabulary.{client_by, client_rises}
 use Rattle.qc_recover.specs.Clients.{Kept, keeps, kept_by}
 use Rattle.laws_refinement.specs.Vocabulary.{ClientMirrors, FallenMirrors, IsGivenBack, IsPendingOf, IsPlanned, Net}
 use Rattle.laws_refinement.specs.Vocabulary.{Refines, after_client_rise, after_vain_rise, commits_in}
-use Rattle.laws_refinement.proofs.ClientEnds.{mid_abort, mid_commit}
+use Rattle.laws_refinement.proofs.ClientEnding.{mid_abort, mid_commit}
 use Rattle.laws_refinement.proofs.ClientSteps.{Mid, mid_first, mid_more, put_tx_other}
 use Rattle.laws_refinement.proofs.Kepts.{client_place}
 use Rattle.laws_refinement.proofs.Machine.{put_other}

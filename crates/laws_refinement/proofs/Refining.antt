@@ -24,6 +24,7 @@ use Rattle.laws_refinement.proofs.SiteFails.{take_fails as site_take_fails}
 use Rattle.laws_refinement.proofs.SiteFalls.{site_falls, site_rises_in_vain, site_rises_up}
 use Rattle.laws_refinement.specs.Net as nets
 use Rattle.laws_refinement.proofs.RefiningTurns.{at_first, first_plan}
+use Rattle.laws_refinement.proofs.RefiningTurns.{take_case, take_fails}
 
 module _ (decl : Declaration) (accepted : IsAccepted decl) where
   client_pends : (net : Net) (h : Refines decl net) (a : ℕ) → is_client decl a ≡ true → net.up a ≡ true
@@ -53,7 +54,7 @@ module _ (decl : Declaration) (accepted : IsAccepted decl) where
       any net h.acts (serve_case decl accepted h.acts before a h.run h.agrees site up given came)
   nets_refine net (nets.takes a given before r client up came ready) =
       let h : Refines decl before = nets_refine before r in
-      take_case h.acts before a h.run h.agrees client up (front_ends_stand decl before r a) given came ready
+      take_case decl accepted h.acts before a h.run h.agrees client up (front_ends_stand decl before r a) given came ready
   nets_refine net (nets.site_falls a before r site up) =
       site_falls decl accepted before (nets_refine before r) a site None [] tt (λ p never. absurd never)
   nets_refine net (nets.client_falls a before r client up) =
@@ -68,7 +69,7 @@ module _ (decl : Declaration) (accepted : IsAccepted decl) where
       ])
   nets_refine net (nets.client_fails a given written sends before r client up came ready wrote failed) =
       let h : Refines decl before = nets_refine before r in
-      let p = take_fails h.acts before a h.run h.agrees client up given came ready written wrote in
+      let p = take_fails decl accepted h.acts before a h.run h.agrees client up given came ready written wrote in
       let none : sends ≡ [] = elim failed [ inl same ↦ same ∙ p.1 | inr empty ↦ empty ] in
       subst (λ (ps : List Posting). Refines decl (after_fall before a (Some written) ps)) (sym none)
       (client_pends before h a client up (clients_kept decl before r a client up) written p.0)

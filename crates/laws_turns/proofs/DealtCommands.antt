@@ -31,7 +31,8 @@ use Rattle.laws_turns.proofs.BooksKept.{committed_book, free_book, later_book}
 use Rattle.laws_turns.proofs.DealingParts.{IsBook, IsDealing}
 use Rattle.laws_turns.proofs.Dealing.{committed_one, gave_up}
 use Rattle.laws_turns.proofs.DealtOperations.{AskedFor, FrontAfter, told_deal}
-use Rattle.laws_turns.proofs.DealtFronts.{called-after, takes-after}
+use Rattle.laws_turns.proofs.DealtOperations.{called-after}
+use Rattle.laws_turns.proofs.DealtFronts.{takes-after}
 use Rattle.laws_turns.proofs.HandMoves.{Holds, IsHandMove, prepare-it, vote-it}
 
 -- the commit record that a turn writes

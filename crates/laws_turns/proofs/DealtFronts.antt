@@ -23,6 +23,7 @@ use Rattle.laws_turns.specs.Vocabulary.{Book, book_with}
 use Rattle.qc_promise.specs.Vocabulary.{Dealing}
 use Rattle.laws_turns.proofs.DealingParts.{IsBook, IsDealing}
 use Rattle.laws_turns.proofs.DealtOperations.{AskedFor, FrontAfter, IsLike, Stands}
+use Rattle.laws_turns.proofs.DealtOperations.{append_by-after, read_by-after, stands, still}
 
 module _ (k : ℕ) (tx : TxId) (clock : ℕ) (records : List Commit) (d : Dealing) where
   -- what comes of a request
@@ -81,17 +82,17 @@ module _ (k : ℕ) (tx : TxId) (clock : ℕ) (records : List Commit) (d : Dealin
       → IsDealing tx d (book_with front records) → AskedFor d.asked doing
       → FrontAfter k tx clock records d (takes_in decl front doing o number answer)
   takes_in-after decl front doing None number answer is does own book w asked =
-      still decl front own book w quiet refl refl (subst (AskedFor d.asked) (sym does) asked)
+      still k tx clock records d decl front own book w quiet refl refl (subst (AskedFor d.asked) (sym does) asked)
   takes_in-after decl front Idle (Some t) number answer is does own book w asked =
-      still decl front own book w quiet refl refl (subst (AskedFor d.asked) (sym does) asked)
+      still k tx clock records d decl front own book w quiet refl refl (subst (AskedFor d.asked) (sym does) asked)
   takes_in-after decl front (Reading object inv calls round) (Some t) number answer is does own book w asked =
       by (site_called calls number) where
         by : (s : Option ℕ)
             → FrontAfter k tx clock records d (reading_takes decl front t object inv calls round number answer s)
-        by None = still decl front own book w quiet refl refl (subst (AskedFor d.asked) (sym does) asked)
+        by None = still k tx clock records d decl front own book w quiet refl refl (subst (AskedFor d.asked) (sym does) asked)
         by (Some site) =
-            read_by-after decl (learns front answer) t.begun
-            (learned front answer t.begun (stands decl front own book w t is)) (read_with t site object answer) object
+            read_by-after k tx clock records d decl (learns front answer) t.begun
+            (learned front answer t.begun (stands k tx clock records d decl front own book w t is)) (read_with t site object answer) object
             inv (without_call calls number) (note round site (standing_of answer))
             (verdict (note round site (standing_of answer)))
             (read_like t site object answer) asked
@@ -99,10 +100,10 @@ module _ (k : ℕ) (tx : TxId) (clock : ℕ) (records : List Commit) (d : Dealin
       by (site_called calls number) where
         by : (s : Option ℕ)
             → FrontAfter k tx clock records d (appending_takes decl front t object inv event calls round number answer s)
-        by None = still decl front own book w quiet refl refl (subst (AskedFor d.asked) (sym does) asked)
+        by None = still k tx clock records d decl front own book w quiet refl refl (subst (AskedFor d.asked) (sym does) asked)
         by (Some site) =
-            append_by-after decl (learns front answer) t.begun
-            (learned front answer t.begun (stands decl front own book w t is)) (appended_with t site answer) object inv
+            append_by-after k tx clock records d decl (learns front answer) t.begun
+            (learned front answer t.begun (stands k tx clock records d decl front own book w t is)) (appended_with t site answer) object inv
             event (without_call calls number) (note round site (standing_of answer))
             (verdict (note round site (standing_of answer)))
             (appended_like t site answer) asked

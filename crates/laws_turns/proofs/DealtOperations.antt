@@ -105,7 +105,7 @@ module _ (k : ℕ) (tx : TxId) (clock : ℕ) (records : List Commit) (d : Dealin
         (view_keeps (record t { own = t.own ++ next_own t object event ∷ [] }) object
         (option_map (λ (v : View). with_own v event) (slice_get t.views object)))
 
-    append_by-after : (t : Transaction) (object inv event : ℕ) (calls : List Call) (r : RoundState) (v : Verdict)
+    pub append_by-after : (t : Transaction) (object inv event : ℕ) (calls : List Call) (r : RoundState) (v : Verdict)
         → IsLike t b → d.asked ≡ Some (commands.Do object inv)
         → FrontAfter k tx clock records d (append_by decl front t object inv event calls r v)
     append_by-after t object inv event calls r verdicts.Waiting like asked =
@@ -137,7 +137,7 @@ module _ (k : ℕ) (tx : TxId) (clock : ℕ) (records : List Commit) (d : Dealin
         append_by-after t object inv event [] (round_for decl front t (append_need_of decl t.begun.epoch object event))
         (verdict (round_for decl front t (append_need_of decl t.begun.epoch object event))) like asked
 
-    read_by-after : (t : Transaction) (object inv : ℕ) (calls : List Call) (r : RoundState) (v : Verdict) → IsLike t b
+    pub read_by-after : (t : Transaction) (object inv : ℕ) (calls : List Call) (r : RoundState) (v : Verdict) → IsLike t b
         → d.asked ≡ Some (commands.Do object inv)
         → FrontAfter k tx clock records d (read_by decl front t object inv calls r v)
     read_by-after t object inv calls r verdicts.Waiting like asked =
@@ -154,7 +154,7 @@ module _ (k : ℕ) (tx : TxId) (clock : ℕ) (records : List Commit) (d : Dealin
   module _ (decl : Declaration) (front : Front) (own : front.client ≡ k) (book : IsBook clock (book_with front records))
       (w : IsDealing tx d (book_with front records)) where
     -- nothing is done, or what is told ends nothing
-    still : (turn : Turn) → told_deal tx d turn.told ≡ d → turn.write ≡ None → AskedFor d.asked front.doing
+    pub still : (turn : Turn) → told_deal tx d turn.told ≡ d → turn.write ≡ None → AskedFor d.asked front.doing
         → FrontAfter k tx clock records d (moved front turn)
     still turn neutral unwritten asked =
         record {
@@ -165,7 +165,7 @@ module _ (k : ℕ) (tx : TxId) (clock : ℕ) (records : List Commit) (d : Dealin
           asked = asked;
         }
 
-    stands : (t : Transaction) → front.transaction ≡ Some t → Stands front t.begun
+    pub stands : (t : Transaction) → front.transaction ≡ Some t → Stands front t.begun
     stands t is = record { own = own; is = ap begun_in is; book = book; dealing = w }
 
     itself : (t : Transaction) → IsLike t t.begun

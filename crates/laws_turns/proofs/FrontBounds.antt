@@ -188,7 +188,7 @@ module _ (bound : ℕ) where
     read_by-within t object inv calls r (verdicts.Short got need) views =
         record { clock = w.clock; count = w.count; views = views }
 
-    performs-within : (t : Option Transaction) (object inv : ℕ) → TransactionWithin bound t
+    pub performs-within : (t : Option Transaction) (object inv : ℕ) → TransactionWithin bound t
         → FrontWithin bound (performs decl front t object inv).front
     performs-within None object inv views = w
     performs-within (Some t) object inv views =
@@ -200,7 +200,7 @@ module _ (bound : ℕ) where
               read_by-within t object inv [] (round_for decl front t (read_need_of decl t.begun.epoch object inv))
               (verdict (round_for decl front t (read_need_of decl t.begun.epoch object inv))) views
 
-    commits-within : (t : Option Transaction) → FrontWithin bound (commits front t).front
+    pub commits-within : (t : Option Transaction) → FrontWithin bound (commits front t).front
     commits-within None = w
     commits-within (Some t) = by t.begun.doomed where
       by : (doomed : Bool)
@@ -208,7 +208,7 @@ module _ (bound : ℕ) where
       by true = record { clock = w.clock; count = w.count; views = tt }
       by false = w
 
-    aborts-within : (t : Option Transaction) → FrontWithin bound (aborts front t).front
+    pub aborts-within : (t : Option Transaction) → FrontWithin bound (aborts front t).front
     aborts-within None = w
     aborts-within (Some t) = record { clock = w.clock; count = w.count; views = tt }
 

@@ -23,7 +23,7 @@ ghost use Rattle.qc_promise.specs.Kept.{Kept, journal_of, no_journal};
 
 /// After a fall an actor is down, and after a rise it is what its records give,
 /// whatever it was before; its turn is then its rising turn.
-#[tactic(auto, using(crate::proofs::LivesLaws::falls, crate::proofs::LivesLaws::rises))]
+#[tactic(auto, using(crate::proofs::LivesOfActors::falls, crate::proofs::LivesOfActors::rises))]
 pub fn actors_fall_and_rise()
     ensures fall { (decl : Declaration) (a : ℕ) (ds : List Deed) (cause : Fall) (pending : Option Record)
         → actor_after decl a (ds ++ Falls cause pending ∷ []) ≡ moved actor.Down quiet }
@@ -32,7 +32,7 @@ pub fn actors_fall_and_rise()
 {}
 
 /// An actor has no state just while it is down.
-#[tactic(auto, using(crate::proofs::LivesLaws::down, crate::proofs::LivesLaws::up))]
+#[tactic(auto, using(crate::proofs::LivesOfActors::down, crate::proofs::LivesOfActors::up))]
 pub fn who_is_down_has_no_state()
     ensures down { (decl : Declaration) (a : ℕ) (ds : List Deed) → is_up ds ≡ false
         → (actor_after decl a ds).actor ≡ actor.Down }
@@ -43,7 +43,7 @@ pub fn who_is_down_has_no_state()
 /// Where a site or a client neither falls nor rises, its deeds call for the turn
 /// that its conduct alone calls for, which has its record written; so what acts
 /// there lives.
-#[tactic(auto, using(crate::proofs::LivesLaws::same_turn, crate::proofs::LivesLaws::written, crate::proofs::LivesLaws::lawful_still, crate::proofs::LivesLaws::act_lives))]
+#[tactic(auto, using(crate::proofs::LivesOfActors::same_turn, crate::proofs::LivesLaws::written, crate::proofs::LivesLaws::lawful_still, crate::proofs::LivesLaws::act_lives))]
 pub fn who_never_falls_lives_as_it_acts()
     ensures turn { (decl : Declaration) (a : ℕ) (ds : List Deed) → AreSteady ds → a < administrator decl
         → turn_with_falls decl a ds ≡ turn_after decl a ds }
