@@ -25,8 +25,7 @@ use Rattle.laws_atomic.proofs.Waiting.{Goes, goes_of, unwritten_of}
 use Rattle.laws_atomic.proofs.Ended.{asks_none, counted_goes, none_open}
 use Rattle.laws_atomic.proofs.Founded.{AreFounded}
 use Rattle.laws_atomic.proofs.Seeing.{Sees}
-use Rattle.laws_atomic.proofs.SightsTaken.{answer_sees, called_sees}
-use Rattle.laws_atomic.proofs.SightsTaken.{lost_sees}
+use Rattle.laws_atomic.proofs.SightsTaken.{answer_sees, called_sees, lost_sees}
 
 -- nothing is waited for
 abbrev pub IsFree : Sight → Type 0

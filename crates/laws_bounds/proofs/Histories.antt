@@ -12,7 +12,7 @@ use Rattle.qc_mailbox.proofs.FallMail.{ready_sent}
 use Rattle.qc_mailbox.proofs.Keeping.{same_mail}
 use Rattle.laws_turns.proofs.Acted.{deeds-silent}
 use Rattle.laws_turns.proofs.Numbered.{IsSilent, mail-silent, phase_silent}
-use Rattle.laws_turns.proofs.Lived.{deeds-fall, deeds-rise, line_silent}
+use Rattle.laws_turns.proofs.LivedMoves.{deeds-fall, deeds-rise, line_silent}
 use Rattle.qc_msg.specs.declared.message.Envelope.{Envelope}
 use Rattle.qc_msg.specs.declared.record.Record.{Record}
 use Rattle.qc_msg.specs.declared.step.Fall.{Fall}

@@ -15,7 +15,8 @@ use Rattle.qc_mailbox.proofs.FallMail.{ready_sent}
 use Rattle.qc_mailbox.proofs.Keeping.{same_mail}
 use Rattle.laws_turns.proofs.Acted.{deeds-silent}
 use Rattle.laws_turns.proofs.Numbered.{IsSilent, mail-silent, phase_silent}
-use Rattle.laws_turns.proofs.Lived.{deeds-fall, deeds-rise, line_silent, run_lives}
+use Rattle.laws_turns.proofs.LivedMoves.{deeds-fall, deeds-rise, line_silent}
+use Rattle.laws_turns.proofs.Lived.{run_lives}
 use Rattle.qc_msg.specs.declared.message.Envelope.{Envelope}
 use Rattle.qc_msg.specs.declared.record.Record.{Record}
 use Rattle.qc_msg.specs.declared.step.Fall.{Fall}
@@ -239,7 +240,7 @@ module _ (decl : Declaration) where
         every-at (λ (e : Envelope). MessageInForm e.message) ms e.number e all sent.0
     given_form a h ms (inputs.Lost number) all sent is = tt
 
-    pub run_form : (h : List Entry) (open_inputs : List Bool) → IsRun h open_inputs → length h < 2 ^ 31 → AllInForm h
+    run_form : (h : List Entry) (open_inputs : List Bool) → IsRun h open_inputs → length h < 2 ^ 31 → AllInForm h
     run_form h open_inputs begins short = record {
       messages = tt;
       actors_are = new_form decl;

@@ -13,7 +13,7 @@ use Rattle.qc_mailbox.proofs.FallMail.{ready_sent}
 use Rattle.qc_mailbox.proofs.Keeping.{same_mail}
 use Rattle.laws_turns.proofs.Acted.{deeds-silent}
 use Rattle.laws_turns.proofs.Numbered.{IsSilent, mail-silent, phase_silent}
-use Rattle.laws_turns.proofs.Lived.{deeds-fall, deeds-rise, line_silent}
+use Rattle.laws_turns.proofs.LivedMoves.{deeds-fall, deeds-rise, line_silent}
 use Rattle.qc_msg.specs.declared.message.Envelope.{Envelope}
 use Rattle.qc_msg.specs.declared.record.Record.{Record}
 use Rattle.qc_msg.specs.declared.step.Fall.{Fall}
@@ -147,7 +147,7 @@ module _ (decl : Declaration) where
     IsRun h open_inputs = RunsWithFalls (IsLawfulWithFalls decl) fits decl script h open_inputs
 
     -- where what rises does
-    pub run_named_by : (h : List Entry) (open_inputs : List Bool) → IsRun h open_inputs → Side h → AllNamed h
+    run_named_by : (h : List Entry) (open_inputs : List Bool) → IsRun h open_inputs → Side h → AllNamed h
     run_named_by h open_inputs begins side =
         record { messages = tt; actors_are = new_named decl (first_planned decl accepted); puts = tt }
     run_named_by h open_inputs (takes c g before older run free rdy) side =

@@ -15,7 +15,8 @@ use Rattle.qc_decl.specs.Vocabulary.{IsAccepted, actors, controller}
 use Rattle.qc_decl.specs.declared.declaration.Declaration.{Declaration}
 use Rattle.qc_mailbox.proofs.Keeping.{same_mail}
 use Rattle.laws_turns.specs.Vocabulary.{LivesIn}
-use Rattle.laws_turns.proofs.Lived.{deeds-rise, line_silent, run_lives}
+use Rattle.laws_turns.proofs.LivedMoves.{deeds-rise, line_silent}
+use Rattle.laws_turns.proofs.Lived.{run_lives}
 use Rattle.laws_turns.proofs.Numbered.{mail-silent}
 use Rattle.qc_link.specs.Vocabulary.{most_actors}
 use Rattle.qc_msg.specs.declared.message.Envelope.{Envelope}

@@ -13,7 +13,7 @@ use Rattle.qc_decl.specs.declared.declaration.Declaration.{Declaration}
 use Rattle.qc_mailbox.proofs.Keeping.{same_mail}
 use Rattle.laws_turns.proofs.Numbered.{mail-silent}
 use Rattle.qc_link.specs.Vocabulary.{most_actors}
-use Rattle.laws_turns.proofs.Lived.{line_silent}
+use Rattle.laws_turns.proofs.LivedMoves.{line_silent}
 use Rattle.qc_msg.specs.declared.message.Envelope.{Envelope}
 use Rattle.qc_msg.specs.declared.record.Record.{Record}
 use Rattle.qc_msg.specs.declared.step.Fall.TheVariants as causes

@@ -26,7 +26,7 @@ use Rattle.laws_turns.specs.Vocabulary.{IsAwaited, open_calls}
 use Rattle.laws_turns.proofs.Acted.{deeds-silent}
 use Rattle.qc_link.specs.Vocabulary.{most_actors}
 use Rattle.laws_turns.proofs.Downs.{tells, up_is}
-use Rattle.laws_turns.proofs.Lived.{deeds-fall, deeds-rise}
+use Rattle.laws_turns.proofs.LivedMoves.{deeds-fall, deeds-rise}
 use Rattle.qc_msg.specs.declared.call.Call.{Call}
 use Rattle.qc_msg.specs.declared.record.Record.{Record}
 use Rattle.qc_msg.specs.declared.record.Record.TheVariants as records
@@ -93,7 +93,7 @@ module _ (decl : Declaration) (script : Script) (a : ℕ) where
       (alive : (kept : List Record) → (actor_rises decl a kept).actor ≡ actors.Down → ⊥)
       (rises_awaited : (kept : List Record) (i : Inbox) → is_up i.up a ≡ true
       → Awaits a (actor_rises decl a kept).actor i) where
-    abbrev pub IsRun : List Entry → List Bool → Type 0
+    abbrev IsRun : List Entry → List Bool → Type 0
     IsRun h open_inputs = RunsWithFalls (IsLawfulWithFalls decl) fits decl script h open_inputs
 
     not_controller : (controller decl == a) ≡ false
@@ -186,7 +186,7 @@ module _ (decl : Declaration) (script : Script) (a : ℕ) where
         at Failed is = broken Failed is (λ no. let never : ⊥ = cc in never)
         at Stopped is = broken Stopped is (λ no. let never : ⊥ = cc in never)
 
-    pub run_awaits : (h : List Entry) (open_inputs : List Bool) → IsRun h open_inputs → AwaitsIn h
+    run_awaits : (h : List Entry) (open_inputs : List Bool) → IsRun h open_inputs → AwaitsIn h
     run_awaits h open_inputs begins = first
     run_awaits h open_inputs (takes b g before older run free rdy) = at (b == a) refl (run_awaits older before run)
       where
@@ -279,7 +279,7 @@ module _ (decl : Declaration) (script : Script) (a : ℕ) where
         sym (ap (λ (m : ActorMove). m.actor) (client_risen decl a client kept)) ∙ down in
         let never : ⊥ = cc in never
 
-    pub open_requests_awaited : (h : List Entry) (open_inputs : List Bool)
+    open_requests_awaited : (h : List Entry) (open_inputs : List Bool)
         → RunsWithFalls (IsLawfulWithFalls decl) fits decl script h open_inputs → (c : Client)
         → (actor_after decl a (deeds a [] h)).actor ≡ actors.Client c
         → (q : Call) → In q (open_calls c) → IsAwaited q.number (inbox script a h)

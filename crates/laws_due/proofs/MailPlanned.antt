@@ -4,7 +4,7 @@ use Rattle.std.proofs.Common.{Some, None, slice_get, refl, sym, subst, append_as
 use Rattle.std.specs.Prelude.{option_to_list}
 use Rattle.std.specs.List.{AllByRecursion as Every}
 use Rattle.qc_core.specs.Vocabulary.{IsLawfulWithFalls}
-use Rattle.laws_turns.proofs.Lived.{deeds-rise}
+use Rattle.laws_turns.proofs.LivedMoves.{deeds-rise}
 use Rattle.laws_turns.specs.Vocabulary.{AsksDeclared}
 use Rattle.laws_turns.proofs.SoundClients.{IsAskableDeed}
 use Rattle.laws_due.proofs.Commanded.{run_askable}

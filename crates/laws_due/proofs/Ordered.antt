@@ -14,7 +14,8 @@ use Rattle.qc_mailbox.proofs.FallMail.{ready_sent}
 use Rattle.laws_turns.specs.Vocabulary.{AsksDeclared, LivesIn, call_in, reply_in}
 use Rattle.laws_turns.proofs.Acted.{deeds-silent}
 use Rattle.laws_turns.proofs.Commands.{may_take}
-use Rattle.laws_turns.proofs.Lived.{deeds-fall, deeds-rise, run_lives}
+use Rattle.laws_turns.proofs.LivedMoves.{deeds-fall, deeds-rise}
+use Rattle.laws_turns.proofs.Lived.{run_lives}
 use Rattle.qc_msg.specs.declared.record.Record.{Record}
 use Rattle.qc_msg.specs.declared.reply.Reply.{Reply}
 use Rattle.qc_msg.specs.declared.step.Control.{Control}

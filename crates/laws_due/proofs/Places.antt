@@ -5,7 +5,7 @@ pub use Rattle.qc_decl.proofs.Clients.{client_below, client_past, client_within}
 use Rattle.qc_decl.specs.declared.declaration.Declaration.{Declaration}
 use Rattle.qc_decl.specs.Vocabulary.{IsAccepted, actors, controller, is_client}
 use Rattle.qc_link.specs.Vocabulary.{most_actors}
-use Rattle.laws_turns.proofs.Lived.{deeds-rise}
+use Rattle.laws_turns.proofs.LivedMoves.{deeds-rise}
 use Rattle.qc_msg.specs.declared.record.Record.{Record}
 use Rattle.qc_msg.specs.declared.step.Step.TheVariants as steps
 use Rattle.qc_msg.specs.declared.turn.Appended.{Appended}

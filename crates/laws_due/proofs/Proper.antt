@@ -18,7 +18,7 @@ use Rattle.laws_turns.specs.Vocabulary.{AsksDeclared}
 use Rattle.laws_turns.proofs.Mailed.{both_all}
 use Rattle.laws_turns.proofs.SoundClients.{IsAskableDeed, IsAskableGiven, Sound, SoundMove, sent_sound, takes_sound}
 use Rattle.laws_turns.proofs.Rounds.{AreProper, IsProper}
-use Rattle.laws_turns.proofs.Lived.{deeds-rise}
+use Rattle.laws_turns.proofs.LivedMoves.{deeds-rise}
 use Rattle.qc_msg.specs.declared.message.Envelope.{Envelope}
 use Rattle.qc_msg.specs.declared.record.Record.{Record}
 use Rattle.qc_msg.specs.declared.step.Control.{Control}
@@ -150,13 +150,13 @@ module _ (decl : Declaration) (accepted : IsAccepted decl) (a : ℕ) (client : i
         → Every (IsAskableDeed decl a) (deeds a [] h)
     askable h open_inputs run = run_askable (IsLawfulWithFalls decl) fits decl script asks h open_inputs run a
 
-    pub post_sends : (older : List Entry) (before : List Bool) → IsRun older before → (b : ℕ) (turn : Turn)
+    post_sends : (older : List Entry) (before : List Bool) → IsRun older before → (b : ℕ) (turn : Turn)
         → IsLawfulWithFalls decl b (deeds b [] older) turn → b ≡ a → AreProper decl (sends_as turn.append turn)
     post_sends older before run b turn law is =
         lawful_proper (deeds a [] older) turn (askable older before run)
         (subst (λ (k : ℕ). IsLawfulWithFalls decl k (deeds k [] older) turn) is law)
 
-    pub rise_sends : (older : List Entry) (before : List Bool) → IsRun older before
+    rise_sends : (older : List Entry) (before : List Bool) → IsRun older before
         → (b : ℕ) (kept : List Record) (turn : Turn)
         → IsLawfulWithFalls decl b (deeds b [] (older ++ marked b (steps.Rose kept) ∷ [])) turn → b ≡ a
         → AreProper decl (sends_as turn.append turn)
@@ -180,7 +180,7 @@ module _ (decl : Declaration) (accepted : IsAccepted decl) (a : ℕ) (client : i
     line_proper b (controls.Crash x) step is = absurd (let never : ⊥ = cc in never)
     line_proper b (controls.Restart x) step is = absurd (let never : ⊥ = cc in never)
 
-    pub run_proper : (h : List Entry) (open_inputs : List Bool) → IsRun h open_inputs → AreOwnProper (mail h)
+    run_proper : (h : List Entry) (open_inputs : List Bool) → IsRun h open_inputs → AreOwnProper (mail h)
     run_proper h open_inputs begins = tt
     run_proper h open_inputs (takes b g before older run free rdy) =
         subst AreOwnProper (sym (mail-taken older b g)) (run_proper older before run)

@@ -84,4 +84,5 @@ pub mod DueNumbers
 pub mod Moving
 pub mod Persists
 pub mod Committed
+pub mod RecordsDue
 pub mod Law

@@ -31,8 +31,7 @@ use Rattle.laws_refinement.proofs.Refining.{nets_refine}
 use Rattle.laws_guarantees.proofs.SiteLocks.{Asks, locks_were_asked}
 use Rattle.laws_atomic.proofs.FirstSites.{IsCalmGiven, IsCalmMessage}
 use Rattle.laws_guarantees.proofs.NetMessages.{both, WasEnded, ended_more, AreFullMessages, IsGrantedBy}
-use Rattle.laws_guarantees.proofs.SiteHolds.{granted_before}
-use Rattle.laws_guarantees.proofs.SiteHolds.{site_step}
+use Rattle.laws_guarantees.proofs.SiteHolds.{granted_before, site_step}
 
 module _ (decl : Declaration) (accepted : IsAccepted decl) where
   abbrev HoldsOrEnded : Net → ℕ → TxId → Type 0

@@ -125,7 +125,7 @@ module _ (decl : Declaration) (accepted : IsAccepted decl) where
         is = (r.is.0, here ∙ ap (λ (x : Envelope). Some x) (sym same), r.is.2, r.is.3);
       }
 
-  abbrev HoldsOrEnded : Net → ℕ → TxId → Type 0
+  abbrev pub HoldsOrEnded : Net → ℕ → TxId → Type 0
   HoldsOrEnded net site tx = (is_held (net.sites site).held tx ≡ true) ⊎ WasEnded net.mail tx
 
   -- a grant that was sent before had its request then
@@ -182,7 +182,7 @@ module _ (decl : Declaration) (accepted : IsAccepted decl) where
         inl (put_one (λ (n : ℕ) (s : SiteState). n ≡ a → is_held s.held tx ≡ true) before.sites a step.site site
         (λ same. now) (λ other same. absurd (other same)) here)
 
-    pub site_step : AreFullMessages before.mail → (IsGrantedBy before.mail site tx → HoldsOrEnded before site tx)
+    site_step : AreFullMessages before.mail → (IsGrantedBy before.mail site tx → HoldsOrEnded before site tx)
         → IsGrantedBy (before.mail ++ posted) site tx → HoldsOrEnded (after_site before a step) site tx
     site_step full older k = elim (in_split k.answer before.mail posted k.sent) [
       | inl old ↦

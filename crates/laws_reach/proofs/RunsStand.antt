@@ -24,7 +24,8 @@ use Rattle.qc_link.specs.Vocabulary.{most_actors}
 use Rattle.laws_turns.specs.Vocabulary.{LivesIn}
 use Rattle.laws_turns.proofs.Commands.{may_take}
 use Rattle.laws_turns.proofs.Downs.{tells, up_is}
-use Rattle.laws_turns.proofs.Lived.{deeds-fall, line_silent, run_lives}
+use Rattle.laws_turns.proofs.LivedMoves.{deeds-fall, line_silent}
+use Rattle.laws_turns.proofs.Lived.{run_lives}
 use Rattle.qc_msg.specs.declared.message.Envelope.{Envelope}
 use Rattle.qc_msg.specs.declared.record.Record.{Record}
 use Rattle.qc_msg.specs.declared.step.Control.{Control}
@@ -122,7 +123,7 @@ module _ (decl : Declaration) (script : Script) (fits : ℕ → List Record → 
       same_journal =
           ap journal_after (deeds-taken a h g sent) ∙ fold-append journal_at no_journal (deeds a [] h) (Takes g ∷ [])
 
-      pub stands_taken : Stood decl now_taken (slice_set inputs a true)
+      stands_taken : Stood decl now_taken (slice_set inputs a true)
       stands_taken =
           moves decl h now_taken inputs (slice_set inputs a true) old a old.net [] old.reached
           (old.mail_is ∙ sym (mail-taken h a g)) grows (λ b other. itself decl old.net b)
@@ -156,7 +157,7 @@ module _ (decl : Declaration) (script : Script) (fits : ℕ → List Record → 
 
     -- a step that is nobody's deed
 
-    pub stands_still : (b : ℕ) (step : Step) → IsSilent step → Stood decl (h ++ marked b step ∷ []) inputs
+    stands_still : (b : ℕ) (step : Step) → IsSilent step → Stood decl (h ++ marked b step ∷ []) inputs
     stands_still b step silent = record {
       net = old.net;
       reached = old.reached;
@@ -207,7 +208,7 @@ module _ (decl : Declaration) (script : Script) (fits : ℕ → List Record → 
         (same ∙ old.mail_is ∙ sym (append-nil (mail h)) ∙ sym (mail_fall a h cause)) (mail_fall a h cause) leaves
         (λ b other. deeds-other a b [] h (steps.Fell cause None ∷ []) other) (λ b other. refl) here
 
-    pub stands_fallen : (a : ℕ) (lines : List Control) → controls_left script h ≡ controls.Crash a ∷ lines
+    stands_fallen : (a : ℕ) (lines : List Control) → controls_left script h ≡ controls.Crash a ∷ lines
         → Stood decl (fallen a causes.Script) inputs
     stands_fallen a lines left = by_kind (is_site decl a) (is_client decl a) (is_administrator decl a) refl refl refl
       where
@@ -233,8 +234,7 @@ module _ (decl : Declaration) (script : Script) (fits : ℕ → List Record → 
             (λ is_up. nets.admin_falls old.net old.reached is_up)
             ((old.actors a (inr (inr at))).up ∙ up (inr (inr at)))
 
-        nobody : is_site decl a ≡ false → is_client decl a ≡ false → is_administrator decl a ≡ false
-            → TakesInputs decl a → ⊥
+        nobody : is_site decl a ≡ false → is_client decl a ≡ false → is_administrator decl a ≡ false → TakesInputs decl a → ⊥
         nobody none no_client no_admin (inl site) = let no : ⊥ = cc in no
         nobody none no_client no_admin (inr (inl client)) = let no : ⊥ = cc in no
         nobody none no_client no_admin (inr (inr at)) =
@@ -253,7 +253,7 @@ module _ (decl : Declaration) (script : Script) (fits : ℕ → List Record → 
 
     -- its journal isn't opened: it stays down
 
-    pub stands_unopened : (a : ℕ) (cause : Fall) (lines : List Control)
+    stands_unopened : (a : ℕ) (cause : Fall) (lines : List Control)
         → controls_left script h ≡ controls.Restart a ∷ lines → Stood decl (fallen a cause) inputs
     stands_unopened a cause lines left = falls_to a cause old.net old.reached refl (λ b other. itself decl old.net b) here
       where
@@ -265,7 +265,7 @@ module _ (decl : Declaration) (script : Script) (fits : ℕ → List Record → 
 
     -- it rises
 
-    pub stands_risen : (a : ℕ) (records : List Record) (turn : Turn) (lines : List Control) → controls_left script h ≡ controls.Restart a ∷ lines → IsLawfulWithFalls decl a (deeds a [] (h ++ marked a (steps.Rose records) ∷ [])) turn
+    stands_risen : (a : ℕ) (records : List Record) (turn : Turn) (lines : List Control) → controls_left script h ≡ controls.Restart a ∷ lines → IsLawfulWithFalls decl a (deeds a [] (h ++ marked a (steps.Rose records) ∷ [])) turn
         → IsGivenBack (journal_of (own a h)) records → Stood decl (h ++ by a (steps.Rose records ∷ posted_as turn.append (length (mail h)) turn)) inputs
     stands_risen a records turn lines left law back =
         rise.rises decl h inputs old records turn a law back down (lines_close (IsLawfulWithFalls decl) fits decl script h inputs few run (controls.Restart a) lines left a)

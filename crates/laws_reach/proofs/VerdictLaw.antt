@@ -18,7 +18,8 @@ use Rattle.laws_turns.proofs.Places.{slice_get-within}
 use Rattle.qc_list.specs.Vocabulary.{In}
 use Rattle.qc_list.proofs.Members.{every-at}
 use Rattle.laws_turns.specs.Vocabulary.{LivesIn}
-use Rattle.laws_turns.proofs.Lived.{deeds-fall, deeds-rise, line_silent, run_lives, run_long}
+use Rattle.laws_turns.proofs.LivedMoves.{deeds-fall, deeds-rise, line_silent}
+use Rattle.laws_turns.proofs.Lived.{run_lives, run_long}
 use Rattle.qc_msg.specs.declared.message.Envelope.{Envelope}
 use Rattle.qc_msg.specs.declared.message.Message.{Message}
 use Rattle.qc_msg.specs.declared.message.Message.TheVariants as messages
@@ -80,8 +81,7 @@ module _ (decl : Declaration) (script : Script) (fits : ℕ → List Record → 
     is_open : Bool
     in_run : LivesIn decl a h is_open
 
-  lived : (h : List Entry) (open_inputs : List Bool) → IsRun h open_inputs → (a : ℕ) → is_client decl a ≡ true
-      → Lived h open_inputs a
+  lived : (h : List Entry) (open_inputs : List Bool) → IsRun h open_inputs → (a : ℕ) → is_client decl a ≡ true → Lived h open_inputs a
   lived h open_inputs run a client =
       let low : a < actors decl = client_within decl a client in
       let long : length open_inputs ≡ actors decl =

@@ -37,7 +37,8 @@ use Rattle.laws_refinement.proofs.MessagesStay.{message_later}
 use Rattle.laws_refinement.proofs.Posts.{at_number}
 use Rattle.laws_refinement.proofs.AdminRounds.{asked_need, asked_told, asked_weights, calls_sent, closes_more}
 use Rattle.laws_refinement.proofs.AdminRounds.{closing_sent, granted_told, noted_told, told_more}
-use Rattle.laws_refinement.proofs.AdminTurns.{Goes, again_case, asks_case, ended, nothing, rests}
+use Rattle.laws_refinement.proofs.AdminStands.{Goes, again_case, ended, nothing, rests}
+use Rattle.laws_refinement.proofs.AdminTurns.{asks_case}
 use Rattle.laws_refinement.proofs.OpenRequests.{message_same}
 
 module _ (decl : Declaration) (acts : List Act) (net : Net) (run : IsRun decl acts) (m : Mirrors decl (state acts) net)

@@ -25,7 +25,8 @@ use Rattle.qc_epoch.specs.Admin as admins
 use Rattle.laws_refinement.specs.Vocabulary.{Backed, DoingMirrors, IsAnswerBacked, IsCovered, IsMessage, IsNumbered}
 use Rattle.laws_refinement.specs.Vocabulary.{IsTaken, IsVerdictBacked, MayAdminister, MayCome, Mirrors, Net}
 use Rattle.laws_refinement.specs.Vocabulary.{QuestionMirrors}
-use Rattle.laws_refinement.proofs.AdminTurns.{Goes, ended, nothing, settles_case, stays}
+use Rattle.laws_refinement.proofs.AdminStands.{Goes, ended, nothing, stays}
+use Rattle.laws_refinement.proofs.AdminTurns.{settles_case}
 use Rattle.laws_refinement.proofs.OpenRequests.{message_same}
 use Rattle.laws_refinement.proofs.AdminAnswers.{called_case, closing_case}
 

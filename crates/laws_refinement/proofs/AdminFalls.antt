@@ -15,7 +15,7 @@ use Rattle.qc_epoch.specs.Vocabulary.{Decided}
 use Rattle.qc_recover.specs.Admins.{keeps, kept_by}
 use Rattle.laws_refinement.specs.Vocabulary.{IsDeciding, IsGivenBack, IsPendingRule, Net, Refines, RulesMirror}
 use Rattle.laws_refinement.specs.Vocabulary.{after_admin_rise, after_fall, after_vain_rise, commits_in}
-use Rattle.laws_refinement.proofs.AdminTurns.{rule_more}
+use Rattle.laws_refinement.proofs.AdminStands.{rule_more}
 use Rattle.laws_refinement.proofs.MessagesStay.{keeps_same, same_state}
 use Rattle.laws_refinement.proofs.Machine.{put_other}
 use Rattle.laws_refinement.proofs.Nets.{AtAdmin, admin_net}
@@ -163,7 +163,7 @@ module _ (decl : Declaration) (net : Net) (h : Refines decl net) where
     unwritten (Some (records.Decide epoch clock lines)) b = refl
 
     -- he rises, and falls before the record of that stands
-    pub admin_rises_in_vain : Refines decl (after_vain_rise net (administrator decl) back)
+    admin_rises_in_vain : Refines decl (after_vain_rise net (administrator decl) back)
     admin_rises_in_vain = record {
       acts = stood.acts;
       run = stood.run;
@@ -192,7 +192,7 @@ module _ (decl : Declaration) (net : Net) (h : Refines decl net) where
     }
 
     -- he rises
-    pub admin_rises_up : Refines decl (after_admin_rise decl net back)
+    admin_rises_up : Refines decl (after_admin_rise decl net back)
     admin_rises_up = record {
       acts = stood.acts;
       run = stood.run;

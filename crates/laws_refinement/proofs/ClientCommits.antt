@@ -33,8 +33,7 @@ use Rattle.qc_list.proofs.Members.{In-passes}
 use Rattle.qc_plan.specs.Vocabulary.{cyclic}
 use Rattle.laws_refinement.proofs.Ballots.{blank_in, blank_votes, participates}
 use Rattle.laws_refinement.proofs.ClientGivesUp.{gives_up_case}
-use Rattle.laws_refinement.proofs.ClientEnding.{Ending, ending_of, ends_mine, own_put}
-use Rattle.laws_refinement.proofs.ClientEnding.{mid_prepare}
+use Rattle.laws_refinement.proofs.ClientEnding.{Ending, ending_of, ends_mine, own_put, mid_prepare}
 use Rattle.laws_refinement.proofs.ClientEnds.{commits_it, Pends, pends_it}
 use Rattle.qc_front.proofs.Unwritten.{front_called}
 use Rattle.qc_msg.specs.declared.record.Record.{Record}

@@ -30,8 +30,8 @@ use Rattle.laws_refinement.specs.Vocabulary.{commits_in}
 use Rattle.laws_refinement.proofs.Planned.{planned_max}
 use Rattle.laws_refinement.proofs.RequestsSent.{IsAsking}
 use Rattle.laws_refinement.proofs.ClientSteps.{Mid, Turned, turns}
-use Rattle.laws_refinement.proofs.ClientEnding.{Ending, ends_mine, Remains, own_put}
-use Rattle.laws_refinement.proofs.ClientEnding.{mid_abort, mid_announce, mid_commit}
+use Rattle.laws_refinement.proofs.ClientEnding.{Ending, ends_mine, Remains, own_put, mid_abort, mid_announce}
+use Rattle.laws_refinement.proofs.ClientEnding.{mid_commit}
 
 module _ (decl : Declaration) where
   -- decisions

@@ -19,8 +19,7 @@ use Rattle.qc_client.specs.declared.client.Client.{Client}
 use Rattle.qc_recover.specs.Clients.{Kept, kept_by}
 use Rattle.laws_refinement.specs.Vocabulary.{ClientMirrors, FallenMirrors, IsClientKeptBy, IsPlanned, Net, OwnMirrors}
 use Rattle.laws_refinement.specs.Vocabulary.{Refines, after_fall}
-use Rattle.laws_refinement.proofs.ClientEnding.{Ending, ending_of, ends_mine, own_put}
-use Rattle.laws_refinement.proofs.ClientEnding.{mid_abort}
+use Rattle.laws_refinement.proofs.ClientEnding.{Ending, ending_of, ends_mine, own_put, mid_abort}
 use Rattle.laws_refinement.proofs.ClientSteps.{Mid, mid_first}
 use Rattle.laws_refinement.proofs.Machine.{put_other}
 use Rattle.laws_refinement.proofs.Nets.{AtClient, Settles, client_net}

@@ -30,8 +30,7 @@ use Rattle.qc_client.specs.Vocabulary.{by_front, is_begun}
 use Rattle.qc_client.specs.declared.client.Client.{Client}
 use Rattle.laws_refinement.specs.Vocabulary.{AreVotes, Mirrors, Net, OwnMirrors, Refines, RunningMirrors, after_client}
 use Rattle.laws_refinement.specs.Vocabulary.{name_at, status_by}
-use Rattle.laws_refinement.proofs.ClientEnding.{Ending, ending_of}
-use Rattle.laws_refinement.proofs.ClientEnding.{mid_begin}
+use Rattle.laws_refinement.proofs.ClientEnding.{Ending, ending_of, mid_begin}
 use Rattle.laws_refinement.proofs.ClientEnds.{aborts_it}
 use Rattle.laws_refinement.proofs.ClientRounds.{no_asks, no_sends, nothing}
 use Rattle.laws_refinement.proofs.ClientSteps.{mid_first, put_tx_other, refined, turns}

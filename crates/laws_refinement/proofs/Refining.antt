@@ -23,8 +23,7 @@ use Rattle.laws_refinement.proofs.ClientKeeps.{clients_kept}
 use Rattle.laws_refinement.proofs.SiteFails.{take_fails as site_take_fails}
 use Rattle.laws_refinement.proofs.SiteFalls.{site_falls, site_rises_in_vain, site_rises_up}
 use Rattle.laws_refinement.specs.Net as nets
-use Rattle.laws_refinement.proofs.RefiningTurns.{at_first, first_plan}
-use Rattle.laws_refinement.proofs.RefiningTurns.{take_case, take_fails}
+use Rattle.laws_refinement.proofs.RefiningTurns.{at_first, first_plan, take_case, take_fails}
 
 module _ (decl : Declaration) (accepted : IsAccepted decl) where
   client_pends : (net : Net) (h : Refines decl net) (a : ℕ) → is_client decl a ≡ true → net.up a ≡ true

@@ -19,7 +19,7 @@ use Rattle.laws_refinement.specs.Vocabulary.{AreInTurn, IsGivenBack, IsNextRule,
 use Rattle.laws_refinement.specs.Vocabulary.{rule_after}
 use Rattle.laws_refinement.specs.Net as nets
 use Rattle.laws_refinement.proofs.AdminCases.{admin_case}
-use Rattle.laws_refinement.proofs.AdminTurns.{IsInTurn, rule_more}
+use Rattle.laws_refinement.proofs.AdminStands.{IsInTurn, rule_more}
 use Rattle.laws_refinement.proofs.Kepts.{no_ruler, no_ruling}
 use Rattle.laws_refinement.proofs.Machine.{put_other}
 use Rattle.laws_refinement.proofs.Refining.{nets_refine}

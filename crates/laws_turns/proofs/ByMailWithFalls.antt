@@ -29,7 +29,8 @@ use Rattle.qc_script.specs.Vocabulary.{RunsWithFalls, begins, control, controlle
 use Rattle.qc_script.specs.Vocabulary.{posts, rises, takes, unopened}
 use Rattle.qc_script.specs.declared.script.Script.{Script}
 use Rattle.laws_turns.specs.Vocabulary.{LivesIn}
-use Rattle.laws_turns.proofs.Lived.{deeds-rise, run_lives, run_long}
+use Rattle.laws_turns.proofs.LivedMoves.{deeds-rise}
+use Rattle.laws_turns.proofs.Lived.{run_lives, run_long}
 
 module _ (decl : Declaration) (script : Script) (fits : ℕ → List Record → Type 0)
     (few : actors decl ≤ most_actors) where

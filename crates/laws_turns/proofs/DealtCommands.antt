@@ -30,8 +30,7 @@ use Rattle.qc_promise.specs.Vocabulary.{Dealing, ended}
 use Rattle.laws_turns.proofs.BooksKept.{committed_book, free_book, later_book}
 use Rattle.laws_turns.proofs.DealingParts.{IsBook, IsDealing}
 use Rattle.laws_turns.proofs.Dealing.{committed_one, gave_up}
-use Rattle.laws_turns.proofs.DealtOperations.{AskedFor, FrontAfter, told_deal}
-use Rattle.laws_turns.proofs.DealtOperations.{called-after}
+use Rattle.laws_turns.proofs.DealtOperations.{AskedFor, FrontAfter, told_deal, called-after}
 use Rattle.laws_turns.proofs.DealtFronts.{takes-after}
 use Rattle.laws_turns.proofs.HandMoves.{Holds, IsHandMove, prepare-it, vote-it}
 

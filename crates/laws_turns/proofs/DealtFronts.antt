@@ -22,8 +22,8 @@ use Rattle.qc_front.proofs.Keeping.{appended_is}
 use Rattle.laws_turns.specs.Vocabulary.{Book, book_with}
 use Rattle.qc_promise.specs.Vocabulary.{Dealing}
 use Rattle.laws_turns.proofs.DealingParts.{IsBook, IsDealing}
-use Rattle.laws_turns.proofs.DealtOperations.{AskedFor, FrontAfter, IsLike, Stands}
-use Rattle.laws_turns.proofs.DealtOperations.{append_by-after, read_by-after, stands, still}
+use Rattle.laws_turns.proofs.DealtOperations.{AskedFor, FrontAfter, IsLike, Stands, append_by-after, read_by-after}
+use Rattle.laws_turns.proofs.DealtOperations.{stands, still}
 
 module _ (k : ℕ) (tx : TxId) (clock : ℕ) (records : List Commit) (d : Dealing) where
   -- what comes of a request

@@ -22,8 +22,8 @@ use Rattle.qc_front.proofs.Sending.{called_sent, takes_sent}
 use Rattle.laws_turns.specs.Vocabulary.{FrontWithin, LinesWithin, MessageWithin, OutcomeWithin, SendsWithin}
 use Rattle.laws_turns.specs.Vocabulary.{TransactionWithin, ViewsWithin, WantWithin}
 use Rattle.laws_turns.proofs.DesksWithin.{CameWithin}
-use Rattle.laws_turns.proofs.FrontBounds.{front-le, no_lines, old-within, granted-clock, takes_in-within}
-use Rattle.laws_turns.proofs.FrontBounds.{aborts-within, commits-within, performs-within}
+use Rattle.laws_turns.proofs.FrontBounds.{front-le, no_lines, old-within, granted-clock, takes_in-within, aborts-within}
+use Rattle.laws_turns.proofs.FrontBounds.{commits-within, performs-within}
 
 module _ (bound : ℕ) where
   -- another view of an object

@@ -38,6 +38,7 @@ pub mod Proper
 pub mod Answering
 pub mod StepsKeep
 pub mod Kept
+pub mod TakenRequests
 pub mod Reached
 pub mod Ends
 pub mod Busy
@@ -45,6 +46,7 @@ pub mod WholeLaw
 mod Exchanging
 pub mod Downs
 pub mod Commands
+pub mod LivedMoves
 pub mod Lived
 pub mod ByMailWithFalls
 pub mod FallStamps

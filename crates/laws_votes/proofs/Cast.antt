@@ -13,7 +13,7 @@ use Rattle.laws_votes.proofs.Voting.{post_casts, rise_casts}
 use Rattle.laws_turns.proofs.Numbered.{mail-silent, phase_silent}
 use Rattle.qc_list.specs.Vocabulary.{In}
 use Rattle.qc_list.proofs.Members.{In-first}
-use Rattle.laws_turns.proofs.Lived.{line_silent}
+use Rattle.laws_turns.proofs.LivedMoves.{line_silent}
 use Rattle.qc_msg.proofs.GrownMail.{mail-append, mail-taken}
 use Rattle.qc_msg.proofs.Growth.{mail-posted_as}
 use Rattle.qc_msg.specs.Vocabulary.{Entry, by, deeds, envelopes, mail, marked, posted_as, sends_as, step_of}
@@ -168,7 +168,7 @@ module _ (decl : Declaration) where
         (subst (λ (b : ℕ). is_site decl b ≡ true) p.from vote.0) turn given law p.posting to p.among
         (vote.1.0, sym p.message ∙ vote.1.1)))
 
-    pub votes_are_cast_in_the_lives_that_they_name : (h : List Entry) (inputs : List Bool) → IsRun h inputs → Kept h
+    votes_are_cast_in_the_lives_that_they_name : (h : List Entry) (inputs : List Bool) → IsRun h inputs → Kept h
         → AreCastSince h
     votes_are_cast_in_the_lives_that_they_name h inputs begins kept = λ early later is e to among vote. absurd among
     votes_are_cast_in_the_lives_that_they_name h inputs (takes a g before older run free rdy) kept =

@@ -16,7 +16,8 @@ use Rattle.laws_turns.proofs.Places.{slice_get-more}
 use Rattle.qc_link.specs.Vocabulary.{most_actors}
 use Rattle.qc_list.specs.Vocabulary.{In}
 use Rattle.qc_list.proofs.Members.{every-In}
-use Rattle.laws_turns.proofs.Lived.{deeds-rise, run_lives}
+use Rattle.laws_turns.proofs.LivedMoves.{deeds-rise}
+use Rattle.laws_turns.proofs.Lived.{run_lives}
 use Rattle.laws_turns.specs.Vocabulary.{LivesIn}
 use Rattle.qc_msg.proofs.GrownMail.{mail-append}
 use Rattle.qc_msg.specs.Vocabulary.{Answered, Deed, Entry, Takes, WasSentTo, answer_in, deeds, heard_in, mail, marked}

@@ -23,7 +23,7 @@ use Rattle.laws_turns.proofs.Numbered.{IsSilent, phase_silent}
 use Rattle.qc_link.specs.Vocabulary.{most_actors}
 use Rattle.qc_list.specs.Vocabulary.{In}
 use Rattle.laws_turns.proofs.ByMailWithFalls.{run_by_turns}
-use Rattle.laws_turns.proofs.Lived.{deeds-fall, line_silent}
+use Rattle.laws_turns.proofs.LivedMoves.{deeds-fall, line_silent}
 use Rattle.qc_msg.proofs.DeedsGrow.{deeds-other}
 use Rattle.qc_msg.proofs.Growth.{deeds-posted_as, deeds-taken}
 use Rattle.qc_msg.specs.Vocabulary.{Deed, Entry, Falls, Rises, Takes, Tells, answered, by, deeds, deeds_as, mail}

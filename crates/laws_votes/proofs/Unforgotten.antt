@@ -28,7 +28,7 @@ use Rattle.qc_link.specs.Vocabulary.{most_actors}
 use Rattle.qc_list.specs.Vocabulary.{In}
 use Rattle.qc_list.proofs.Members.{In-first, In-second}
 use Rattle.laws_turns.proofs.Downs.{due}
-use Rattle.laws_turns.proofs.Lived.{deeds-fall, line_silent}
+use Rattle.laws_turns.proofs.LivedMoves.{deeds-fall, line_silent}
 use Rattle.qc_msg.proofs.GrownMail.{mail-append, mail-taken}
 use Rattle.qc_msg.proofs.Growth.{deeds-posted_as, deeds-taken, mail-posted_as}
 use Rattle.qc_msg.specs.Vocabulary.{Entry, Falls, Rises, Takes, WasSentTo, answered, by, deeds, deeds_as, mail, marked}
@@ -123,7 +123,7 @@ module _ (fits : ℕ → List Record → Type 0) (decl : Declaration) (script : 
           (in_site decl (net fits decl script h inputs accepted sound run kept) b site)))
           ∙ due decl b (deeds b [] h) turn law
 
-      pub post_remembers : ⊥
+      post_remembers : ⊥
       post_remembers = by turn.append among
         where
           by : (end : Appended) → In p (sends_as end turn) → ⊥
