@@ -126,10 +126,10 @@ module _ (decl : Declaration) (a : ℕ) (client : is_client decl a ≡ true) (co
 
   -- an input
   module _ (ds : List Deed) (n : ℕ) (acts : Acts decl a ds false n) (w : IsAt ds) where
-    tied : Ties decl (account_of ds) (client_after decl (a - decl.sites) ds).client
+    pub tied : Ties decl (account_of ds) (client_after decl (a - decl.sites) ds).client
     tied = clients_tied decl a client ds n acts
 
-    take : (g : Input) → MayTake ds g → AreFounded commits (ds ++ Takes g ∷ [])
+    pub take : (g : Input) → MayTake ds g → AreFounded commits (ds ++ Takes g ∷ [])
         → Sees commits tx (account_taken (account_of ds) g) (sight_taken tx (fold (sight tx) no_sight ds) g)
         (fold wrote_at [] ds) (fold (status_at tx) statuses.Unborn ds)
     take g may f =
@@ -141,7 +141,7 @@ module _ (decl : Declaration) (a : ℕ) (client : is_client decl a ≡ true) (co
     taken_at g may f = more_deeds ds (Takes g ∷ []) (take g may f)
 
     -- and where a reply is due then, nothing is waited for
-    replied_free : (g : Input) (reply : Reply) → running_row decl (account_of (ds ++ Takes g ∷ [])) false ≡ Some reply
+    pub replied_free : (g : Input) (reply : Reply) → running_row decl (account_of (ds ++ Takes g ∷ [])) false ≡ Some reply
         → MayTake ds g → AreFounded commits (ds ++ Takes g ∷ [])
         → IsFree (fold (sight tx) no_sight (ds ++ Takes g ∷ []))
     replied_free g reply is_due may f =

@@ -70,7 +70,7 @@ module _ (decl : Declaration) (script : Script) (accepted : IsAccepted decl) (so
       abbrev now_taken : List Entry
       now_taken = h ++ marked a (step_of g) ∷ []
 
-      sent : WasSentTo a (mail h) g
+      pub sent : WasSentTo a (mail h) g
       sent = what_is_ready_was_sent (IsLawful decl) decl script h open_inputs run a g rdy
 
       sent_now : WasSentTo a (mail now_taken) g
@@ -91,9 +91,9 @@ module _ (decl : Declaration) (script : Script) (accepted : IsAccepted decl) (so
           at true site = absurd (both decl a site client)
           at false none = refl
 
-      may : (x : Input) → g ≡ x → is_client decl a ≡ true
+      pub may : (x : Input) → g ≡ x → is_client decl a ≡ true
           → MayCommand decl (client_after decl (a - decl.sites) (deeds a [] h)).client x
-      may (inputs.Called command) is client =
+      pub may (inputs.Called command) is client =
           let c : Client = (client_after decl (a - decl.sites) (deeds a [] h)).client in
           let rests : is_waiting (client_after decl (a - decl.sites) (deeds a [] h)).client ≡ false =
           still client command is in (
@@ -101,8 +101,8 @@ module _ (decl : Declaration) (script : Script) (accepted : IsAccepted decl) (so
             ready_named decl script (script_named decl accepted script sound) h open_inputs run a command free
                 (rdy ∙ ap (λ (v : Input). Some v) is),
           )
-      may (inputs.Got envelope) is client = tt
-      may (inputs.Lost number) is client = tt
+      pub may (inputs.Got envelope) is client = tt
+      pub may (inputs.Lost number) is client = tt
 
       pub stands_taken : Stood decl now_taken (slice_set open_inputs a true)
       stands_taken = record {

@@ -79,9 +79,9 @@ module _ (decl : Declaration) (client : ℕ) (commits : List Commit) (tx : TxId)
 
     pub take : (g : Input) → IsFreeFor account_of g → AreFounded commits (ds ++ Takes g ∷ [])
         → Sees commits tx (account_taken account_of g) (sight_taken tx s g) wrote st
-    take (inputs.Called command) may f = called_sees commits tx account_of s wrote st w command (free_of may)
+    pub take (inputs.Called command) may f = called_sees commits tx account_of s wrote st w command (free_of may)
         (unwritten_of decl account_of c tied)
-    take (inputs.Got e) may f = by e.message refl
+    pub take (inputs.Got e) may f = by e.message refl
       where
         by : (m : Message) → e.message ≡ m
             → Sees commits tx (account_taken account_of
@@ -111,7 +111,7 @@ module _ (decl : Declaration) (client : ℕ) (commits : List Commit) (tx : TxId)
         by (messages.Ask other) is = w
         by (messages.Close epoch) is = w
         by (messages.Install epoch clock log) is = w
-    take (inputs.Lost number) may f = lost_sees commits tx account_of s wrote st w number
+    pub take (inputs.Lost number) may f = lost_sees commits tx account_of s wrote st w number
         (counted account_of number None) (counts number account_of None)
 
     -- and where a reply is due then, nothing is waited for

@@ -48,7 +48,7 @@ module _ (decl : Declaration) where
     abbrev Goes : FrontMove → Type 0
     Goes m = FrontNamed m.front
 
-    append_goes : (t : Transaction) (object inv event : ℕ) (calls : List Call) (r : RoundState) (v : Verdict)
+    pub append_goes : (t : Transaction) (object inv event : ℕ) (calls : List Call) (r : RoundState) (v : Verdict)
         → TransactionNamed decl t → HasInvocation decl object inv → EventNamed decl object event
         → Goes (append_by decl front t object inv event calls r v)
     append_goes t object inv event calls r verdicts.Waiting its asked here =
@@ -74,7 +74,7 @@ module _ (decl : Declaration) where
         (verdict (round_for decl front t (append_need_of decl t.begun.epoch object event))) its asked
         (answer_named decl accepted t object inv event is)
 
-    read_goes : (t : Transaction) (object inv : ℕ) (calls : List Call) (r : RoundState) (v : Verdict)
+    pub read_goes : (t : Transaction) (object inv : ℕ) (calls : List Call) (r : RoundState) (v : Verdict)
         → TransactionNamed decl t → HasInvocation decl object inv → Goes (read_by decl front t object inv calls r v)
     read_goes t object inv calls r verdicts.Waiting its asked =
         record { begun = record { views = its.views; own = its.own; ops = its.ops }; doing = asked }
@@ -118,12 +118,12 @@ module _ (decl : Declaration) where
         record { begun = record { views = no_lines decl (length decl.objects); own = tt; ops = tt }; doing = w.doing }
     begins_goes (Some t) = w
 
-    called_goes : (command : Command) → CommandNamed decl command → Goes (called decl front command)
+    pub called_goes : (command : Command) → CommandNamed decl command → Goes (called decl front command)
     called_goes commands.Begin here = begins_goes front.transaction
-    called_goes (commands.Do object inv) here = performs_goes front.transaction object inv w.begun here
+    pub called_goes (commands.Do object inv) here = performs_goes front.transaction object inv w.begun here
     called_goes commands.Commit here = commits_goes front.transaction
     called_goes commands.Abort here = aborts_goes front.transaction
-    called_goes (commands.Epoch number) here = w
+    pub called_goes (commands.Epoch number) here = w
 
   -- what is taken for a request
 

@@ -240,7 +240,7 @@ module _ (decl : Declaration) where
         every-at (λ (e : Envelope). MessageInForm e.message) ms e.number e all sent.0
     given_form a h ms (inputs.Lost number) all sent is = tt
 
-    run_form : (h : List Entry) (open_inputs : List Bool) → IsRun h open_inputs → length h < 2 ^ 31 → AllInForm h
+    pub run_form : (h : List Entry) (open_inputs : List Bool) → IsRun h open_inputs → length h < 2 ^ 31 → AllInForm h
     run_form h open_inputs begins short = record {
       messages = tt;
       actors_are = new_form decl;

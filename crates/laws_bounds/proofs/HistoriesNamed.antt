@@ -147,7 +147,7 @@ module _ (decl : Declaration) where
     IsRun h open_inputs = RunsWithFalls (IsLawfulWithFalls decl) fits decl script h open_inputs
 
     -- where what rises does
-    run_named_by : (h : List Entry) (open_inputs : List Bool) → IsRun h open_inputs → Side h → AllNamed h
+    pub run_named_by : (h : List Entry) (open_inputs : List Bool) → IsRun h open_inputs → Side h → AllNamed h
     run_named_by h open_inputs begins side =
         record { messages = tt; actors_are = new_named decl (first_planned decl accepted); puts = tt }
     run_named_by h open_inputs (takes c g before older run free rdy) side =

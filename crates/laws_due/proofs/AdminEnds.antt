@@ -99,14 +99,14 @@ module _ (decl : Declaration) (script : Script) (accepted : IsAccepted decl) (as
         (copies_none decl script accepted asks fits h open_inputs run closed quiet done (administrator decl)
         (omega arith)) has.member
 
-    none_open : (m : Admin)
+    pub none_open : (m : Admin)
         → (actor_after decl (administrator decl) (deeds (administrator decl) [] h)).actor ≡ actors.Admin m
         → open_numbers m.doing ≡ []
     none_open m is =
         no_members (open_numbers m.doing)
         (λ k member. not_awaited k (his_requests_awaited decl script fits few h open_inputs run m is k member))
 
-    none_runs : is_running (deeds (administrator decl) [] h) ≡ false
+    pub none_runs : is_running (deeds (administrator decl) [] h) ≡ false
     none_runs = running_is decl (deeds (administrator decl) [] h) ∙ by rest.up rest.stands
       where
         lived : LivesIn decl (administrator decl) h false

@@ -186,7 +186,7 @@ module _ (decl : Declaration) (script : Script) (a : ℕ) where
         at Failed is = broken Failed is (λ no. let never : ⊥ = cc in never)
         at Stopped is = broken Stopped is (λ no. let never : ⊥ = cc in never)
 
-    run_awaits : (h : List Entry) (open_inputs : List Bool) → IsRun h open_inputs → AwaitsIn h
+    pub run_awaits : (h : List Entry) (open_inputs : List Bool) → IsRun h open_inputs → AwaitsIn h
     run_awaits h open_inputs begins = first
     run_awaits h open_inputs (takes b g before older run free rdy) = at (b == a) refl (run_awaits older before run)
       where
@@ -279,7 +279,7 @@ module _ (decl : Declaration) (script : Script) (a : ℕ) where
         sym (ap (λ (m : ActorMove). m.actor) (client_risen decl a client kept)) ∙ down in
         let never : ⊥ = cc in never
 
-    open_requests_awaited : (h : List Entry) (open_inputs : List Bool)
+    pub open_requests_awaited : (h : List Entry) (open_inputs : List Bool)
         → RunsWithFalls (IsLawfulWithFalls decl) fits decl script h open_inputs → (c : Client)
         → (actor_after decl a (deeds a [] h)).actor ≡ actors.Client c
         → (q : Call) → In q (open_calls c) → IsAwaited q.number (inbox script a h)

@@ -147,7 +147,7 @@ module _ (decl : Declaration) (a : ℕ) (client : is_client decl a ≡ true) whe
         account_more decl a (ds ++ Takes g ∷ []) more
         ∙ ap (λ (d : Account). fold (account_at decl) d more) (account_more decl a ds (Takes g ∷ []))
 
-    written_rest : (first : ℕ) → IsAtRest decl a ((ds ++ Takes g ∷ []) ++ turn_deeds first move.turn)
+    pub written_rest : (first : ℕ) → IsAtRest decl a ((ds ++ Takes g ∷ []) ++ turn_deeds first move.turn)
     written_rest first = record {
       up = true;
       is =

@@ -150,13 +150,13 @@ module _ (decl : Declaration) (accepted : IsAccepted decl) (a : ℕ) (client : i
         → Every (IsAskableDeed decl a) (deeds a [] h)
     askable h open_inputs run = run_askable (IsLawfulWithFalls decl) fits decl script asks h open_inputs run a
 
-    post_sends : (older : List Entry) (before : List Bool) → IsRun older before → (b : ℕ) (turn : Turn)
+    pub post_sends : (older : List Entry) (before : List Bool) → IsRun older before → (b : ℕ) (turn : Turn)
         → IsLawfulWithFalls decl b (deeds b [] older) turn → b ≡ a → AreProper decl (sends_as turn.append turn)
     post_sends older before run b turn law is =
         lawful_proper (deeds a [] older) turn (askable older before run)
         (subst (λ (k : ℕ). IsLawfulWithFalls decl k (deeds k [] older) turn) is law)
 
-    rise_sends : (older : List Entry) (before : List Bool) → IsRun older before
+    pub rise_sends : (older : List Entry) (before : List Bool) → IsRun older before
         → (b : ℕ) (kept : List Record) (turn : Turn)
         → IsLawfulWithFalls decl b (deeds b [] (older ++ marked b (steps.Rose kept) ∷ [])) turn → b ≡ a
         → AreProper decl (sends_as turn.append turn)
@@ -180,7 +180,7 @@ module _ (decl : Declaration) (accepted : IsAccepted decl) (a : ℕ) (client : i
     line_proper b (controls.Crash x) step is = absurd (let never : ⊥ = cc in never)
     line_proper b (controls.Restart x) step is = absurd (let never : ⊥ = cc in never)
 
-    run_proper : (h : List Entry) (open_inputs : List Bool) → IsRun h open_inputs → AreOwnProper (mail h)
+    pub run_proper : (h : List Entry) (open_inputs : List Bool) → IsRun h open_inputs → AreOwnProper (mail h)
     run_proper h open_inputs begins = tt
     run_proper h open_inputs (takes b g before older run free rdy) =
         subst AreOwnProper (sym (mail-taken older b g)) (run_proper older before run)

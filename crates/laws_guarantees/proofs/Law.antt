@@ -86,7 +86,7 @@ module _ (decl : Declaration) (script : Script) (accepted : IsAccepted decl) (so
         among))
         (λ x. other (x ∙ k.its)) op line k.told d.logged.stamped d.logged.named d.logged.operation d.on d.depends
 
-    rises : (account decl k.actor k.early).clock ≤ (account decl k.actor before).clock
+    pub rises : (account decl k.actor k.early).clock ≤ (account decl k.actor before).clock
     rises =
         let whole : deeds k.actor [] before ≡ deeds k.actor [] k.early ++ deeds k.actor (mail k.early) k.middle =
         deeds-append k.actor [] k.early k.middle in
@@ -138,7 +138,7 @@ module _ (decl : Declaration) (script : Script) (accepted : IsAccepted decl) (so
           (w.after ++ wrote k.actor c ∷ k.after) amid writing
 
       -- the reader's transaction is begun then, with the operation
-      still : (s : Current) × ((account decl k.actor between).current ≡ Some s) × (s.tx ≡ t.tx) × In op s.ops
+      pub still : (s : Current) × ((account decl k.actor between).current ≡ Some s) × (s.tx ≡ t.tx) × In op s.ops
       still =
           let whole = grows w.before (wrote w.actor d.logged.commit ∷ w.after) w.stands in
           let p = persists decl (k.actor - decl.sites) (deeds k.actor [] k.early) (deeds k.actor (mail k.early) w.before) (deeds k.actor (mail k.early ++ mail w.before) (wrote w.actor d.logged.commit ∷ w.after)) t at.t op
@@ -155,7 +155,7 @@ module _ (decl : Declaration) (script : Script) (accepted : IsAccepted decl) (so
       abbrev amidst : Refines decl (stood decl script accepted sound between n.open_inputs n.run).net
       amidst = mirror decl script accepted sound between n.open_inputs n.run
 
-      never_between : ⊥
+      pub never_between : ⊥
       never_between =
           both_live decl accepted amidst.acts amidst.run still.0 there.t (account decl k.actor between).clock
           (account decl w.actor between).clock
@@ -211,7 +211,7 @@ module _ (decl : Declaration) (script : Script) (accepted : IsAccepted decl) (so
           (subst (λ (os : List Op). IsOperation decl os line.op line.object line.event) due_last.ops
           d.logged.operation) d.on d.depends
 
-      came_later : IsOrdered (view_of t op.object) line c.stamp
+      pub came_later : IsOrdered (view_of t op.object) line c.stamp
       came_later =
           let low : c.stamp.clock ≤ (account decl w.actor until).clock = passes in
           let next : d.logged.commit.stamp.clock ≡ (account decl w.actor until).clock + 1 = due_last.stamp in
@@ -224,7 +224,7 @@ module _ (decl : Declaration) (script : Script) (accepted : IsAccepted decl) (so
         ∙ ap (λ (cs : List CommitRecord). cs ++ c ∷ written k.after)
         (filter_map-append (λ (e : Entry). commit_in e.step) k.early k.middle)
 
-    dependent_operations_are_ordered : IsOrdered (view_of t op.object) line c.stamp
+    pub dependent_operations_are_ordered : IsOrdered (view_of t op.object) line c.stamp
     dependent_operations_are_ordered =
         elim (in_split d.logged.commit (written k.early ++ written k.middle) (c ∷ written k.after)
         (subst (In d.logged.commit) places d.logged.listed)) [

@@ -188,7 +188,7 @@ module _ (decl : Declaration) (script : Script) (accepted : IsAccepted decl) (so
     abbrev pub turn : Turn
     turn = (client_after decl (a - decl.sites) (deeds a [] h)).turn
 
-    law : IsLawful decl a (deeds a [] h) turn
+    pub law : IsLawful decl a (deeds a [] h) turn
     law = lawful (is_site decl a) (is_client decl a) no_site client
       where
         lawful : (s c : Bool) → s ≡ false → c ≡ true

@@ -51,13 +51,13 @@ module _ (decl : Declaration) (h : List Entry) (inputs : List Bool) (old : Stood
     abbrev net_records : List Record
     net_records = old.net.records a ++ option_to_list back
 
-    same : net_records ≡ records
+    pub same : net_records ≡ records
     same = rising.same_records decl h inputs old a records turn law given down shut s
 
-    was_down : old.net.up a ≡ false
+    pub was_down : old.net.up a ≡ false
     was_down = rising.was_down decl h inputs old a records turn law given down shut s
 
-    is_given : nets.IsGivenBack old.net a back
+    pub is_given : nets.IsGivenBack old.net a back
     is_given = rising.is_given decl h inputs old a records turn law given down shut s
 
     by_rise : actor_rises decl a records ≡ by_admin (admin_rises records)

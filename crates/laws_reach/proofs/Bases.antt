@@ -272,7 +272,7 @@ module _ (tx : TxId) (ops : List Op) where
             ap (λ (v : Going). v.tx) (some_is (record { tx = o.tx; ops = o.ops ++ more }) e at) ∙ named in
             true_false (same_tx o.tx tx) (ap (λ (t : TxId). same_tx t tx) is_tx ∙ same_tx_itself tx) other
 
-    adds : Both off (after (o.ops ++ more)) (dealt tx x resp) K
+    pub adds : Both off (after (o.ops ++ more)) (dealt tx x resp) K
     adds = by (same_tx o.tx tx) refl
       where
         by : (b : Bool) → same_tx o.tx tx ≡ b → Both off (after (o.ops ++ more)) (dealt tx x resp) K

@@ -88,13 +88,13 @@ module _ (decl : Declaration) (script : Script) (fits : ℕ → List Record → 
       abbrev now_taken : List Entry
       now_taken = h ++ marked a (step_of g) ∷ []
 
-      sent : WasSentTo a (mail h) g
+      pub sent : WasSentTo a (mail h) g
       sent = ready_sent (IsLawfulWithFalls decl) fits decl script h inputs run a g rdy
 
       grows : mail now_taken ≡ mail h ++ []
       grows = mail-taken h a g ∙ sym (append-nil (mail h))
 
-      life : LivesIn decl a h false
+      pub life : LivesIn decl a h false
       life = run_lives decl script fits few h inputs run a false free
 
       named : (command : Command) → g ≡ given.Called command → IsNamed decl command
@@ -123,7 +123,7 @@ module _ (decl : Declaration) (script : Script) (fits : ℕ → List Record → 
       same_journal =
           ap journal_after (deeds-taken a h g sent) ∙ fold-append journal_at no_journal (deeds a [] h) (Takes g ∷ [])
 
-      stands_taken : Stood decl now_taken (slice_set inputs a true)
+      pub stands_taken : Stood decl now_taken (slice_set inputs a true)
       stands_taken =
           moves decl h now_taken inputs (slice_set inputs a true) old a old.net [] old.reached
           (old.mail_is ∙ sym (mail-taken h a g)) grows (λ b other. itself decl old.net b)
@@ -157,7 +157,7 @@ module _ (decl : Declaration) (script : Script) (fits : ℕ → List Record → 
 
     -- a step that is nobody's deed
 
-    stands_still : (b : ℕ) (step : Step) → IsSilent step → Stood decl (h ++ marked b step ∷ []) inputs
+    pub stands_still : (b : ℕ) (step : Step) → IsSilent step → Stood decl (h ++ marked b step ∷ []) inputs
     stands_still b step silent = record {
       net = old.net;
       reached = old.reached;
@@ -208,7 +208,7 @@ module _ (decl : Declaration) (script : Script) (fits : ℕ → List Record → 
         (same ∙ old.mail_is ∙ sym (append-nil (mail h)) ∙ sym (mail_fall a h cause)) (mail_fall a h cause) leaves
         (λ b other. deeds-other a b [] h (steps.Fell cause None ∷ []) other) (λ b other. refl) here
 
-    stands_fallen : (a : ℕ) (lines : List Control) → controls_left script h ≡ controls.Crash a ∷ lines
+    pub stands_fallen : (a : ℕ) (lines : List Control) → controls_left script h ≡ controls.Crash a ∷ lines
         → Stood decl (fallen a causes.Script) inputs
     stands_fallen a lines left = by_kind (is_site decl a) (is_client decl a) (is_administrator decl a) refl refl refl
       where
@@ -253,7 +253,7 @@ module _ (decl : Declaration) (script : Script) (fits : ℕ → List Record → 
 
     -- its journal isn't opened: it stays down
 
-    stands_unopened : (a : ℕ) (cause : Fall) (lines : List Control)
+    pub stands_unopened : (a : ℕ) (cause : Fall) (lines : List Control)
         → controls_left script h ≡ controls.Restart a ∷ lines → Stood decl (fallen a cause) inputs
     stands_unopened a cause lines left = falls_to a cause old.net old.reached refl (λ b other. itself decl old.net b) here
       where
@@ -265,7 +265,7 @@ module _ (decl : Declaration) (script : Script) (fits : ℕ → List Record → 
 
     -- it rises
 
-    stands_risen : (a : ℕ) (records : List Record) (turn : Turn) (lines : List Control) → controls_left script h ≡ controls.Restart a ∷ lines → IsLawfulWithFalls decl a (deeds a [] (h ++ marked a (steps.Rose records) ∷ [])) turn
+    pub stands_risen : (a : ℕ) (records : List Record) (turn : Turn) (lines : List Control) → controls_left script h ≡ controls.Restart a ∷ lines → IsLawfulWithFalls decl a (deeds a [] (h ++ marked a (steps.Rose records) ∷ [])) turn
         → IsGivenBack (journal_of (own a h)) records → Stood decl (h ++ by a (steps.Rose records ∷ posted_as turn.append (length (mail h)) turn)) inputs
     stands_risen a records turn lines left law back =
         rise.rises decl h inputs old records turn a law back down (lines_close (IsLawfulWithFalls decl) fits decl script h inputs few run (controls.Restart a) lines left a)

@@ -162,7 +162,7 @@ module _ (tx : TxId) where
         by (inl is) = let never : ⊥ = cc in never
         by (inr is) = let never : ⊥ = cc in never
 
-    rises_from : ((stamp : Stamp) → IsRecorded tx stamp j.records → IsRecorded tx stamp rs)
+    pub rises_from : ((stamp : Stamp) → IsRecorded tx stamp j.records → IsRecorded tx stamp rs)
         → (kept_by j.records).life ≤ (kept_by rs).life → Risen (status_risen tx s rs) rs k
     rises_from more low = record {
       listed = λ stamp is. by_listed stamp is (rose (given_up s) rs);

@@ -103,7 +103,7 @@ module _ (fits : ℕ → List Record → Type 0) (decl : Declaration) (script : 
         (ap (λ (t : TxId). t.client) named ∙ ends_own decl n its d.turns d.replies d.back d.told tx r among)
         (owned c listed).among
 
-    told_committed : (stamp : Stamp) → In (replies.Committed stamp) (endings decl h n tx)
+    pub told_committed : (stamp : Stamp) → In (replies.Committed stamp) (endings decl h n tx)
         → HasCommit (committed decl h) tx stamp
     told_committed stamp among =
         let r : HasRecord (recorded n) tx stamp =

@@ -163,7 +163,7 @@ module _ (decl : Declaration) (net : Net) (h : Refines decl net) where
     unwritten (Some (records.Decide epoch clock lines)) b = refl
 
     -- he rises, and falls before the record of that stands
-    admin_rises_in_vain : Refines decl (after_vain_rise net (administrator decl) back)
+    pub admin_rises_in_vain : Refines decl (after_vain_rise net (administrator decl) back)
     admin_rises_in_vain = record {
       acts = stood.acts;
       run = stood.run;
@@ -192,7 +192,7 @@ module _ (decl : Declaration) (net : Net) (h : Refines decl net) where
     }
 
     -- he rises
-    admin_rises_up : Refines decl (after_admin_rise decl net back)
+    pub admin_rises_up : Refines decl (after_admin_rise decl net back)
     admin_rises_up = record {
       acts = stood.acts;
       run = stood.run;

@@ -56,7 +56,7 @@ module _ (decl : Declaration) (accepted : IsAccepted decl) where
         waits
 
     -- whatever a client takes
-    take_case : (given : Input) → MayCome net a given → MayCommand decl (net.clients a) given
+    pub take_case : (given : Input) → MayCome net a given → MayCommand decl (net.clients a) given
         → Refines decl (after_client net a (client_takes decl (net.clients a) given))
     take_case (Called commands.Begin) came ready =
         begin_case decl acts net a run m client up accepted ready.0.doing ready.0.voting
@@ -202,7 +202,7 @@ module _ (decl : Declaration) (accepted : IsAccepted decl) where
         subst (λ (o : Option Voting). Failing (by_desk (net.clients a) (votes_in (net.clients a).desk o number answer)))
         (sym votes) waits
 
-    take_fails : (given : Input) → MayCome net a given → MayCommand decl (net.clients a) given
+    pub take_fails : (given : Input) → MayCome net a given → MayCommand decl (net.clients a) given
         → Failing (client_takes decl (net.clients a) given)
     take_fails (Called commands.Begin) came ready = calm _ (front_called decl (net.clients a).front commands.Begin)
     take_fails (Called (commands.Do object inv)) came ready =

@@ -207,24 +207,24 @@ module _ (decl : Declaration) (script : Script) (fits : ℕ → List Record → 
 
   module _ (h : List Entry) (open_inputs : List Bool) (run : IsRun h open_inputs) (given : RiseWithOwn decl h)
       (site : ℕ) (within : site < decl.sites) where
-    run_site_deeds : Every IsSiteDeed (deeds site [] h)
+    pub run_site_deeds : Every IsSiteDeed (deeds site [] h)
     run_site_deeds =
         site_deeds (deeds site [] h) (deeds_inputs site [] h tt (run_stamped h open_inputs run given))
         (uncommanded decl site [] h (lt-ltb site decl.sites within)
         (run_delivered decl script fits few h open_inputs run).called)
 
-    run_serves : slice_get open_inputs site ≡ Some false
+    pub run_serves : slice_get open_inputs site ≡ Some false
         → Serves decl site (deeds site [] h) (is_up (deeds site [] h))
     run_serves free =
         let lived : LivesIn decl site h false = run_lives decl script fits few h open_inputs run site false free in
         serves_as_lives decl site (deeds site [] h) lived.above lived.lives run_site_deeds
 
-    run_shown : slice_get open_inputs site ≡ Some false → is_up (deeds site [] h) ≡ true
+    pub run_shown : slice_get open_inputs site ≡ Some false → is_up (deeds site [] h) ≡ true
         → (s : _) × ((actor_after decl site (deeds site [] h)).actor ≡ Site s) × IsShown (deeds site [] h) s
     run_shown free up = shows decl site (deeds site [] h) within
         (subst (Serves decl site (deeds site [] h)) up (run_serves free))
 
-    run_due : AreDue decl [] (deeds site [] h)
+    pub run_due : AreDue decl [] (deeds site [] h)
     run_due =
         let long : length open_inputs ≡ actors decl = run_long decl script fits few h open_inputs run in
         let place : (t : Bool) × (slice_get open_inputs site ≡ Some t) =

@@ -87,11 +87,11 @@ called-within : (bound : ℕ) (decl : Declaration) (front : Front) (command : Co
 called-within bound decl front commands.Begin w = begins-within bound decl front front.transaction w
 called-within bound decl front (commands.Do object inv) w =
     let more : FrontWithin (bound + 1) front = front-le bound (bound + 1) front (omega arith) w in
-    performs-within bound (bound + 1) decl front more front.transaction object inv more.views
+    performs-within (bound + 1) decl front more front.transaction object inv more.views
 called-within bound decl front commands.Commit w =
-    commits-within bound (bound + 1) decl front (front-le bound (bound + 1) front (omega arith) w) front.transaction
+    commits-within (bound + 1) decl front (front-le bound (bound + 1) front (omega arith) w) front.transaction
 called-within bound decl front commands.Abort w =
-    aborts-within bound (bound + 1) decl front (front-le bound (bound + 1) front (omega arith) w) front.transaction
+    aborts-within (bound + 1) decl front (front-le bound (bound + 1) front (omega arith) w) front.transaction
 called-within bound decl front (commands.Epoch number) w = front-le bound (bound + 1) front (omega arith) w
 
 pub called-goes : (bound : ℕ) (decl : Declaration) (front : Front) (command : Command) → FrontWithin bound front

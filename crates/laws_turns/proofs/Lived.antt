@@ -36,7 +36,7 @@ module _ (decl : Declaration) (script : Script) where
     abbrev IsRun : List Entry → List Bool → Type 0
     IsRun h open_inputs = RunsWithFalls (IsLawfulWithFalls decl) fits decl script h open_inputs
 
-    run_long : (h : List Entry) (open_inputs : List Bool) → IsRun h open_inputs → length open_inputs ≡ actors decl
+    pub run_long : (h : List Entry) (open_inputs : List Bool) → IsRun h open_inputs → length open_inputs ≡ actors decl
     run_long h open_inputs begins = length-replicate (actors decl) false
     run_long h open_inputs (takes c given before older run free rdy) =
         length-slice_set before c true ∙ run_long older before run
@@ -113,7 +113,7 @@ module _ (decl : Declaration) (script : Script) where
 
     -- each actor
 
-    run_lives : (h : List Entry) (open_inputs : List Bool) → IsRun h open_inputs → (a : ℕ) (t : Bool)
+    pub run_lives : (h : List Entry) (open_inputs : List Bool) → IsRun h open_inputs → (a : ℕ) (t : Bool)
         → slice_get open_inputs a ≡ Some t → LivesIn decl a h t
     run_lives h open_inputs begins a t is =
         subst (λ (v : Bool). LivesIn decl a [] v) (sym (replicate_at (actors decl) a false t is))

@@ -32,8 +32,8 @@ use Rattle.laws_turns.proofs.Acted.{deeds-silent}
 use Rattle.laws_turns.proofs.Answering.{cuts_copies, cuts_unanswered, phase_copies, phase_unanswered}
 use Rattle.laws_turns.proofs.Arrivals.{what_is_ready_was_sent}
 use Rattle.laws_turns.proofs.ReadyFirst.{ready_copy}
-use Rattle.laws_turns.proofs.StepsKeep.{AreSomewhere, IsSomewhere, mail_first, somewhere_still}
-use Rattle.laws_turns.proofs.Kept.{turn_ends, turn_somewhere}
+use Rattle.laws_turns.proofs.StepsKeep.{AreSomewhere, IsSomewhere, mail_first, somewhere_still, turn_somewhere}
+use Rattle.laws_turns.proofs.Kept.{turn_ends}
 use Rattle.laws_turns.proofs.Numbered.{control_silent, phase_silent}
 use Rattle.laws_turns.proofs.Places.{slice_get-set_other}
 use Rattle.laws_turns.proofs.Proper.{run_proper}

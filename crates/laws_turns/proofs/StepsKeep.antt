@@ -247,7 +247,7 @@ module _ (script : Script) (X : Envelope → Type 0) (a : ℕ) where
         (sents_somewhere (h ++ marked b (steps.Sent n p.to p.message) ∷ []) b (n + 1) ps reply
         (up_on h b (steps.Sent n p.to p.message) tt up) proper.1 (one_sent h b n p.to p.message up proper.0 are))
 
-    turn_somewhere : (h : List Entry) (b n : ℕ) (turn : Turn) → AllUp h
+    pub turn_somewhere : (h : List Entry) (b n : ℕ) (turn : Turn) → AllUp h
         → IsMailProper decl (envelopes b n turn.sends) → AreSomewhere script X h a
         → AreSomewhere script X (h ++ by b (posted n turn)) a
     turn_somewhere h b n turn up proper are = on turn.write

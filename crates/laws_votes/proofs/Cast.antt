@@ -139,7 +139,7 @@ module _ (decl : Declaration) where
     stood : (h : List Entry) (inputs : List Bool) → IsRun h inputs → Kept h → Stood decl h inputs
     stood h inputs run kept = runs_stand decl script fits accepted sound h inputs run kept
 
-    posted : (older : List Entry) (inputs : List Bool) (run : IsRun older inputs) (a : ℕ) (turn : Turn)
+    pub posted : (older : List Entry) (inputs : List Bool) (run : IsRun older inputs) (a : ℕ) (turn : Turn)
         → Kept (older ++ by a (posted_as turn.append (length (mail older)) turn)) → AreCastSince older
         → slice_get inputs a ≡ Some true → IsLawfulWithFalls decl a (deeds a [] older) turn
         → AreCastSince (older ++ by a (posted_as turn.append (length (mail older)) turn))
@@ -153,7 +153,7 @@ module _ (decl : Declaration) where
         (subst (λ (b : ℕ). is_site decl b ≡ true) p.from vote.0) turn taken law e p.posting to vote.1.0 now p.among
         p.from p.message vote.1.1)
 
-    risen : (older : List Entry) (inputs : List Bool) (run : IsRun older inputs) (a : ℕ) (given : List Record)
+    pub risen : (older : List Entry) (inputs : List Bool) (run : IsRun older inputs) (a : ℕ) (given : List Record)
         (turn : Turn) → Kept (older ++ by a (steps.Rose given ∷ posted_as turn.append (length (mail older)) turn))
         → AreCastSince older
         → IsLawfulWithFalls decl a (deeds a [] (older ++ marked a (steps.Rose given) ∷ [])) turn
@@ -168,7 +168,7 @@ module _ (decl : Declaration) where
         (subst (λ (b : ℕ). is_site decl b ≡ true) p.from vote.0) turn given law p.posting to p.among
         (vote.1.0, sym p.message ∙ vote.1.1)))
 
-    votes_are_cast_in_the_lives_that_they_name : (h : List Entry) (inputs : List Bool) → IsRun h inputs → Kept h
+    pub votes_are_cast_in_the_lives_that_they_name : (h : List Entry) (inputs : List Bool) → IsRun h inputs → Kept h
         → AreCastSince h
     votes_are_cast_in_the_lives_that_they_name h inputs begins kept = λ early later is e to among vote. absurd among
     votes_are_cast_in_the_lives_that_they_name h inputs (takes a g before older run free rdy) kept =

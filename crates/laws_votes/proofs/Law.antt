@@ -56,10 +56,10 @@ module _ (fits : ℕ → List Record → Type 0) (decl : Declaration) (script : 
     abbrev mid : List Deed
     mid = deeds k.actor (mail k.early) k.middle
 
-    m : WroteAt fits decl script accepted sound before k.actor c
+    pub m : WroteAt fits decl script accepted sound before k.actor c
     m = writes_then fits decl script h open_inputs accepted sound run kept c op t k
 
-    r : IsRecording decl before k.actor c
+    pub r : IsRecording decl before k.actor c
     r = due_then fits decl script h open_inputs accepted sound run kept c op t k
 
     abbrev kept_early : Kept k.early

@@ -123,7 +123,7 @@ module _ (fits : ℕ → List Record → Type 0) (decl : Declaration) (script : 
           (in_site decl (net fits decl script h inputs accepted sound run kept) b site)))
           ∙ due decl b (deeds b [] h) turn law
 
-      post_remembers : ⊥
+      pub post_remembers : ⊥
       post_remembers = by turn.append among
         where
           by : (end : Appended) → In p (sends_as end turn) → ⊥

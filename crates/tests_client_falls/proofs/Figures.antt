@@ -10,7 +10,7 @@ use Rattle.qc_msg.specs.declared.record.Record.{Record}
 use Rattle.qc_msg.specs.declared.record.Record.TheVariants as journals
 use Rattle.qc_msg.specs.declared.reply.Reply.{Reply}
 use Rattle.qc_msg.specs.declared.reply.Reply.TheVariants as replies
-use Rattle.qc_promise.specs.Names.{Act, Fell, Sent, Told, Wrote}
+use Rattle.qc_promise.specs.Vocabulary.{Act, Fell, Sent, Told, Wrote}
 
 abbrev pub of_record : Record → List ℕ
 of_record journals.Life = 1 ∷ []

@@ -1,7 +1,7 @@
 -- All of these deeds are due, and right for the first transaction.
 use Rattle.std.proofs.Common.{inl, inr, refl}
-use Rattle.qc_decl.specs.Names.{three}
-use Rattle.qc_promise.specs.Names.{AreRepliesDue, AreRight}
+use Rattle.qc_decl.specs.Vocabulary.{three}
+use Rattle.qc_promise.specs.Vocabulary.{AreRepliesDue, AreRight}
 use Rattle.tests_due.proofs.Owed.{due_where_shown}
 use Rattle.tests_client_falls.specs.RightLives as right_lives
 use Rattle.tests_client_falls.specs.Words.{tx}

@@ -1,8 +1,8 @@
 -- What is right of one deed.
 use Rattle.std.proofs.Common.{ℕ, zero, suc, List, [], ◌∷◌}
 use Rattle.qc_stamp.specs.declared.stamp.TxId.{TxId}
-use Rattle.qc_msg.specs.Names.{Deed}
-use Rattle.qc_promise.specs.Names.{AreRightFrom, IsRight, Status, status_at}
+use Rattle.qc_msg.specs.Vocabulary.{Deed}
+use Rattle.qc_promise.specs.Vocabulary.{AreRightFrom, IsRight, Status, status_at}
 
 abbrev pub RightAt : ℕ → TxId → Status → List Deed → Type 0
 RightAt k tx s [] = Unit {0}

@@ -1,9 +1,9 @@
 -- None of these is due: what a client goes on with after a fall, under which name it begins, and what it tells while it
 -- is down.
 use Rattle.std.proofs.Common.{◌≡◌, ℕ, Option, Some, None, ap}
-use Rattle.qc_decl.specs.Names.{three}
+use Rattle.qc_decl.specs.Vocabulary.{three}
 use Rattle.qc_msg.specs.declared.step.Command.{Command}
-use Rattle.qc_promise.specs.Names.{AreRepliesDue}
+use Rattle.qc_promise.specs.Vocabulary.{AreRepliesDue}
 use Rattle.tests_due.proofs.Places.{due_at}
 use Rattle.tests_client_falls.proofs.Figures.{figure, of_reply}
 use Rattle.tests_client_falls.specs.WrongLives as wrong_lives

@@ -1,8 +1,8 @@
 -- None of these is due: Unknown and what is pending, records of a former life, and what a client does as it rises.
 use Rattle.std.proofs.Common.{◌≡◌, ℕ, Option, Some, None, ap}
-use Rattle.qc_decl.specs.Names.{three}
+use Rattle.qc_decl.specs.Vocabulary.{three}
 use Rattle.qc_entry.specs.declared.record.Commit.{Commit}
-use Rattle.qc_promise.specs.Names.{AreRepliesDue}
+use Rattle.qc_promise.specs.Vocabulary.{AreRepliesDue}
 use Rattle.tests_due.proofs.Places.{due_at}
 use Rattle.tests_client_falls.proofs.Figures.{figure, figure_of, of_pending, of_reply}
 use Rattle.tests_client_falls.specs.WrongRecords as wrong_records

@@ -1,7 +1,7 @@
 -- None of these is right: what a client answers of a transaction of its former life.
 use Rattle.std.proofs.Common.{◌≡◌, ◌⊎◌, inl, inr, refl}
 use Rattle.qc_stamp.specs.declared.stamp.Stamp.{Stamp}
-use Rattle.qc_promise.specs.Names.{AreRight, Begun, Committed, Dead, Unborn}
+use Rattle.qc_promise.specs.Vocabulary.{AreRight, Begun, Committed, Dead, Unborn}
 use Rattle.tests_client_falls.proofs.Verdicts.{right_at}
 use Rattle.tests_client_falls.specs.Words.{tx}
 use Rattle.tests_client_falls.specs.WrongVerdicts as wrong_verdicts
