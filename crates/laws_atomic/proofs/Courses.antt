@@ -126,10 +126,10 @@ module _ (decl : Declaration) (a : ℕ) (client : is_client decl a ≡ true) (co
 
   -- an input
   module _ (ds : List Deed) (n : ℕ) (acts : Acts decl a ds false n) (w : IsAt ds) where
-    pub tied : Ties decl (account_of ds) (client_after decl (a - decl.sites) ds).client
+    tied : Ties decl (account_of ds) (client_after decl (a - decl.sites) ds).client
     tied = clients_tied decl a client ds n acts
 
-    pub take : (g : Input) → MayTake ds g → AreFounded commits (ds ++ Takes g ∷ [])
+    take : (g : Input) → MayTake ds g → AreFounded commits (ds ++ Takes g ∷ [])
         → Sees commits tx (account_taken (account_of ds) g) (sight_taken tx (fold (sight tx) no_sight ds) g)
         (fold wrote_at [] ds) (fold (status_at tx) statuses.Unborn ds)
     take g may f =

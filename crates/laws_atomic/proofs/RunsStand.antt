@@ -91,9 +91,9 @@ module _ (decl : Declaration) (script : Script) (accepted : IsAccepted decl) (so
           at true site = absurd (both decl a site client)
           at false none = refl
 
-      pub may : (x : Input) → g ≡ x → is_client decl a ≡ true
+      may : (x : Input) → g ≡ x → is_client decl a ≡ true
           → MayCommand decl (client_after decl (a - decl.sites) (deeds a [] h)).client x
-      pub may (inputs.Called command) is client =
+      may (inputs.Called command) is client =
           let c : Client = (client_after decl (a - decl.sites) (deeds a [] h)).client in
           let rests : is_waiting (client_after decl (a - decl.sites) (deeds a [] h)).client ≡ false =
           still client command is in (
@@ -101,8 +101,8 @@ module _ (decl : Declaration) (script : Script) (accepted : IsAccepted decl) (so
             ready_named decl script (script_named decl accepted script sound) h open_inputs run a command free
                 (rdy ∙ ap (λ (v : Input). Some v) is),
           )
-      pub may (inputs.Got envelope) is client = tt
-      pub may (inputs.Lost number) is client = tt
+      may (inputs.Got envelope) is client = tt
+      may (inputs.Lost number) is client = tt
 
       pub stands_taken : Stood decl now_taken (slice_set open_inputs a true)
       stands_taken = record {

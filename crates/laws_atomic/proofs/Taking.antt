@@ -22,7 +22,8 @@ use Rattle.laws_due.specs.Vocabulary.{IsAwaited, Ties, appends, reads, rests, vo
 use Rattle.laws_due.proofs.Awaited.{open_awaited}
 use Rattle.laws_atomic.proofs.Counted.{IsOpen, counts}
 use Rattle.laws_atomic.proofs.Waiting.{Goes, goes_of, unwritten_of}
-use Rattle.laws_atomic.proofs.Ended.{asks_none, counted_goes, none_open}
+use Rattle.laws_atomic.proofs.Waiting.{asks_none}
+use Rattle.laws_atomic.proofs.Ended.{counted_goes, none_open}
 use Rattle.laws_atomic.proofs.Founded.{AreFounded}
 use Rattle.laws_atomic.proofs.Seeing.{Sees}
 use Rattle.laws_atomic.proofs.SightsTaken.{answer_sees, called_sees, lost_sees}
@@ -79,9 +80,9 @@ module _ (decl : Declaration) (client : ℕ) (commits : List Commit) (tx : TxId)
 
     pub take : (g : Input) → IsFreeFor account_of g → AreFounded commits (ds ++ Takes g ∷ [])
         → Sees commits tx (account_taken account_of g) (sight_taken tx s g) wrote st
-    pub take (inputs.Called command) may f = called_sees commits tx account_of s wrote st w command (free_of may)
+    take (inputs.Called command) may f = called_sees commits tx account_of s wrote st w command (free_of may)
         (unwritten_of decl account_of c tied)
-    pub take (inputs.Got e) may f = by e.message refl
+    take (inputs.Got e) may f = by e.message refl
       where
         by : (m : Message) → e.message ≡ m
             → Sees commits tx (account_taken account_of
@@ -111,7 +112,7 @@ module _ (decl : Declaration) (client : ℕ) (commits : List Commit) (tx : TxId)
         by (messages.Ask other) is = w
         by (messages.Close epoch) is = w
         by (messages.Install epoch clock log) is = w
-    pub take (inputs.Lost number) may f = lost_sees commits tx account_of s wrote st w number
+    take (inputs.Lost number) may f = lost_sees commits tx account_of s wrote st w number
         (counted account_of number None) (counts number account_of None)
 
     -- and where a reply is due then, nothing is waited for

@@ -515,12 +515,12 @@ module _ (Clock : ℕ → Type 0) (Lines : List Line → Type 0) (Promise : Prep
           by false true = closes_goes number [] (admins.close_round decl m.epoch) [] is tt
           by false false = replied (replies.Order m.epoch)
 
-      pub called_goes : (command : Command) → CommandKeeps command → Goes (admins.called decl m command)
+      called_goes : (command : Command) → CommandKeeps command → Goes (admins.called decl m command)
       called_goes commands.Begin here = silent
-      pub called_goes (commands.Do object inv) here = silent
+      called_goes (commands.Do object inv) here = silent
       called_goes commands.Commit here = silent
       called_goes commands.Abort here = silent
-      pub called_goes (commands.Epoch number) here = moves_goes number here
+      called_goes (commands.Epoch number) here = moves_goes number here
 
       asking_goes : (epoch : ℕ) (shuts : List ShutSite) (qs : List Question) → Epoch epoch → ShutsKeep shuts
           → QuestionsKeep qs
@@ -589,9 +589,9 @@ module _ (Clock : ℕ → Type 0) (Lines : List Line → Type 0) (Promise : Prep
 
       -- one input
       pub admin_keeps : (g : Input) → GivenKeeps m g → Goes (admins.admin_takes decl m g)
-      pub admin_keeps (inputs.Called command) here = called_goes command here
-      pub admin_keeps (inputs.Got e) here = heard_goes e.message here
-      pub admin_keeps (inputs.Lost number) here = answered_goes number None (lost number)
+      admin_keeps (inputs.Called command) here = called_goes command here
+      admin_keeps (inputs.Got e) here = heard_goes e.message here
+      admin_keeps (inputs.Lost number) here = answered_goes number None (lost number)
 
   -- the numbers of his messages change nothing of it
 

@@ -179,9 +179,9 @@ module _ (decl : Declaration) (client : ℕ) where
     -- one input
 
     pub client_takes_form : (g : Input) → TakenInForm g → ClientMoveInForm (client_takes decl c g)
-    pub client_takes_form (inputs.Called command) here = calls_form command here
-    pub client_takes_form (inputs.Got e) here = heard_form e.from e.number e.message here
-    pub client_takes_form (inputs.Lost number) here = answers_form number None tt
+    client_takes_form (inputs.Called command) here = calls_form command here
+    client_takes_form (inputs.Got e) here = heard_form e.from e.number e.message here
+    client_takes_form (inputs.Lost number) here = answers_form number None tt
 
   -- the numbers of its messages
 

@@ -232,9 +232,9 @@ module _ (decl : Declaration) (k : ℕ) where
 
     -- one input
     pub client_takes_named : (g : Input) → GivenNamed decl g → ClientMoveNamed (client_takes decl c g)
-    pub client_takes_named (inputs.Called command) here = calls_named command here
-    pub client_takes_named (inputs.Got e) here = heard_named e.from e.number e.message here
-    pub client_takes_named (inputs.Lost number) here = answers_named number None tt
+    client_takes_named (inputs.Called command) here = calls_named command here
+    client_takes_named (inputs.Got e) here = heard_named e.from e.number e.message here
+    client_takes_named (inputs.Lost number) here = answers_named number None tt
 
   -- the numbers of its messages
 

@@ -118,12 +118,12 @@ module _ (decl : Declaration) where
         record { begun = record { views = no_lines decl (length decl.objects); own = tt; ops = tt }; doing = w.doing }
     begins_goes (Some t) = w
 
-    pub called_goes : (command : Command) → CommandNamed decl command → Goes (called decl front command)
+    called_goes : (command : Command) → CommandNamed decl command → Goes (called decl front command)
     called_goes commands.Begin here = begins_goes front.transaction
-    pub called_goes (commands.Do object inv) here = performs_goes front.transaction object inv w.begun here
+    called_goes (commands.Do object inv) here = performs_goes front.transaction object inv w.begun here
     called_goes commands.Commit here = commits_goes front.transaction
     called_goes commands.Abort here = aborts_goes front.transaction
-    pub called_goes (commands.Epoch number) here = w
+    called_goes (commands.Epoch number) here = w
 
   -- what is taken for a request
 

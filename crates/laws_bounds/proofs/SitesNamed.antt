@@ -234,13 +234,13 @@ module _ (decl : Declaration) where
         })
 
     pub at_named : (message : Message) → MessageNamed decl message → Moves (site_at decl s from number message)
-    pub at_named (messages.Request tx epoch life want) here = requested_named tx epoch life want here
-    pub at_named (messages.Answer to answer) here = silent
-    pub at_named (messages.Decision tx verdict) here = finished tx verdict
-    pub at_named (messages.Inquiry tx) here = silent
-    pub at_named (messages.Ask tx) here = silent
-    pub at_named (messages.Close epoch) here = closed_named epoch here
-    pub at_named (messages.Install epoch clock lines) here = installed_named epoch clock lines here.0 here.1
+    at_named (messages.Request tx epoch life want) here = requested_named tx epoch life want here
+    at_named (messages.Answer to answer) here = silent
+    at_named (messages.Decision tx verdict) here = finished tx verdict
+    at_named (messages.Inquiry tx) here = silent
+    at_named (messages.Ask tx) here = silent
+    at_named (messages.Close epoch) here = closed_named epoch here
+    at_named (messages.Install epoch clock lines) here = installed_named epoch clock lines here.0 here.1
 
   -- one input
   pub site_takes_named : (a : ℕ) → a < decl.sites → (s : SiteState) (g : Input) → SiteNamed s → GivenNamed decl g

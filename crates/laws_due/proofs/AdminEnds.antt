@@ -99,7 +99,7 @@ module _ (decl : Declaration) (script : Script) (accepted : IsAccepted decl) (as
         (copies_none decl script accepted asks fits h open_inputs run closed quiet done (administrator decl)
         (omega arith)) has.member
 
-    pub none_open : (m : Admin)
+    none_open : (m : Admin)
         → (actor_after decl (administrator decl) (deeds (administrator decl) [] h)).actor ≡ actors.Admin m
         → open_numbers m.doing ≡ []
     none_open m is =

@@ -47,7 +47,7 @@ module _ (decl : Declaration) (some : (decl.sites == 0) ≡ false) where
         account_more decl (ds ++ Takes g ∷ []) more
         ∙ ap (λ (d : AdminAccount). fold (admin_account_at decl) d more) (account_more decl ds (Takes g ∷ []))
 
-    pub written_rest : IsAtRest decl (first + length (admin_takes decl s.state g).turn.sends)
+    written_rest : IsAtRest decl (first + length (admin_takes decl s.state g).turn.sends)
         ((ds ++ Takes g ∷ []) ++ turn_deeds first (admin_takes decl s.state g).turn)
     written_rest = record {
       up = true;

@@ -193,9 +193,9 @@ module _ (decl : Declaration) (accepted : IsAccepted decl) where
     heard_sited (messages.Install epoch clock log) state = stays_sited state
 
     pub takes_sited : (g : Input) → IsSited decl m.doing → Sited decl (admin_takes decl m g)
-    pub takes_sited (inputs.Called command) state = called_sited command state
-    pub takes_sited (inputs.Got envelope) state = heard_sited envelope.message state
-    pub takes_sited (inputs.Lost number) state = answered_sited number None m.doing state state
+    takes_sited (inputs.Called command) state = called_sited command state
+    takes_sited (inputs.Got envelope) state = heard_sited envelope.message state
+    takes_sited (inputs.Lost number) state = answered_sited number None m.doing state state
 
     requested_sited : (x : Doing) (n to : ℕ) → IsSited decl x → IsSited decl (requested x n to)
     requested_sited Resting n to state = tt

@@ -212,10 +212,10 @@ module _ (decl : Declaration) (number : ℕ) (d : Account) (desk : Desk) (k : Is
     pub within_go : (command : Command) → Goes decl number (called_at d (Some t) command)
         (clients.called decl idle command)
     within_go commands.Begin = already_go
-    pub within_go (commands.Do object inv) = performs_go object inv
+    within_go (commands.Do object inv) = performs_go object inv
     within_go commands.Commit = commits_go
     within_go commands.Abort = aborts_go
-    pub within_go (commands.Epoch n) = still_goes decl number (called_at d (Some t) (commands.Epoch n)) idle refl
+    within_go (commands.Epoch n) = still_goes decl number (called_at d (Some t) (commands.Epoch n)) idle refl
         (rests (record {
           command = tt;
           requests = refl;

@@ -101,7 +101,7 @@ module _ (decl : Declaration) (script : Script) (accepted : IsAccepted decl) (as
           ∙ nothing_ready decl script accepted asks fits h
           (replicate (actors decl) false) closed none_open_now quiet done a within
 
-      pub none_left : (inbox script a h).commands ≡ []
+      none_left : (inbox script a h).commands ≡ []
       none_left = no_commands (takes_commands decl a) (inbox script a h).busy (inbox script a h).commands takes
           (busy_runs script a h order ∙ rests) no_command
 

@@ -67,7 +67,7 @@ module _ (decl : Declaration) (script : Script) (calm : IsUndisturbed script) wh
 
     -- the open input: what the site took before it is what was sent to it before
     module _ (e : Envelope) (got : at.given ≡ inputs.Got e) where
-      pub sent : In e (mail older)
+      sent : In e (mail older)
       sent =
           taken_mail b [] older e
           (subst (In (Takes (inputs.Got e))) (sym (at.is ∙ ap (λ (g : Input). at.before ++ Takes g ∷ []) got))

@@ -98,7 +98,7 @@ module _ (s : ℕ) (x : TxId) where
     read_keeps t u object inv calls r (verdicts.Short got need) tx asked = goes t u [] refl tx asked
 
   module _ (decl : Declaration) (front : Front) where
-    pub still : (turn : Turn) → turn.sends ≡ [] → Front_keeps front.transaction (front_moves.moved front turn)
+    still : (turn : Turn) → turn.sends ≡ [] → Front_keeps front.transaction (front_moves.moved front turn)
     still turn none = silent s x front.transaction front.transaction turn.sends none (λ h. h)
 
     still_at : (o : Option Transaction) (turn : Turn) → front.transaction ≡ o → turn.sends ≡ []
@@ -149,10 +149,10 @@ module _ (s : ℕ) (x : TxId) where
 
     pub called_keeps : (command : Command) → Front_keeps front.transaction (fronts.called decl front command)
     called_keeps commands.Begin = begins_keeps front.transaction refl
-    pub called_keeps (commands.Do object inv) = performs_keeps front.transaction object inv refl
+    called_keeps (commands.Do object inv) = performs_keeps front.transaction object inv refl
     called_keeps commands.Commit = commits_keeps front.transaction refl
     called_keeps commands.Abort = aborts_keeps front.transaction refl
-    pub called_keeps (commands.Epoch number) = still quiet refl
+    called_keeps (commands.Epoch number) = still quiet refl
 
     read_begun : (t : Transaction) (site object : ℕ) (answer : Option Answer)
         → ((read_with t site object answer).begun.tx ≡ t.begun.tx)
@@ -177,7 +177,7 @@ module _ (s : ℕ) (x : TxId) where
         → front.transaction ≡ o → Front_keeps o (fronts.takes_in decl front doing o number answer)
     takes_keeps doing None number answer is = still_at None quiet is refl
     takes_keeps Idle (Some t) number answer is = still_at (Some t) quiet is refl
-    pub takes_keeps (Reading object inv calls round) (Some t) number answer is = by (site_called calls number)
+    takes_keeps (Reading object inv calls round) (Some t) number answer is = by (site_called calls number)
       where
         by : (o : Option ℕ) → Front_keeps (Some t) (reading_takes decl front t object inv calls round number answer o)
         by None = still_at (Some t) quiet is refl
@@ -186,7 +186,7 @@ module _ (s : ℕ) (x : TxId) where
             (without_call calls number) (note round site (standing_of answer))
             (verdict (note round site (standing_of answer)))
             (read_begun t site object answer).0 (read_begun t site object answer).1
-    pub takes_keeps (Appending object inv event calls round) (Some t) number answer is = by (site_called calls number)
+    takes_keeps (Appending object inv event calls round) (Some t) number answer is = by (site_called calls number)
       where
         by : (o : Option ℕ)
             → Front_keeps (Some t) (appending_takes decl front t object inv event calls round number answer o)

@@ -37,7 +37,8 @@ use Rattle.laws_guarantees.proofs.UndisturbedCounted.{GoodHold, GoodTaken, taken
 use Rattle.laws_guarantees.proofs.Verdicts.{AreGood, GoodStanding, GoodVerdict, append_light, good_verdict}
 use Rattle.laws_guarantees.proofs.Verdicts.{granted_sites, order_heavy, read_light}
 use Rattle.laws_guarantees.proofs.AskingOrder.{IsHalf, count_in, order, sites_in}
-use Rattle.laws_guarantees.proofs.Voters.{in_order, of_appends, of_reads}
+use Rattle.laws_guarantees.proofs.AskingOrder.{of_appends, of_reads}
+use Rattle.laws_guarantees.proofs.Voters.{in_order}
 
 -- a half's requests with their answers
 

@@ -86,7 +86,7 @@ module _ (decl : Declaration) (script : Script) (accepted : IsAccepted decl) (so
         among))
         (λ x. other (x ∙ k.its)) op line k.told d.logged.stamped d.logged.named d.logged.operation d.on d.depends
 
-    pub rises : (account decl k.actor k.early).clock ≤ (account decl k.actor before).clock
+    rises : (account decl k.actor k.early).clock ≤ (account decl k.actor before).clock
     rises =
         let whole : deeds k.actor [] before ≡ deeds k.actor [] k.early ++ deeds k.actor (mail k.early) k.middle =
         deeds-append k.actor [] k.early k.middle in
@@ -138,7 +138,7 @@ module _ (decl : Declaration) (script : Script) (accepted : IsAccepted decl) (so
           (w.after ++ wrote k.actor c ∷ k.after) amid writing
 
       -- the reader's transaction is begun then, with the operation
-      pub still : (s : Current) × ((account decl k.actor between).current ≡ Some s) × (s.tx ≡ t.tx) × In op s.ops
+      still : (s : Current) × ((account decl k.actor between).current ≡ Some s) × (s.tx ≡ t.tx) × In op s.ops
       still =
           let whole = grows w.before (wrote w.actor d.logged.commit ∷ w.after) w.stands in
           let p = persists decl (k.actor - decl.sites) (deeds k.actor [] k.early) (deeds k.actor (mail k.early) w.before) (deeds k.actor (mail k.early ++ mail w.before) (wrote w.actor d.logged.commit ∷ w.after)) t at.t op

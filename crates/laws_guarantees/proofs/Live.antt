@@ -123,7 +123,7 @@ module _ (decl : Declaration) (script : Script) (accepted : IsAccepted decl) (so
     named : k.x.begun.tx ≡ t.tx
     named = ap (λ (y : Transaction). y.begun.tx) k.begun.is ∙ sym w.tx
 
-    pub listed : t.ops ≡ k.x.begun.ops
+    listed : t.ops ≡ k.x.begun.ops
     listed = w.ops ∙ sym (ap (λ (y : Transaction). y.begun.ops) k.begun.is)
 
     viewed : (l : Line) → IsShown (state mirror.acts).counted t.tx l → In l (view_of t l.object)

@@ -216,7 +216,7 @@ module _ (decl : Declaration) (accepted : IsAccepted decl) (acts : List Act) (ru
     ru : IsAnsweredFromQuorum decl ((state acts).epoch u) (state acts).counted u du
     ru = ll.right u du (inl hu)
 
-    pub writes : HasQuorum decl ((state acts).epoch u) (state acts).counted u (Own (own_line du))
+    writes : HasQuorum decl ((state acts).epoch u) (state acts).counted u (Own (own_line du))
         (append_need_of decl ((state acts).epoch u) du.op.object du.event)
     writes = ll.written u du hu some
 

@@ -115,7 +115,7 @@ module _ (decl : Declaration) (accepted : IsAccepted decl) (net : Net) (calm : I
   module _ (a : ℕ) (t : Transaction) (v : Voting) (client : is_client decl a ≡ true)
       (is : (net.clients a).front.transaction ≡ Some t) (voting : (net.clients a).desk.voting ≡ Some v) (site : ℕ)
       (place : is_site decl site ≡ true) where
-    pub votes : TransactionMirrors (state m.acts) (net.clients a).front t × ((state m.acts).status t.begun.tx ≡ IsVoting)
+    votes : TransactionMirrors (state m.acts) (net.clients a).front t × ((state m.acts).status t.begun.tx ≡ IsVoting)
         × VotesMirror (state m.acts) net.mail (net.clients a) t v
     votes = votes_of a t v client is voting
 

@@ -182,7 +182,7 @@ module _ (decl : Declaration) (accepted : IsAccepted decl) where
         inl (put_one (λ (n : ℕ) (s : SiteState). n ≡ a → is_held s.held tx ≡ true) before.sites a step.site site
         (λ same. now) (λ other same. absurd (other same)) here)
 
-    site_step : AreFullMessages before.mail → (IsGrantedBy before.mail site tx → HoldsOrEnded before site tx)
+    pub site_step : AreFullMessages before.mail → (IsGrantedBy before.mail site tx → HoldsOrEnded before site tx)
         → IsGrantedBy (before.mail ++ posted) site tx → HoldsOrEnded (after_site before a step) site tx
     site_step full older k = elim (in_split k.answer before.mail posted k.sent) [
       | inl old ↦

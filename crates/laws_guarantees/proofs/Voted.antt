@@ -212,7 +212,7 @@ module _ (decl : Declaration) (script : Script) (accepted : IsAccepted decl) (so
     status_is : (state mirror.acts).status tie.x.begun.tx ≡ IsVoting
     status_is = (votes_of decl accepted stood.net stood.calm a tie.x v client transaction_is voting_is).1
 
-    pub sent : WasSent (deeds a [] h) q tie.t.tx
+    sent : WasSent (deeds a [] h) q tie.t.tx
     sent =
         let s : (t : Current) × ((account decl a h).current ≡ Some t)
         × WasSent (deeds a [] h) q t.tx = grounds.sent q k.among in

@@ -197,7 +197,7 @@ module _ (decl : Declaration) where
       untaken = k.untaken;
     }
 
-    pub tie : Votes decl (account_of decl a client at.before) (client_after decl (a - decl.sites) at.before).client
+    tie : Votes decl (account_of decl a client at.before) (client_after decl (a - decl.sites) at.before).client
     tie = voting_tie decl (account_of decl a client at.before)
         (client_after decl (a - decl.sites) at.before).client q vote_before at.rest.ties
 

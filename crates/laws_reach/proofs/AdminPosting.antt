@@ -62,7 +62,7 @@ module _ (decl : Declaration) (h : List Entry) (inputs : List Bool) (old : Stood
     turn_is : move.turn ≡ with_record turn
     turn_is = ap (λ (m : ActorMove). m.turn) (sym moved_is) ∙ due decl a ds turn law
 
-    pub fails : (end : Appended) (r : Record) → turn.write ≡ Some r → ended_up end true ≡ false
+    fails : (end : Appended) (r : Record) → turn.write ≡ Some r → ended_up end true ≡ false
         → ended_journal end turn.write (journal_after ds) ≡ record
         (journal_after ds) { pending = pending_with (journal_after ds).pending turn.write }
         → nets.AreFailedSends turn (sends_as end turn) → Stood decl (after a end) (now a)

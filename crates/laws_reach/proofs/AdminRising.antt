@@ -51,7 +51,7 @@ module _ (decl : Declaration) (h : List Entry) (inputs : List Bool) (old : Stood
     abbrev net_records : List Record
     net_records = old.net.records a ++ option_to_list back
 
-    pub same : net_records ≡ records
+    same : net_records ≡ records
     same = rising.same_records decl h inputs old a records turn law given down shut s
 
     pub was_down : old.net.up a ≡ false

@@ -165,7 +165,7 @@ module _ (decl : Declaration) where
           (sym (journal_next is.actor before e false other)) is.listed
 
   module _ (h : List Entry) (kept : Kept h) where
-    pub stands : (c : CommitRecord) (before later : List Entry) → before ++ later ≡ h
+    stands : (c : CommitRecord) (before later : List Entry) → before ++ later ≡ h
         → IsOfClient decl (records_of before) c ⊎ In c (records_in decl later) → IsOfClient decl (records_of h) c
     stands c before [] all (inl is) = subst (λ (k : List Entry). IsOfClient decl (records_of k) c)
         (sym (append-nil before) ∙ all) is

@@ -19,7 +19,7 @@ use Rattle.qc_promise.specs.Rows.{pending_with}
 use Rattle.laws_reach.specs.Vocabulary.{Finds, IsNoCommit, Responds, Says}
 use Rattle.laws_reach.proofs.Gists.{Gist, Going, finished, gist, going, refused_same, replied, short_same}
 use Rattle.laws_reach.proofs.Bases.{Base, Both, IsPast, Settled, answered, begins, both_as, ends, none_some, some_is}
-use Rattle.laws_reach.proofs.Steps.{adds}
+use Rattle.laws_reach.proofs.Bases.{adds}
 use Rattle.laws_reach.proofs.DealingsTurning.{IsSaid, is_off}
 use Rattle.laws_reach.proofs.CarriedRecords.{commit_or, Known, Ongoing, recorded, said}
 

@@ -209,7 +209,7 @@ module _ (decl : Declaration) (c : CommitRecord) where
     pub ending : Ending decl c place account (dealing_in ds c.tx) (journal_after ds) []
 
   module _ (client : ℕ) (whole : List Deed) where
-    pub all : (p : Place) (d : Account) (x : Dealing) (j : Journal) (ds : List Deed)
+    all : (p : Place) (d : Account) (x : Dealing) (j : Journal) (ds : List Deed)
         → fold (deal c.tx) x ds ≡ dealing_in whole c.tx → fold journal_at j ds ≡ journal_after whole
         → is_some (fold (goes_on false) (Some p) ds) ≡ true
         → AreDeedsDue decl d ds → AreGivenBack j ds → AreCommitsTold ds → d.client ≡ client → Ongoing decl c p d x j ds

@@ -41,7 +41,7 @@ module _ (decl : Declaration) (a : ℕ) (client : is_client decl a ≡ true) (tx
 
   module _ (ds more : List Deed) (back : AreGivenBack no_journal (ds ++ more))
       (known : KnownFrom tx Unborn (ds ++ more)) (rest : Keeps ds) where
-    pub before : Rests decl a client tx ds
+    before : Rests decl a client tx ds
     before = rest (back_first no_journal ds more back) (known-first tx Unborn ds more known)
 
   -- what comes behind an input or a rise is left out

@@ -88,13 +88,13 @@ module _ (decl : Declaration) (script : Script) (fits : ℕ → List Record → 
       abbrev now_taken : List Entry
       now_taken = h ++ marked a (step_of g) ∷ []
 
-      pub sent : WasSentTo a (mail h) g
+      sent : WasSentTo a (mail h) g
       sent = ready_sent (IsLawfulWithFalls decl) fits decl script h inputs run a g rdy
 
       grows : mail now_taken ≡ mail h ++ []
       grows = mail-taken h a g ∙ sym (append-nil (mail h))
 
-      pub life : LivesIn decl a h false
+      life : LivesIn decl a h false
       life = run_lives decl script fits few h inputs run a false free
 
       named : (command : Command) → g ≡ given.Called command → IsNamed decl command

@@ -113,9 +113,9 @@ module _ (decl : Declaration) (a : ℕ) (client : is_client decl a ≡ true) whe
         abbrev move : ClientMove
         move = client_takes decl t.state g
 
-        pub written : (o : Stamps t.state move)
+        written : (o : Stamps t.state move)
             → UpTo (fold journal_at (journal_after ds) (writes_of move.turn.write)) move.client.desk.clock.value
-        pub written (inl none) =
+        written (inl none) =
             subst (λ (o : Option Record). UpTo (fold journal_at (journal_after ds) (writes_of o))
             move.client.desk.clock.value) (sym none.write) (record {
               passed =
@@ -124,7 +124,7 @@ module _ (decl : Declaration) (a : ℕ) (client : is_client decl a ≡ true) whe
               rise = now.rise;
               none = now.none;
             })
-        pub written (inr one) =
+        written (inr one) =
             subst (λ (o : Option Record). UpTo (fold journal_at (journal_after ds) (writes_of o))
             move.client.desk.clock.value) (sym one.write) (record {
               passed =

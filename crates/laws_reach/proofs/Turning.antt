@@ -179,11 +179,11 @@ module _ (decl : Declaration) (a : ℕ) (client : is_client decl a ≡ true) (co
 
   module _ (ds : List Deed) (t : IsFallen decl a ds) (down : is_up ds ≡ false) (w : StandsAt false ds) where
     pub call_stands : (g : Input) → MayReach false g → AfterAt false ds (Takes g ∷ [])
-    pub call_stands (inputs.Called command) reach =
+    call_stands (inputs.Called command) reach =
         calls_down decl commits tx (a - decl.sites) (account_is decl a ds) (fold (sight tx) no_sight ds)
         (fold made_at [] ds) (journal_after ds) w command
-    pub call_stands (inputs.Got envelope) reach = absurd (let never : ⊥ = cc in never)
-    pub call_stands (inputs.Lost number) reach = absurd (let never : ⊥ = cc in never)
+    call_stands (inputs.Got envelope) reach = absurd (let never : ⊥ = cc in never)
+    call_stands (inputs.Lost number) reach = absurd (let never : ⊥ = cc in never)
 
     down_turn_as : (command : Command) (end : Appended) (first : ℕ) → MayEnd None end
         → AtRest ((ds ++ Takes (inputs.Called command) ∷ []) ++ deeds_as end first (telling replies.Down))
@@ -205,15 +205,15 @@ module _ (decl : Declaration) (a : ℕ) (client : is_client decl a ≡ true) (co
     pub down_turn_stands : (g : Input) → MayReach false g → (turn : Turn) (first : ℕ)
         → IsLawfulWithFalls decl a (ds ++ Takes g ∷ []) turn
         → AtRest ((ds ++ Takes g ∷ []) ++ deeds_as turn.append first turn)
-    pub down_turn_stands (inputs.Called command) reach turn first law =
+    down_turn_stands (inputs.Called command) reach turn first law =
         subst (λ (v : List Deed). AtRest ((ds ++ Takes (inputs.Called command) ∷ []) ++ v))
         (as_record turn.append first turn)
         (subst (λ (x : Turn). MayEnd x.write turn.append
         → AtRest ((ds ++ Takes (inputs.Called command) ∷ []) ++ deeds_as turn.append first x))
         (sym (down_takes command) ∙ turn_is decl a client (ds ++ Takes (inputs.Called command) ∷ []) turn law)
         (down_turn_as command turn.append first) law.may_end)
-    pub down_turn_stands (inputs.Got envelope) reach turn first law = absurd (let never : ⊥ = cc in never)
-    pub down_turn_stands (inputs.Lost number) reach turn first law = absurd (let never : ⊥ = cc in never)
+    down_turn_stands (inputs.Got envelope) reach turn first law = absurd (let never : ⊥ = cc in never)
+    down_turn_stands (inputs.Lost number) reach turn first law = absurd (let never : ⊥ = cc in never)
 
   -- a fall by a line of the script, or one more of who is down
   pub fall_stands : (up : Bool) (ds : List Deed) → StandsAt up ds → (cause : Fall)
@@ -234,7 +234,7 @@ module _ (decl : Declaration) (a : ℕ) (client : is_client decl a ≡ true) (co
     rise_after = rises decl commits tx (a - decl.sites) (account_is decl a ds) (fold (sight tx) no_sight ds)
         (fold made_at [] ds) (journal_after ds) w kept back there
 
-    pub in_vain : (cause : Fall) → AtRest ((ds ++ Rises kept ∷ []) ++ Falls cause (Some records.Life) ∷ [])
+    in_vain : (cause : Fall) → AtRest ((ds ++ Rises kept ∷ []) ++ Falls cause (Some records.Life) ∷ [])
     in_vain cause =
         event false ds (Rises kept) (Falls cause (Some records.Life) ∷ [])
         (falls_rising decl commits tx (a - decl.sites) (account_at decl (account_is decl a ds) (Rises kept))

@@ -78,7 +78,7 @@ module _ (decl : Declaration) (a : ℕ) (client : is_client decl a ≡ true) (tx
     -- while it is up
 
     module _ (r : IsAtRest decl a ds) (same : r.up ≡ true) (t : IsTied decl a ds) where
-      pub stands : Up tx (status ds tx) (journal_after ds) number (page_of t.state)
+      stands : Up tx (status ds tx) (journal_after ds) number (page_of t.state)
       stands = up_here decl a client tx rs.up (status ds tx) (journal_after ds)
           (actor_after decl a ds).actor t.state rs.here (sym rs.is ∙ r.is ∙ same) t.actor
 
@@ -95,7 +95,7 @@ module _ (decl : Declaration) (a : ℕ) (client : is_client decl a ≡ true) (tx
         turn = (client_takes decl t.state g).turn
 
         -- the record of its turn isn't written: that is a commit's, of a begun transaction
-        pub begun : (w : IsCommitTurn turn) → IsRightRecord tx (status ds tx) (records.Commit w.commit)
+        begun : (w : IsCommitTurn turn) → IsRightRecord tx (status ds tx) (records.Commit w.commit)
         begun w =
             let right : TurnRight tx (status ds tx) turn (page_of (client_takes decl t.state g).client) =
             input_right decl tx (status ds tx) t.state stands.status (in_hand decl _ t.state t.ties) g known in

@@ -115,7 +115,7 @@ module _ (decl : Declaration) where
   module _ (acts : List Act) (net : Net) (a : ℕ) (run : IsRun decl acts) (m : Mirrors decl (state acts) net)
       (client : is_client decl a ≡ true) (up : net.up a ≡ true) (stands : FrontStands decl net a)
       (free : (net.clients a).desk.voting ≡ None) where
-    pub mid : Mid decl (state acts) acts (net.clients a).front.client
+    mid : Mid decl (state acts) acts (net.clients a).front.client
     mid = mid_first decl acts (net.clients a).front.client run
 
     read_case : (from number : ℕ) (t : Transaction) (object inv : ℕ) (calls : List Call) (round : RoundState) (answer : Option Answer) → (net.clients a).front.transaction ≡ Some t → (net.clients a).front.doing ≡ Reading object inv calls round

@@ -36,10 +36,10 @@ use Rattle.laws_refinement.proofs.ClientFalls.{at_client}
 module _ (decl : Declaration) (planned : IsPlanned decl 1) where
   module _ (net : Net) (h : Refines decl net) (a : ℕ) (client : is_client decl a ≡ true) where
     module _ (back : Option Record) (down : net.up a ≡ false) (given : IsGivenBack net a back) where
-      pub at : a ≡ client_actor decl (a - decl.sites)
+      at : a ≡ client_actor decl (a - decl.sites)
       at = client_place decl a client
 
-      pub fallen : FallenMirrors (state h.acts) (a - decl.sites) (kept_by (net.records a)) (net.pending a)
+      fallen : FallenMirrors (state h.acts) (a - decl.sites) (kept_by (net.records a)) (net.pending a)
       fallen = h.agrees.fallen a client down
 
       -- the machine once it is known whether the pending record stands

@@ -232,7 +232,7 @@ module _ (k : ℕ) (tx : TxId) (clock : ℕ) (records : List Commit) (d : Dealin
     pub called-after : (command : Command) → AskedFor d.asked front.doing → d.asked ≡ Some command
         → FrontAfter k tx clock records d (called decl front command)
     called-after commands.Begin rests asked = begins-after front.transaction refl rests
-    pub called-after (commands.Do object inv) rests asked = performs-after front.transaction object inv refl rests asked
+    called-after (commands.Do object inv) rests asked = performs-after front.transaction object inv refl rests asked
     called-after commands.Commit rests asked = commits-after front.transaction refl rests
     called-after commands.Abort rests asked = aborts-after front.transaction refl rests
-    pub called-after (commands.Epoch number) rests asked = still quiet refl refl rests
+    called-after (commands.Epoch number) rests asked = still quiet refl refl rests

@@ -84,7 +84,7 @@ module _ (decl : Declaration) (script : Script) (accepted : IsAccepted decl) whe
         (deeds b [] (older ++ by b (posted (length (mail older)) turn))) false turns.above turns.acts
         (known_posts decl older good b turn b named tx)
 
-    pub kept : (tx : TxId) → IsResting decl accepted b no_site named tx
+    kept : (tx : TxId) → IsResting decl accepted b no_site named tx
         (deeds b [] (older ++ by b (posted (length (mail older)) turn)))
     kept tx = deals_acts decl accepted b no_site named tx
         (deeds b [] (older ++ by b (posted (length (mail older)) turn))) false turns.above turns.acts

@@ -143,7 +143,7 @@ module _ (fits : ℕ → List Record → Type 0) (decl : Declaration) (script : 
     participant : HasParticipant (account decl a h).current q
     participant = (has_life_grounds decl (a - decl.sites) (deeds a [] h)).votes q k.among k.want
 
-    pub its : participant.0 ≡ t
+    its : participant.0 ≡ t
     its = let both : Some participant.0 ≡ Some t = sym participant.1 ∙ begun in cc
 
     has : has_granted t.lives q.site ≡ true
@@ -155,7 +155,7 @@ module _ (fits : ℕ → List Record → Type 0) (decl : Declaration) (script : 
     grounds : HasGrounds (deeds a [] h) (account decl a h)
     grounds = has_grounds decl (a - decl.sites) (deeds a [] h)
 
-    pub sent : WasSent (deeds a [] h) q t.tx
+    sent : WasSent (deeds a [] h) q t.tx
     sent =
         let w : (u : Current) × ((account decl a h).current ≡ Some u)
         × WasSent (deeds a [] h) q u.tx = grounds.sent q k.among in
@@ -177,7 +177,7 @@ module _ (fits : ℕ → List Record → Type 0) (decl : Declaration) (script : 
         ∙ at_number fits decl script h open_inputs accepted sound run kept request request_in in
         cc
 
-    pub r : IsAnsweringTo input q.number
+    r : IsAnsweringTo input q.number
     r = answers_request input q.number first t.tx sent.epoch q.life q.want (ap (λ (e : Envelope). e.message) first_is)
 
     came : (slice_get (mail h) r.envelope.number ≡ Some r.envelope) × (r.envelope.to ≡ b)
@@ -212,7 +212,7 @@ module _ (fits : ℕ → List Record → Type 0) (decl : Declaration) (script : 
         granted_below fits decl script h open_inputs accepted sound run kept g.grant g.known in let one = epoch_asked in
         let two = epoch_there in omega arith
 
-    pub some : q.life ≢ 0
+    some : q.life ≢ 0
     some none = let low : 0 < life_of t.lives q.site = g.some in let zero : q.life ≡ 0 = none in
         let life : q.life ≡ life_of t.lives q.site = q_life in let never : ⊥ = omega arith in never
 

@@ -248,7 +248,7 @@ module _ (decl : Declaration) where
           (subst (In e) all (In-second e before (e ∷ later) (inl refl))))
           (in_records ((tally_of before).standing e.actor) e.step c among)).0
 
-      pub more : commits_of (records_of (before ++ e ∷ []) a) ≡ commits_of (records_of before a) ++ mine now
+      more : commits_of (records_of (before ++ e ∷ []) a) ≡ commits_of (records_of before a) ++ mine now
       more = at (e.actor == a) refl
         where
           at : (t : Bool) → (e.actor == a) ≡ t → commits_of (records_of (before ++ e ∷ []) a) ≡ commits_of

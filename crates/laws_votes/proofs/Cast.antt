@@ -139,7 +139,7 @@ module _ (decl : Declaration) where
     stood : (h : List Entry) (inputs : List Bool) → IsRun h inputs → Kept h → Stood decl h inputs
     stood h inputs run kept = runs_stand decl script fits accepted sound h inputs run kept
 
-    pub posted : (older : List Entry) (inputs : List Bool) (run : IsRun older inputs) (a : ℕ) (turn : Turn)
+    posted : (older : List Entry) (inputs : List Bool) (run : IsRun older inputs) (a : ℕ) (turn : Turn)
         → Kept (older ++ by a (posted_as turn.append (length (mail older)) turn)) → AreCastSince older
         → slice_get inputs a ≡ Some true → IsLawfulWithFalls decl a (deeds a [] older) turn
         → AreCastSince (older ++ by a (posted_as turn.append (length (mail older)) turn))
@@ -153,7 +153,7 @@ module _ (decl : Declaration) where
         (subst (λ (b : ℕ). is_site decl b ≡ true) p.from vote.0) turn taken law e p.posting to vote.1.0 now p.among
         p.from p.message vote.1.1)
 
-    pub risen : (older : List Entry) (inputs : List Bool) (run : IsRun older inputs) (a : ℕ) (given : List Record)
+    risen : (older : List Entry) (inputs : List Bool) (run : IsRun older inputs) (a : ℕ) (given : List Record)
         (turn : Turn) → Kept (older ++ by a (steps.Rose given ∷ posted_as turn.append (length (mail older)) turn))
         → AreCastSince older
         → IsLawfulWithFalls decl a (deeds a [] (older ++ marked a (steps.Rose given) ∷ [])) turn

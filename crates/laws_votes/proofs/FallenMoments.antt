@@ -182,7 +182,7 @@ module _ (fits : ℕ → List Record → Type 0) (decl : Declaration) (script : 
     e : EndsWriting b (steps_before turn.append (length (mail older)) turn) turn.write m a c
     e = post_falls b (length (mail older)) turn.append turn m a cause c after here
 
-    pub at : WroteAt fits decl script accepted sound older b c
+    at : WroteAt fits decl script accepted sound older b c
     at = posted fits decl script accepted sound older slots run kept b turn c e.writes taken law
 
     -- the client's turn

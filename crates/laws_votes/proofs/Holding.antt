@@ -181,7 +181,7 @@ module _ (fits : ℕ → List Record → Type 0) (decl : Declaration) (script : 
 
   module _ (a : ℕ) (client : is_client decl a ≡ true) (t : Current) (begun : (account decl a h).current ≡ Some t)
       (site : ℕ) (has : has_granted t.lives site ≡ true) where
-    pub told : IsToldLife (deeds a [] h) t.tx site (life_of t.lives site)
+    told : IsToldLife (deeds a [] h) t.tx site (life_of t.lives site)
     told = (has_life_grounds decl (a - decl.sites) (deeds a [] h)).told t site begun has
 
     asked : IsRequest (mail h) told.q.number told.q.site t.tx told.q.want

@@ -117,7 +117,7 @@ module _ (decl : Declaration) (script : Script) (fits : ℕ → List Record → 
 
   module _ (older : List Entry) (inputs : List Bool) (run : IsRun older inputs) (c : ℕ) (g : Input)
       (free : slice_get inputs c ≡ Some false) (rdy : ready decl script c older ≡ Some g) where
-    pub sent : WasSentTo c (mail older) g
+    sent : WasSentTo c (mail older) g
     sent = ready_sent (IsLawfulWithFalls decl) fits decl script older inputs run c g rdy
 
     abbrev now : List Entry
@@ -148,7 +148,7 @@ module _ (decl : Declaration) (script : Script) (fits : ℕ → List Record → 
           | Second m e s ↦ here before x after m e s
         ]
 
-    pub taken : (a : ℕ) → Takings older a → Takings now a
+    taken : (a : ℕ) → Takings older a → Takings now a
     taken a old = at (c == a) refl
       where
         at : (t : Bool) → (c == a) ≡ t → Takings now a

@@ -105,14 +105,14 @@ module _ (fits : ℕ → List Record → Type 0) (decl : Declaration) (script : 
 
   module _ (site : ℕ) (k : IsAskedAndFor (account decl a h) t site) (current : (account decl a h).current ≡ Some t)
       (there : is_site decl site ≡ true) where
-    pub sent : WasSent ds k.q t.tx
+    sent : WasSent ds k.q t.tx
     sent =
         let s : (u : Current) × ((account decl a h).current ≡ Some u)
         × WasSent ds k.q u.tx = grounds.sent k.q k.among in
         let same : s.0 ≡ t = (let both : Some s.0 ≡ Some t = sym s.1 ∙ current in cc) in
         subst (λ (u : Current). WasSent ds k.q u.tx) same s.2
 
-    pub taken : WasTaken ds k.q.number (answers.Yes k.clock)
+    taken : WasTaken ds k.q.number (answers.Yes k.clock)
     taken = grounds.taken k.q (answers.Yes k.clock) k.among k.taken
 
     vote_sent : In taken.envelope (mail h)
@@ -131,7 +131,7 @@ module _ (fits : ℕ → List Record → Type 0) (decl : Declaration) (script : 
         by v = (same_asked k.q.number taken.envelope.from k.q.site v.tx t.tx Prepare k.q.want
             (to_history k.q.number taken.envelope.from v.tx Prepare v.request) its_request).0 ∙ k.at
 
-    pub stands : IsPromiseRecorded h taken.envelope.from k.q.number
+    stands : IsPromiseRecorded h taken.envelope.from k.q.number
     stands = votes_of_runs_stand_on_records fits decl script h open_inputs accepted sound run kept taken.envelope
         k.q.number k.clock vote_sent (subst (λ (n : ℕ). is_site decl n ≡ true) (sym from_site) there) taken.is
 

@@ -151,7 +151,7 @@ module _ (fits : ℕ → List Record → Type 0) (decl : Declaration) (script : 
     moves : AreMoves decl e mid
     moves = all_steady decl mid [] e steady mid_due
 
-    pub numbered : IsNumbered e.count e.current
+    numbered : IsNumbered e.count e.current
     numbered = its_number fits decl script k.early k.open_inputs accepted sound k.run early_kept k.actor m.client t
         k.begun
 
@@ -170,7 +170,7 @@ module _ (fits : ℕ → List Record → Type 0) (decl : Declaration) (script : 
     last_is = let both : Some last.t ≡ Some r.t = sym last.is ∙ sym (ap (λ (v : Account). v.current) account_then)
         ∙ r.begun in cc
 
-    pub keeps : KeepsLives t.lives r.t.lives
+    keeps : KeepsLives t.lives r.t.lives
     keeps = subst (λ (s : Current). KeepsLives t.lives s.lives) last_is last.lives
 
     -- the client at a moment that is a run
@@ -202,7 +202,7 @@ module _ (fits : ℕ → List Record → Type 0) (decl : Declaration) (script : 
       abbrev y : List Deed
       y = deeds k.actor (mail k.early ++ mail first) since
 
-      pub deeds_are : mid ≡ x ++ y
+      deeds_are : mid ≡ x ++ y
       deeds_are = ap (deeds k.actor (mail k.early)) parts ∙ deeds-append k.actor (mail k.early) first since
 
       account_between : account decl k.actor between ≡ fold (account_at decl) e x

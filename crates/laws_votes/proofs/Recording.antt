@@ -87,7 +87,7 @@ module _ (fits : ℕ → List Record → Type 0) (decl : Declaration) (script : 
       (sym (journal a (h ++ by b xs)) ∙ ap journal_after (deeds-other b a [] h xs other) ∙ journal a h) known
 
   module _ (h : List Entry) (inputs : List Bool) (run : IsRun h inputs) (kept : Kept h) (old : AreRecorded h) where
-    pub posted : (b : ℕ) (turn : Turn) → slice_get inputs b ≡ Some true → IsLawfulWithFalls decl b (deeds b [] h) turn
+    posted : (b : ℕ) (turn : Turn) → slice_get inputs b ≡ Some true → IsLawfulWithFalls decl b (deeds b [] h) turn
         → AreRecorded (h ++ by b (posted_as turn.append (length (mail h)) turn))
     posted b turn taken law a c client known = at (b == a) refl
       where
@@ -154,7 +154,7 @@ module _ (fits : ℕ → List Record → Type 0) (decl : Declaration) (script : 
                   (new (subst (λ (n : ℕ). is_client decl n ≡ true) (sym is) client) now)
             ]
 
-    pub risen : (b : ℕ) (given : List Record) (turn : Turn)
+    risen : (b : ℕ) (given : List Record) (turn : Turn)
         → IsLawfulWithFalls decl b (deeds b [] (h ++ marked b (steps.Rose given) ∷ [])) turn
         → IsGivenBack (journal_of (own b h)) given
         → AreRecorded (h ++ by b (steps.Rose given ∷ posted_as turn.append (length (mail h)) turn))

@@ -151,7 +151,7 @@ module _ (fits : ℕ → List Record → Type 0) (decl : Declaration) (script : 
           ends = subst (λ (k : List Entry). IsRunWithout fits decl script b (older ++ k)) steps_are whole;
         }))
 
-    pub posted : (m : List Entry) (reply : Reply) (after : List Entry) → is_client decl b ≡ true
+    posted : (m : List Entry) (reply : Reply) (after : List Entry) → is_client decl b ≡ true
         → by b (posted_as turn.append n turn) ≡ m ++ tells b reply ∷ after
         → Ends (older ++ by b (posted_as turn.append n turn)) b (older ++ m) reply
     posted m reply after client is = at turn.append refl (told_in turn.append b n turn m b reply after is)

@@ -75,7 +75,7 @@ module _ (fits : ℕ → List Record → Type 0) (decl : Declaration) (script : 
         let both : Some e ≡ Some f = sym one ∙ ap (λ (n : ℕ). slice_get (mail late) n) same ∙ two in
         cc
 
-    pub grown : (e : Envelope) → In e (mail h) → In e (mail late)
+    grown : (e : Envelope) → In e (mail h) → In e (mail late)
     grown e there = subst (λ (k : List Entry). In e (mail k)) later
         (subst (In e) (sym (mail-append h middle)) (In-first e (mail h) (mail middle) there))
 
@@ -89,7 +89,7 @@ module _ (fits : ℕ → List Record → Type 0) (decl : Declaration) (script : 
       life_named : life_of u.lives g.site ≡ g.life
       life_named = (lives g.site part.granted).1 ∙ part.life
 
-      pub place : is_site decl g.site ≡ true
+      place : is_site decl g.site ≡ true
       place = granting g (wl.known g counted)
 
       -- the vote was there already

@@ -57,7 +57,7 @@ module _ (decl : Declaration) (accepted : IsAccepted decl) (h : List Entry) (inp
     abbrev after : Appended → List Entry
     after end = h ++ by a (posted_as end (length (mail h)) turn)
 
-    pub s : Stands decl old.net a h (Some true)
+    s : Stands decl old.net a h (Some true)
     s = subst (Stands decl old.net a h) taken (old.actors a (inl site))
 
     module _ (up : is_up ds ≡ true) where

@@ -110,7 +110,7 @@ module _ (tells : Bool) (decl : Declaration) (script : Script) (q : Pass Step) (
     may_end Failed = has_record
     may_end Stopped = has_record
 
-    pub lawful : (end : Appended) → IsLawfulWithFalls decl a (ds ++ RisesDeed records ∷ []) (ended end)
+    lawful : (end : Appended) → IsLawfulWithFalls decl a (ds ++ RisesDeed records ∷ []) (ended end)
     lawful end =
         turn_is_lawful decl a (ds ++ RisesDeed records ∷ []) (ended end) low
         (ap (λ (m : ActorMove). m.turn) move_is ∙ sym (same_record turn written)) (may_end end)
@@ -118,7 +118,7 @@ module _ (tells : Bool) (decl : Declaration) (script : Script) (q : Pass Step) (
     fit : AllFit decl a 0 records
     fit = subst (λ (n : ℕ). AllFit decl n 0 records) is_number (each_fits decl opened.number 0 records risen.fit)
 
-    pub to_actors : (few : actors decl ≤ most_actors) (end : Appended) → GoesToActors (ended end)
+    to_actors : (few : actors decl ≤ most_actors) (end : Appended) → GoesToActors (ended end)
     to_actors few end =
         let short : IsRisingShort decl records (ended end) =
         risen_turn_short decl a ds records (ended end) fit (lawful end) in
