@@ -1,3 +1,3 @@
 pub mod Young
-pub mod Journals
+pub mod ClientJournals
 pub mod Records

@@ -3,7 +3,7 @@
 ghost use Rattle.std.specs.Prelude.{◌≡◌, ◌<◌, IfOk, length, true};
 ghost use Rattle.std.specs.List.{list_all};
 ghost use Rattle.qc_decl.specs.Accepted.{IsAccepted};
-ghost use Rattle.tests_actors.specs.Journals.{is_small};
+ghost use Rattle.tests_actors.specs.ClientJournals.{is_small};
 ghost use Rattle.tests_actors.specs.Young.{IsYoung};
 
 use crate::clients::check_rows;

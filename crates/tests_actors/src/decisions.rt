@@ -1,7 +1,8 @@
 //! Decisions: Committed of a prepared and of another transaction, Aborted,
 //! Active.
 
-use crate::sites::{READ, Taken, WROTE_0, WROTE_1, check_site};
+use crate::messages::Taken;
+use crate::sites::{READ, WROTE_0, WROTE_1, check_site};
 use qc_list::OutOfMemory;
 
 /// The own lines become lines with the stamp, nothing is held any more, and the

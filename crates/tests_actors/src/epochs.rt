@@ -1,7 +1,8 @@
 //! Closes and Installs: what a closed site tells, and how an epoch begins.
 
+use crate::messages::Taken;
 use crate::rises::check_state;
-use crate::sites::{READ, Taken, WROTE_0, WROTE_1, new_site_after};
+use crate::sites::{READ, WROTE_0, WROTE_1, new_site_after};
 use qc_list::OutOfMemory;
 use std::alloc::Global;
 use std::process::Abort;

@@ -1,6 +1,7 @@
 //! Reads and Appends that are granted, and those that are refused with a Clash.
 
-use crate::sites::{READ, READ_0, Taken, WRITE_0, WROTE_0, WROTE_1, check_site};
+use crate::messages::Taken;
+use crate::sites::{READ, READ_0, WRITE_0, WROTE_0, WROTE_1, check_site};
 use qc_list::OutOfMemory;
 
 #[test]

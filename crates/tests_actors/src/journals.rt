@@ -8,7 +8,8 @@ ghost use Rattle.qc_list.specs.Members.{In};
 ghost use Rattle.qc_msg.specs.declared.record.Record.TheVariants.{Prepare};
 ghost use Rattle.tests_actors.specs.Records.{is_of_client};
 
-use crate::sites::{X, log, own_lines, tx};
+use crate::messages::{log, own_lines};
+use crate::sites::{X, tx};
 use qc_entry::{Commit, Ops, Prepared, ReadLock, Reads};
 use qc_list::OutOfMemory;
 use qc_msg::{Record, Records};

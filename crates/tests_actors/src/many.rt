@@ -3,8 +3,9 @@
 ghost use Rattle.qc_decl.specs.Accepted.{IsAccepted};
 
 use crate::journals::locks;
+use crate::messages::{Taken, log, own_lines};
 use crate::rises::{check_state, risen};
-use crate::sites::{READ, Taken, WROTE_0, WROTE_1, check_rows, log, own_lines, three};
+use crate::sites::{READ, WROTE_0, WROTE_1, check_rows, three};
 use qc_decl::Declaration;
 use qc_entry::Prepared;
 use qc_list::OutOfMemory;

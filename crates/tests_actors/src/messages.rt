@@ -42,7 +42,7 @@ pub(crate) enum Taken<'a> {
 }
 
 /// An own line on x.
-fn own(op: u8, event: u8) -> OwnLine {
+pub(crate) fn own(op: u8, event: u8) -> OwnLine {
     OwnLine {
         op,
         object: X,
@@ -92,7 +92,12 @@ fn append(
 }
 
 /// An Append to x of an epoch.
-fn append_in(client: u8, epoch: u8, view: Log, own: Owns) -> Result<Message, OutOfMemory> {
+pub(crate) fn append_in(
+    client: u8,
+    epoch: u8,
+    view: Log,
+    own: Owns,
+) -> Result<Message, OutOfMemory> {
     let object = X;
     Ok(request_in(client, epoch, 0, Want::Append { object, view, own }))
 }

@@ -1,6 +1,7 @@
 //! Prepares: Stale, Yes with its record, Yes again.
 
-use crate::sites::{READ, Taken, WROTE_0, WROTE_1, check_prepare, check_site};
+use crate::messages::Taken;
+use crate::sites::{READ, WROTE_0, WROTE_1, check_prepare, check_site};
 use qc_list::OutOfMemory;
 
 #[test]

@@ -1,7 +1,8 @@
 //! Requests that a site may not grant: of another epoch, that name another life,
 //! of what isn't declared; and what nobody sends.
 
-use crate::sites::{READ, Taken, WROTE_1, check_site};
+use crate::messages::Taken;
+use crate::sites::{READ, WROTE_1, check_site};
 use qc_list::OutOfMemory;
 
 /// The epoch is tested before the life.

@@ -2,8 +2,9 @@
 //! they do then.
 
 use crate::journals::Written;
+use crate::messages::Taken;
 use crate::rises::check_risen;
-use crate::sites::{READ, Taken, WROTE_0, WROTE_1};
+use crate::sites::{READ, WROTE_0, WROTE_1};
 use qc_list::OutOfMemory;
 
 /// It rises in its second life, and is a new site otherwise.

@@ -1,8 +1,8 @@
 //! Clients that rise from their records: their lives, what committed, their
 //! clocks.
 
+use crate::client_rises::{Written, check_risen, check_rising, record};
 use crate::declared::three;
-use crate::rises::{Written, check_risen, check_rising, record};
 use crate::taken::Taken;
 use qc_list::OutOfMemory;
 use qc_msg::Records;

@@ -3,7 +3,8 @@
 ghost use Rattle.qc_decl.specs.Accepted.{IsAccepted};
 
 use crate::journals::{Written, are_of_clients, records};
-use crate::sites::{Taken, check_rows, three};
+use crate::messages::Taken;
+use crate::sites::{check_rows, three};
 use qc_decl::Declaration;
 use qc_list::OutOfMemory;
 use qc_msg::Record;

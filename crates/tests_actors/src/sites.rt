@@ -3,10 +3,11 @@
 ghost use Rattle.std.specs.Prelude.{IfOk};
 ghost use Rattle.qc_decl.specs.Accepted.{IsAccepted};
 
+use crate::messages::{Taken, append_in, message, own, sender};
 use qc_decl::{Declaration, built_in};
-use qc_entry::{Line, Log, OwnLine, Owns};
+use qc_entry::{Line, Log, Owns};
 use qc_list::OutOfMemory;
-use qc_msg::{Answer, Message, Outcome, Turn, Want};
+use qc_msg::{Message, Turn};
 use qc_site::Site;
 use qc_stamp::{Stamp, TxId};
 use std::alloc::Global;

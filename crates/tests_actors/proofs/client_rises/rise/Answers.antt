@@ -2,7 +2,7 @@
 use Rattle.std.proofs.Common.{subst}
 use Rattle.qc_client.specs.Vocabulary.{ClientMove}
 use Rattle.tests_actors.specs.Young.{IsYoung}
-use Rattle.tests_actors.proofs.Journals.{risen_young}
+use Rattle.tests_actors.proofs.ClientJournals.{risen_young}
 use Rattle.tests_actors.proofs.client_rises.rise.Goals as goal
 
 pub returns : goal.returns

@@ -13,7 +13,7 @@ use Rattle.qc_msg.specs.declared.record.Record.TheVariants as records
 use Rattle.qc_recover.specs.Vocabulary.{client_rises}
 use Rattle.qc_recover.specs.Clients.{Kept, kept_by, nothing_kept}
 use Rattle.qc_recover.proofs.ClientLaws.{IsReached, clocks_reached, kept_more}
-use Rattle.tests_actors.specs.Journals.{is_small}
+use Rattle.tests_actors.specs.ClientJournals.{is_small}
 use Rattle.tests_actors.specs.Young.{IsYoung, most_told}
 
 below : (n : ℕ) → nat_le n most_told ≡ true → n ≤ most_told
