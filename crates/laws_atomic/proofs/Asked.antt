@@ -18,7 +18,7 @@ use Rattle.qc_script.specs.Runs.{takes}
 use Rattle.qc_script.specs.declared.script.CommandLine.{CommandLine}
 use Rattle.qc_script.specs.declared.script.PhaseLines.{PhaseLines}
 use Rattle.qc_script.specs.declared.script.Script.{Script}
-use Rattle.laws_turns.proofs.Calling.{run_asked}
+use Rattle.laws_turns.proofs.Calling.{calls_are_asked}
 use Rattle.laws_turns.specs.Vocabulary.{asked_in_all, asked_until, call_in, calls_of}
 use Rattle.laws_refinement.specs.Vocabulary.{IsNamed}
 use Rattle.laws_atomic.specs.Vocabulary.{AreNamed}
@@ -76,7 +76,7 @@ module _ (decl : Declaration) (script : Script) (named : AreNamed decl script) w
 
       asked : In c (asked_until a script (phase_of (h ++ marked a (steps.Called c) ∷ [])))
       asked =
-          subst (λ (cs : List Command). In c cs) (run_asked decl script a (h ++ marked a (steps.Called c) ∷ []) _
+          subst (λ (cs : List Command). In c cs) (calls_are_asked decl script a (h ++ marked a (steps.Called c) ∷ []) _
           (takes a (inputs.Called c) open_inputs h run free rdy))
           (In-first c (calls_of a (h ++ marked a (steps.Called c) ∷ []))
           (inbox script a (h ++ marked a (steps.Called c) ∷ [])).commands

@@ -24,7 +24,7 @@ use Rattle.qc_promise.specs.Vocabulary.{new_account, no_sight, running_row, sigh
 use Rattle.qc_promise.specs.Status as statuses
 use Rattle.laws_due.specs.Vocabulary.{AreByRows, Ties}
 use Rattle.laws_due.proofs.Commands.{lawful_turn, may_give}
-use Rattle.laws_due.proofs.Courses.{clients_due, clients_tied, turns_tell}
+use Rattle.laws_due.proofs.Courses.{deeds_of_clients_are_by_rows, accounts_are_their_clients, turns_tell_their_rows}
 use Rattle.laws_atomic.proofs.Alone.{AsksNothing, IsAlone, replies_alone}
 use Rattle.laws_atomic.proofs.Founded.{AreFounded, founded-first}
 use Rattle.laws_atomic.proofs.Seeing.{Sees, wrote_at}
@@ -127,7 +127,7 @@ module _ (decl : Declaration) (a : ℕ) (client : is_client decl a ≡ true) (co
   -- an input
   module _ (ds : List Deed) (n : ℕ) (acts : Acts decl a ds false n) (w : IsAt ds) where
     tied : Ties decl (account_of ds) (client_after decl (a - decl.sites) ds).client
-    tied = clients_tied decl a client ds n acts
+    tied = accounts_are_their_clients decl a client ds n acts
 
     take : (g : Input) → MayTake ds g → AreFounded commits (ds ++ Takes g ∷ [])
         → Sees commits tx (account_taken (account_of ds) g) (sight_taken tx (fold (sight tx) no_sight ds) g)
@@ -141,7 +141,8 @@ module _ (decl : Declaration) (a : ℕ) (client : is_client decl a ≡ true) (co
     taken_at g may f = more_deeds ds (Takes g ∷ []) (take g may f)
 
     -- and where a reply is due then, nothing is waited for
-    pub replied_free : (g : Input) (reply : Reply) → running_row decl (account_of (ds ++ Takes g ∷ [])) false ≡ Some reply
+    pub replied_free : (g : Input) (reply : Reply)
+        → running_row decl (account_of (ds ++ Takes g ∷ [])) false ≡ Some reply
         → MayTake ds g → AreFounded commits (ds ++ Takes g ∷ [])
         → IsFree (fold (sight tx) no_sight (ds ++ Takes g ∷ []))
     replied_free g reply is_due may f =
@@ -183,11 +184,11 @@ module _ (decl : Declaration) (a : ℕ) (client : is_client decl a ≡ true) (co
       (turn_sees decl commits tx first turn (account_of ds) (fold (sight tx) no_sight ds) (fold wrote_at [] ds)
       (fold (status_at tx) statuses.Unborn ds) t.here
       (due-second decl (new_account (a - decl.sites)) ds (turn_deeds first turn)
-      (clients_due decl a client (ds ++ turn_deeds first turn) false (first + length turn.sends)
+      (deeds_of_clients_are_by_rows decl a client (ds ++ turn_deeds first turn) false (first + length turn.sends)
       (posts ds turn m first acts low law)))
       (right-second tx statuses.Unborn ds (turn_deeds first turn) right)
       (λ c among. f.wrote c (In-second (Writes (records.Commit c)) ds (turn_deeds first turn) among))
-      (free turn.told (turns_tell decl a client ds m turn acts law))
+      (free turn.told (turns_tell_their_rows decl a client ds m turn acts law))
       (subst IsAlone (sym (turn_is t.before t.given turn
       (subst (λ (xs : List Deed). IsLawful decl a xs turn) t.is law)))
       (replies_alone decl (client_after decl (a - decl.sites) t.before).client t.given)))

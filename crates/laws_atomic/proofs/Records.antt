@@ -8,7 +8,7 @@ use Rattle.qc_core.specs.Vocabulary.{IsLawful}
 use Rattle.qc_decl.specs.declared.declaration.Declaration.{Declaration}
 use Rattle.qc_decl.specs.Vocabulary.{actors, administrator, is_client}
 use Rattle.qc_entry.specs.declared.record.Commit.{Commit}
-use Rattle.laws_turns.proofs.Acted.{has_entry, run_acts}
+use Rattle.laws_turns.proofs.Acted.{has_entry, actors_take_and_post_by_turns}
 use Rattle.laws_turns.proofs.Idle.{IsInput, idle}
 use Rattle.laws_turns.specs.Vocabulary.{ActsIn}
 use Rattle.qc_msg.specs.declared.message.Envelope.{Envelope}
@@ -81,7 +81,8 @@ module _ (decl : Declaration) (script : Script) (h : List Entry) (open_inputs : 
     where
       on : (t : Bool) × (slice_get open_inputs a ≡ Some t) → ⊥
       on place =
-          let r : ActsIn decl a h place.0 = run_acts decl script h open_inputs run a place.0 place.1 in
+          let r : ActsIn decl a h place.0 =
+          actors_take_and_post_by_turns decl script h open_inputs run a place.0 place.1 in
           every-In IsMuteDeed (Writes (records_of.Commit c)) (deeds a [] h)
           (sites_mute decl a (lt-ltb a decl.sites site) (deeds a [] h) place.0 r.above r.acts) among
 
@@ -95,5 +96,6 @@ module _ (decl : Declaration) (script : Script) (h : List Entry) (open_inputs : 
       by (inl within) (inr client) = let yes : is_client decl a ≡ true =
           λ i. (le-leb decl.sites a client i && lt-ltb a (administrator decl) within i) in let never : ⊥ = cc in never
 
-  pub records_are_clients : records decl h ≡ written h
-  records_are_clients = clients_only decl [] h (λ a. run_up (IsLawful decl) decl script h open_inputs run a) none_write
+  pub clients_alone_write_records : records decl h ≡ written h
+  clients_alone_write_records =
+      clients_only decl [] h (λ a. run_up (IsLawful decl) decl script h open_inputs run a) none_write

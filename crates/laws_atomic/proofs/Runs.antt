@@ -30,8 +30,8 @@ module _ (decl : Declaration) (script : Script) (h : List Entry) (open_inputs : 
   stood : Stood decl h open_inputs
   stood = runs_stand decl script accepted sound h open_inputs run
 
-  pub net_of : IsReached decl h open_inputs
-  net_of = record {
+  pub runs_are_nets : IsReached decl h open_inputs
+  runs_are_nets = record {
     net = stood.net;
     reached = is_reached decl stood.net stood.calm;
     mail_is = stood.mail_is;
@@ -41,11 +41,11 @@ module _ (decl : Declaration) (script : Script) (h : List Entry) (open_inputs : 
   }
 
   pub one_copy : OneCopy decl (sorted (written h))
-  one_copy = subst (λ (cs : List CommitRecord). OneCopy decl (sorted cs)) net_of.written_is
-      (nets.one_copy decl accepted net_of.net net_of.reached)
+  one_copy = subst (λ (cs : List CommitRecord). OneCopy decl (sorted cs)) runs_are_nets.written_is
+      (nets.nets_are_one_copy decl accepted runs_are_nets.net runs_are_nets.reached)
 
   pub apart : AreApart (written h)
-  apart = subst AreApart net_of.written_is (nets.apart decl accepted net_of.net net_of.reached)
+  apart = subst AreApart runs_are_nets.written_is (nets.apart decl accepted runs_are_nets.net runs_are_nets.reached)
 
   pub site_lines : (a : ℕ) (line : Line) → is_site decl a ≡ true → slice_get open_inputs a ≡ Some false
       → In line (known (site_after decl a (deeds a [] h)).site) → IsLogged decl (written h) line
@@ -58,16 +58,16 @@ module _ (decl : Declaration) (script : Script) (h : List Entry) (open_inputs : 
   pub message_lines : (e : Envelope) (line : Line) → In e (mail h) → In line (lines_in e.message)
       → IsLogged decl (written h) line
   message_lines e line sent among =
-      subst (λ (cs : List CommitRecord). IsLogged decl cs line) net_of.written_is
-      (nets.message_lines decl accepted net_of.net net_of.reached e line
-      (subst (λ (ms : List Envelope). In e ms) (sym net_of.mail_is) sent) among)
+      subst (λ (cs : List CommitRecord). IsLogged decl cs line) runs_are_nets.written_is
+      (nets.message_lines decl accepted runs_are_nets.net runs_are_nets.reached e line
+      (subst (λ (ms : List Envelope). In e ms) (sym runs_are_nets.mail_is) sent) among)
 
   pub decisions_tell_the_records : (e : Envelope) (tx : TxId) (verdict : Outcome) → In e (mail h)
       → e.message ≡ Decision tx verdict → IsTrueVerdict (written h) tx verdict
   decisions_tell_the_records e tx verdict sent is =
-      subst (λ (cs : List CommitRecord). IsTrueVerdict cs tx verdict) net_of.written_is
-      (nets.decisions_agree_with_records decl accepted net_of.net net_of.reached e tx verdict
-      (subst (λ (ms : List Envelope). In e ms) (sym net_of.mail_is) sent) is)
+      subst (λ (cs : List CommitRecord). IsTrueVerdict cs tx verdict) runs_are_nets.written_is
+      (nets.decisions_agree_with_records decl accepted runs_are_nets.net runs_are_nets.reached e tx verdict
+      (subst (λ (ms : List Envelope). In e ms) (sym runs_are_nets.mail_is) sent) is)
 
   pub site_closed : (a : ℕ) → is_site decl a ≡ true → slice_get open_inputs a ≡ Some false
       → IsClosedLog decl (written h) (known (site_after decl a (deeds a [] h)).site)
@@ -81,6 +81,6 @@ module _ (decl : Declaration) (script : Script) (h : List Entry) (open_inputs : 
   pub view_closed : (e : Envelope) (tx : TxId) (epoch life object : ℕ) (view : List Line) (own : List OwnLine)
       → In e (mail h) → e.message ≡ Request tx epoch life (Append object view own) → IsClosedLog decl (written h) view
   view_closed e tx epoch life object view own sent is =
-      subst (λ (cs : List CommitRecord). IsClosedLog decl cs view) net_of.written_is
-      (closed_logs.view_closed decl accepted net_of.net net_of.reached e tx epoch life object view own
-      (subst (λ (ms : List Envelope). In e ms) (sym net_of.mail_is) sent) is)
+      subst (λ (cs : List CommitRecord). IsClosedLog decl cs view) runs_are_nets.written_is
+      (closed_logs.view_closed decl accepted runs_are_nets.net runs_are_nets.reached e tx epoch life object view own
+      (subst (λ (ms : List Envelope). In e ms) (sym runs_are_nets.mail_is) sent) is)

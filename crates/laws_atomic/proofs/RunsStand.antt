@@ -30,7 +30,7 @@ use Rattle.qc_front.specs.Vocabulary.{is_idle}
 use Rattle.qc_front.specs.declared.doing.Doing.{Doing}
 use Rattle.qc_front.specs.declared.doing.Doing.TheVariants.{Idle, Reading, Appending}
 use Rattle.qc_site.specs.Vocabulary.{SiteMove, SiteState, site_after, site_takes}
-use Rattle.laws_turns.proofs.Acted.{deeds-silent, run_acts}
+use Rattle.laws_turns.proofs.Acted.{deeds-silent, actors_take_and_post_by_turns}
 use Rattle.laws_turns.proofs.Arrivals.{what_is_ready_was_sent}
 use Rattle.laws_turns.proofs.Numbered.{IsSilent, control_silent, mail-silent, phase_silent}
 use Rattle.laws_turns.proofs.Places.{replicate_at}
@@ -42,8 +42,8 @@ use Rattle.laws_turns.specs.Vocabulary.{is_waiting}
 use Rattle.laws_turns.proofs.Waiting.{round_none, votes_none}
 use Rattle.qc_promise.specs.Vocabulary.{account, account_at, new_account}
 use Rattle.laws_due.specs.Vocabulary.{Ties}
-use Rattle.laws_due.proofs.Courses.{clients_tied}
-use Rattle.laws_due.proofs.AccountDeclared.{asks_declared}
+use Rattle.laws_due.proofs.Courses.{accounts_are_their_clients}
+use Rattle.laws_due.proofs.AccountDeclared.{scripts_ask_what_is_declared}
 use Rattle.laws_refinement.specs.Vocabulary.{MayCommand, after_client, after_site, commits_in, first_net, sent_all}
 use Rattle.laws_refinement.proofs.Machine.{put_one}
 use Rattle.laws_atomic.proofs.Asked.{ready_named}
@@ -83,8 +83,8 @@ module _ (decl : Declaration) (script : Script) (accepted : IsAccepted decl) (so
           → is_waiting (client_after decl (a - decl.sites) (deeds a [] h)).client ≡ false
       still client command is =
           client_replies decl a (at (is_site decl a) refl) client (deeds a [] h) false
-          (run_acts decl script h open_inputs run a false free).above
-          (run_acts decl script h open_inputs run a false free).acts
+          (actors_take_and_post_by_turns decl script h open_inputs run a false free).above
+          (actors_take_and_post_by_turns decl script h open_inputs run a false free).acts
           (subst (MayTake (deeds a [] h)) is (what_is_ready_may_be_taken decl script a h (run_up (IsLawful decl) decl script h open_inputs run a) g rdy))
         where
           at : (t : Bool) → is_site decl a ≡ t → t ≡ false
@@ -157,9 +157,9 @@ module _ (decl : Declaration) (script : Script) (accepted : IsAccepted decl) (so
                   was = account decl a h;
                   tied =
                       subst (Ties decl (account decl a h)) (sym was)
-                      (clients_tied decl a here (deeds a [] h)
-                      (run_acts decl script h open_inputs run a false free).above
-                      (run_acts decl script h open_inputs run a false free).acts);
+                      (accounts_are_their_clients decl a here (deeds a [] h)
+                      (actors_take_and_post_by_turns decl script h open_inputs run a false free).above
+                      (actors_take_and_post_by_turns decl script h open_inputs run a false free).acts);
                   now_is =
                       ap (fold (account_at decl) (new_account (a - decl.sites))) (deeds-taken a h g sent)
                       ∙ fold-append (account_at decl) (new_account (a - decl.sites)) (deeds a [] h) (Takes g ∷ []);
@@ -216,7 +216,7 @@ module _ (decl : Declaration) (script : Script) (accepted : IsAccepted decl) (so
         stands_served = record {
           net = after_site old.net a move;
           calm = calm.serves a x.given old.net old.calm site (may_come old.net a x.given (subst (λ (ms : List Envelope). WasSentTo a ms x.given) (sym old.mail_is) x.sent))
-              (sent_calm decl a (mail h) x.given (run_proper decl script accepted (asks_declared decl script accepted sound) h open_inputs run) x.sent);
+              (sent_calm decl a (mail h) x.given (run_proper decl script accepted (scripts_ask_what_is_declared decl script accepted sound) h open_inputs run) x.sent);
           mail_is = mail_after move.turn.sends (ap (λ (t : Turn). t.sends) turn_is);
           written_is = old.written_is ∙ sym (written_posted h a (length (mail h)) turn ∙ ap (λ (cs : List CommitRecord). written h ++ cs) (ap (λ (t : Turn). commits_in t.write) (sym turn_is) ∙ site_silent decl (old.net.sites a) x.given) ∙ append-nil (written h));
           sites_are = λ b is. put_one (λ k (s : SiteState). SiteStands decl s k now_posted (slice_get (slice_set open_inputs a false) k)) old.net.sites a move.site b here (λ other. site_elsewhere b is (differs b other));

@@ -9,7 +9,7 @@ use Rattle.qc_decl.specs.Vocabulary.{IsAccepted, client_actor, is_client}
 use Rattle.qc_decl.specs.declared.declaration.Declaration.{Declaration}
 use Rattle.qc_entry.specs.declared.line.Line.{Line}
 use Rattle.qc_entry.specs.declared.record.Commit.{Commit}
-use Rattle.laws_turns.proofs.Acted.{run_acts}
+use Rattle.laws_turns.proofs.Acted.{actors_take_and_post_by_turns}
 use Rattle.laws_turns.specs.Vocabulary.{ActsIn}
 use Rattle.qc_msg.specs.declared.message.Answer.TheVariants.{Granted}
 use Rattle.qc_msg.specs.declared.message.Envelope.{Envelope}
@@ -25,9 +25,9 @@ use Rattle.qc_promise.specs.Vocabulary.{Atomic, IsAfterSeen, committed, is_prepa
 use Rattle.theory_machine.specs.Vocabulary.{state}
 use Rattle.qc_script.specs.Vocabulary.{IsScriptFor, Runs}
 use Rattle.qc_script.specs.declared.script.Script.{Script}
-use Rattle.laws_turns.proofs.DecisionLaws.{moves_on}
+use Rattle.laws_turns.proofs.DecisionLaws.{transactions_move_on}
 use Rattle.laws_turns.proofs.InRuns.{HasPlace, client_low, run_place}
-use Rattle.laws_turns.proofs.RecordLaws.{apart, dealt, in_listed, told, wrote_own}
+use Rattle.laws_turns.proofs.RecordLaws.{apart, records_are_what_was_told, in_listed, clients_are_told, wrote_own}
 use Rattle.laws_turns.proofs.WrittenDeeds.{written_listed}
 use Rattle.laws_atomic.specs.Vocabulary.{IsReached}
 use Rattle.laws_atomic.proofs.Runs as runs
@@ -35,17 +35,17 @@ use Rattle.laws_atomic.proofs.Courses.{clients_see}
 use Rattle.laws_atomic.proofs.Founded.{AreFounded}
 use Rattle.laws_atomic.proofs.Grants.{granted, lines_passed, no_promise}
 use Rattle.laws_atomic.proofs.Heard.{sent_mailed, took_sent}
-use Rattle.laws_atomic.proofs.Records.{none_write, records_are_clients}
+use Rattle.laws_atomic.proofs.Records.{none_write, clients_alone_write_records}
 use Rattle.laws_atomic.proofs.Seeing.{IsUpTo}
 use Rattle.laws_atomic.proofs.Written.{all_wrote, deed_written, written_deed}
 
 module _ (decl : Declaration) (script : Script) (h : List Entry) (open_inputs : List Bool) (accepted : IsAccepted decl)
     (sound : IsScriptFor decl script) (run : Runs (IsLawful decl) decl script h open_inputs) where
   net : IsReached decl h open_inputs
-  net = runs.net_of decl script h open_inputs accepted sound run
+  net = runs.runs_are_nets decl script h open_inputs accepted sound run
 
   same_records : records decl h ≡ written h
-  same_records = records_are_clients decl script h open_inputs run
+  same_records = clients_alone_write_records decl script h open_inputs run
 
   listed : (c : Commit) → In c (written h) → In c (committed decl h)
   listed c among = in_listed decl script h open_inputs accepted run c (subst (In c) (sym same_records) among)
@@ -100,8 +100,8 @@ module _ (decl : Declaration) (script : Script) (h : List Entry) (open_inputs : 
       (written_deed (deeds (client_actor decl c.tx.client) [] h) c
       (wrote_own decl script h open_inputs accepted run c among)))
 
-  pub after_seen : IsAfterSeen decl (committed decl h) h
-  after_seen c tx among in_seen other =
+  pub records_follow_what_was_seen : IsAfterSeen decl (committed decl h) h
+  records_follow_what_was_seen c tx among in_seen other =
       let a : ℕ = client_actor decl c.tx.client in
       let client : is_client decl (client_actor decl c.tx.client) ≡ true =
       of_client c among (is_client decl (client_actor decl c.tx.client)) refl in
@@ -109,20 +109,21 @@ module _ (decl : Declaration) (script : Script) (h : List Entry) (open_inputs : 
       run_place decl script h open_inputs run (client_actor decl c.tx.client)
       (client_low decl (client_actor decl c.tx.client) client) in
       let turns : ActsIn decl (client_actor decl c.tx.client) h place.is_open =
-      run_acts decl script h open_inputs run (client_actor decl c.tx.client) place.is_open place.at in
+      actors_take_and_post_by_turns decl script h open_inputs run (client_actor decl c.tx.client) place.is_open place.at
+      in
       let w = clients_see decl (client_actor decl c.tx.client) client (committed decl h) c.tx
       (deeds (client_actor decl c.tx.client) [] h) place.is_open turns.above turns.acts
       (founded (client_actor decl c.tx.client) client)
-      (moves_on decl script h open_inputs accepted run (client_actor decl c.tx.client) client c.tx) in
+      (transactions_move_on decl script h open_inputs accepted run (client_actor decl c.tx.client) client c.tx) in
       w.before c (all_wrote (deeds (client_actor decl c.tx.client) [] h) c []
       (inr (wrote_own decl script h open_inputs accepted run c among))) refl tx in_seen other
 
-  pub is_atomic : Atomic decl h
-  is_atomic = record {
+  pub runs_are_atomic : Atomic decl h
+  runs_are_atomic = record {
     apart = apart decl script h open_inputs accepted run;
     one_copy = subst (λ (cs : List Commit). OneCopy decl (sorted cs)) (sym same_records)
         (runs.one_copy decl script h open_inputs accepted sound run);
-    dealt = dealt decl script h open_inputs accepted run;
-    seen = after_seen;
-    told = told decl script h open_inputs accepted run;
+    dealt = records_are_what_was_told decl script h open_inputs accepted run;
+    seen = records_follow_what_was_seen;
+    told = clients_are_told decl script h open_inputs accepted run;
   }

@@ -19,7 +19,7 @@ use Rattle.qc_front.specs.Vocabulary.{is_request}
 use Rattle.qc_promise.specs.Vocabulary.{Account, ClientRequest, IsFreeFor, Sight, Status, account_at, account_taken}
 use Rattle.qc_promise.specs.Vocabulary.{counted, new_account, running_row, sight_sent, sight_taken}
 use Rattle.laws_due.specs.Vocabulary.{IsAwaited, Ties, appends, reads, rests, votes}
-use Rattle.laws_due.proofs.Awaited.{open_awaited}
+use Rattle.laws_due.proofs.Awaited.{open_requests_were_sent}
 use Rattle.laws_atomic.proofs.Counted.{IsOpen, counts}
 use Rattle.laws_atomic.proofs.Waiting.{Goes, goes_of, unwritten_of}
 use Rattle.laws_atomic.proofs.Waiting.{asks_none}
@@ -96,7 +96,7 @@ module _ (decl : Declaration) (client : ℕ) (commits : List Commit) (tx : TxId)
               lines = λ life clock log same. f.lines e (In-last (Takes (inputs.Got e)) ds) to life clock log
                   (is ∙ ap (λ (x : Answer). messages.Answer to x) same);
               asked = λ life clock log same q among number untaken.
-                  (let a : IsAwaited ds q = open_awaited decl client ds q among untaken in
+                  (let a : IsAwaited ds q = open_requests_were_sent decl client ds q among untaken in
                   f.asked e (In-last (Takes (inputs.Got e)) ds) to life clock log
                   (is ∙ ap (λ (x : Answer). messages.Answer to x) same) q.site a.tx a.epoch q.life q.want
                   (In-first (Sends to q.site (messages.Request a.tx a.epoch q.life q.want)) ds

@@ -31,7 +31,7 @@ ghost use Rattle.laws_atomic.specs.Reached.{IsReached};
 /// Every run of a script is a net's that may come about: with the same mail and
 /// the same commit records, and each actor without an open input is as its own
 /// deeds give it.
-#[tactic(auto, using(crate::proofs::Runs::net_of))]
+#[tactic(auto, using(crate::proofs::Runs::runs_are_nets))]
 pub fn runs_are_nets()
     ensures { (decl : Declaration) (script : Script) (h : List Entry) (open_inputs : List Bool) → IsAccepted decl
         → IsScriptFor decl script → Runs (IsLawful decl) decl script h open_inputs → IsReached decl h open_inputs }

@@ -15,7 +15,7 @@ ghost use Rattle.qc_script.specs.Sound.{IsScriptFor};
 ghost use Rattle.qc_script.specs.declared.script.Script.{Script};
 
 /// Only clients write commit records: those of a run are its clients'.
-#[tactic(auto, using(crate::proofs::Records::records_are_clients))]
+#[tactic(auto, using(crate::proofs::Records::clients_alone_write_records))]
 pub fn clients_alone_write_records()
     ensures { (decl : Declaration) (script : Script) (h : List Entry) (open_inputs : List Bool)
         → Runs (IsLawful decl) decl script h open_inputs → records decl h ≡ written h }
@@ -25,7 +25,7 @@ pub fn clients_alone_write_records()
 /// transaction with a line in a grant that counted, or that the client was told
 /// committed, before it began or until it ended, has a record with a smaller
 /// stamp.
-#[tactic(auto, using(crate::proofs::SeenLaw::after_seen))]
+#[tactic(auto, using(crate::proofs::SeenLaw::records_follow_what_was_seen))]
 pub fn records_follow_what_was_seen()
     ensures { (decl : Declaration) (script : Script) (h : List Entry) (open_inputs : List Bool)
         → IsAccepted decl → IsScriptFor decl script → Runs (IsLawful decl) decl script h open_inputs
@@ -34,7 +34,7 @@ pub fn records_follow_what_was_seen()
 
 /// Every run of a script is atomic; so it is where each actor's records are
 /// kept.
-#[tactic(auto, using(crate::proofs::SeenLaw::is_atomic))]
+#[tactic(auto, using(crate::proofs::SeenLaw::runs_are_atomic))]
 pub fn runs_are_atomic()
     ensures all { (decl : Declaration) (script : Script) (h : List Entry) (open_inputs : List Bool) → IsAccepted decl
         → IsScriptFor decl script → Runs (IsLawful decl) decl script h open_inputs → Atomic decl h }

@@ -1,8 +1,8 @@
 -- One walk over the administrator's conduct for each property of clocks, lines, promises, verdicts and epochs that the
 -- parts of a decision keep: what he becomes, sends and writes has it where what he takes does.
-use Rattle.std.specs.Prelude.{if◌then◌else◌}
+use Rattle.std.specs.Prelude.{if◌then◌else◌, MatchOption, option_and_then}
 use Rattle.std.proofs.Common.{◌≡◌, ◌&&◌, inl, inr, refl, zero, suc, ℕ, ◌≤◌, ◌+◌, ◌==◌, max, nat_le, Bool, true, false}
-use Rattle.std.proofs.Common.{cond, is_none, List, [], ◌∷◌, ◌++◌, fold, map, length, take, Option, Some, None, arith}
+use Rattle.std.proofs.Common.{cond, is_none, List, [], ◌∷◌, ◌++◌, fold, map, length, take, Option, Some, None}
 use Rattle.std.specs.List.{AllByRecursion as Every}
 use Rattle.std.proofs.lemmas.Bool.{leb-true}
 use Rattle.qc_list.proofs.Members.{every-append}
@@ -11,13 +11,12 @@ use Rattle.qc_decl.specs.declared.declaration.Declaration.{Declaration}
 use Rattle.qc_entry.specs.declared.line.Line.{Line}
 use Rattle.qc_entry.specs.declared.record.Prepared.{Prepared}
 use Rattle.qc_epoch.specs.Vocabulary.{Admin, AdminMove, Asking, Closing, Decided, Doing, Installing, Question, Resting}
-use Rattle.qc_epoch.specs.Vocabulary.{ShutSite, all_taken, clock_in, decision, first_doubt, greatest, in_asked_order}
-use Rattle.qc_epoch.specs.Vocabulary.{is_number, is_questioned, merged, most_asks, moved, outcome_in, promised_lines}
-use Rattle.qc_epoch.specs.Vocabulary.{questions_of, shut_at, shut_list, stamp_in, stamp_of, standing_of, taken_for}
-use Rattle.qc_epoch.specs.Vocabulary.{with_installed, with_promised, with_question, with_questions, with_shut}
-use Rattle.qc_epoch.specs.Vocabulary.{with_shut_of}
+use Rattle.qc_epoch.specs.Vocabulary.{ShutSite, all_taken, clock_in, decision, first_doubt, in_asked_order, is_number}
+use Rattle.qc_epoch.specs.Vocabulary.{is_questioned, most_asks, moved, outcome_in, promised_lines, questions_of}
+use Rattle.qc_epoch.specs.Vocabulary.{shut_at, shut_list, stamp_in, stamp_of, standing_of, taken_for, with_installed}
+use Rattle.qc_epoch.specs.Vocabulary.{with_promised, with_question, with_questions, with_shut, with_shut_of}
 use Rattle.qc_epoch.specs.Conduct as admins
-use Rattle.qc_msg.specs.Vocabulary.{epoch_length, quiet, sending, site_called, telling, without_call}
+use Rattle.qc_msg.specs.Vocabulary.{epoch_length, quiet, sending, site_called, without_call}
 use Rattle.qc_msg.specs.declared.call.Call.{Call}
 use Rattle.qc_msg.specs.declared.message.Answer.{Answer}
 use Rattle.qc_msg.specs.declared.message.Answer.TheVariants as answers
@@ -29,7 +28,6 @@ use Rattle.qc_msg.specs.declared.reply.Half.TheVariants as halves
 use Rattle.qc_msg.specs.declared.reply.Reply.{Reply}
 use Rattle.qc_msg.specs.declared.reply.Reply.TheVariants as replies
 use Rattle.qc_msg.specs.declared.step.Command.{Command}
-use Rattle.qc_msg.specs.declared.step.Command.TheVariants as commands
 use Rattle.qc_msg.specs.declared.step.Input.{Input}
 use Rattle.qc_msg.specs.declared.step.Input.TheVariants as inputs
 use Rattle.qc_msg.specs.declared.turn.Posting.{Posting}
@@ -46,8 +44,10 @@ use Rattle.qc_admin.proofs.Numbered.{all_unasked}
 use Rattle.qc_list.specs.Vocabulary.{In}
 use Rattle.qc_entry.specs.Vocabulary.{union}
 use Rattle.qc_msg.specs.declared.record.Record.{Record}
-use Rattle.qc_msg.specs.declared.record.Record.TheVariants as records
 use Rattle.qc_recover.specs.Admins as rulings
+use Rattle.qc_msg.specs.Vocabulary.{Answered, Installing as Start, Shutting, answer_in, asking_in, closing_in}
+use Rattle.qc_msg.specs.Vocabulary.{decide_in, epoch_in, installing_in, request_in, shut_in, wants_answer}
+use Rattle.laws_bounds.proofs.Options.{map_or}
 
 abbrev pub questions_in : Doing → List Question
 questions_in Resting = []
@@ -143,27 +143,20 @@ module _ (Clock : ℕ → Type 0) (Lines : List Line → Type 0) (Promise : Prep
   AboutPromise tx = (p : Prepared) × ((p.tx ≡ tx) × Promise p)
 
   abbrev pub SendKeeps : Message → Type 0
-  SendKeeps (messages.Request tx epoch life want) = ⊥
-  SendKeeps (messages.Answer to answer) = ⊥
-  SendKeeps (messages.Decision tx verdict) = ⊥
-  SendKeeps (messages.Inquiry tx) = ⊥
-  SendKeeps (messages.Ask tx) = AboutPromise tx
-  SendKeeps (messages.Close epoch) = Epoch epoch
-  SendKeeps (messages.Install epoch clock lines) = StartKeeps epoch clock lines
+  SendKeeps message =
+      MatchOption (asking_in message)
+      (MatchOption (closing_in message)
+      (MatchOption (installing_in message) ⊥ (λ (i : Start). StartKeeps i.epoch i.clock i.lines)) Epoch)
+      AboutPromise
 
   abbrev pub SendsKeep : List Posting → Type 0
   SendsKeep ps = Every (λ (p : Posting). SendKeeps p.message) ps
 
   abbrev pub WriteKeeps : Option Record → Type 0
-  WriteKeeps None = Unit {0}
-  WriteKeeps (Some records.Life) = ⊥
-  WriteKeeps (Some (records.Prepare p)) = ⊥
-  WriteKeeps (Some (records.Done tx clock)) = ⊥
-  WriteKeeps (Some (records.Close epoch)) = ⊥
-  WriteKeeps (Some (records.Install epoch clock lines)) = ⊥
-  WriteKeeps (Some (records.Commit commit)) = ⊥
-  WriteKeeps (Some (records.Decide epoch clock lines)) = StartKeeps epoch clock lines
-      × (epoch_length lines ≤ most_record_bytes)
+  WriteKeeps write =
+      MatchOption write (Unit {0})
+      (λ (r : Record). MatchOption (decide_in r) ⊥
+      (λ (i : Start). StartKeeps i.epoch i.clock i.lines × (epoch_length i.lines ≤ most_record_bytes)))
 
   pub record AdminMoveKeeps (move : AdminMove) : Type 0 where
     pub admin : AdminKeeps move.admin
@@ -175,18 +168,9 @@ module _ (Clock : ℕ → Type 0) (Lines : List Line → Type 0) (Promise : Prep
   -- transaction that it was asked about
 
   abbrev pub ShutCame : Option Answer → Type 0
-  ShutCame None = Unit {0}
-  ShutCame (Some (answers.Granted life clock log)) = Unit {0}
-  ShutCame (Some (answers.Clash holder inv event)) = Unit {0}
-  ShutCame (Some (answers.Closed epoch)) = Unit {0}
-  ShutCame (Some (answers.Behind epoch)) = Unit {0}
-  ShutCame (Some (answers.Restarted life)) = Unit {0}
-  ShutCame (Some answers.Stale) = Unit {0}
-  ShutCame (Some answers.Fault) = Unit {0}
-  ShutCame (Some (answers.Yes clock)) = Unit {0}
-  ShutCame (Some (answers.Shut clock log prepared)) = Clock clock × Lines log × Every Promise prepared
-  ShutCame (Some answers.Installed) = Unit {0}
-  ShutCame (Some (answers.Answered verdict)) = Unit {0}
+  ShutCame answer =
+      MatchOption (option_and_then shut_in answer) (Unit {0})
+      (λ (z : Shutting). Clock z.clock × Lines z.log × Every Promise z.prepared)
 
   pub record CameKeeps (m : Admin) (number : ℕ) (answer : Option Answer) : Type 0 where
     pub shut : ShutCame answer
@@ -194,20 +178,11 @@ module _ (Clock : ℕ → Type 0) (Lines : List Line → Type 0) (Promise : Prep
         → ToldKeeps q.tx (outcome_in answer)
 
   abbrev pub CommandKeeps : Command → Type 0
-  CommandKeeps commands.Begin = Unit {0}
-  CommandKeeps (commands.Do object inv) = Unit {0}
-  CommandKeeps commands.Commit = Unit {0}
-  CommandKeeps commands.Abort = Unit {0}
-  CommandKeeps (commands.Epoch number) = Epoch number
+  CommandKeeps command = MatchOption (epoch_in command) (Unit {0}) Epoch
 
   abbrev pub MessageKeeps : Admin → Message → Type 0
-  MessageKeeps m (messages.Request tx epoch life want) = Unit {0}
-  MessageKeeps m (messages.Answer to answer) = CameKeeps m to (Some answer)
-  MessageKeeps m (messages.Decision tx verdict) = Unit {0}
-  MessageKeeps m (messages.Inquiry tx) = Unit {0}
-  MessageKeeps m (messages.Ask tx) = Unit {0}
-  MessageKeeps m (messages.Close epoch) = Unit {0}
-  MessageKeeps m (messages.Install epoch clock lines) = Unit {0}
+  MessageKeeps m message =
+      MatchOption (answer_in message) (Unit {0}) (λ (a : Answered). CameKeeps m a.to (Some a.answer))
 
   abbrev pub GivenKeeps : Admin → Input → Type 0
   GivenKeeps m (inputs.Called command) = CommandKeeps command
@@ -516,11 +491,8 @@ module _ (Clock : ℕ → Type 0) (Lines : List Line → Type 0) (Promise : Prep
           by false false = replied (replies.Order m.epoch)
 
       called_goes : (command : Command) → CommandKeeps command → Goes (admins.called decl m command)
-      called_goes commands.Begin here = silent
-      called_goes (commands.Do object inv) here = silent
-      called_goes commands.Commit here = silent
-      called_goes commands.Abort here = silent
-      called_goes (commands.Epoch number) here = moves_goes number here
+      called_goes command here =
+          map_or Goes Epoch (admins.moves_to decl m) (moved m quiet) (epoch_in command) here silent moves_goes
 
       asking_goes : (epoch : ℕ) (shuts : List ShutSite) (qs : List Question) → Epoch epoch → ShutsKeep shuts
           → QuestionsKeep qs
@@ -579,13 +551,10 @@ module _ (Clock : ℕ → Type 0) (Lines : List Line → Type 0) (Promise : Prep
       lost number = record { shut = tt; told = λ q among is. tt }
 
       heard_goes : (message : Message) → MessageKeeps m message → Goes (admins.heard decl m message)
-      heard_goes (messages.Request tx epoch life want) here = silent
-      heard_goes (messages.Answer to answer) here = answered_goes to (Some answer) here
-      heard_goes (messages.Decision tx verdict) here = silent
-      heard_goes (messages.Inquiry tx) here = silent
-      heard_goes (messages.Ask tx) here = silent
-      heard_goes (messages.Close epoch) here = silent
-      heard_goes (messages.Install epoch clock log) here = silent
+      heard_goes message here =
+          map_or Goes (λ (a : Answered). CameKeeps m a.to (Some a.answer))
+          (λ (a : Answered). admins.answered decl m a.to (Some a.answer)) (moved m quiet) (answer_in message) here
+          silent (λ a came. answered_goes a.to (Some a.answer) came)
 
       -- one input
       pub admin_keeps : (g : Input) → GivenKeeps m g → Goes (admins.admin_takes decl m g)
@@ -619,36 +588,22 @@ module _ (Clock : ℕ → Type 0) (Lines : List Line → Type 0) (Promise : Prep
 
   pub admin_sends_keep : (m : Admin) (number to : ℕ) (message : Message) → FirstKeeps (questions_in m.doing) number
       → AdminKeeps m → AdminKeeps (admins.sent_one m number to message)
-  admin_sends_keep m number to (messages.Request tx epoch life want) first w = w
-  admin_sends_keep m number to (messages.Answer request answer) first w = w
-  admin_sends_keep m number to (messages.Decision tx verdict) first w = w
-  admin_sends_keep m number to (messages.Inquiry tx) first w = w
-  admin_sends_keep m number to (messages.Ask tx) first w =
-      record { decided = w.decided; doing = requested_keeps m.doing number to first w.doing }
-  admin_sends_keep m number to (messages.Close epoch) first w =
-      record { decided = w.decided; doing = requested_keeps m.doing number to first w.doing }
-  admin_sends_keep m number to (messages.Install epoch clock log) first w =
-      record { decided = w.decided; doing = requested_keeps m.doing number to first w.doing }
+  admin_sends_keep m number to message first w = by (wants_answer message && is_none (request_in message))
+    where
+      by : (b : Bool) → AdminKeeps (cond b (admins.doing m (admins.requested m.doing number to)) m)
+      by true = record { decided = w.decided; doing = requested_keeps m.doing number to first w.doing }
+      by false = w
 
   -- as he rises he is what his last decision says
 
   abbrev pub RecordKeeps : Record → Type 0
-  RecordKeeps records.Life = Unit {0}
-  RecordKeeps (records.Prepare p) = Unit {0}
-  RecordKeeps (records.Done tx clock) = Unit {0}
-  RecordKeeps (records.Close epoch) = Unit {0}
-  RecordKeeps (records.Install epoch clock lines) = Unit {0}
-  RecordKeeps (records.Commit commit) = Unit {0}
-  RecordKeeps (records.Decide epoch clock lines) = StartKeeps epoch clock lines
+  RecordKeeps r = MatchOption (decide_in r) (Unit {0}) (λ (i : Start). StartKeeps i.epoch i.clock i.lines)
 
   decision_keeps : (k : Option Decided) (r : Record) → RecordKeeps r → DecidedKeeps k → DecidedKeeps (rulings.keeps k r)
-  decision_keeps k records.Life here keeps = keeps
-  decision_keeps k (records.Prepare p) here keeps = keeps
-  decision_keeps k (records.Done tx clock) here keeps = keeps
-  decision_keeps k (records.Close epoch) here keeps = keeps
-  decision_keeps k (records.Install epoch clock lines) here keeps = keeps
-  decision_keeps k (records.Commit commit) here keeps = keeps
-  decision_keeps k (records.Decide epoch clock lines) here keeps = here
+  decision_keeps k r here keeps =
+      map_or DecidedKeeps (λ (i : Start). StartKeeps i.epoch i.clock i.lines)
+      (λ (i : Start). Some (record { epoch = i.epoch; clock = i.clock; lines = i.lines })) k (decide_in r) here keeps
+      (λ i is. is)
 
   decisions_keep : (k : Option Decided) (rs : List Record) → Every RecordKeeps rs → DecidedKeeps k
       → DecidedKeeps (fold rulings.keeps k rs)

@@ -1,5 +1,5 @@
 -- Each question of the administrator with a number has its Ask in mail at that place.
-use Rattle.std.proofs.Common.{◌≡◌, ℕ, ◌+◌, Bool, true, false, cond, is_none, List, [], ◌∷◌, ◌++◌, length, Option, Some}
+use Rattle.std.proofs.Common.{◌≡◌, ℕ, ◌+◌, cond, is_none, List, [], ◌∷◌, ◌++◌, length, Option, Some}
 use Rattle.std.proofs.Common.{None, slice_get, refl, sym, ap, ◌∙◌, subst, append_assoc, length-append, arith}
 use Rattle.std.specs.List.{AllByRecursion as Every}
 use Rattle.qc_list.proofs.Members.{every-weaker}
@@ -8,25 +8,23 @@ use Rattle.qc_core.proofs.AdminTurns.{IsOfAdmin, IsSentByAdmin}
 use Rattle.qc_decl.specs.declared.declaration.Declaration.{Declaration}
 use Rattle.qc_entry.specs.declared.line.Line.{Line}
 use Rattle.qc_entry.specs.declared.record.Prepared.{Prepared}
-use Rattle.qc_epoch.specs.Vocabulary.{Admin, AdminMove, Asking, Closing, Decided, Doing, Installing, Question, Resting}
-use Rattle.qc_epoch.specs.Vocabulary.{ShutSite, admin_takes, numbered_first, outcome_in, requested, sent_one}
+use Rattle.qc_epoch.specs.Vocabulary.{Admin, Asking, Closing, Decided, Doing, Installing, Question, Resting}
+use Rattle.qc_epoch.specs.Vocabulary.{ShutSite, admin_takes, numbered_first, requested, sent_one}
 use Rattle.laws_turns.proofs.Places.{slice_get-last, slice_get-more}
 use Rattle.qc_msg.specs.Vocabulary.{envelopes}
 use Rattle.qc_msg.specs.declared.message.Answer.{Answer}
-use Rattle.qc_msg.specs.declared.message.Answer.TheVariants as answers
 use Rattle.qc_msg.specs.declared.message.Envelope.{Envelope}
 use Rattle.qc_msg.specs.declared.message.Message.{Message}
 use Rattle.qc_msg.specs.declared.message.Message.TheVariants as messages
 use Rattle.qc_msg.specs.declared.message.Outcome.{Outcome}
-use Rattle.qc_msg.specs.declared.step.Command.TheVariants as commands
 use Rattle.qc_msg.specs.declared.step.Input.{Input}
-use Rattle.qc_msg.specs.declared.step.Input.TheVariants as inputs
 use Rattle.qc_msg.specs.declared.turn.Posting.{Posting}
 use Rattle.qc_stamp.specs.declared.stamp.TxId.{TxId}
 use Rattle.laws_bounds.specs.AdminParts as parts
 use Rattle.laws_bounds.specs.Vocabulary.{AnyNumber, NumberKeeps}
-use Rattle.laws_bounds.proofs.AdminKeeps.{AdminMoveKeeps, AreLined, CameKeeps, FirstKeeps, GivenKeeps, Keeping}
+use Rattle.laws_bounds.proofs.AdminKeeps.{AdminMoveKeeps, AreLined, FirstKeeps, GivenKeeps, Keeping}
 use Rattle.laws_bounds.proofs.AdminKeeps.{ShutCame, admin_keeps, admin_sends_keep, first_unnumbered, questions_in}
+use Rattle.laws_bounds.proofs.AdminCases.{given_cases, shut_keeps}
 
 -- the message of this number is the Ask about a transaction
 abbrev pub AsksAt : List Envelope → TxId → ℕ → Type 0
@@ -67,18 +65,9 @@ any_promises (p ∷ ps) = (tt, any_promises ps)
 
 module _ (Number : TxId → ℕ → Type 0) where
   shut_came : (answer : Option Answer) → ShutCame AnyClock AnyLines AnyPromise AnyVerdict AnyEpoch Number answer
-  shut_came None = tt
-  shut_came (Some (answers.Granted life clock log)) = tt
-  shut_came (Some (answers.Clash holder inv event)) = tt
-  shut_came (Some (answers.Closed epoch)) = tt
-  shut_came (Some (answers.Behind epoch)) = tt
-  shut_came (Some (answers.Restarted life)) = tt
-  shut_came (Some answers.Stale) = tt
-  shut_came (Some answers.Fault) = tt
-  shut_came (Some (answers.Yes clock)) = tt
-  shut_came (Some (answers.Shut clock log prepared)) = (tt, tt, any_promises prepared)
-  shut_came (Some answers.Installed) = tt
-  shut_came (Some (answers.Answered verdict)) = tt
+  shut_came answer =
+      shut_keeps AnyClock AnyLines AnyPromise AnyVerdict AnyEpoch Number (λ (answer : Option Answer). Unit {0})
+      (λ clock log prepared here. (tt, tt, any_promises prepared)) answer tt
 
   any_told : (tx : TxId) (told : Option Outcome)
       → parts.ToldKeeps AnyClock AnyLines AnyPromise AnyVerdict AnyEpoch Number tx told
@@ -86,24 +75,10 @@ module _ (Number : TxId → ℕ → Type 0) where
   any_told tx (Some verdict) = tt
 
   given_keeps : (m : Admin) (g : Input) → GivenKeeps AnyClock AnyLines AnyPromise AnyVerdict AnyEpoch Number m g
-  given_keeps m (inputs.Called commands.Begin) = tt
-  given_keeps m (inputs.Called (commands.Do object inv)) = tt
-  given_keeps m (inputs.Called commands.Commit) = tt
-  given_keeps m (inputs.Called commands.Abort) = tt
-  given_keeps m (inputs.Called (commands.Epoch number)) = tt
-  given_keeps m (inputs.Got e) = heard e.message
-    where
-      heard : (message : Message) → GivenKeeps AnyClock AnyLines AnyPromise AnyVerdict AnyEpoch Number m
-          (inputs.Got (record e { message = message }))
-      heard (messages.Request tx epoch life want) = tt
-      heard (messages.Answer to answer) =
-          record { shut = shut_came (Some answer); told = λ q among is. any_told q.tx _ }
-      heard (messages.Decision tx verdict) = tt
-      heard (messages.Inquiry tx) = tt
-      heard (messages.Ask tx) = tt
-      heard (messages.Close epoch) = tt
-      heard (messages.Install epoch clock log) = tt
-  given_keeps m (inputs.Lost number) = tt
+  given_keeps m g =
+      given_cases AnyClock AnyLines AnyPromise AnyVerdict AnyEpoch Number m (λ (g : Input). Unit {0})
+      (λ number here. tt)
+      (λ e to answer here. record { shut = shut_came (Some answer); told = λ q among is. any_told q.tx _ }) g tt
 
 -- a state has any property that is none, so the walk tells how Asks are lined
 

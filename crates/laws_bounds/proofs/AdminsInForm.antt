@@ -1,7 +1,7 @@
 -- The administrator's decisions are in form, where what he takes is, and a client tells of the transaction that it was
 -- asked about.
-use Rattle.std.proofs.Common.{◌≡◌, ℕ, ◌≤◌, true, List, [], ◌∷◌, ◌++◌, Option, Some, None, sym, subst}
-use Rattle.std.specs.Prelude.{option_to_list}
+use Rattle.std.proofs.Common.{◌≡◌, ℕ, true, List, [], ◌∷◌, ◌++◌, Option, Some, subst}
+use Rattle.std.specs.Prelude.{option_to_list, MatchOption}
 use Rattle.std.specs.List.{AllByRecursion as Every}
 use Rattle.qc_list.specs.Vocabulary.{In}
 use Rattle.qc_list.proofs.Members.{every-append, every-weaker}
@@ -9,13 +9,10 @@ use Rattle.qc_decl.specs.declared.declaration.Declaration.{Declaration}
 use Rattle.qc_entry.proofs.Union.{ascending-union, every-union}
 use Rattle.qc_epoch.specs.Vocabulary.{Admin, AdminMove, Question, admin_takes, is_number, outcome_in, sent_one}
 use Rattle.qc_msg.specs.declared.message.Answer.{Answer}
-use Rattle.qc_msg.specs.declared.message.Answer.TheVariants as answers
 use Rattle.qc_msg.specs.declared.message.Message.{Message}
-use Rattle.qc_msg.specs.declared.message.Message.TheVariants as messages
 use Rattle.qc_msg.specs.declared.message.Outcome.{Outcome}
 use Rattle.qc_msg.specs.declared.record.Record.{Record}
 use Rattle.qc_msg.specs.declared.record.Record.TheVariants as records
-use Rattle.qc_msg.specs.declared.step.Command.TheVariants as commands
 use Rattle.qc_msg.specs.declared.step.Input.{Input}
 use Rattle.qc_msg.specs.declared.step.Input.TheVariants as inputs
 use Rattle.qc_msg.specs.declared.turn.Posting.{Posting}
@@ -25,12 +22,13 @@ use Rattle.qc_site.proofs.Sorted.{ascending-stamped}
 use Rattle.qc_stamp.proofs.Orders.{same_tx_is}
 use Rattle.qc_stamp.specs.declared.stamp.TxId.{TxId}
 use Rattle.laws_bounds.specs.Vocabulary.{AdminKeeps, AnyNumber, ToldKeeps}
-use Rattle.laws_bounds.proofs.AdminKeeps.{AdminMoveKeeps, CameKeeps, GivenKeeps, Keeping, RecordKeeps, SendKeeps}
-use Rattle.laws_bounds.proofs.AdminKeeps.{ShutCame, WriteKeeps, admin_keeps, admin_risen_keeps, admin_sends_keep}
-use Rattle.laws_bounds.proofs.AdminKeeps.{questions_in}
+use Rattle.laws_bounds.proofs.AdminKeeps.{AdminMoveKeeps, GivenKeeps, Keeping, RecordKeeps, SendKeeps, ShutCame}
+use Rattle.laws_bounds.proofs.AdminKeeps.{WriteKeeps, admin_keeps, admin_risen_keeps, admin_sends_keep, questions_in}
 use Rattle.laws_bounds.proofs.Forms.{CameInForm, LineInForm, LinesInForm, MessageInForm, PromiseInForm, RecordInForm}
 use Rattle.laws_bounds.proofs.Forms.{SendsInForm, TakenInForm, VerdictInForm, WriteInForm}
 use Rattle.laws_bounds.proofs.HeldInForm.{lines_form}
+use Rattle.qc_msg.specs.Vocabulary.{Answered, answer_in}
+use Rattle.laws_bounds.proofs.AdminCases.{given_cases, record_cases, send_cases, shut_keeps, write_cases}
 
 abbrev AnyClock : ℕ → Type 0
 AnyClock clock = Unit {0}
@@ -70,13 +68,7 @@ IsToldIn m number answer =
     → ToldForm q.tx (outcome_in answer)
 
 abbrev pub MessageToldIn : Admin → Message → Type 0
-MessageToldIn m (messages.Request tx epoch life want) = Unit {0}
-MessageToldIn m (messages.Answer to answer) = IsToldIn m to (Some answer)
-MessageToldIn m (messages.Decision tx verdict) = Unit {0}
-MessageToldIn m (messages.Inquiry tx) = Unit {0}
-MessageToldIn m (messages.Ask tx) = Unit {0}
-MessageToldIn m (messages.Close epoch) = Unit {0}
-MessageToldIn m (messages.Install epoch clock log) = Unit {0}
+MessageToldIn m message = MatchOption (answer_in message) (Unit {0}) (λ (a : Answered). IsToldIn m a.to (Some a.answer))
 
 abbrev pub GivenToldIn : Admin → Input → Type 0
 GivenToldIn m (inputs.Called command) = Unit {0}
@@ -85,64 +77,33 @@ GivenToldIn m (inputs.Lost number) = Unit {0}
 
 shut_came : (answer : Option Answer) → CameInForm answer
     → ShutCame AnyClock LinesInForm PromiseInForm VerdictInForm IsEpoch AnyNumber answer
-shut_came None here = tt
-shut_came (Some (answers.Granted life clock log)) here = tt
-shut_came (Some (answers.Clash holder inv event)) here = tt
-shut_came (Some (answers.Closed epoch)) here = tt
-shut_came (Some (answers.Behind epoch)) here = tt
-shut_came (Some (answers.Restarted life)) here = tt
-shut_came (Some answers.Stale) here = tt
-shut_came (Some answers.Fault) here = tt
-shut_came (Some (answers.Yes clock)) here = tt
-shut_came (Some (answers.Shut clock log prepared)) here = (tt, here.0, here.1)
-shut_came (Some answers.Installed) here = tt
-shut_came (Some (answers.Answered verdict)) here = tt
+shut_came =
+    shut_keeps AnyClock LinesInForm PromiseInForm VerdictInForm IsEpoch AnyNumber CameInForm
+    (λ clock log prepared here. (tt, here.0, here.1))
 
 given_keeps : (m : Admin) (g : Input) → TakenInForm g → GivenToldIn m g
     → GivenKeeps AnyClock LinesInForm PromiseInForm VerdictInForm IsEpoch AnyNumber m g
-given_keeps m (inputs.Called commands.Begin) here told = tt
-given_keeps m (inputs.Called (commands.Do object inv)) here told = tt
-given_keeps m (inputs.Called commands.Commit) here told = tt
-given_keeps m (inputs.Called commands.Abort) here told = tt
-given_keeps m (inputs.Called (commands.Epoch number)) here told = here
-given_keeps m (inputs.Got e) here told = heard e.message here told
-  where
-    heard : (message : Message) → MessageInForm message → MessageToldIn m message
-        → GivenKeeps AnyClock LinesInForm PromiseInForm VerdictInForm IsEpoch AnyNumber m
-        (inputs.Got (record e { message = message }))
-    heard (messages.Request tx epoch life want) form told = tt
-    heard (messages.Answer to answer) form told = record { shut = shut_came (Some answer) form; told = told }
-    heard (messages.Decision tx verdict) form told = tt
-    heard (messages.Inquiry tx) form told = tt
-    heard (messages.Ask tx) form told = tt
-    heard (messages.Close epoch) form told = tt
-    heard (messages.Install epoch clock log) form told = tt
-given_keeps m (inputs.Lost number) here told = tt
+given_keeps m g here told =
+    given_cases AnyClock LinesInForm PromiseInForm VerdictInForm IsEpoch AnyNumber m
+    (λ (g : Input). TakenInForm g × GivenToldIn m g) (λ number is. is.0)
+    (λ e to answer is. record { shut = shut_came (Some answer) is.0; told = is.1 }) g (here, told)
 
 -- what he sends and writes
 
 send_form : (message : Message) → SendKeeps AnyClock LinesInForm PromiseInForm VerdictInForm IsEpoch AnyNumber message
     → MessageInForm message
-send_form (messages.Request tx epoch life want) keeps = absurd keeps
-send_form (messages.Answer to answer) keeps = absurd keeps
-send_form (messages.Decision tx verdict) keeps = absurd keeps
-send_form (messages.Inquiry tx) keeps = absurd keeps
-send_form (messages.Ask tx) keeps = tt
-send_form (messages.Close epoch) keeps = keeps
-send_form (messages.Install epoch clock log) keeps = record { epoch_is = keeps.epoch_is; lines_are = keeps.lines_are }
+send_form =
+    send_cases AnyClock LinesInForm PromiseInForm VerdictInForm IsEpoch AnyNumber MessageInForm (λ tx keeps. tt)
+    (λ epoch keeps. keeps)
+    (λ epoch clock lines keeps. record { epoch_is = keeps.epoch_is; lines_are = keeps.lines_are })
 
 write_form : (write : Option Record) → WriteKeeps AnyClock LinesInForm PromiseInForm VerdictInForm IsEpoch AnyNumber
     write
     → Every WriteInForm (option_to_list write)
-write_form None keeps = tt
-write_form (Some records.Life) keeps = absurd keeps
-write_form (Some (records.Prepare p)) keeps = absurd keeps
-write_form (Some (records.Done tx clock)) keeps = absurd keeps
-write_form (Some (records.Close epoch)) keeps = absurd keeps
-write_form (Some (records.Install epoch clock lines)) keeps = absurd keeps
-write_form (Some (records.Commit commit)) keeps = absurd keeps
-write_form (Some (records.Decide epoch clock lines)) keeps =
-    ((record { epoch_is = keeps.0.epoch_is; lines_are = keeps.0.lines_are }, keeps.1), tt)
+write_form =
+    write_cases AnyClock LinesInForm PromiseInForm VerdictInForm IsEpoch AnyNumber
+    (λ (write : Option Record). Every WriteInForm (option_to_list write)) tt
+    (λ epoch clock lines keeps. ((record { epoch_is = keeps.0.epoch_is; lines_are = keeps.0.lines_are }, keeps.1), tt))
 
 pub record AdminMoveInForm (move : AdminMove) : Type 0 where
   pub admin : AdminInForm move.admin
@@ -176,14 +137,9 @@ admin_sends_form m number to message w =
 
 record_keeps : (r : Record) → RecordInForm r
     → RecordKeeps AnyClock LinesInForm PromiseInForm VerdictInForm IsEpoch AnyNumber r
-record_keeps records.Life here = tt
-record_keeps (records.Prepare p) here = tt
-record_keeps (records.Done tx clock) here = tt
-record_keeps (records.Close epoch) here = tt
-record_keeps (records.Install epoch clock lines) here = tt
-record_keeps (records.Commit commit) here = tt
-record_keeps (records.Decide epoch clock lines) here =
-    record { epoch_is = here.epoch_is; clock_is = tt; lines_are = here.lines_are }
+record_keeps =
+    record_cases AnyClock LinesInForm PromiseInForm VerdictInForm IsEpoch AnyNumber RecordInForm
+    (λ epoch clock lines here. record { epoch_is = here.epoch_is; clock_is = tt; lines_are = here.lines_are })
 
 pub admin_risen_form : (rs : List Record) → Every RecordInForm rs → AdminInForm (admin_of (rs ++ records.Life ∷ []))
 admin_risen_form rs all =

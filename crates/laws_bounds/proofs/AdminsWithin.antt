@@ -12,7 +12,6 @@ use Rattle.laws_bounds.proofs.RisenWithin.{stamped_within}
 use Rattle.qc_core.proofs.AdminWrites.{admin_written}
 use Rattle.qc_decl.specs.declared.declaration.Declaration.{Declaration}
 use Rattle.qc_entry.specs.declared.line.Line.{Line}
-use Rattle.qc_entry.specs.declared.record.Prepared.{Prepared}
 use Rattle.qc_entry.proofs.Union.{every-union}
 use Rattle.qc_epoch.specs.Vocabulary.{Admin, AdminMove, Asking, Closing, Decided, Doing, Installing, Question, Resting}
 use Rattle.qc_epoch.specs.Vocabulary.{ShutSite, admin_takes, outcome_in, sent_one}
@@ -20,18 +19,15 @@ use Rattle.laws_turns.proofs.Greater.{lines-le, promises-le}
 use Rattle.laws_turns.specs.Vocabulary.{AnswerWithin, GivenWithin, LinesWithin, MessageWithin, OutcomeWithin}
 use Rattle.laws_turns.specs.Vocabulary.{SendsWithin}
 use Rattle.qc_msg.specs.declared.message.Answer.{Answer}
-use Rattle.qc_msg.specs.declared.message.Answer.TheVariants as answers
 use Rattle.qc_msg.specs.declared.message.Message.{Message}
-use Rattle.qc_msg.specs.declared.message.Message.TheVariants as messages
 use Rattle.qc_msg.specs.declared.message.Outcome.{Outcome}
 use Rattle.qc_msg.specs.declared.message.Outcome.TheVariants.{Committed, Aborted, Active}
 use Rattle.qc_msg.specs.declared.record.Record.{Record}
-use Rattle.qc_msg.specs.declared.record.Record.TheVariants as records
-use Rattle.qc_msg.specs.declared.step.Command.TheVariants as commands
 use Rattle.qc_msg.specs.declared.step.Input.{Input}
-use Rattle.qc_msg.specs.declared.step.Input.TheVariants as inputs
 use Rattle.qc_msg.specs.declared.turn.Posting.{Posting}
 use Rattle.qc_stamp.specs.declared.stamp.TxId.{TxId}
+use Rattle.laws_bounds.proofs.AdminCases.{given_cases, send_cases, shut_keeps, write_cases}
+use Rattle.laws_bounds.proofs.Cases.{outcome_cases}
 
 -- a greater bound
 
@@ -119,34 +115,16 @@ module _ (bound : ℕ) where
   shut_came : (answer : Option Answer) → CameWithin answer
       → ShutCame (ClockWithin bound) (LinesWithin bound) (PromiseWithin bound)
       (VerdictWithin bound) AnyEpoch AnyNumber answer
-  shut_came None here = tt
-  shut_came (Some (answers.Granted life clock log)) here = tt
-  shut_came (Some (answers.Clash holder inv event)) here = tt
-  shut_came (Some (answers.Closed epoch)) here = tt
-  shut_came (Some (answers.Behind epoch)) here = tt
-  shut_came (Some (answers.Restarted life)) here = tt
-  shut_came (Some answers.Stale) here = tt
-  shut_came (Some answers.Fault) here = tt
-  shut_came (Some (answers.Yes clock)) here = tt
-  shut_came (Some (answers.Shut clock log prepared)) here = (here.0, here.1, here.2)
-  shut_came (Some answers.Installed) here = tt
-  shut_came (Some (answers.Answered verdict)) here = tt
+  shut_came =
+      shut_keeps (ClockWithin bound) (LinesWithin bound) (PromiseWithin bound) (VerdictWithin bound) AnyEpoch AnyNumber
+      CameWithin (λ clock log prepared here. (here.0, here.1, here.2))
 
   told : (tx : TxId) (answer : Option Answer) → CameWithin answer
       → parts.ToldKeeps (ClockWithin bound) (LinesWithin bound) (PromiseWithin bound)
       (VerdictWithin bound) AnyEpoch AnyNumber tx (outcome_in answer)
-  told tx None here = tt
-  told tx (Some (answers.Granted life clock log)) here = tt
-  told tx (Some (answers.Clash holder inv event)) here = tt
-  told tx (Some (answers.Closed epoch)) here = tt
-  told tx (Some (answers.Behind epoch)) here = tt
-  told tx (Some (answers.Restarted life)) here = tt
-  told tx (Some answers.Stale) here = tt
-  told tx (Some answers.Fault) here = tt
-  told tx (Some (answers.Yes clock)) here = tt
-  told tx (Some (answers.Shut clock log prepared)) here = tt
-  told tx (Some answers.Installed) here = tt
-  told tx (Some (answers.Answered verdict)) here = here
+  told tx =
+      outcome_cases CameWithin (λ (o : Option Outcome). parts.ToldKeeps (ClockWithin bound) (LinesWithin bound)
+      (PromiseWithin bound) (VerdictWithin bound) AnyEpoch AnyNumber tx o) tt (λ verdict here. here)
 
   came : (m : Admin) (number : ℕ) (answer : Option Answer) → CameWithin answer
       → CameKeeps (ClockWithin bound) (LinesWithin bound) (PromiseWithin bound)
@@ -156,36 +134,18 @@ module _ (bound : ℕ) where
   given_keeps : (m : Admin) (g : Input) → GivenWithin bound g
       → GivenKeeps (ClockWithin bound) (LinesWithin bound) (PromiseWithin bound)
       (VerdictWithin bound) AnyEpoch AnyNumber m g
-  given_keeps m (inputs.Called commands.Begin) here = tt
-  given_keeps m (inputs.Called (commands.Do object inv)) here = tt
-  given_keeps m (inputs.Called commands.Commit) here = tt
-  given_keeps m (inputs.Called commands.Abort) here = tt
-  given_keeps m (inputs.Called (commands.Epoch number)) here = tt
-  given_keeps m (inputs.Got e) here = heard e.message here
-    where
-      heard : (message : Message) → MessageWithin bound message
-          → GivenKeeps (ClockWithin bound) (LinesWithin bound) (PromiseWithin bound)
-          (VerdictWithin bound) AnyEpoch AnyNumber m (inputs.Got (record e { message = message }))
-      heard (messages.Request tx epoch life want) within = tt
-      heard (messages.Answer to answer) within = came m to (Some answer) within
-      heard (messages.Decision tx verdict) within = tt
-      heard (messages.Inquiry tx) within = tt
-      heard (messages.Ask tx) within = tt
-      heard (messages.Close epoch) within = tt
-      heard (messages.Install epoch clock log) within = tt
-  given_keeps m (inputs.Lost number) here = tt
+  given_keeps m =
+      given_cases (ClockWithin bound) (LinesWithin bound) (PromiseWithin bound) (VerdictWithin bound) AnyEpoch AnyNumber
+      m (GivenWithin bound) (λ number here. tt) (λ e to answer here. came m to (Some answer) here)
 
   -- what he sends and writes
 
   send_within : (message : Message) → SendKeeps (ClockWithin bound) (LinesWithin bound) (PromiseWithin bound)
       (VerdictWithin bound) AnyEpoch AnyNumber message → MessageWithin bound message
-  send_within (messages.Request tx epoch life want) keeps = absurd keeps
-  send_within (messages.Answer to answer) keeps = absurd keeps
-  send_within (messages.Decision tx verdict) keeps = absurd keeps
-  send_within (messages.Inquiry tx) keeps = absurd keeps
-  send_within (messages.Ask tx) keeps = tt
-  send_within (messages.Close epoch) keeps = tt
-  send_within (messages.Install epoch clock log) keeps = (keeps.clock_is, keeps.lines_are)
+  send_within =
+      send_cases (ClockWithin bound) (LinesWithin bound) (PromiseWithin bound) (VerdictWithin bound) AnyEpoch AnyNumber
+      (MessageWithin bound) (λ tx keeps. tt) (λ epoch keeps. tt)
+      (λ epoch clock lines keeps. (keeps.clock_is, keeps.lines_are))
 
   sends_within : (ps : List Posting) → Every
       (λ (p : Posting). SendKeeps (ClockWithin bound) (LinesWithin bound) (PromiseWithin bound)
@@ -195,14 +155,10 @@ module _ (bound : ℕ) where
 
   write_within : (write : Option Record) → WriteKeeps (ClockWithin bound) (LinesWithin bound) (PromiseWithin bound)
       (VerdictWithin bound) AnyEpoch AnyNumber write → AreWithin bound (option_to_list write)
-  write_within None keeps = tt
-  write_within (Some records.Life) keeps = absurd keeps
-  write_within (Some (records.Prepare p)) keeps = absurd keeps
-  write_within (Some (records.Done tx clock)) keeps = absurd keeps
-  write_within (Some (records.Close epoch)) keeps = absurd keeps
-  write_within (Some (records.Install epoch clock lines)) keeps = absurd keeps
-  write_within (Some (records.Commit commit)) keeps = absurd keeps
-  write_within (Some (records.Decide epoch clock lines)) keeps = ((keeps.0.clock_is, keeps.0.lines_are), tt)
+  write_within =
+      write_cases (ClockWithin bound) (LinesWithin bound) (PromiseWithin bound) (VerdictWithin bound) AnyEpoch AnyNumber
+      (λ (write : Option Record). AreWithin bound (option_to_list write)) tt
+      (λ epoch clock lines keeps. ((keeps.0.clock_is, keeps.0.lines_are), tt))
 
 pub record AdminMoveWithin (bound : ℕ) (move : AdminMove) : Type 0 where
   pub admin : AdminWithin bound move.admin

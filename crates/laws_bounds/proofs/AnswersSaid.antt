@@ -1,5 +1,5 @@
 -- What a site and a client say of a transaction, as the answer to an Ask about it.
-use Rattle.std.proofs.Common.{[], ◌≡◌, ◌≤◌, ℕ, ◌-◌, true, false, List, ◌∷◌, Some, None, slice_get, refl, sym, ap, subst}
+use Rattle.std.proofs.Common.{[], ◌≡◌, ◌≤◌, ℕ, ◌-◌, false, List, ◌∷◌, Some, None, slice_get, refl, sym, ap, subst}
 use Rattle.std.proofs.Common.{arith}
 use Rattle.std.specs.List.{AllByRecursion as Every}
 use Rattle.qc_client.specs.declared.client.Client.{Client}
@@ -15,13 +15,9 @@ use Rattle.qc_core.proofs.SiteWrites.{IsAnsweredTo, IsAnswerTo}
 use Rattle.qc_core.proofs.Written.{NoAnswer, client_answers, client_written}
 use Rattle.qc_decl.specs.declared.declaration.Declaration.{Declaration}
 use Rattle.qc_entry.specs.declared.record.Prepared.{Prepared}
-use Rattle.qc_epoch.specs.Vocabulary.{Admin}
-use Rattle.qc_msg.specs.Vocabulary.{WasSentTo, answer_in, quiet}
-use Rattle.qc_msg.specs.declared.message.Answer.{Answer}
-use Rattle.qc_msg.specs.declared.message.Answer.TheVariants as answers
+use Rattle.qc_msg.specs.Vocabulary.{WasSentTo, answer_in, quiet, Answered, verdict_in}
 use Rattle.qc_msg.specs.declared.message.Envelope.{Envelope}
 use Rattle.qc_msg.specs.declared.message.Message.{Message}
-use Rattle.qc_msg.specs.declared.message.Message.TheVariants as messages
 use Rattle.qc_msg.specs.declared.step.Input.{Input}
 use Rattle.qc_msg.specs.declared.step.Input.TheVariants as inputs
 use Rattle.qc_msg.specs.declared.turn.Posting.{Posting}
@@ -31,8 +27,13 @@ use Rattle.laws_bounds.proofs.ActorsInForm.{StateInForm}
 use Rattle.laws_bounds.proofs.AdminsAsked.{admin_takes_asked}
 use Rattle.laws_bounds.proofs.ClientsInForm.{ClientInForm, known_form, verdict_form}
 use Rattle.laws_bounds.proofs.Forms.{PromiseInForm}
-use Rattle.laws_bounds.proofs.MailFits.{SaysTurn, SiteSays, site_says}
+use Rattle.laws_bounds.proofs.MailFits.{SaysTurn, SiteSays, site_says, SiteAnswers, unasked_none, unheard_none}
 use Rattle.laws_bounds.proofs.AnswersToAsks.{MessageTold, SendsTold, TurnTold, ActorAsked, ActorTold}
+use Rattle.std.specs.Prelude.{MatchOption, Option}
+use Rattle.qc_msg.specs.declared.message.Outcome.{Outcome}
+use Rattle.laws_bounds.proofs.AnswersToAsks.{AnswerTold, VerdictTold}
+use Rattle.laws_bounds.proofs.ClientCases.{heard_cases}
+use Rattle.laws_bounds.proofs.Options.{match_weaker}
 
 -- what is said
 
@@ -40,14 +41,11 @@ module _ (ms : List Envelope) where
   pub quiet_told : TurnTold ms quiet
   quiet_told = record { sends = tt; failed_sends = tt }
 
+  abbrev Told : Answered → Type 0
+  Told a = AnswerTold ms a.to a.answer
+
   no_answer_told : (m : Message) → answer_in m ≡ None → MessageTold ms m
-  no_answer_told (messages.Request tx epoch life want) none = tt
-  no_answer_told (messages.Answer to answer) none = absurd (let never : ⊥ = cc in never)
-  no_answer_told (messages.Decision tx verdict) none = tt
-  no_answer_told (messages.Inquiry tx) none = tt
-  no_answer_told (messages.Ask tx) none = tt
-  no_answer_told (messages.Close epoch) none = tt
-  no_answer_told (messages.Install epoch clock log) none = tt
+  no_answer_told m none = subst (λ (o : Option Answered). MatchOption o (Unit {0}) Told) (sym none) tt
 
   pub unanswering_told : (ps : List Posting) → Every NoAnswer ps → SendsTold ms ps
   unanswering_told [] none = tt
@@ -56,23 +54,10 @@ module _ (ms : List Envelope) where
   -- a site
 
   says_told : (m : Message) → SiteSays m → MessageTold ms m
-  says_told (messages.Request tx epoch life want) says = tt
-  says_told (messages.Answer to (answers.Granted life clock log)) says = tt
-  says_told (messages.Answer to (answers.Clash holder inv event)) says = tt
-  says_told (messages.Answer to (answers.Closed epoch)) says = tt
-  says_told (messages.Answer to (answers.Behind epoch)) says = tt
-  says_told (messages.Answer to (answers.Restarted life)) says = tt
-  says_told (messages.Answer to answers.Stale) says = tt
-  says_told (messages.Answer to answers.Fault) says = tt
-  says_told (messages.Answer to (answers.Yes clock)) says = tt
-  says_told (messages.Answer to (answers.Shut clock log prepared)) says = tt
-  says_told (messages.Answer to answers.Installed) says = tt
-  says_told (messages.Answer to (answers.Answered verdict)) says = absurd says
-  says_told (messages.Decision tx verdict) says = tt
-  says_told (messages.Inquiry tx) says = tt
-  says_told (messages.Ask tx) says = tt
-  says_told (messages.Close epoch) says = tt
-  says_told (messages.Install epoch clock log) says = tt
+  says_told m says =
+      match_weaker (λ (a : Answered). SiteAnswers a.answer) Told (answer_in m)
+      (λ a said. match_weaker (λ (verdict : Outcome). ⊥) (VerdictTold ms a.to) (verdict_in a.answer)
+      (λ verdict never. absurd never) said.1) says
 
   all_says_told : (ps : List Posting) → Every (λ (p : Posting). SiteSays p.message) ps → SendsTold ms ps
   all_says_told [] all = tt
@@ -85,13 +70,7 @@ module _ (ms : List Envelope) where
   -- a client
 
   unheard_told : (to : ℕ) (m : Message) → IsAnsweredTo None to (answer_in m) → MessageTold ms m
-  unheard_told to (messages.Request tx epoch life want) is = tt
-  unheard_told to (messages.Answer asked answer) is = absurd is
-  unheard_told to (messages.Decision tx verdict) is = tt
-  unheard_told to (messages.Inquiry tx) is = tt
-  unheard_told to (messages.Ask tx) is = tt
-  unheard_told to (messages.Close epoch) is = tt
-  unheard_told to (messages.Install epoch clock log) is = tt
+  unheard_told to m is = unheard_none Told to (answer_in m) is
 
   unheard : (ps : List Posting) → Every (λ (p : Posting). IsAnsweredTo None p.to (answer_in p.message)) ps
       → SendsTold ms ps
@@ -100,14 +79,7 @@ module _ (ms : List Envelope) where
 
   unasked_told : (e : Envelope) → asks_answer e.message ≡ false → (to : ℕ) (m : Message)
       → IsAnsweredTo (Some e) to (answer_in m) → MessageTold ms m
-  unasked_told e none to (messages.Request tx epoch life want) is = tt
-  unasked_told e none to (messages.Answer asked answer) is =
-      absurd (let asks : asks_answer e.message ≡ true = is.1.1 in let never : ⊥ = cc in never)
-  unasked_told e none to (messages.Decision tx verdict) is = tt
-  unasked_told e none to (messages.Inquiry tx) is = tt
-  unasked_told e none to (messages.Ask tx) is = tt
-  unasked_told e none to (messages.Close epoch) is = tt
-  unasked_told e none to (messages.Install epoch clock log) is = tt
+  unasked_told e none to m is = unasked_none Told e none to (answer_in m) is
 
   unasked : (e : Envelope) → asks_answer e.message ≡ false → (ps : List Posting) → Every (IsAnswerTo (inputs.Got e)) ps
       → SendsTold ms ps
@@ -119,15 +91,12 @@ module _ (ms : List Envelope) where
     Heard c e m = SendsTold ms (clients.heard decl c e.from e.number m).turn.sends
 
     heard_told : (k : ℕ) (c : Client) → ClientInForm decl k c → (e : Envelope) → slice_get ms e.number ≡ Some e
-        → (m : Message)
-        → e.message ≡ m → Heard c e e.message
-    heard_told k c w e sent (messages.Request tx epoch life want) is = subst (Heard c e) (sym is) tt
-    heard_told k c w e sent (messages.Answer to answer) is =
-        unasked e (ap asks_answer is) _ (client_answers decl c (inputs.Got e))
-    heard_told k c w e sent (messages.Decision tx verdict) is = subst (Heard c e) (sym is) tt
-    heard_told k c w e sent (messages.Inquiry tx) is = subst (Heard c e) (sym is) (tt, tt)
-    heard_told k c w e sent (messages.Ask tx) is =
-        subst (Heard c e) (sym is) (
+        → Heard c e e.message
+    heard_told k c w e sent =
+        heard_cases decl c e.from e.number (λ m move. e.message ≡ m → SendsTold ms move.turn.sends) (λ m is. tt)
+        (λ to answer is. subst (Heard c e) is (unasked e (ap asks_answer is) _ (client_answers decl c (inputs.Got e))))
+        (λ tx is. (tt, tt))
+        (λ tx is. (
           (
             tx,
             (e, sent, is),
@@ -135,14 +104,12 @@ module _ (ms : List Envelope) where
                 (known_form tx c.desk.commits w.desk.commits),
           ),
           tt,
-        )
-    heard_told k c w e sent (messages.Close epoch) is = subst (Heard c e) (sym is) tt
-    heard_told k c w e sent (messages.Install epoch clock log) is = subst (Heard c e) (sym is) tt
+        )) e.message refl
 
     sends_told : (k a : ℕ) (c : Client) (g : Input) → ClientInForm decl k c → WasSentTo a ms g
         → SendsTold ms (clients.client_takes decl c g).turn.sends
     sends_told k a c (inputs.Called command) w sent = unheard _ (client_answers decl c (inputs.Called command))
-    sends_told k a c (inputs.Got e) w sent = heard_told k c w e sent.0 e.message refl
+    sends_told k a c (inputs.Got e) w sent = heard_told k c w e sent.0
     sends_told k a c (inputs.Lost number) w sent = unheard _ (client_answers decl c (inputs.Lost number))
 
     -- each actor

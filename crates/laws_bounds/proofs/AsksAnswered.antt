@@ -5,23 +5,20 @@ use Rattle.std.proofs.Common.{subst, eqb-true, append_assoc, length}
 use Rattle.std.specs.List.{AllByRecursion as Every}
 use Rattle.qc_list.specs.Vocabulary.{In}
 use Rattle.qc_list.proofs.Members.{every-In, every-at}
-use Rattle.qc_client.specs.declared.client.Client.{Client}
 use Rattle.qc_core.specs.declared.actor.Actor.{Actor}
 use Rattle.qc_core.specs.declared.actor.Actor.TheVariants as actors_of
 use Rattle.qc_core.specs.Vocabulary.{ActorMove, actor_does, moved}
 use Rattle.qc_core.proofs.AdminTurns.{IsSentByAdmin}
 use Rattle.qc_decl.specs.declared.declaration.Declaration.{Declaration}
 use Rattle.qc_epoch.specs.Vocabulary.{Admin, Asking, Closing, Doing, Installing, Question, Resting, is_number}
-use Rattle.qc_epoch.specs.Vocabulary.{outcome_in}
 use Rattle.qc_msg.specs.Vocabulary.{Deed, Falls, Rises, Sends, Takes, Tells, WasSentTo, Writes, deeds_as, envelopes}
-use Rattle.qc_msg.specs.Vocabulary.{quiet, sends_as, sends_of, tells_of, turn_deeds}
+use Rattle.qc_msg.specs.Vocabulary.{quiet, sends_as, sends_of, tells_of, turn_deeds, Answered, answer_in, verdict_in}
 use Rattle.qc_msg.specs.declared.record.Record.{Record}
 use Rattle.qc_msg.specs.declared.step.Fall.{Fall}
 use Rattle.qc_msg.specs.declared.step.Fall.TheVariants as causes
 use Rattle.qc_msg.specs.declared.turn.Appended.{Appended}
 use Rattle.qc_msg.specs.declared.turn.Appended.TheVariants.{Done, Failed, Stopped}
 use Rattle.qc_msg.specs.declared.message.Answer.{Answer}
-use Rattle.qc_msg.specs.declared.message.Answer.TheVariants as answers
 use Rattle.qc_msg.specs.declared.message.Envelope.{Envelope}
 use Rattle.qc_msg.specs.declared.message.Message.{Message}
 use Rattle.qc_msg.specs.declared.message.Message.TheVariants as messages
@@ -37,8 +34,11 @@ use Rattle.laws_bounds.proofs.AdminsAsked.{AdminAsked, DoingAsked, QuestionAsked
 use Rattle.laws_bounds.proofs.AdminsInForm.{IsToldIn, MessageToldIn, ToldForm}
 use Rattle.laws_bounds.proofs.Forms.{VerdictInForm}
 use Rattle.laws_bounds.proofs.TurnsPosted.{admin_turn, client_turn, down_turn, site_turn}
-use Rattle.laws_bounds.proofs.AnswersToAsks.{AnswerTold, MessageTold, MailTold, TurnTold, ActorAsked}
+use Rattle.laws_bounds.proofs.AnswersToAsks.{AnswerTold, MessageTold, MailTold, TurnTold, ActorAsked, VerdictTold}
 use Rattle.laws_bounds.proofs.AnswersSaid.{quiet_told}
+use Rattle.std.specs.Prelude.{MatchOption}
+use Rattle.laws_bounds.proofs.Options.{match_weaker}
+use Rattle.qc_msg.specs.declared.message.Outcome.{Outcome}
 
 module _ (ms : List Envelope) where
   -- what the administrator is told is of the transaction that was asked about
@@ -74,33 +74,20 @@ module _ (ms : List Envelope) where
 
   answered_told : (m : Admin) (number : ℕ) (answer : Answer) → AnswerTold ms number answer → AdminAsked ms m
       → IsToldIn m number (Some answer)
-  answered_told m number answer told asked q among is = by answer told
+  answered_told m number answer told asked q among is = by (verdict_in answer) told
     where
       keeps : AsksAt ms q.tx number
       keeps = numbered_asked number q.tx q.number is (asked_in m asked q among)
 
-      by : (answer : Answer) → AnswerTold ms number answer → ToldForm q.tx (outcome_in (Some answer))
-      by (answers.Granted life clock log) told = tt
-      by (answers.Clash holder inv event) told = tt
-      by (answers.Closed epoch) told = tt
-      by (answers.Behind epoch) told = tt
-      by (answers.Restarted life) told = tt
-      by answers.Stale told = tt
-      by answers.Fault told = tt
-      by (answers.Yes clock) told = tt
-      by (answers.Shut clock log prepared) told = tt
-      by answers.Installed told = tt
-      by (answers.Answered verdict) told =
+      by : (o : Option Outcome) → MatchOption o (Unit {0}) (VerdictTold ms number) → ToldForm q.tx o
+      by None told = tt
+      by (Some verdict) told =
           subst (λ (t : TxId). VerdictInForm t verdict) (same_ask told.0 q.tx number told.1 keeps) told.2
 
   message_told : (m : Admin) (message : Message) → MessageTold ms message → AdminAsked ms m → MessageToldIn m message
-  message_told m (messages.Request tx epoch life want) told asked = tt
-  message_told m (messages.Answer to answer) told asked = answered_told m to answer told asked
-  message_told m (messages.Decision tx verdict) told asked = tt
-  message_told m (messages.Inquiry tx) told asked = tt
-  message_told m (messages.Ask tx) told asked = tt
-  message_told m (messages.Close epoch) told asked = tt
-  message_told m (messages.Install epoch clock log) told asked = tt
+  message_told m message told asked =
+      match_weaker (λ (a : Answered). AnswerTold ms a.to a.answer) (λ (a : Answered). IsToldIn m a.to (Some a.answer))
+      (answer_in message) (λ a is. answered_told m a.to a.answer is asked) told
 
   pub given_told : (decl : Declaration) (v : Actor) (a : ℕ) (g : Input) → WasSentTo a ms g → MailTold ms ms
       → ActorAsked ms v

@@ -1,7 +1,6 @@
 -- In each run with falls whose rises fit, below the limit of steps, all that an actor's calls ask holds.
 use Rattle.std.proofs.Common.{◌≡◌, ℕ, ◌+◌, ◌-◌, ◌^◌, ◌<◌, ◌≤◌, Bool, true, false, List, [], length, Option, Some, None}
 use Rattle.std.proofs.Common.{slice_get, refl, sym, ap, ◌∙◌, subst, arith}
-use Rattle.std.specs.List.{AllByRecursion as Every}
 use Rattle.qc_list.specs.Vocabulary.{In}
 use Rattle.qc_list.proofs.Members.{every-In, every-weaker}
 use Rattle.qc_admin.specs.Vocabulary.{AdminFits, GivenFits, GoesToActors}
@@ -35,14 +34,13 @@ use Rattle.qc_front.proofs.Fitting.{fits as front_fits}
 use Rattle.qc_link.specs.Vocabulary.{most_actors}
 use Rattle.qc_msg.specs.declared.message.Envelope.{Envelope}
 use Rattle.qc_msg.specs.declared.message.Message.{Message}
-use Rattle.qc_msg.specs.declared.message.Message.TheVariants as messages
 use Rattle.qc_msg.specs.declared.record.Record.{Record}
 use Rattle.qc_msg.specs.declared.step.Input.{Input}
 use Rattle.qc_msg.specs.declared.step.Input.TheVariants as inputs
 use Rattle.qc_msg.specs.declared.turn.Turn.{Turn}
-use Rattle.qc_msg.specs.Vocabulary.{Deed, Entry, deeds, mail}
+use Rattle.qc_msg.specs.Vocabulary.{Deed, Entry, deeds, mail, Answered, answer_in}
 use Rattle.qc_msg.proofs.GrownMail.{length-mail}
-use Rattle.laws_turns.specs.Vocabulary.{MessageWithin}
+use Rattle.laws_turns.specs.Vocabulary.{MessageWithin, AnswerWithin}
 use Rattle.laws_turns.proofs.DesksWithin.{promised-within}
 use Rattle.qc_script.specs.Vocabulary.{RunsWithFalls}
 use Rattle.qc_script.specs.declared.script.Script.{Script}
@@ -54,6 +52,9 @@ use Rattle.laws_bounds.proofs.FitBounds.{rise_few, rise_within}
 use Rattle.laws_bounds.proofs.Needs.{run_bounded}
 use Rattle.laws_bounds.proofs.RunsFit.{known_in, run_fits}
 use Rattle.laws_bounds.proofs.Standing.{IsOpen, IsReady, Known}
+use Rattle.qc_commit.specs.Learning.{promised}
+use Rattle.laws_bounds.proofs.Cases.{answer_cases}
+use Rattle.laws_bounds.proofs.Options.{map_or}
 
 -- few sites are asked, before the numbers of a turn's messages are known as after
 
@@ -138,13 +139,12 @@ module _ (decl : Declaration) (accepted : IsAccepted decl) where
   taken_short actors_of.Down running (inputs.Lost number) ready from fits = record { receivers = tt; few = omega arith }
 
 message_promise : (bound : ℕ) (message : Message) → MessageWithin bound message → promise_in message ≤ bound
-message_promise bound (messages.Request tx epoch life want) here = omega arith
-message_promise bound (messages.Answer to answer) here = promised-within bound (Some answer) here
-message_promise bound (messages.Decision tx verdict) here = omega arith
-message_promise bound (messages.Inquiry tx) here = omega arith
-message_promise bound (messages.Ask tx) here = omega arith
-message_promise bound (messages.Close epoch) here = omega arith
-message_promise bound (messages.Install epoch clock log) here = omega arith
+message_promise bound message here =
+    map_or (λ (n : ℕ). n ≤ bound) (λ (a : Answered). AnswerWithin bound a.answer)
+    (λ (a : Answered). promised (Some a.answer)) 0 (answer_in message)
+    (answer_cases (MessageWithin bound) (λ (a : Answered). AnswerWithin bound a.answer) (λ to answer is. is) message
+    here)
+    (omega arith) (λ a is. promised-within bound (Some a.answer) is)
 
 module _ (decl : Declaration) (script : Script) (fits : ℕ → List Record → Type 0) (h : List Entry)
     (open_inputs : List Bool) (run : RunsWithFalls (IsLawfulWithFalls decl) fits decl script h open_inputs) where

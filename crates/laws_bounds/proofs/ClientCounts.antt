@@ -13,7 +13,6 @@ use Rattle.qc_front.specs.Vocabulary.{ended}
 use Rattle.qc_front.proofs.Unwritten.{front_called, front_takes}
 use Rattle.qc_msg.specs.declared.message.Answer.{Answer}
 use Rattle.qc_msg.specs.declared.message.Message.{Message}
-use Rattle.qc_msg.specs.declared.message.Message.TheVariants as messages
 use Rattle.qc_msg.specs.declared.message.Want.{Want}
 use Rattle.qc_msg.specs.declared.message.Want.TheVariants.{Append, Prepare, Read}
 use Rattle.qc_msg.specs.declared.reply.Reply.{Reply}
@@ -22,6 +21,9 @@ use Rattle.qc_msg.specs.declared.step.Command.TheVariants as commands
 use Rattle.qc_msg.specs.declared.step.Input.{Input}
 use Rattle.qc_msg.specs.declared.step.Input.TheVariants as inputs
 use Rattle.laws_bounds.proofs.FrontCounts.{called_count, takes_count}
+use Rattle.qc_msg.specs.Vocabulary.{Requested, request_in}
+use Rattle.laws_bounds.proofs.ClientCases.{called_cases, heard_cases}
+use Rattle.laws_bounds.proofs.Options.{map_each}
 
 -- a client over one input
 
@@ -56,11 +58,8 @@ module _ (decl : Declaration) (c : Client) where
       by false = desk_steps c (desks.prepare decl c.desk t.begun c.front.clock.value)
 
   called_steps : (command : Command) → Steps c (called decl c command).client
-  called_steps commands.Begin = fronted commands.Begin
-  called_steps (commands.Do object inv) = fronted (commands.Do object inv)
-  called_steps commands.Commit = commit_steps c.front.transaction
-  called_steps commands.Abort = fronted commands.Abort
-  called_steps (commands.Epoch number) = fronted (commands.Epoch number)
+  called_steps =
+      called_cases decl c (λ command move. Steps c move.client) fronted (commit_steps c.front.transaction)
 
   answer_steps : (number : ℕ) (answer : Option Answer) → Steps c (answered decl c number answer).client
   answer_steps number answer = by c.desk.voting
@@ -75,13 +74,9 @@ module _ (decl : Declaration) (c : Client) where
       by (Some v) = desk_steps c (desks.vote c.desk number answer)
 
   heard_steps : (from number : ℕ) (message : Message) → Steps c (heard decl c from number message).client
-  heard_steps from number (messages.Request tx epoch life want) = stays c
-  heard_steps from number (messages.Answer to answer) = answer_steps to (Some answer)
-  heard_steps from number (messages.Decision tx verdict) = stays c
-  heard_steps from number (messages.Inquiry tx) = stays c
-  heard_steps from number (messages.Ask tx) = stays c
-  heard_steps from number (messages.Close epoch) = stays c
-  heard_steps from number (messages.Install epoch clock log) = stays c
+  heard_steps from number =
+      heard_cases decl c from number (λ message move. Steps c move.client) (λ message. stays c)
+      (λ to answer. answer_steps to (Some answer)) (λ tx. stays c) (λ tx. stays c)
 
   pub takes_steps : (g : Input) → Steps c (client_takes decl c g).client
   takes_steps (inputs.Called command) = called_steps command
@@ -100,10 +95,6 @@ requested_same c number to (Append object view own) = record { count = refl; lif
 requested_same c number to Prepare = record { count = refl; life = refl }
 
 pub sent_same : (c : Client) (number to : ℕ) (message : Message) → Same c (sent_one c number to message)
-sent_same c number to (messages.Request tx epoch life want) = requested_same c number to want
-sent_same c number to (messages.Answer asked answer) = record { count = refl; life = refl }
-sent_same c number to (messages.Decision tx verdict) = record { count = refl; life = refl }
-sent_same c number to (messages.Inquiry tx) = record { count = refl; life = refl }
-sent_same c number to (messages.Ask tx) = record { count = refl; life = refl }
-sent_same c number to (messages.Close epoch) = record { count = refl; life = refl }
-sent_same c number to (messages.Install epoch clock log) = record { count = refl; life = refl }
+sent_same c number to message =
+    map_each (Same c) (λ (q : Requested). requested c number to q.want) c (request_in message)
+    (record { count = refl; life = refl }) (λ q. requested_same c number to q.want)

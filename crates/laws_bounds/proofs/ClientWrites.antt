@@ -20,7 +20,6 @@ use Rattle.qc_front.specs.Conduct as fronts
 use Rattle.qc_front.proofs.Unwritten.{front_called, front_takes}
 use Rattle.qc_msg.specs.declared.message.Answer.{Answer}
 use Rattle.qc_msg.specs.declared.message.Message.{Message}
-use Rattle.qc_msg.specs.declared.message.Message.TheVariants as messages
 use Rattle.qc_msg.specs.declared.record.Record.{Record}
 use Rattle.qc_msg.specs.declared.record.Record.TheVariants as records
 use Rattle.qc_msg.specs.declared.step.Command.{Command}
@@ -32,6 +31,7 @@ use Rattle.qc_stamp.specs.declared.stamp.TxId.{TxId}
 use Rattle.laws_turns.specs.Vocabulary.{ClientWithin, SendsWithin}
 use Rattle.laws_bounds.specs.Vocabulary.{AreWithin}
 use Rattle.laws_bounds.proofs.SiteWrites.{WritesWithin}
+use Rattle.laws_bounds.proofs.ClientCases.{called_cases, heard_cases}
 
 -- what is written is one of the commit records that the client keeps then
 abbrev WritesKept : ClientMove → Type 0
@@ -79,11 +79,7 @@ module _ (decl : Declaration) (c : Client) where
           (prepare-moves decl c.desk t.begun c.front.clock.value)
 
   called_writes : (command : Command) → KeepsWrites (called decl c command)
-  called_writes commands.Begin = fronted commands.Begin
-  called_writes (commands.Do object inv) = fronted (commands.Do object inv)
-  called_writes commands.Commit = commit_writes c.front.transaction
-  called_writes commands.Abort = fronted commands.Abort
-  called_writes (commands.Epoch number) = fronted (commands.Epoch number)
+  called_writes = called_cases decl c (λ command move. KeepsWrites move) fronted (commit_writes c.front.transaction)
 
   answer_writes : (number : ℕ) (answer : Option Answer) → KeepsWrites (answered decl c number answer)
   answer_writes number answer = by c.desk.voting
@@ -94,13 +90,9 @@ module _ (decl : Declaration) (c : Client) where
           desk_writes c (tx_of c.desk.voting) (desks.vote c.desk number answer) (vote-moves c.desk number answer)
 
   heard_writes : (from number : ℕ) (message : Message) → KeepsWrites (heard decl c from number message)
-  heard_writes from number (messages.Request tx epoch life want) = none_writes _ refl
-  heard_writes from number (messages.Answer to answer) = answer_writes to (Some answer)
-  heard_writes from number (messages.Decision tx verdict) = none_writes _ refl
-  heard_writes from number (messages.Inquiry tx) = none_writes _ refl
-  heard_writes from number (messages.Ask tx) = none_writes _ refl
-  heard_writes from number (messages.Close epoch) = none_writes _ refl
-  heard_writes from number (messages.Install epoch clock log) = none_writes _ refl
+  heard_writes from number =
+      heard_cases decl c from number (λ message move. KeepsWrites move) (λ message. none_writes _ refl)
+      (λ to answer. answer_writes to (Some answer)) (λ tx. none_writes _ refl) (λ tx. none_writes _ refl)
 
   takes_writes : (g : Input) → KeepsWrites (client_takes decl c g)
   takes_writes (inputs.Called command) = called_writes command

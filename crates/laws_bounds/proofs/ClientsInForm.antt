@@ -21,7 +21,6 @@ use Rattle.qc_front.specs.Vocabulary.{FrontMove, ended}
 use Rattle.qc_front.proofs.Unwritten.{front_called, front_takes}
 use Rattle.qc_msg.specs.declared.message.Answer.{Answer}
 use Rattle.qc_msg.specs.declared.message.Message.{Message}
-use Rattle.qc_msg.specs.declared.message.Message.TheVariants as messages
 use Rattle.qc_msg.specs.declared.message.Want.{Want}
 use Rattle.qc_msg.specs.declared.message.Want.TheVariants.{Append, Prepare, Read}
 use Rattle.qc_msg.specs.declared.reply.Reply.{Reply}
@@ -29,7 +28,7 @@ use Rattle.qc_msg.specs.declared.step.Command.{Command}
 use Rattle.qc_msg.specs.declared.step.Command.TheVariants as commands
 use Rattle.qc_msg.specs.declared.step.Input.{Input}
 use Rattle.qc_msg.specs.declared.step.Input.TheVariants as inputs
-use Rattle.qc_msg.specs.Vocabulary.{quiet}
+use Rattle.qc_msg.specs.Vocabulary.{quiet, Requested, request_in}
 use Rattle.qc_stamp.specs.declared.stamp.TxId.{TxId}
 use Rattle.qc_stamp.specs.Vocabulary.{same_tx}
 use Rattle.qc_stamp.proofs.Orders.{same_tx_is}
@@ -40,6 +39,8 @@ use Rattle.laws_bounds.proofs.FrontsInForm.{AnswersInForm, DoingInForm, FrontInF
 use Rattle.laws_bounds.proofs.FrontsTake.{FrontMoveInForm, called_form, takes_form}
 use Rattle.laws_bounds.proofs.DesksInForm.{CommitsInForm, DeskInForm, DeskMoveInForm, OwnWriteInForm, numbered_form}
 use Rattle.laws_bounds.proofs.DesksInForm.{prepare_form, vote_form}
+use Rattle.laws_bounds.proofs.ClientCases.{called_cases, heard_cases}
+use Rattle.laws_bounds.proofs.Options.{map_each}
 
 -- how a transaction stands, by the records of commits
 
@@ -139,11 +140,9 @@ module _ (decl : Declaration) (client : ℕ) where
             (prepare_form client decl c.desk t.begun c.front.clock.value w.desk (begun_form c.front.doing t its))
 
     calls_form : (command : Command) → CommandInForm command → ClientMoveInForm (called decl c command)
-    calls_form commands.Begin here = fronted commands.Begin tt
-    calls_form (commands.Do object inv) here = fronted (commands.Do object inv) here
-    calls_form commands.Commit here = commits_form c.front.transaction w.front.begun
-    calls_form commands.Abort here = fronted commands.Abort tt
-    calls_form (commands.Epoch number) here = fronted (commands.Epoch number) here
+    calls_form =
+        called_cases decl c (λ command move. CommandInForm command → ClientMoveInForm move) fronted
+        (λ here. commits_form c.front.transaction w.front.begun)
 
     answers_form : (number : ℕ) (answer : Option Answer) → CameInForm answer
         → ClientMoveInForm (answered decl c number answer)
@@ -159,11 +158,10 @@ module _ (decl : Declaration) (client : ℕ) where
 
     heard_form : (from number : ℕ) (message : Message) → MessageInForm message
         → ClientMoveInForm (heard decl c from number message)
-    heard_form from number (messages.Request tx epoch life want) here = silent
-    heard_form from number (messages.Answer to answer) here = answers_form to (Some answer) here
-    heard_form from number (messages.Decision tx verdict) here = silent
-    heard_form from number (messages.Inquiry tx) here =
-        record {
+    heard_form from number =
+        heard_cases decl c from number (λ message move. MessageInForm message → ClientMoveInForm move)
+        (λ message here. silent) (λ to answer here. answers_form to (Some answer) here)
+        (λ tx here. record {
           client_is = w;
           sends = (
             verdict_form tx (known c.desk tx) (is_begun tx c.front.transaction)
@@ -171,10 +169,8 @@ module _ (decl : Declaration) (client : ℕ) where
             tt,
           );
           write = inl refl;
-        }
-    heard_form from number (messages.Ask tx) here = record { client_is = w; sends = (tt, tt); write = inl refl }
-    heard_form from number (messages.Close epoch) here = silent
-    heard_form from number (messages.Install epoch clock log) here = silent
+        })
+        (λ tx here. record { client_is = w; sends = (tt, tt); write = inl refl })
 
     -- one input
 
@@ -218,10 +214,6 @@ module _ (decl : Declaration) (client : ℕ) where
 
   pub sent_form : (c : Client) (number to : ℕ) (message : Message) → ClientInForm c
       → ClientInForm (sent_one c number to message)
-  sent_form c number to (messages.Request tx epoch life want) w = requested_form c number to want w
-  sent_form c number to (messages.Answer asked answer) w = w
-  sent_form c number to (messages.Decision tx verdict) w = w
-  sent_form c number to (messages.Inquiry tx) w = w
-  sent_form c number to (messages.Ask tx) w = w
-  sent_form c number to (messages.Close epoch) w = w
-  sent_form c number to (messages.Install epoch clock log) w = w
+  sent_form c number to message w =
+      map_each ClientInForm (λ (q : Requested). requested c number to q.want) c (request_in message) w
+      (λ q. requested_form c number to q.want w)

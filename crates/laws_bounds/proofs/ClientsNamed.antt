@@ -40,10 +40,12 @@ use Rattle.qc_msg.specs.declared.step.Command.{Command}
 use Rattle.qc_msg.specs.declared.step.Command.TheVariants as commands
 use Rattle.qc_msg.specs.declared.step.Input.{Input}
 use Rattle.qc_msg.specs.declared.step.Input.TheVariants as inputs
-use Rattle.qc_msg.specs.Vocabulary.{decisions, quiet, sending, site_called, without_call}
+use Rattle.qc_msg.specs.Vocabulary.{decisions, quiet, sending, site_called, without_call, Requested, request_in}
 use Rattle.laws_bounds.proofs.FrontsNamed.{DoingNamed, FrontMoveNamed, FrontNamed, called_named, takes_named}
 use Rattle.laws_bounds.proofs.TransactionsNamed.{BegunNamed}
 use Rattle.laws_bounds.proofs.Names.{CameNamed, CommandNamed, GivenNamed, MessageNamed, OpsNamed, SendsNamed}
+use Rattle.laws_bounds.proofs.ClientCases.{called_cases, heard_cases}
+use Rattle.laws_bounds.proofs.Options.{map_each}
 
 module _ (decl : Declaration) (k : ℕ) where
   -- a begun transaction of the client
@@ -202,11 +204,9 @@ module _ (decl : Declaration) (k : ℕ) where
             (prepare_named c.desk t.begun c.front.clock.value (record { ops = its.ops; client = own }))
 
     calls_named : (command : Command) → CommandNamed decl command → ClientMoveNamed (called decl c command)
-    calls_named commands.Begin here = fronted commands.Begin tt
-    calls_named (commands.Do object inv) here = fronted (commands.Do object inv) here
-    calls_named commands.Commit here = commits_named c.front.transaction w.front.begun w.own.begun
-    calls_named commands.Abort here = fronted commands.Abort tt
-    calls_named (commands.Epoch number) here = fronted (commands.Epoch number) here
+    calls_named =
+        called_cases decl c (λ command move. CommandNamed decl command → ClientMoveNamed move) fronted
+        (λ here. commits_named c.front.transaction w.front.begun w.own.begun)
 
     answers_named : (number : ℕ) (answer : Option Answer) → CameNamed decl answer
         → ClientMoveNamed (answered decl c number answer)
@@ -222,13 +222,11 @@ module _ (decl : Declaration) (k : ℕ) where
 
     heard_named : (from number : ℕ) (message : Message) → MessageNamed decl message
         → ClientMoveNamed (heard decl c from number message)
-    heard_named from number (messages.Request tx epoch life want) here = silent
-    heard_named from number (messages.Answer to answer) here = answers_named to (Some answer) here
-    heard_named from number (messages.Decision tx verdict) here = silent
-    heard_named from number (messages.Inquiry tx) here = record { client = w; sends = (tt, tt); write = inl refl }
-    heard_named from number (messages.Ask tx) here = record { client = w; sends = (tt, tt); write = inl refl }
-    heard_named from number (messages.Close epoch) here = silent
-    heard_named from number (messages.Install epoch clock log) here = silent
+    heard_named from number =
+        heard_cases decl c from number (λ message move. MessageNamed decl message → ClientMoveNamed move)
+        (λ message here. silent) (λ to answer here. answers_named to (Some answer) here)
+        (λ tx here. record { client = w; sends = (tt, tt); write = inl refl })
+        (λ tx here. record { client = w; sends = (tt, tt); write = inl refl })
 
     -- one input
     pub client_takes_named : (g : Input) → GivenNamed decl g → ClientMoveNamed (client_takes decl c g)
@@ -269,10 +267,6 @@ module _ (decl : Declaration) (k : ℕ) where
 
   pub sent_named : (c : Client) (number to : ℕ) (message : Message) → ClientNamed c
       → ClientNamed (sent_one c number to message)
-  sent_named c number to (messages.Request tx epoch life want) w = requested_named c number to want w
-  sent_named c number to (messages.Answer asked answer) w = w
-  sent_named c number to (messages.Decision tx verdict) w = w
-  sent_named c number to (messages.Inquiry tx) w = w
-  sent_named c number to (messages.Ask tx) w = w
-  sent_named c number to (messages.Close epoch) w = w
-  sent_named c number to (messages.Install epoch clock log) w = w
+  sent_named c number to message w =
+      map_each ClientNamed (λ (q : Requested). requested c number to q.want) c (request_in message) w
+      (λ q. requested_named c number to q.want w)

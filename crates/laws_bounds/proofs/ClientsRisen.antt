@@ -8,12 +8,17 @@ use Rattle.qc_entry.specs.declared.record.Commit.{Commit}
 use Rattle.qc_msg.specs.declared.record.Record.{Record}
 use Rattle.qc_msg.specs.declared.record.Record.TheVariants as records
 use Rattle.qc_recover.specs.Vocabulary.{client_of, with_commit}
-use Rattle.qc_recover.specs.Clients.{Kept, keeps, kept_by, nothing_kept}
+use Rattle.qc_recover.specs.Clients.{Kept, keeps, kept_by, nothing_kept, with_commit}
 use Rattle.qc_recover.proofs.Lives.{client_lives}
 use Rattle.qc_stamp.specs.Vocabulary.{same_tx}
 use Rattle.laws_bounds.proofs.ClientsInForm.{ClientInForm}
 use Rattle.laws_bounds.proofs.DesksInForm.{CommitsInForm}
-use Rattle.laws_bounds.proofs.Forms.{RecordInForm, StampInForm}
+use Rattle.laws_bounds.proofs.Forms.{RecordInForm, StampInForm, CommitInForm}
+use Rattle.std.specs.Prelude.{Bool, true, false, cond, max}
+use Rattle.std.specs.Option.{option_map_or}
+use Rattle.qc_msg.specs.Vocabulary.{commit_of, is_life}
+use Rattle.laws_bounds.proofs.Cases.{commit_cases}
+use Rattle.laws_bounds.proofs.Options.{map_or}
 
 commit_form : (commits : List Commit) (c : Commit) → CommitsInForm commits → StampInForm c.stamp c.tx
     → CommitsInForm (with_commit commits c)
@@ -26,15 +31,20 @@ record KeptInForm (k : Kept) : Type 0 where
   life : 1 ≤ k.life
   commits : CommitsInForm k.commits
 
+abbrev pub with_record : Kept → Commit → Kept
+with_record k c = record k { commits = with_commit k.commits c; clock = max k.clock c.stamp.clock }
+
 keeps_form : (k : Kept) (r : Record) → RecordInForm r → KeptInForm k → KeptInForm (keeps k r)
-keeps_form k records.Life here w = record { life = omega arith; commits = w.commits }
-keeps_form k (records.Prepare p) here w = w
-keeps_form k (records.Done tx clock) here w = w
-keeps_form k (records.Close epoch) here w = w
-keeps_form k (records.Install epoch clock lines) here w = w
-keeps_form k (records.Commit c) here w =
-    record { life = w.life; commits = commit_form k.commits c w.commits here.stamp }
-keeps_form k (records.Decide epoch clock lines) here w = w
+keeps_form k r here w =
+    by (is_life r)
+    (map_or KeptInForm CommitInForm (with_record k) k (commit_of r)
+    (commit_cases RecordInForm CommitInForm (λ c form. form) r here) w
+    (λ c form. record { life = w.life; commits = commit_form k.commits c w.commits form.stamp }))
+  where
+    by : (b : Bool) → KeptInForm (option_map_or (with_record k) (commit_of r) k)
+        → KeptInForm (cond b (record k { life = k.life + 1 }) (option_map_or (with_record k) (commit_of r) k))
+    by true kept = record { life = omega arith; commits = w.commits }
+    by false kept = kept
 
 kept_form : (rs : List Record) (k : Kept) → Every RecordInForm rs → KeptInForm k → KeptInForm (fold keeps k rs)
 kept_form [] k all w = w

@@ -1,15 +1,15 @@
 -- A client's count of transactions is at most its deeds, and begins anew at a rise; an actor keeps its life until it
 -- rises or closes an epoch, and has at most two more than the records that it rises with.
 use Rattle.std.proofs.Common.{◌≡◌, ℕ, ◌+◌, ◌-◌, ◌≤◌, ◌==◌, Bool, true, false, cond, List, [], ◌∷◌, ◌++◌, fold, length}
-use Rattle.std.proofs.Common.{Option, Some, None, refl, arith, length-append}
-use Rattle.std.specs.Prelude.{option_to_list, slice_get}
+use Rattle.std.proofs.Common.{Option, Some, None, arith, length-append, subst, sym}
+use Rattle.std.specs.Prelude.{option_to_list, slice_get, MatchOption}
 use Rattle.std.specs.List.{AllByRecursion as Every}
 use Rattle.qc_list.proofs.Members.{every-append}
 use Rattle.qc_client.specs.Vocabulary.{client_takes, sent_one}
 use Rattle.qc_core.specs.declared.actor.Actor.{Actor}
 use Rattle.qc_core.specs.declared.actor.Actor.TheVariants as actors
 use Rattle.qc_core.specs.Vocabulary.{ActorMove, actor_after, actor_does, actor_rises, actor_sends, actor_takes}
-use Rattle.qc_core.specs.Vocabulary.{by_client, by_site, moved, new_actor}
+use Rattle.qc_core.specs.Vocabulary.{moved, new_actor}
 use Rattle.qc_core.proofs.ByNumber.{new_by, rises_by}
 use Rattle.qc_decl.specs.Vocabulary.{is_client, is_site}
 use Rattle.qc_decl.specs.declared.declaration.Declaration.{Declaration}
@@ -20,25 +20,20 @@ use Rattle.qc_msg.specs.declared.record.Record.TheVariants as records
 use Rattle.qc_msg.specs.declared.step.Input.{Input}
 use Rattle.qc_msg.specs.declared.step.Input.TheVariants as inputs
 use Rattle.qc_msg.specs.declared.step.Step.{Step}
-use Rattle.qc_msg.specs.declared.step.Step.TheVariants as steps
 use Rattle.qc_msg.specs.Vocabulary.{Deed, Entry, Falls, Rises, Sends, Takes, Tells, Writes, deed_at, deeds, envelope_of}
-use Rattle.qc_msg.specs.Vocabulary.{heard as heard_deeds, quiet}
+use Rattle.qc_msg.specs.Vocabulary.{heard as heard_deeds, quiet, risen_in}
 use Rattle.qc_recover.specs.Vocabulary.{client_rises, nothing_kept as no_site, site_rises}
 use Rattle.qc_recover.specs.Clients.{nothing_kept as no_client}
 use Rattle.qc_recover.proofs.Lives.{client_lives, site_lives}
-use Rattle.qc_site.specs.Vocabulary.{SiteState, new_site, passed, site_takes}
+use Rattle.qc_site.specs.Vocabulary.{SiteState, passed, site_takes}
 use Rattle.qc_site.proofs.Cases.{state_cases}
 use Rattle.laws_bounds.specs.Vocabulary.{CountsWithin, LivesWithin, RiseWithFew, risen_at}
 use Rattle.laws_bounds.proofs.ClientCounts.{sent_same, takes_steps}
+use Rattle.laws_bounds.proofs.StepCases.{deed_cases}
 
 -- deeds whose rises give at most so many records
 abbrev pub RisesFew : ℕ → Deed → Type 0
-RisesFew n (Takes g) = Unit {0}
-RisesFew n (Writes written) = Unit {0}
-RisesFew n (Sends number to message) = Unit {0}
-RisesFew n (Tells reply) = Unit {0}
-RisesFew n (Falls cause pending) = Unit {0}
-RisesFew n (Rises rs) = length rs ≤ n
+RisesFew n d = MatchOption (risen_in d) (Unit {0}) (λ (rs : List Record). length rs ≤ n)
 
 -- an actor's count over its deeds: at most the deeds
 
@@ -184,19 +179,9 @@ heard_few None = omega arith
 heard_few (Some e) = omega arith
 
 step_few : (ms : List Envelope) (step : Step) → length (deed_at ms step) ≤ 1
-step_few ms (steps.Phase k) = omega arith
-step_few ms (steps.Cut x y) = omega arith
-step_few ms (steps.Heal x y) = omega arith
-step_few ms (steps.Armed actor kind at) = omega arith
-step_few ms (steps.Called command) = omega arith
-step_few ms (steps.Got n) = heard_few (slice_get ms n)
-step_few ms (steps.Lost n) = omega arith
-step_few ms (steps.Wrote written) = omega arith
-step_few ms (steps.Sent n to message) = omega arith
-step_few ms (steps.Told reply) = omega arith
-step_few ms (steps.Fell cause pending) = omega arith
-step_few ms (steps.Rose rs) = omega arith
-step_few ms (steps.Damaged offset) = omega arith
+step_few ms =
+    deed_cases ms (λ s ds. length ds ≤ 1) (λ s. omega arith) (λ n. heard_few (slice_get ms n)) (λ rs. omega arith)
+    (λ s d risen got. omega arith)
 
 mine_few : (mine : Bool) (ms : List Envelope) (step : Step) → length (cond mine (deed_at ms step) []) ≤ 1
 mine_few true ms step = step_few ms step
@@ -228,19 +213,14 @@ heard_rises n (Some e) = (tt, tt)
 
 step_rises : (n : ℕ) (ms : List Envelope) (step : Step) → length (risen_at step) ≤ n
     → Every (RisesFew n) (deed_at ms step)
-step_rises n ms (steps.Phase k) few = tt
-step_rises n ms (steps.Cut x y) few = tt
-step_rises n ms (steps.Heal x y) few = tt
-step_rises n ms (steps.Armed actor kind at) few = tt
-step_rises n ms (steps.Called command) few = (tt, tt)
-step_rises n ms (steps.Got k) few = heard_rises n (slice_get ms k)
-step_rises n ms (steps.Lost k) few = (tt, tt)
-step_rises n ms (steps.Wrote written) few = (tt, tt)
-step_rises n ms (steps.Sent k to message) few = (tt, tt)
-step_rises n ms (steps.Told reply) few = (tt, tt)
-step_rises n ms (steps.Fell cause pending) few = (tt, tt)
-step_rises n ms (steps.Rose rs) few = (few, tt)
-step_rises n ms (steps.Damaged offset) few = tt
+step_rises n ms =
+    deed_cases ms (λ s ds. length (risen_at s) ≤ n → Every (RisesFew n) ds) (λ s few. tt)
+    (λ k few. heard_rises n (slice_get ms k)) (λ rs few. (few, tt))
+    (λ s d risen got few. (
+      subst (λ (o : Option (List Record)). MatchOption o (Unit {0}) (λ (rs : List Record). length rs ≤ n))
+          (sym risen) tt,
+      tt,
+    ))
 
 mine_rises : (n : ℕ) (mine : Bool) (ms : List Envelope) (step : Step) → length (risen_at step) ≤ n
     → Every (RisesFew n) (cond mine (deed_at ms step) [])

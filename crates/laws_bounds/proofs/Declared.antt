@@ -2,17 +2,16 @@
 -- do commands of it, and answers of views.
 use Rattle.std.proofs.Common.{◌≡◌, ℕ, zero, suc, ◌<◌, ◌≤◌, ◌-◌, ◌==◌, nat_lt, Bool, true, false, cond, length, Option}
 use Rattle.std.proofs.Common.{Some, None, refl, slice_get, subst, arith}
-use Rattle.std.specs.Prelude.{option_and_then, option_map, position}
+use Rattle.std.specs.Prelude.{option_and_then, option_map, position, MatchOption}
 use Rattle.std.proofs.lemmas.Bool.{eqb-false, leb-false}
 use Rattle.std.proofs.lemmas.Option.{slice_get_within}
 use Rattle.qc_decl.specs.Vocabulary.{IsAccepted, plan_in, table_at}
 use Rattle.qc_plan.specs.declared.plan.Plan.{Plan}
 use Rattle.qc_record.specs.Vocabulary.{IsWithin}
 use Rattle.qc_decl.specs.declared.declaration.Declaration.{Declaration}
-use Rattle.qc_fit.specs.Vocabulary.{HasEvent, HasInvocation, HasResponse}
+use Rattle.qc_fit.specs.Vocabulary.{HasEvent, HasInvocation, HasResponse, HasPlan}
 use Rattle.qc_front.specs.Vocabulary.{resp_of}
 use Rattle.qc_msg.specs.declared.step.Command.{Command}
-use Rattle.qc_msg.specs.declared.step.Command.TheVariants.{Abort, Begin, Commit, Do, Epoch}
 use Rattle.qc_table.specs.Vocabulary.{IsSound, Rules, events_of, fault_of, first_repeat, is_unknown, most_events}
 use Rattle.qc_table.specs.Vocabulary.{ranked}
 use Rattle.qc_table.specs.declared.kind.Kind.{Kind}
@@ -20,6 +19,7 @@ use Rattle.laws_bounds.proofs.EventsNamed.{EventNamed, answer_named}
 use Rattle.laws_bounds.proofs.Names.{CommandNamed}
 use Rattle.laws_bounds.proofs.Forms.{CommandInForm, EventInForm, InvocationInForm}
 use Rattle.laws_bounds.proofs.FrontsInForm.{AnswersInForm}
+use Rattle.qc_msg.specs.Vocabulary.{Invocation, do_in, epoch_in}
 
 positive : (n : ℕ) → (n ≡ 0 → ⊥) → 1 ≤ n
 positive zero none = absurd (none refl)
@@ -105,8 +105,13 @@ module _ (decl : Declaration) (accepted : IsAccepted decl) where
           (let low : 1 ≤ number = positive number past in low, omega (arith, place, few))
 
   pub command_form : (c : Command) → CommandNamed decl c → CommandInForm c
-  command_form Begin named = tt
-  command_form (Do object inv) named = invocation_form object inv named
-  command_form Commit named = tt
-  command_form Abort named = tt
-  command_form (Epoch number) named = epoch_form number named.0 named.1
+  command_form c named = by (do_in c) (epoch_in c) named
+    where
+      by : (o : Option Invocation) (k : Option ℕ)
+          → MatchOption o (MatchOption k (Unit {0}) (HasPlan decl))
+          (λ (i : Invocation). HasInvocation decl i.object i.inv)
+          → MatchOption o (MatchOption k (Unit {0}) (IsWithin 1 8))
+          (λ (i : Invocation). InvocationInForm i.object i.inv)
+      by None None named = tt
+      by None (Some number) named = epoch_form number named.0 named.1
+      by (Some i) k named = invocation_form i.object i.inv named

@@ -15,17 +15,18 @@ use Rattle.qc_entry.specs.declared.record.Commit.{Commit}
 use Rattle.qc_msg.specs.declared.begun.Begun.{Begun}
 use Rattle.qc_msg.specs.declared.call.Call.{Call}
 use Rattle.qc_msg.specs.declared.message.Answer.{Answer}
-use Rattle.qc_msg.specs.declared.message.Answer.TheVariants as answers
 use Rattle.qc_msg.specs.declared.message.Message.TheVariants as messages
 use Rattle.qc_msg.specs.declared.message.Outcome.{Outcome}
 use Rattle.qc_msg.specs.declared.message.Outcome.TheVariants.{Aborted, Committed}
 use Rattle.qc_msg.specs.declared.record.Record.{Record}
 use Rattle.qc_msg.specs.declared.record.Record.TheVariants as records
 use Rattle.qc_msg.specs.declared.reply.AbortCause.{AbortCause}
-use Rattle.qc_msg.specs.Vocabulary.{decisions, quiet, sending, site_called, without_call}
+use Rattle.qc_msg.specs.Vocabulary.{decisions, quiet, sending, site_called, without_call, closed_in, promised_in}
 use Rattle.qc_record.specs.Vocabulary.{IsOp}
 use Rattle.laws_bounds.proofs.Forms.{OrdinalsInForm, SendsInForm, StampInForm, VerdictInForm}
 use Rattle.laws_bounds.proofs.TransactionsInForm.{BegunInForm}
+use Rattle.std.specs.Prelude.{option_and_then}
+use Rattle.laws_bounds.proofs.Options.{map_each}
 
 abbrev pub CommitsInForm : List Commit → Type 0
 CommitsInForm commits = Every (λ (c : Commit). StampInForm c.stamp c.tx) commits
@@ -77,19 +78,11 @@ module _ (client : ℕ) where
   passed_form desk clock w = record { client_is = w.client_is; voting = w.voting; commits = w.commits }
 
   learned_form : (desk : Desk) (answer : Option Answer) → DeskInForm desk → DeskInForm (desks.learns desk answer)
-  learned_form desk None w = w
-  learned_form desk (Some (answers.Granted life clock log)) w = w
-  learned_form desk (Some (answers.Clash holder inv event)) w = w
-  learned_form desk (Some (answers.Closed epoch)) w =
-      record { client_is = w.client_is; voting = w.voting; commits = w.commits }
-  learned_form desk (Some (answers.Behind epoch)) w = w
-  learned_form desk (Some (answers.Restarted life)) w = w
-  learned_form desk (Some answers.Stale) w = w
-  learned_form desk (Some answers.Fault) w = w
-  learned_form desk (Some (answers.Yes clock)) w = passed_form desk clock w
-  learned_form desk (Some (answers.Shut clock log prepared)) w = w
-  learned_form desk (Some answers.Installed) w = w
-  learned_form desk (Some (answers.Answered verdict)) w = w
+  learned_form desk answer w =
+      map_each DeskInForm _ _ (option_and_then closed_in answer)
+      (map_each DeskInForm (desks.passed desk) desk (option_and_then promised_in answer) w
+      (λ clock. passed_form desk clock w))
+      (λ epoch. record { client_is = w.client_is; voting = w.voting; commits = w.commits })
 
   -- a commit
 

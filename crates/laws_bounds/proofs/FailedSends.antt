@@ -9,7 +9,6 @@ use Rattle.qc_core.proofs.Written.{client_written}
 use Rattle.qc_decl.specs.declared.declaration.Declaration.{Declaration}
 use Rattle.qc_link.specs.Vocabulary.{most_actors}
 use Rattle.qc_msg.specs.declared.message.Message.{Message}
-use Rattle.qc_msg.specs.declared.message.Message.TheVariants as messages
 use Rattle.qc_msg.specs.declared.message.Outcome.{Outcome}
 use Rattle.qc_msg.specs.declared.message.Outcome.TheVariants.{Committed, Aborted, Active}
 use Rattle.qc_msg.specs.declared.message.Want.{Want}
@@ -17,11 +16,13 @@ use Rattle.qc_msg.specs.declared.message.Want.TheVariants.{Read, Append, Prepare
 use Rattle.qc_msg.specs.declared.step.Input.{Input}
 use Rattle.qc_msg.specs.declared.step.Input.TheVariants as inputs
 use Rattle.qc_msg.specs.declared.turn.Posting.{Posting}
-use Rattle.qc_site.specs.Vocabulary.{SiteMove, SiteState, finishes, grants, passed, site_at, site_takes}
+use Rattle.qc_site.specs.Vocabulary.{SiteMove, SiteState, finishes, grants, passed, site_at, site_takes, moved}
 use Rattle.qc_site.proofs.RequestCases.{append_cases, close_rows, install_rows, join_cases, prepare_cases, read_cases}
 use Rattle.qc_site.proofs.RequestCases.{request_cases}
 use Rattle.qc_stamp.specs.declared.stamp.TxId.{TxId}
 use Rattle.laws_bounds.specs.Vocabulary.{IsFailedShort}
+use Rattle.qc_msg.specs.Vocabulary.{quiet}
+use Rattle.laws_bounds.proofs.SiteCases.{site_cases}
 
 module _ (decl : Declaration) (s : SiteState) (from number : ℕ) (low : from < most_actors) where
   abbrev Short : SiteMove → Type 0
@@ -46,21 +47,22 @@ module _ (decl : Declaration) (s : SiteState) (from number : ℕ) (low : from < 
   finished tx Aborted = record { few = omega arith; receivers = tt }
   finished tx Active = record { few = omega arith; receivers = tt }
 
+  silent : Short (moved s quiet)
+  silent = record { few = omega arith; receivers = tt }
+
   at : (message : Message) → Short (site_at decl s from number message)
-  at (messages.Request tx epoch life want) =
-      request_cases Short decl s from number tx epoch life want (record { few = omega arith; receivers = tt })
-      (λ fault is. record { few = omega arith; receivers = tt }) (λ is. granted tx want)
-  at (messages.Answer to answer) = record { few = omega arith; receivers = tt }
-  at (messages.Decision tx verdict) = finished tx verdict
-  at (messages.Inquiry tx) = record { few = omega arith; receivers = tt }
-  at (messages.Ask tx) = record { few = omega arith; receivers = tt }
-  at (messages.Close k) =
+  at =
+      site_cases decl s from number (λ message move. Short move) (λ message. silent)
+      (λ tx epoch life want.
+      request_cases Short decl s from number tx epoch life want silent
+      (λ fault is. record { few = omega arith; receivers = tt }) (λ is. granted tx want)) finished
+      (λ k.
       close_rows Short s from number k (record { few = omega arith; receivers = tt })
       (record { few = omega arith; receivers = tt }) (record { few = omega arith; receivers = tt })
-      (record { few = omega arith; receivers = (low, tt) })
-  at (messages.Install k clock lines) =
+      (record { few = omega arith; receivers = (low, tt) }))
+      (λ k clock lines.
       install_rows Short s from number k clock lines (record { few = omega arith; receivers = tt })
-      (record { few = omega arith; receivers = tt }) (record { few = omega arith; receivers = (low, tt) })
+      (record { few = omega arith; receivers = tt }) (record { few = omega arith; receivers = (low, tt) }))
 
 site_short : (decl : Declaration) (s : SiteState) (g : Input) → IsFrom g → IsFailedShort (site_takes decl s g).turn
 site_short decl s (inputs.Called command) from = record { few = omega arith; receivers = tt }

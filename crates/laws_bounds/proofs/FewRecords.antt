@@ -2,17 +2,18 @@
 use Rattle.std.proofs.Common.{◌≡◌, ℕ, ◌+◌, ◌≤◌, ◌==◌, eqb-true, Bool, true, false, cond, List, [], ◌∷◌, ◌++◌, fold}
 use Rattle.std.proofs.Common.{length, map, Option, Some, None, inl, inr, refl, sym, ap, ◌∙◌, subst, arith, append_assoc}
 use Rattle.std.proofs.Common.{length-append}
-use Rattle.std.specs.Prelude.{option_to_list}
+use Rattle.std.specs.Prelude.{option_to_list, MatchOption, unwrap_or}
 use Rattle.std.proofs.lemmas.List.{append-nil}
 use Rattle.std.proofs.lemmas.List.Sums.{fold-append}
 use Rattle.qc_msg.specs.declared.record.Record.{Record}
 use Rattle.qc_msg.specs.declared.step.Step.{Step}
 use Rattle.qc_msg.specs.declared.step.Step.TheVariants as steps
-use Rattle.qc_msg.specs.Vocabulary.{Entry, own}
+use Rattle.qc_msg.specs.Vocabulary.{Entry, own, damaged_in, rose_in}
 use Rattle.qc_msg.proofs.DeedsGrow.{own-append}
 use Rattle.qc_promise.specs.Vocabulary.{IsGivenBack, IsKeptAt, Journal, Kept, journal_of, journal_with, no_journal}
 use Rattle.qc_promise.specs.Vocabulary.{pending_with}
 use Rattle.laws_bounds.specs.Vocabulary.{RiseWithFew, risen_at}
+use Rattle.laws_bounds.proofs.StepCases.{journal_cases}
 
 abbrev pub HasFew : ℕ → Journal → Type 0
 HasFew n j = length j.records + length (option_to_list j.pending) ≤ n
@@ -27,28 +28,19 @@ back_few n j rs few (inr more) =
 
 step_few : (n : ℕ) (before : List Step) (step : Step) → HasFew n (journal_of before) → IsKeptAt before step
     → HasFew (n + 1) (journal_with (journal_of before) step)
-step_few n before (steps.Phase k) few kept = omega arith
-step_few n before (steps.Cut x y) few kept = omega arith
-step_few n before (steps.Heal x y) few kept = omega arith
-step_few n before (steps.Armed actor kind at) few kept = omega arith
-step_few n before (steps.Called command) few kept = omega arith
-step_few n before (steps.Got k) few kept = omega arith
-step_few n before (steps.Lost k) few kept = omega arith
-step_few n before (steps.Wrote written) few kept =
+step_few n before step few kept =
+    journal_cases (IsKeptAt before) (HasFew (n + 1)) (journal_of before) (omega arith)
+    (λ written kept.
     (let longer : length ((journal_of before).records ++ written ∷ []) ≡ length
-    (journal_of before).records + 1 = length-append (journal_of before).records (written ∷ []) in omega arith)
-step_few n before (steps.Sent k to message) few kept = omega arith
-step_few n before (steps.Told reply) few kept = omega arith
-step_few n before (steps.Fell cause pending) few kept = by pending
+    (journal_of before).records + 1 = length-append (journal_of before).records (written ∷ []) in omega arith))
+    (λ cause pending kept. by pending)
+    (λ rs kept. (let less : length rs ≤ n = back_few n (journal_of before) rs few kept in omega arith)) step kept
   where
     by : (o : Option Record)
         → length (journal_of before).records + length
         (option_to_list (pending_with (journal_of before).pending o)) ≤ n + 1
     by None = omega arith
     by (Some written) = omega arith
-step_few n before (steps.Rose rs) few kept =
-    (let less : length rs ≤ n = back_few n (journal_of before) rs few kept in omega arith)
-step_few n before (steps.Damaged offset) few kept = absurd kept
 
 -- an entry more, of whichever actor
 
@@ -71,19 +63,14 @@ entry_few n c past e few kept =
 
 risen_few : (n : ℕ) (past : List Entry) (a : ℕ) (step : Step) → HasFew n (journal_of (own a past))
     → IsKeptAt (own a past) step → length (risen_at step) ≤ n
-risen_few n past a (steps.Phase k) few kept = omega arith
-risen_few n past a (steps.Cut x y) few kept = omega arith
-risen_few n past a (steps.Heal x y) few kept = omega arith
-risen_few n past a (steps.Armed actor kind at) few kept = omega arith
-risen_few n past a (steps.Called command) few kept = omega arith
-risen_few n past a (steps.Got k) few kept = omega arith
-risen_few n past a (steps.Lost k) few kept = omega arith
-risen_few n past a (steps.Wrote written) few kept = omega arith
-risen_few n past a (steps.Sent k to message) few kept = omega arith
-risen_few n past a (steps.Told reply) few kept = omega arith
-risen_few n past a (steps.Fell cause pending) few kept = omega arith
-risen_few n past a (steps.Rose rs) few kept = back_few n (journal_of (own a past)) rs few kept
-risen_few n past a (steps.Damaged offset) few kept = absurd kept
+risen_few n past a step few kept = by (rose_in step) kept
+  where
+    by : (o : Option (List Record))
+        → MatchOption o (MatchOption (damaged_in step) (Unit {0}) (λ (offset : ℕ). ⊥))
+        (IsGivenBack (journal_of (own a past)))
+        → length (unwrap_or o []) ≤ n
+    by None kept = omega arith
+    by (Some rs) kept = back_few n (journal_of (own a past)) rs few kept
 
 record IsFew (n : ℕ) (h rest : List Entry) : Type 0 where
   journals : (a : ℕ) → HasFew n (journal_of (own a h))

@@ -13,6 +13,8 @@ use Rattle.qc_msg.specs.Vocabulary.{Entry}
 use Rattle.laws_turns.specs.Vocabulary.{LinesWithin}
 use Rattle.laws_bounds.specs.Vocabulary.{AllFit, AllRiseFit, AreWithin, IsOfClient, RecordWithin, RiseWithFew}
 use Rattle.laws_bounds.specs.Vocabulary.{RiseWithin, risen_at}
+use Rattle.qc_entry.specs.declared.record.Prepared.{Prepared}
+use Rattle.laws_bounds.proofs.Cases.{prepare_cases}
 
 module _ (decl : Declaration) (a : ℕ) where
   fit_of : (before : ℕ) (r : Record) → fits decl a before r ≡ true → IsFit decl a before r
@@ -47,14 +49,9 @@ module _ (decl : Declaration) (a : ℕ) where
       omega arith)
 
   record_client : (before : ℕ) (r : Record) → decl.clients ≤ most_clients → IsFit decl a before r → IsOfClient r
-  record_client before records.Life few fit = tt
-  record_client before (records.Prepare p) few fit =
-      (let low : p.tx.client < decl.clients = fit.clients.0 in omega arith)
-  record_client before (records.Done tx clock) few fit = tt
-  record_client before (records.Close epoch) few fit = tt
-  record_client before (records.Install epoch clock lines) few fit = tt
-  record_client before (records.Commit c) few fit = tt
-  record_client before (records.Decide epoch clock lines) few fit = tt
+  record_client before r few fit =
+      prepare_cases (IsFit decl a before) (λ (p : Prepared). p.tx.client < most_clients)
+      (λ p fit. (let low : p.tx.client < decl.clients = fit.clients.0 in omega arith)) r fit
 
   pub fit_clients : (before : ℕ) (rs : List Record) → decl.clients ≤ most_clients → AllFit decl a before rs
       → Every IsOfClient rs

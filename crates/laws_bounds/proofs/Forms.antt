@@ -9,9 +9,9 @@ use Rattle.qc_entry.specs.declared.record.Commit.{Commit}
 use Rattle.qc_entry.specs.declared.record.Prepared.{Prepared}
 use Rattle.qc_list.specs.Vocabulary.{Ascends}
 use Rattle.qc_lock.specs.Vocabulary.{lock_cmp, own_cmp}
-use Rattle.qc_msg.specs.Vocabulary.{epoch_length, prepare_length}
+use Rattle.qc_msg.specs.Vocabulary.{epoch_length, prepare_length, Granting, Installing, Invocation, Shutting, decide_in}
+use Rattle.qc_msg.specs.Vocabulary.{do_in, epoch_in, granted_in, install_in, prepare_in, shut_in}
 use Rattle.qc_msg.specs.declared.message.Answer.{Answer}
-use Rattle.qc_msg.specs.declared.message.Answer.TheVariants as answers
 use Rattle.qc_msg.specs.declared.message.Envelope.{Envelope}
 use Rattle.qc_msg.specs.declared.message.Message.{Message}
 use Rattle.qc_msg.specs.declared.message.Message.TheVariants as messages
@@ -22,13 +22,13 @@ use Rattle.qc_msg.specs.declared.message.Want.TheVariants.{Append, Prepare, Read
 use Rattle.qc_msg.specs.declared.record.Record.{Record}
 use Rattle.qc_msg.specs.declared.record.Record.TheVariants as records
 use Rattle.qc_msg.specs.declared.step.Command.{Command}
-use Rattle.qc_msg.specs.declared.step.Command.TheVariants as commands
 use Rattle.qc_msg.specs.declared.step.Input.{Input}
 use Rattle.qc_msg.specs.declared.step.Input.TheVariants as inputs
 use Rattle.qc_msg.specs.declared.turn.Posting.{Posting}
 use Rattle.qc_record.specs.Vocabulary.{IsLock, IsOp, IsOwn, IsTx, IsWithin}
 use Rattle.qc_stamp.specs.declared.stamp.Stamp.{Stamp}
 use Rattle.qc_stamp.specs.declared.stamp.TxId.{TxId}
+use Rattle.std.specs.Prelude.{MatchOption}
 
 -- parts
 
@@ -88,17 +88,10 @@ WantInForm (Append object view own) = LinesInForm view × Every IsOwn own
 WantInForm Prepare = Unit {0}
 
 abbrev pub AnswerInForm : Answer → Type 0
-AnswerInForm (answers.Granted life clock log) = LinesInForm log
-AnswerInForm (answers.Clash holder inv event) = Unit {0}
-AnswerInForm (answers.Closed epoch) = Unit {0}
-AnswerInForm (answers.Behind epoch) = Unit {0}
-AnswerInForm (answers.Restarted life) = Unit {0}
-AnswerInForm answers.Stale = Unit {0}
-AnswerInForm answers.Fault = Unit {0}
-AnswerInForm (answers.Yes clock) = Unit {0}
-AnswerInForm (answers.Shut clock log prepared) = LinesInForm log × Every PromiseInForm prepared
-AnswerInForm answers.Installed = Unit {0}
-AnswerInForm (answers.Answered verdict) = Unit {0}
+AnswerInForm answer =
+    MatchOption (granted_in answer)
+    (MatchOption (shut_in answer) (Unit {0}) (λ (z : Shutting). LinesInForm z.log × Every PromiseInForm z.prepared))
+    (λ (g : Granting). LinesInForm g.log)
 
 abbrev pub CameInForm : Option Answer → Type 0
 CameInForm None = Unit {0}
@@ -122,11 +115,9 @@ SendsInForm sends = Every (λ (p : Posting). MessageInForm p.message) sends
 -- what is taken: a command asks for what is in form
 
 abbrev pub CommandInForm : Command → Type 0
-CommandInForm commands.Begin = Unit {0}
-CommandInForm (commands.Do object inv) = InvocationInForm object inv
-CommandInForm commands.Commit = Unit {0}
-CommandInForm commands.Abort = Unit {0}
-CommandInForm (commands.Epoch number) = IsWithin 1 8 number
+CommandInForm command =
+    MatchOption (do_in command) (MatchOption (epoch_in command) (Unit {0}) (IsWithin 1 8))
+    (λ (i : Invocation). InvocationInForm i.object i.inv)
 
 abbrev pub TakenInForm : Input → Type 0
 TakenInForm (inputs.Called command) = CommandInForm command
@@ -161,14 +152,14 @@ RecordInForm (records.Decide epoch clock lines) = StartInForm epoch lines
 
 -- records that are written are no longer than a journal's record may be
 
+abbrev pub IsBriefStart : Installing → Type 0
+IsBriefStart i = epoch_length i.lines ≤ most_record_bytes
+
 abbrev pub IsBrief : Record → Type 0
-IsBrief records.Life = Unit {0}
-IsBrief (records.Prepare p) = prepare_length p ≤ most_record_bytes
-IsBrief (records.Done tx clock) = Unit {0}
-IsBrief (records.Close epoch) = Unit {0}
-IsBrief (records.Install epoch clock lines) = epoch_length lines ≤ most_record_bytes
-IsBrief (records.Commit c) = Unit {0}
-IsBrief (records.Decide epoch clock lines) = epoch_length lines ≤ most_record_bytes
+IsBrief r =
+    MatchOption (prepare_in r)
+    (MatchOption (install_in r) (MatchOption (decide_in r) (Unit {0}) IsBriefStart) IsBriefStart)
+    (λ (p : Prepared). prepare_length p ≤ most_record_bytes)
 
 abbrev pub WriteInForm : Record → Type 0
 WriteInForm r = RecordInForm r × IsBrief r

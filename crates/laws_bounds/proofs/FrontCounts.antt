@@ -12,29 +12,22 @@ use Rattle.qc_front.specs.Vocabulary.{begins, called, commits, gives_up, learns,
 use Rattle.qc_front.specs.Vocabulary.{reading_takes, reads, round_for, standing_of, takes, takes_in}
 use Rattle.qc_msg.specs.declared.call.Call.{Call}
 use Rattle.qc_msg.specs.declared.message.Answer.{Answer}
-use Rattle.qc_msg.specs.declared.message.Answer.TheVariants as answers
 use Rattle.qc_msg.specs.declared.reply.Reply.TheVariants as replies
 use Rattle.qc_msg.specs.declared.reply.AbortCause.TheVariants as causes
 use Rattle.qc_msg.specs.declared.step.Command.{Command}
 use Rattle.qc_msg.specs.declared.step.Command.TheVariants as commands
-use Rattle.qc_msg.specs.Vocabulary.{quiet, site_called, telling, without_call}
+use Rattle.qc_msg.specs.Vocabulary.{quiet, site_called, telling, without_call, closed_in, granted_in}
 use Rattle.qc_plan.specs.Vocabulary.{RoundState, note, verdict}
 use Rattle.qc_plan.specs.declared.standing.Verdict.{Verdict}
 use Rattle.qc_plan.specs.declared.standing.Verdict.TheVariants as verdicts
+use Rattle.std.specs.Prelude.{option_and_then}
+use Rattle.laws_bounds.proofs.Options.{map_each}
 
 learns_count : (front : Front) (answer : Option Answer) → (learns front answer).count ≡ front.count
-learns_count front None = refl
-learns_count front (Some (answers.Granted life clock log)) = refl
-learns_count front (Some (answers.Clash holder inv event)) = refl
-learns_count front (Some (answers.Closed epoch)) = refl
-learns_count front (Some (answers.Behind epoch)) = refl
-learns_count front (Some (answers.Restarted life)) = refl
-learns_count front (Some answers.Stale) = refl
-learns_count front (Some answers.Fault) = refl
-learns_count front (Some (answers.Yes clock)) = refl
-learns_count front (Some (answers.Shut clock log prepared)) = refl
-learns_count front (Some answers.Installed) = refl
-learns_count front (Some (answers.Answered verdict)) = refl
+learns_count front answer =
+    map_each (λ (f : Front). f.count ≡ front.count) _ _ (option_and_then granted_in answer)
+    (map_each (λ (f : Front). f.count ≡ front.count) _ _ (option_and_then closed_in answer) refl (λ epoch. refl))
+    (λ g. refl)
 
 module _ (decl : Declaration) (front : Front) where
   abbrev Counts : FrontMove → Type 0

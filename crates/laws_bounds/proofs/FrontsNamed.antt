@@ -16,7 +16,6 @@ use Rattle.qc_front.specs.Vocabulary.{takes_in}
 use Rattle.qc_front.proofs.Sending.{called_sent, takes_sent}
 use Rattle.qc_msg.specs.declared.call.Call.{Call}
 use Rattle.qc_msg.specs.declared.message.Answer.{Answer}
-use Rattle.qc_msg.specs.declared.message.Answer.TheVariants as answers
 use Rattle.qc_msg.specs.declared.message.Message.{Message}
 use Rattle.qc_msg.specs.declared.message.Message.TheVariants as messages
 use Rattle.qc_msg.specs.declared.message.Want.{Want}
@@ -25,7 +24,7 @@ use Rattle.qc_msg.specs.declared.reply.AbortCause.TheVariants as causes
 use Rattle.qc_msg.specs.declared.step.Command.{Command}
 use Rattle.qc_msg.specs.declared.step.Command.TheVariants as commands
 use Rattle.qc_msg.specs.declared.turn.Posting.{Posting}
-use Rattle.qc_msg.specs.Vocabulary.{quiet, site_called, telling, without_call}
+use Rattle.qc_msg.specs.Vocabulary.{quiet, site_called, telling, without_call, closed_in, granted_in}
 use Rattle.qc_plan.specs.Vocabulary.{RoundState, note, verdict}
 use Rattle.qc_plan.specs.declared.standing.Verdict.{Verdict}
 use Rattle.qc_plan.specs.declared.standing.Verdict.TheVariants as verdicts
@@ -33,6 +32,9 @@ use Rattle.laws_bounds.proofs.EventsNamed.{EventNamed, answer_named}
 use Rattle.laws_bounds.proofs.Names.{CameNamed, CommandNamed, MessageNamed, SendsNamed, WantNamed}
 use Rattle.laws_bounds.proofs.TransactionsNamed.{BegunNamed, TransactionNamed, absent_named, appended_named}
 use Rattle.laws_bounds.proofs.TransactionsNamed.{event_named, log_named, no_lines, owns_named, read_named}
+use Rattle.std.specs.Prelude.{option_and_then}
+use Rattle.laws_bounds.proofs.FrontCases.{sent_cases}
+use Rattle.laws_bounds.proofs.Options.{map_each}
 
 module _ (decl : Declaration) where
   abbrev pub DoingNamed : Doing → Type 0
@@ -128,18 +130,11 @@ module _ (decl : Declaration) where
   -- what is taken for a request
 
   learned_named : (front : Front) (answer : Option Answer) → FrontNamed front → FrontNamed (learns front answer)
-  learned_named front None w = w
-  learned_named front (Some (answers.Granted life clock log)) w = record { begun = w.begun; doing = w.doing }
-  learned_named front (Some (answers.Clash holder inv event)) w = w
-  learned_named front (Some (answers.Closed epoch)) w = record { begun = w.begun; doing = w.doing }
-  learned_named front (Some (answers.Behind epoch)) w = w
-  learned_named front (Some (answers.Restarted life)) w = w
-  learned_named front (Some answers.Stale) w = w
-  learned_named front (Some answers.Fault) w = w
-  learned_named front (Some (answers.Yes clock)) w = w
-  learned_named front (Some (answers.Shut clock log prepared)) w = w
-  learned_named front (Some answers.Installed) w = w
-  learned_named front (Some (answers.Answered verdict)) w = w
+  learned_named front answer w =
+      map_each FrontNamed _ _ (option_and_then granted_in answer)
+      (map_each FrontNamed _ _ (option_and_then closed_in answer) w
+      (λ epoch. record { begun = w.begun; doing = w.doing }))
+      (λ g. record { begun = w.begun; doing = w.doing })
 
   takes_goes : (accepted : IsAccepted decl) (front : Front) (doing : Doing) (t : Option Transaction) (number : ℕ)
       (answer : Option Answer)
@@ -188,13 +183,9 @@ module _ (decl : Declaration) where
       asks want t begun is = for_named t move.front.doing want (subst (BegunNamed decl) begun w.begun) w.doing is
 
       one : (to : ℕ) (message : Message) → IsSent decl before move.front to message → MessageNamed decl message
-      one to (messages.Request tx epoch life want) is = asks want is.t is.begun is.wants
-      one to (messages.Answer number answer) never = absurd never
-      one to (messages.Decision tx verdict) is = tt
-      one to (messages.Inquiry tx) is = tt
-      one to (messages.Ask tx) is = absurd is
-      one to (messages.Close epoch) is = absurd is
-      one to (messages.Install epoch clock log) is = absurd is
+      one to =
+          sent_cases decl before move.front to (MessageNamed decl)
+          (λ tx epoch life want is. asks want is.t is.begun is.wants) (λ tx verdict is. tt)
 
   pub record FrontMoveNamed (m : FrontMove) : Type 0 where
     pub front : FrontNamed m.front

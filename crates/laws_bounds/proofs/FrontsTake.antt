@@ -10,40 +10,33 @@ use Rattle.qc_front.specs.Vocabulary.{AreSent, FrontMove, IsFor, IsSent, appende
 use Rattle.qc_front.specs.Vocabulary.{read_with, reading_takes, resp_of, standing_of, takes, takes_in}
 use Rattle.qc_front.proofs.Sending.{called_sent, takes_sent}
 use Rattle.qc_msg.specs.declared.message.Answer.{Answer}
-use Rattle.qc_msg.specs.declared.message.Answer.TheVariants as answers
 use Rattle.qc_msg.specs.declared.message.Message.{Message}
 use Rattle.qc_msg.specs.declared.message.Message.TheVariants as messages
 use Rattle.qc_msg.specs.declared.message.Outcome.{Outcome}
 use Rattle.qc_msg.specs.declared.message.Want.{Want}
 use Rattle.qc_msg.specs.declared.step.Command.{Command}
 use Rattle.qc_msg.specs.declared.turn.Posting.{Posting}
-use Rattle.qc_msg.specs.Vocabulary.{site_called, without_call}
+use Rattle.qc_msg.specs.Vocabulary.{site_called, without_call, closed_in, granted_in}
 use Rattle.qc_plan.specs.Vocabulary.{note, verdict}
 use Rattle.laws_bounds.proofs.Forms.{CameInForm, CommandInForm, MessageInForm, OrdinalsInForm, SendsInForm}
 use Rattle.laws_bounds.proofs.Forms.{VerdictInForm, WantInForm}
 use Rattle.laws_bounds.proofs.TransactionsInForm.{TransactionInForm, appended_form, log_form, owns_form, read_form}
 use Rattle.laws_bounds.proofs.FrontsInForm.{AnswersInForm, DoingInForm, FrontInForm, OptionInForm, append_goes}
 use Rattle.laws_bounds.proofs.FrontsInForm.{called_goes, read_goes, room}
+use Rattle.std.specs.Prelude.{option_and_then}
+use Rattle.laws_bounds.proofs.FrontCases.{sent_cases}
+use Rattle.laws_bounds.proofs.Options.{map_each}
 
 module _ (decl : Declaration) (client : ℕ) where
   -- what is taken for a request
 
   learned_form : (front : Front) (answer : Option Answer) → FrontInForm decl client front
       → FrontInForm decl client (learns front answer)
-  learned_form front None w = w
-  learned_form front (Some (answers.Granted life clock log)) w =
-      record { client_is = w.client_is; life = w.life; begun = w.begun; doing = w.doing }
-  learned_form front (Some (answers.Clash holder inv event)) w = w
-  learned_form front (Some (answers.Closed epoch)) w =
-      record { client_is = w.client_is; life = w.life; begun = w.begun; doing = w.doing }
-  learned_form front (Some (answers.Behind epoch)) w = w
-  learned_form front (Some (answers.Restarted life)) w = w
-  learned_form front (Some answers.Stale) w = w
-  learned_form front (Some answers.Fault) w = w
-  learned_form front (Some (answers.Yes clock)) w = w
-  learned_form front (Some (answers.Shut clock log prepared)) w = w
-  learned_form front (Some answers.Installed) w = w
-  learned_form front (Some (answers.Answered verdict)) w = w
+  learned_form front answer w =
+      map_each (FrontInForm decl client) _ _ (option_and_then granted_in answer)
+      (map_each (FrontInForm decl client) _ _ (option_and_then closed_in answer) w
+      (λ epoch. record { client_is = w.client_is; life = w.life; begun = w.begun; doing = w.doing }))
+      (λ g. record { client_is = w.client_is; life = w.life; begun = w.begun; doing = w.doing })
 
   takes_goes : (form : AnswersInForm decl) (front : Front) (doing : Doing) (t : Option Transaction) (number : ℕ)
       (answer : Option Answer)
@@ -95,17 +88,13 @@ module _ (decl : Declaration) (client : ℕ) where
       of t begun = subst (OptionInForm client move.front.doing) begun w.begun
 
       one : (to : ℕ) (message : Message) → IsSent decl before move.front to message → MessageInForm message
-      one to (messages.Request tx epoch life want) is = (
-        subst OrdinalsInForm (sym is.tx_is) (of is.t is.begun).begun.ordinals,
-        for_form is.t move.front.doing want (of is.t is.begun) w.doing is.wants,
-      )
-      one to (messages.Answer number answer) never = absurd never
-      one to (messages.Decision tx verdict) is =
-          subst (λ (v : Outcome). VerdictInForm tx v) (sym is.aborted) tt
-      one to (messages.Inquiry tx) is = absurd is
-      one to (messages.Ask tx) is = absurd is
-      one to (messages.Close epoch) is = absurd is
-      one to (messages.Install epoch clock log) is = absurd is
+      one to =
+          sent_cases decl before move.front to MessageInForm
+          (λ tx epoch life want is. (
+            subst OrdinalsInForm (sym is.tx_is) (of is.t is.begun).begun.ordinals,
+            for_form is.t move.front.doing want (of is.t is.begun) w.doing is.wants,
+          ))
+          (λ tx verdict is. subst (λ (v : Outcome). VerdictInForm tx v) (sym is.aborted) tt)
 
   pub record FrontMoveInForm (m : FrontMove) : Type 0 where
     pub front : FrontInForm decl client m.front

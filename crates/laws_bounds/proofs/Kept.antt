@@ -11,7 +11,7 @@ use Rattle.qc_msg.specs.declared.step.Step.{Step}
 use Rattle.qc_msg.specs.declared.step.Step.TheVariants as steps
 use Rattle.qc_msg.specs.Vocabulary.{Entry, own}
 use Rattle.qc_msg.proofs.DeedsGrow.{own-append}
-use Rattle.qc_promise.specs.Vocabulary.{IsKeptAt, Kept, journal_of}
+use Rattle.qc_promise.specs.Vocabulary.{IsKeptAt, Kept, journal_of, IsGivenBack}
 use Rattle.qc_script.specs.Vocabulary.{IsScriptFor, RunWithFalls, RunsWithFalls}
 use Rattle.qc_script.specs.declared.script.Script.{Script}
 use Rattle.laws_bounds.specs.Vocabulary.{AreControlsBelow, AreFaultsBelow, AreKeptOrMisfits, IsDamagedWithin}
@@ -21,41 +21,26 @@ use Rattle.laws_bounds.proofs.Cuts.{CutIn, cut_in, every_at_cut, in_first, in_se
 use Rattle.laws_bounds.proofs.RunFaults.{run_faults}
 use Rattle.laws_bounds.proofs.Others.{at_least}
 use Rattle.laws_bounds.proofs.Prefixes.{run_before}
+use Rattle.laws_bounds.proofs.StepCases.{kept_cases}
 
 -- a step keeps the records where its actor's journal fits as it finds damage
 kept_where_fit : (decl : Declaration) (a : ℕ) (before : List Step) (s : Step)
     → IsKeptOrMisfit decl a (journal_of before) s
     → ((offset : ℕ) → s ≡ steps.Damaged offset → JournalFits decl a (journal_of before)) → IsKeptAt before s
-kept_where_fit decl a before (steps.Phase k) is fit = tt
-kept_where_fit decl a before (steps.Cut x y) is fit = tt
-kept_where_fit decl a before (steps.Heal x y) is fit = tt
-kept_where_fit decl a before (steps.Armed b kind at) is fit = tt
-kept_where_fit decl a before (steps.Called command) is fit = tt
-kept_where_fit decl a before (steps.Got k) is fit = tt
-kept_where_fit decl a before (steps.Lost k) is fit = tt
-kept_where_fit decl a before (steps.Wrote written) is fit = tt
-kept_where_fit decl a before (steps.Sent k to message) is fit = tt
-kept_where_fit decl a before (steps.Told reply) is fit = tt
-kept_where_fit decl a before (steps.Fell cause pending) is fit = tt
-kept_where_fit decl a before (steps.Rose records) is fit = is
-kept_where_fit decl a before (steps.Damaged offset) is fit = absurd (is (fit offset refl))
+kept_where_fit decl a before s is fit =
+    kept_cases
+    (λ (s : Step). IsKeptOrMisfit decl a (journal_of before) s
+    × ((offset : ℕ) → s ≡ steps.Damaged offset → JournalFits decl a (journal_of before)))
+    (IsGivenBack (journal_of before)) (λ (offset : ℕ). ⊥) (λ rs both. both.0)
+    (λ offset both. both.0 (both.1 offset refl)) s (is, fit)
 
 -- of a step that no actor beyond the number has
 other_step : (decl : Declaration) (n a : ℕ) (before : List Step) (s : Step) → n ≤ a → IsFaultBelow n a s
     → IsKeptOrMisfit decl a (journal_of before) s
-other_step decl n a before (steps.Phase k) high low = tt
-other_step decl n a before (steps.Cut x y) high low = tt
-other_step decl n a before (steps.Heal x y) high low = tt
-other_step decl n a before (steps.Armed b kind at) high low = tt
-other_step decl n a before (steps.Called command) high low = tt
-other_step decl n a before (steps.Got k) high low = tt
-other_step decl n a before (steps.Lost k) high low = tt
-other_step decl n a before (steps.Wrote written) high low = tt
-other_step decl n a before (steps.Sent k to message) high low = tt
-other_step decl n a before (steps.Told reply) high low = tt
-other_step decl n a before (steps.Fell cause pending) high low = tt
-other_step decl n a before (steps.Rose records) high low = absurd (omega (arith, high, low))
-other_step decl n a before (steps.Damaged offset) high low = absurd (omega (arith, high, low))
+other_step decl n a before s high low =
+    kept_cases (IsFaultBelow n a) (IsGivenBack (journal_of before))
+    (λ (offset : ℕ). JournalFits decl a (journal_of before) → ⊥) (λ rs low. absurd (omega (arith, high, low)))
+    (λ offset low. absurd (omega (arith, high, low))) s low
 
 -- one entry more
 

@@ -1,3 +1,11 @@
+pub mod Options
+pub mod Cases
+pub mod AdminCases
+pub mod ClientCases
+pub mod StepCases
+pub mod SiteCases
+pub mod SiteKeeps
+pub mod FrontCases
 pub mod AsksReady
 pub mod AnswersToAsks
 pub mod AnswersSaid
@@ -44,7 +52,6 @@ pub mod RecordsFit
 pub mod AtOnce
 pub mod RisenClock
 pub mod Places
-pub mod Lines
 pub mod Shown
 pub mod Forms
 pub mod Orders

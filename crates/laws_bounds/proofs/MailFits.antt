@@ -1,12 +1,11 @@
 -- What is sent tells promises of clients alone: those that a site tells as it closes. So what the administrator takes
 -- fits.
-use Rattle.std.proofs.Common.{◌≡◌, ℕ, ◌<◌, Bool, true, false, cond, List, [], ◌∷◌, fold, Option, Some, None, refl, sym}
-use Rattle.std.proofs.Common.{ap, subst}
+use Rattle.std.proofs.Common.{◌≡◌, ℕ, true, false, List, [], ◌∷◌, fold, Option, Some, None, refl, sym, ap, subst}
 use Rattle.std.specs.List.{AllByRecursion as Every}
 use Rattle.std.specs.declared.cmp.Ordering.{Ordering}
 use Rattle.std.specs.declared.cmp.Ordering.TheVariants.{Less, Equal, Greater}
 use Rattle.qc_list.specs.Vocabulary.{by_order, inserted}
-use Rattle.qc_admin.specs.Vocabulary.{AnswerFits, GivenFits, MessageFits}
+use Rattle.qc_admin.specs.Vocabulary.{AnswerFits, MessageFits}
 use Rattle.qc_client.specs.declared.client.Client.{Client}
 use Rattle.qc_client.specs.Conduct as clients
 use Rattle.qc_core.proofs.AdminTurns.{no_answers}
@@ -19,10 +18,8 @@ use Rattle.qc_entry.specs.declared.record.Prepared.{Prepared}
 use Rattle.qc_epoch.specs.Vocabulary.{Admin}
 use Rattle.qc_epoch.specs.Conduct as admins
 use Rattle.qc_msg.specs.declared.message.Answer.{Answer}
-use Rattle.qc_msg.specs.declared.message.Answer.TheVariants as answers
 use Rattle.qc_msg.specs.declared.message.Envelope.{Envelope}
 use Rattle.qc_msg.specs.declared.message.Message.{Message}
-use Rattle.qc_msg.specs.declared.message.Message.TheVariants as messages
 use Rattle.qc_msg.specs.declared.message.Outcome.{Outcome}
 use Rattle.qc_msg.specs.declared.message.Outcome.TheVariants.{Committed, Aborted, Active}
 use Rattle.qc_msg.specs.declared.message.Want.{Want}
@@ -31,13 +28,17 @@ use Rattle.qc_msg.specs.declared.step.Input.{Input}
 use Rattle.qc_msg.specs.declared.step.Input.TheVariants as inputs
 use Rattle.qc_msg.specs.declared.turn.Posting.{Posting}
 use Rattle.qc_msg.specs.declared.turn.Turn.{Turn}
-use Rattle.qc_msg.specs.Vocabulary.{answer_in}
+use Rattle.qc_msg.specs.Vocabulary.{answer_in, Answered, Shutting, shut_in, verdict_in, quiet}
 use Rattle.qc_promise.specs.Vocabulary.{asks_answer}
 use Rattle.qc_site.specs.Vocabulary.{AreByClients, SiteMove, SiteState, answers as answered_with, finishes, grants}
 use Rattle.qc_site.specs.Vocabulary.{moved, passed, promise_cmp, site_at, site_takes}
 use Rattle.qc_site.proofs.RequestCases.{append_cases, close_rows, fault_is, install_rows, join_cases, prepare_cases}
 use Rattle.qc_site.proofs.RequestCases.{read_cases, request_cases}
 use Rattle.qc_stamp.specs.declared.stamp.TxId.{TxId}
+use Rattle.std.specs.Prelude.{MatchOption}
+use Rattle.laws_bounds.proofs.ClientCases.{heard_cases}
+use Rattle.laws_bounds.proofs.Options.{match_weaker}
+use Rattle.laws_bounds.proofs.SiteCases.{site_cases}
 
 abbrev pub SendsFit : List Posting → Type 0
 SendsFit ps = Every (λ (p : Posting). MessageFits p.message) ps
@@ -46,16 +47,25 @@ pub record TurnFits (turn : Turn) : Type 0 where
   pub sends : SendsFit turn.sends
   pub failed_sends : SendsFit turn.failed_sends
 
+-- no answer, where nothing is heard, or what is heard asks none
+
+pub unheard_none : (Q : Answered → Type 0) (to : ℕ) (o : Option Answered) → IsAnsweredTo None to o
+    → MatchOption o (Unit {0}) Q
+unheard_none Q to None is = tt
+unheard_none Q to (Some a) is = absurd is
+
+pub unasked_none : (Q : Answered → Type 0) (e : Envelope) → asks_answer e.message ≡ false → (to : ℕ)
+    (o : Option Answered) → IsAnsweredTo (Some e) to o → MatchOption o (Unit {0}) Q
+unasked_none Q e none to None is = tt
+unasked_none Q e none to (Some a) is =
+    absurd (let asks : asks_answer e.message ≡ true = is.1.1 in let never : ⊥ = cc in never)
+
 -- what is no answer fits
 
 no_answer_fits : (m : Message) → answer_in m ≡ None → MessageFits m
-no_answer_fits (messages.Request tx epoch life want) none = tt
-no_answer_fits (messages.Answer to answer) none = absurd (let never : ⊥ = cc in never)
-no_answer_fits (messages.Decision tx verdict) none = tt
-no_answer_fits (messages.Inquiry tx) none = tt
-no_answer_fits (messages.Ask tx) none = tt
-no_answer_fits (messages.Close epoch) none = tt
-no_answer_fits (messages.Install epoch clock log) none = tt
+no_answer_fits m none =
+    subst (λ (o : Option Answered). MatchOption o (Unit {0}) (λ (a : Answered). AnswerFits (Some a.answer)))
+    (sym none) tt
 
 pub unanswering_fit : (ps : List Posting) → Every NoAnswer ps → SendsFit ps
 unanswering_fit [] none = tt
@@ -83,26 +93,12 @@ ordered_all before (p ∷ ps) first each =
 -- a site: how a transaction stands is no answer of its
 
 abbrev pub SiteAnswers : Answer → Type 0
-SiteAnswers (answers.Granted life clock log) = Unit {0}
-SiteAnswers (answers.Clash holder inv event) = Unit {0}
-SiteAnswers (answers.Closed epoch) = Unit {0}
-SiteAnswers (answers.Behind epoch) = Unit {0}
-SiteAnswers (answers.Restarted life) = Unit {0}
-SiteAnswers answers.Stale = Unit {0}
-SiteAnswers answers.Fault = Unit {0}
-SiteAnswers (answers.Yes clock) = Unit {0}
-SiteAnswers (answers.Shut clock log prepared) = AreByClients prepared
-SiteAnswers answers.Installed = Unit {0}
-SiteAnswers (answers.Answered verdict) = ⊥
+SiteAnswers answer =
+    MatchOption (shut_in answer) (Unit {0}) (λ (z : Shutting). AreByClients z.prepared)
+    × MatchOption (verdict_in answer) (Unit {0}) (λ (verdict : Outcome). ⊥)
 
 abbrev pub SiteSays : Message → Type 0
-SiteSays (messages.Request tx epoch life want) = Unit {0}
-SiteSays (messages.Answer to answer) = SiteAnswers answer
-SiteSays (messages.Decision tx verdict) = Unit {0}
-SiteSays (messages.Inquiry tx) = Unit {0}
-SiteSays (messages.Ask tx) = Unit {0}
-SiteSays (messages.Close epoch) = Unit {0}
-SiteSays (messages.Install epoch clock log) = Unit {0}
+SiteSays m = MatchOption (answer_in m) (Unit {0}) (λ (a : Answered). SiteAnswers a.answer)
 
 pub record SaysTurn (turn : Turn) : Type 0 where
   pub sends : Every (λ (p : Posting). SiteSays p.message) turn.sends
@@ -117,15 +113,16 @@ module _ (decl : Declaration) (s : SiteState) (from number : ℕ) (each : AreByC
 
   granted : (tx : TxId) (want : Want) → Fits (grants decl s from number tx want)
   granted tx (Read object inv) =
-      read_cases Fits decl s from number tx object inv (λ free. record { sends = (tt, tt); failed_sends = tt })
-      (λ c clash. record { sends = (tt, (tt, tt)); failed_sends = tt })
+      read_cases Fits decl s from number tx object inv (λ free. record { sends = ((tt, tt), tt); failed_sends = tt })
+      (λ c clash. record { sends = ((tt, tt), (tt, tt)); failed_sends = tt })
   granted tx (Append object view own) =
-      append_cases Fits decl s from number tx object view own (λ free. record { sends = (tt, tt); failed_sends = tt })
-      (λ c clash. record { sends = (tt, (tt, tt)); failed_sends = tt })
+      append_cases Fits decl s from number tx object view own
+      (λ free. record { sends = ((tt, tt), tt); failed_sends = tt })
+      (λ c clash. record { sends = ((tt, tt), (tt, tt)); failed_sends = tt })
   granted tx Prepare =
-      prepare_cases Fits s from number tx (record { sends = (tt, tt); failed_sends = tt })
-      (λ held stands. record { sends = (tt, tt); failed_sends = tt })
-      (λ held made. record { sends = (tt, tt); failed_sends = (tt, tt) })
+      prepare_cases Fits s from number tx (record { sends = ((tt, tt), tt); failed_sends = tt })
+      (λ held stands. record { sends = ((tt, tt), tt); failed_sends = tt })
+      (λ held made. record { sends = ((tt, tt), tt); failed_sends = ((tt, tt), tt) })
 
   finished : (tx : TxId) (verdict : Outcome) → Fits (finishes s tx verdict)
   finished tx (Committed stamp) =
@@ -134,24 +131,27 @@ module _ (decl : Declaration) (s : SiteState) (from number : ℕ) (each : AreByC
   finished tx Aborted = record { sends = tt; failed_sends = tt }
   finished tx Active = record { sends = tt; failed_sends = tt }
 
+  silent : Fits (moved s quiet)
+  silent = record { sends = tt; failed_sends = tt }
+
   at : (message : Message) → Fits (site_at decl s from number message)
-  at (messages.Request tx epoch life want) =
-      request_cases Fits decl s from number tx epoch life want (record { sends = tt; failed_sends = tt })
+  at =
+      site_cases decl s from number (λ message move. Fits move) (λ message. silent)
+      (λ tx epoch life want.
+      request_cases Fits decl s from number tx epoch life want silent
       (fault_is (λ (a : Answer). Fits (moved s (answered_with from number a))) s epoch life
-      (record { sends = (tt, tt); failed_sends = tt }) (λ other. record { sends = (tt, tt); failed_sends = tt })
-      (record { sends = (tt, tt); failed_sends = tt }))
-      (λ is. granted tx want)
-  at (messages.Answer to answer) = record { sends = tt; failed_sends = tt }
-  at (messages.Decision tx verdict) = finished tx verdict
-  at (messages.Inquiry tx) = record { sends = tt; failed_sends = tt }
-  at (messages.Ask tx) = record { sends = tt; failed_sends = tt }
-  at (messages.Close k) =
-      close_rows Fits s from number k (record { sends = (tt, tt); failed_sends = tt })
-      (record { sends = (tt, tt); failed_sends = tt }) (record { sends = (told, tt); failed_sends = tt })
-      (record { sends = (told, tt); failed_sends = (tt, tt) })
-  at (messages.Install k clock lines) =
-      install_rows Fits s from number k clock lines (record { sends = (tt, tt); failed_sends = tt })
-      (record { sends = (tt, tt); failed_sends = tt }) (record { sends = (tt, tt); failed_sends = (tt, tt) })
+      (record { sends = ((tt, tt), tt); failed_sends = tt })
+      (λ other. record { sends = ((tt, tt), tt); failed_sends = tt })
+      (record { sends = ((tt, tt), tt); failed_sends = tt }))
+      (λ is. granted tx want)) finished
+      (λ k.
+      close_rows Fits s from number k (record { sends = ((tt, tt), tt); failed_sends = tt })
+      (record { sends = ((tt, tt), tt); failed_sends = tt }) (record { sends = ((told, tt), tt); failed_sends = tt })
+      (record { sends = ((told, tt), tt); failed_sends = ((tt, tt), tt) }))
+      (λ k clock lines.
+      install_rows Fits s from number k clock lines (record { sends = ((tt, tt), tt); failed_sends = tt })
+      (record { sends = ((tt, tt), tt); failed_sends = tt })
+      (record { sends = ((tt, tt), tt); failed_sends = ((tt, tt), tt) }))
 
 pub site_says : (decl : Declaration) (s : SiteState) (g : Input) → AreByClients s.prepared
     → SaysTurn (site_takes decl s g).turn
@@ -160,23 +160,9 @@ site_says decl s (inputs.Got e) each = at decl (passed s e.message) e.from e.num
 site_says decl s (inputs.Lost number) each = record { sends = tt; failed_sends = tt }
 
 says_fits : (m : Message) → SiteSays m → MessageFits m
-says_fits (messages.Request tx epoch life want) says = tt
-says_fits (messages.Answer to (answers.Granted life clock log)) says = tt
-says_fits (messages.Answer to (answers.Clash holder inv event)) says = tt
-says_fits (messages.Answer to (answers.Closed epoch)) says = tt
-says_fits (messages.Answer to (answers.Behind epoch)) says = tt
-says_fits (messages.Answer to (answers.Restarted life)) says = tt
-says_fits (messages.Answer to answers.Stale) says = tt
-says_fits (messages.Answer to answers.Fault) says = tt
-says_fits (messages.Answer to (answers.Yes clock)) says = tt
-says_fits (messages.Answer to (answers.Shut clock log prepared)) says = says
-says_fits (messages.Answer to answers.Installed) says = tt
-says_fits (messages.Answer to (answers.Answered verdict)) says = absurd says
-says_fits (messages.Decision tx verdict) says = tt
-says_fits (messages.Inquiry tx) says = tt
-says_fits (messages.Ask tx) says = tt
-says_fits (messages.Close epoch) says = tt
-says_fits (messages.Install epoch clock log) says = tt
+says_fits m says =
+    match_weaker (λ (a : Answered). SiteAnswers a.answer) (λ (a : Answered). AnswerFits (Some a.answer)) (answer_in m)
+    (λ a fits. fits.0) says
 
 all_fit : (ps : List Posting) → Every (λ (p : Posting). SiteSays p.message) ps → SendsFit ps
 all_fit [] all = tt
@@ -190,13 +176,7 @@ site_fits decl s g w =
 -- a client answers how a transaction stands, and nothing else
 
 unheard_fits : (to : ℕ) (m : Message) → IsAnsweredTo None to (answer_in m) → MessageFits m
-unheard_fits to (messages.Request tx epoch life want) is = tt
-unheard_fits to (messages.Answer asked answer) is = absurd is
-unheard_fits to (messages.Decision tx verdict) is = tt
-unheard_fits to (messages.Inquiry tx) is = tt
-unheard_fits to (messages.Ask tx) is = tt
-unheard_fits to (messages.Close epoch) is = tt
-unheard_fits to (messages.Install epoch clock log) is = tt
+unheard_fits to m is = unheard_none (λ (a : Answered). AnswerFits (Some a.answer)) to (answer_in m) is
 
 unheard : (ps : List Posting) → Every (λ (p : Posting). IsAnsweredTo None p.to (answer_in p.message)) ps → SendsFit ps
 unheard [] all = tt
@@ -204,14 +184,7 @@ unheard (p ∷ ps) all = (unheard_fits p.to p.message all.0, unheard ps all.1)
 
 module _ (e : Envelope) (none : asks_answer e.message ≡ false) where
   unasked_fits : (to : ℕ) (m : Message) → IsAnsweredTo (Some e) to (answer_in m) → MessageFits m
-  unasked_fits to (messages.Request tx epoch life want) is = tt
-  unasked_fits to (messages.Answer asked answer) is =
-      absurd (let asks : asks_answer e.message ≡ true = is.1.1 in let never : ⊥ = cc in never)
-  unasked_fits to (messages.Decision tx verdict) is = tt
-  unasked_fits to (messages.Inquiry tx) is = tt
-  unasked_fits to (messages.Ask tx) is = tt
-  unasked_fits to (messages.Close epoch) is = tt
-  unasked_fits to (messages.Install epoch clock log) is = tt
+  unasked_fits to m is = unasked_none (λ (a : Answered). AnswerFits (Some a.answer)) e none to (answer_in m) is
 
   unasked : (ps : List Posting) → Every (IsAnswerTo (inputs.Got e)) ps → SendsFit ps
   unasked [] all = tt
@@ -221,18 +194,15 @@ module _ (decl : Declaration) (c : Client) where
   abbrev Heard : Envelope → Message → Type 0
   Heard e m = SendsFit (clients.heard decl c e.from e.number m).turn.sends
 
-  heard_fits : (e : Envelope) (m : Message) → e.message ≡ m → Heard e e.message
-  heard_fits e (messages.Request tx epoch life want) is = subst (Heard e) (sym is) tt
-  heard_fits e (messages.Answer to answer) is = unasked e (ap asks_answer is) _ (client_answers decl c (inputs.Got e))
-  heard_fits e (messages.Decision tx verdict) is = subst (Heard e) (sym is) tt
-  heard_fits e (messages.Inquiry tx) is = subst (Heard e) (sym is) (tt, tt)
-  heard_fits e (messages.Ask tx) is = subst (Heard e) (sym is) (tt, tt)
-  heard_fits e (messages.Close epoch) is = subst (Heard e) (sym is) tt
-  heard_fits e (messages.Install epoch clock log) is = subst (Heard e) (sym is) tt
+  heard_fits : (e : Envelope) → SendsFit (clients.heard decl c e.from e.number e.message).turn.sends
+  heard_fits e =
+      heard_cases decl c e.from e.number (λ m move. e.message ≡ m → SendsFit move.turn.sends) (λ m is. tt)
+      (λ to answer is. subst (Heard e) is (unasked e (ap asks_answer is) _ (client_answers decl c (inputs.Got e))))
+      (λ tx is. (tt, tt)) (λ tx is. (tt, tt)) e.message refl
 
   sends_fit : (g : Input) → SendsFit (clients.client_takes decl c g).turn.sends
   sends_fit (inputs.Called command) = unheard _ (client_answers decl c (inputs.Called command))
-  sends_fit (inputs.Got e) = heard_fits e e.message refl
+  sends_fit (inputs.Got e) = heard_fits e
   sends_fit (inputs.Lost number) = unheard _ (client_answers decl c (inputs.Lost number))
 
   pub client_fits : (g : Input) → TurnFits (clients.client_takes decl c g).turn

@@ -4,11 +4,12 @@ use Rattle.std.proofs.lemmas.List.Sums.{fold-append}
 use Rattle.qc_decl.specs.declared.declaration.Declaration.{Declaration}
 use Rattle.qc_msg.specs.Vocabulary.{Entry, by, own}
 use Rattle.qc_msg.specs.declared.step.Step.{Step}
-use Rattle.qc_msg.specs.declared.step.Step.TheVariants as steps
 use Rattle.qc_msg.proofs.DeedsGrow.{own-append, own-more}
 use Rattle.qc_promise.specs.Vocabulary.{AreKept, IsKeptAt, IsOfOthers, Journal, journal_of, journal_with, no_journal}
-use Rattle.laws_bounds.specs.Vocabulary.{AreKeptOrMisfits, IsKeptOrMisfit, NextAreKeptOrMisfits}
+use Rattle.laws_bounds.specs.Vocabulary.{AreKeptOrMisfits, IsKeptOrMisfit, NextAreKeptOrMisfits, JournalFits}
 use Rattle.laws_bounds.proofs.Cuts.{CutIn, cut_in, in_first, in_second, none_cut}
+use Rattle.qc_promise.specs.Vocabulary.{IsGivenBack}
+use Rattle.laws_bounds.proofs.StepCases.{kept_cases}
 
 pub no_misfits : (decl : Declaration) (a : ℕ) → AreKeptOrMisfits decl a []
 no_misfits decl a before later s is = absurd (none_cut before later s is)
@@ -50,19 +51,9 @@ own_on decl a h own_steps next are =
 
 kept_is : (decl : Declaration) (a : ℕ) (before : List Step) (s : Step) → IsKeptAt before s
     → IsKeptOrMisfit decl a (journal_of before) s
-kept_is decl a before (steps.Phase k) kept = tt
-kept_is decl a before (steps.Cut x y) kept = tt
-kept_is decl a before (steps.Heal x y) kept = tt
-kept_is decl a before (steps.Armed b kind at) kept = tt
-kept_is decl a before (steps.Called command) kept = tt
-kept_is decl a before (steps.Got k) kept = tt
-kept_is decl a before (steps.Lost k) kept = tt
-kept_is decl a before (steps.Wrote written) kept = tt
-kept_is decl a before (steps.Sent k to message) kept = tt
-kept_is decl a before (steps.Told reply) kept = tt
-kept_is decl a before (steps.Fell cause pending) kept = tt
-kept_is decl a before (steps.Rose records) kept = kept
-kept_is decl a before (steps.Damaged offset) kept = absurd kept
+kept_is decl a before =
+    kept_cases (IsKeptAt before) (IsGivenBack (journal_of before))
+    (λ (offset : ℕ). JournalFits decl a (journal_of before) → ⊥) (λ rs kept. kept) (λ offset kept. absurd kept)
 
 pub kept_are : (decl : Declaration) (a : ℕ) (own_steps : List Step) → AreKept own_steps
     → AreKeptOrMisfits decl a own_steps

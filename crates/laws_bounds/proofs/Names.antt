@@ -11,7 +11,6 @@ use Rattle.qc_entry.specs.declared.line.ReadLock.{ReadLock}
 use Rattle.qc_entry.specs.declared.record.Prepared.{Prepared}
 use Rattle.qc_fit.specs.Vocabulary.{HasEvent, HasInvocation, HasPlan, IsOpDeclared}
 use Rattle.qc_msg.specs.declared.message.Answer.{Answer}
-use Rattle.qc_msg.specs.declared.message.Answer.TheVariants as answers
 use Rattle.qc_msg.specs.declared.message.Envelope.{Envelope}
 use Rattle.qc_msg.specs.declared.message.Message.{Message}
 use Rattle.qc_msg.specs.declared.message.Message.TheVariants as messages
@@ -20,10 +19,11 @@ use Rattle.qc_msg.specs.declared.message.Want.TheVariants.{Append, Prepare, Read
 use Rattle.qc_msg.specs.declared.record.Record.{Record}
 use Rattle.qc_msg.specs.declared.record.Record.TheVariants as records
 use Rattle.qc_msg.specs.declared.step.Command.{Command}
-use Rattle.qc_msg.specs.declared.step.Command.TheVariants as commands
 use Rattle.qc_msg.specs.declared.step.Input.{Input}
 use Rattle.qc_msg.specs.declared.step.Input.TheVariants as inputs
 use Rattle.qc_msg.specs.declared.turn.Posting.{Posting}
+use Rattle.std.specs.Prelude.{MatchOption}
+use Rattle.qc_msg.specs.Vocabulary.{Granting, Invocation, Shutting, do_in, epoch_in, granted_in, shut_in}
 
 module _ (decl : Declaration) where
   pub record LineNamed (l : Line) : Type 0 where
@@ -55,17 +55,10 @@ module _ (decl : Declaration) where
   WantNamed Prepare = Unit {0}
 
   abbrev pub AnswerNamed : Answer → Type 0
-  AnswerNamed (answers.Granted life clock log) = LinesNamed log
-  AnswerNamed (answers.Clash holder inv event) = Unit {0}
-  AnswerNamed (answers.Closed epoch) = Unit {0}
-  AnswerNamed (answers.Behind epoch) = Unit {0}
-  AnswerNamed (answers.Restarted life) = Unit {0}
-  AnswerNamed answers.Stale = Unit {0}
-  AnswerNamed answers.Fault = Unit {0}
-  AnswerNamed (answers.Yes clock) = Unit {0}
-  AnswerNamed (answers.Shut clock log prepared) = LinesNamed log × Every PromiseNamed prepared
-  AnswerNamed answers.Installed = Unit {0}
-  AnswerNamed (answers.Answered verdict) = Unit {0}
+  AnswerNamed answer =
+      MatchOption (granted_in answer)
+      (MatchOption (shut_in answer) (Unit {0}) (λ (z : Shutting). LinesNamed z.log × Every PromiseNamed z.prepared))
+      (λ (g : Granting). LinesNamed g.log)
 
   abbrev pub CameNamed : Option Answer → Type 0
   CameNamed None = Unit {0}
@@ -89,11 +82,9 @@ module _ (decl : Declaration) where
   -- what is taken
 
   abbrev pub CommandNamed : Command → Type 0
-  CommandNamed commands.Begin = Unit {0}
-  CommandNamed (commands.Do object inv) = HasInvocation decl object inv
-  CommandNamed commands.Commit = Unit {0}
-  CommandNamed commands.Abort = Unit {0}
-  CommandNamed (commands.Epoch number) = HasPlan decl number
+  CommandNamed command =
+      MatchOption (do_in command) (MatchOption (epoch_in command) (Unit {0}) (HasPlan decl))
+      (λ (i : Invocation). HasInvocation decl i.object i.inv)
 
   abbrev pub GivenNamed : Input → Type 0
   GivenNamed (inputs.Called command) = CommandNamed command

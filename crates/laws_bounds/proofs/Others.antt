@@ -12,6 +12,8 @@ use Rattle.qc_promise.specs.Vocabulary.{disk_account_with, disk_armed, disk_call
 use Rattle.qc_promise.specs.Vocabulary.{of_fall, of_opening, of_reading, of_record, waiting_after}
 use Rattle.laws_bounds.specs.Vocabulary.{AreFaultsBelow, IsFaultBelow}
 use Rattle.laws_bounds.proofs.Cuts.{every_at_cut, every_front}
+use Rattle.qc_promise.specs.Vocabulary.{IsGivenBack, journal_of}
+use Rattle.laws_bounds.proofs.StepCases.{kept_cases}
 
 pub at_least : (n a : ℕ) → nat_lt a n ≡ false → n ≤ a
 at_least n a is = grind (arith, nat_tests)
@@ -68,19 +70,9 @@ others_in_time n a h below high before later is =
 -- it doesn't rise, and finds no damage
 
 keeps : (n a : ℕ) (before : List Step) (s : Step) → n ≤ a → IsFaultBelow n a s → IsKeptAt before s
-keeps n a before (steps.Phase k) high low = tt
-keeps n a before (steps.Cut x y) high low = tt
-keeps n a before (steps.Heal x y) high low = tt
-keeps n a before (steps.Armed b kind at) high low = tt
-keeps n a before (steps.Called command) high low = tt
-keeps n a before (steps.Got k) high low = tt
-keeps n a before (steps.Lost k) high low = tt
-keeps n a before (steps.Wrote written) high low = tt
-keeps n a before (steps.Sent k to message) high low = tt
-keeps n a before (steps.Told reply) high low = tt
-keeps n a before (steps.Fell cause pending) high low = tt
-keeps n a before (steps.Rose records) high low = absurd (omega (arith, high, low))
-keeps n a before (steps.Damaged offset) high low = absurd (omega (arith, high, low))
+keeps n a before s high low =
+    kept_cases (IsFaultBelow n a) (IsGivenBack (journal_of before)) (λ (offset : ℕ). ⊥)
+    (λ rs low. absurd (omega (arith, high, low))) (λ offset low. absurd (omega (arith, high, low))) s low
 
 own_below : (n a : ℕ) (h : List Entry) → AreFaultsBelow n h → Every (IsFaultBelow n a) (own a h)
 own_below n a [] below = tt

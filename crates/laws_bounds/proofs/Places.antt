@@ -29,9 +29,9 @@ module _ (decl : Declaration) (a : ℕ) where
         (let later : before + suc place ≡ before + 1 + place = omega arith in later) (each (suc place) r is)),
   )
 
-  pub places : (rs : List Record)
+  pub records_fit_at_their_places : (rs : List Record)
       → AllFit decl a 0 rs ↔ ((place : ℕ) (r : Record) → slice_get rs place ≡ Some r → fits decl a place r ≡ true)
-  places rs = (
+  records_fit_at_their_places rs = (
     λ all place r is. subst (λ (n : ℕ). fits decl a n r ≡ true) (let same : 0 + place ≡ place = omega arith in same)
         (fit_at 0 rs all place r is),
     λ each. all_at 0 rs

@@ -11,7 +11,9 @@ use Rattle.qc_msg.specs.declared.turn.Appended.{Appended}
 use Rattle.qc_msg.specs.declared.turn.Appended.TheVariants.{Done, Failed, Stopped}
 use Rattle.qc_msg.specs.declared.turn.Posting.{Posting}
 use Rattle.qc_msg.specs.declared.turn.Turn.{Turn}
-use Rattle.qc_msg.specs.Vocabulary.{Entry, by, fell, posted_as, sents, step_of, told, wrote}
+use Rattle.qc_msg.specs.Vocabulary.{Entry, by, fell, posted_as, sents, step_of, told, wrote, damaged_in, rose_in}
+use Rattle.std.specs.Prelude.{MatchOption}
+use Rattle.laws_bounds.proofs.StepCases.{kept_cases}
 
 -- steps that an input or a post has: nothing of the controller's, no rise and no damage
 abbrev pub IsActing : Step → Type 0
@@ -28,6 +30,12 @@ IsActing (steps.Told reply) = Unit {0}
 IsActing (steps.Fell cause pending) = Unit {0}
 IsActing (steps.Rose records) = ⊥
 IsActing (steps.Damaged offset) = ⊥
+
+-- none of them rises or finds damage
+pub acting_cases : (s : Step) → IsActing s
+    → MatchOption (rose_in s) (MatchOption (damaged_in s) (Unit {0}) (λ (offset : ℕ). ⊥)) (λ (rs : List Record). ⊥)
+acting_cases =
+    kept_cases IsActing (λ (rs : List Record). ⊥) (λ (offset : ℕ). ⊥) (λ rs never. never) (λ offset never. never)
 
 told_acting : (reply : Option Reply) (xs : List Step) → Every IsActing xs → Every IsActing (told reply ++ xs)
 told_acting None xs are = are

@@ -5,58 +5,35 @@ use Rattle.qc_decl.specs.Vocabulary.{controller}
 use Rattle.qc_decl.specs.declared.declaration.Declaration.{Declaration}
 use Rattle.qc_msg.specs.declared.record.Record.{Record}
 use Rattle.qc_msg.specs.declared.step.Control.{Control}
-use Rattle.qc_msg.specs.declared.step.Control.TheVariants as controls
 use Rattle.qc_msg.specs.declared.step.Step.{Step}
 use Rattle.qc_msg.specs.declared.step.Step.TheVariants as steps
 use Rattle.qc_msg.specs.declared.turn.Turn.{Turn}
-use Rattle.qc_msg.specs.Vocabulary.{Deed, Entry, by, mail, marked, posted_as, step_of}
+use Rattle.qc_msg.specs.Vocabulary.{Deed, Entry, by, mail, marked, posted_as, step_of, damaged_in, rose_in}
 use Rattle.qc_script.specs.Vocabulary.{RunWithFalls, RunsWithFalls, begins, control, controller_step, damaged, falls}
 use Rattle.qc_script.specs.Vocabulary.{phase, posts, rises, takes, unopened}
 use Rattle.qc_script.specs.declared.script.Script.{Script}
 use Rattle.laws_bounds.proofs.Cuts.{CutIn, cut_in, every_at_cut, in_first, in_second, none_cut, the_one}
-use Rattle.laws_bounds.proofs.Posts.{IsActing, every_by, input_acting, posts_acting}
+use Rattle.laws_bounds.proofs.Posts.{IsActing, every_by, input_acting, posts_acting, acting_cases}
+use Rattle.std.specs.Prelude.{MatchOption, Option, None}
+use Rattle.laws_bounds.proofs.StepCases.{line_cases}
 
 abbrev IsUndamaged : Step → Type 0
-IsUndamaged (steps.Phase k) = Unit {0}
-IsUndamaged (steps.Cut x y) = Unit {0}
-IsUndamaged (steps.Heal x y) = Unit {0}
-IsUndamaged (steps.Armed actor kind at) = Unit {0}
-IsUndamaged (steps.Called command) = Unit {0}
-IsUndamaged (steps.Got n) = Unit {0}
-IsUndamaged (steps.Lost n) = Unit {0}
-IsUndamaged (steps.Wrote written) = Unit {0}
-IsUndamaged (steps.Sent n to message) = Unit {0}
-IsUndamaged (steps.Told reply) = Unit {0}
-IsUndamaged (steps.Fell cause pending) = Unit {0}
-IsUndamaged (steps.Rose records) = Unit {0}
-IsUndamaged (steps.Damaged offset) = ⊥
+IsUndamaged step = MatchOption (damaged_in step) (Unit {0}) (λ (offset : ℕ). ⊥)
 
 abbrev AreUndamaged : List Entry → Type 0
 AreUndamaged h = Every (λ (e : Entry). IsUndamaged e.step) h
 
 acting_undamaged : (s : Step) → IsActing s → IsUndamaged s
-acting_undamaged (steps.Phase k) acts = tt
-acting_undamaged (steps.Cut x y) acts = tt
-acting_undamaged (steps.Heal x y) acts = tt
-acting_undamaged (steps.Armed actor kind at) acts = tt
-acting_undamaged (steps.Called command) acts = tt
-acting_undamaged (steps.Got n) acts = tt
-acting_undamaged (steps.Lost n) acts = tt
-acting_undamaged (steps.Wrote written) acts = tt
-acting_undamaged (steps.Sent n to message) acts = tt
-acting_undamaged (steps.Told reply) acts = tt
-acting_undamaged (steps.Fell cause pending) acts = tt
-acting_undamaged (steps.Rose records) acts = tt
-acting_undamaged (steps.Damaged offset) acts = acts
+acting_undamaged s acts =
+    by (rose_in s) (acting_cases s acts)
+  where
+    by : (o : Option (List Record)) → MatchOption o (IsUndamaged s) (λ (rs : List Record). ⊥) → IsUndamaged s
+    by None is = is
+    by (Some rs) never = absurd never
 
 line_undamaged : (line : Control) (step : Step) → controller_step line ≡ Some step → IsUndamaged step
-line_undamaged (controls.Phase k) step is = absurd (let never : ⊥ = cc in never)
-line_undamaged (controls.Cut x y) step is = subst IsUndamaged (let same : steps.Cut x y ≡ step = cc in same) tt
-line_undamaged (controls.Heal x y) step is = subst IsUndamaged (let same : steps.Heal x y ≡ step = cc in same) tt
-line_undamaged (controls.Armed r kind at) step is =
-    subst IsUndamaged (let same : steps.Armed r kind at ≡ step = cc in same) tt
-line_undamaged (controls.Crash x) step is = absurd (let never : ⊥ = cc in never)
-line_undamaged (controls.Restart x) step is = absurd (let never : ⊥ = cc in never)
+line_undamaged =
+    line_cases (λ line step. IsUndamaged step) (λ x y. tt) (λ x y. tt) (λ actor kind at. tt)
 
 posts_undamaged : (a n : ℕ) (turn : Turn) → AreUndamaged (by a (posted_as turn.append n turn))
 posts_undamaged a n turn =

@@ -8,7 +8,6 @@ use Rattle.qc_list.proofs.Members.{every-append}
 use Rattle.qc_msg.specs.declared.record.Record.{Record}
 use Rattle.qc_msg.specs.declared.reply.Reply.{Reply}
 use Rattle.qc_msg.specs.declared.step.Control.{Control}
-use Rattle.qc_msg.specs.declared.step.Control.TheVariants as controls
 use Rattle.qc_msg.specs.declared.step.Fall.TheVariants as causes
 use Rattle.qc_msg.specs.declared.step.Input.{Input}
 use Rattle.qc_msg.specs.declared.step.Input.TheVariants as inputs
@@ -22,6 +21,7 @@ use Rattle.qc_msg.specs.Vocabulary.{Entry, by, fell, marked, own, posted_as, sen
 use Rattle.qc_promise.specs.Vocabulary.{IsGivenBack, Journal, Kept, journal_of, journal_with, no_journal, pending_with}
 use Rattle.qc_script.specs.Vocabulary.{controller_step}
 use Rattle.laws_bounds.specs.Vocabulary.{AllPut, AllRisen, records_at}
+use Rattle.laws_bounds.proofs.StepCases.{line_cases, journal_cases}
 
 module _ (P : ℕ → Record → Type 0) where
   -- a post puts its turn's record there, or leaves it pending
@@ -62,15 +62,9 @@ module _ (P : ℕ → Record → Type 0) where
 
   pub line_puts : (a : ℕ) (line : Control) (step : Step) → controller_step line ≡ Some step
       → AllPut P (by a (step ∷ []))
-  line_puts a (controls.Phase k) step is = absurd (let never : ⊥ = cc in never)
-  line_puts a (controls.Cut x y) step is =
-      subst (λ (s : Step). AllPut P (by a (s ∷ []))) (let same : steps.Cut x y ≡ step = cc in same) (tt, tt)
-  line_puts a (controls.Heal x y) step is =
-      subst (λ (s : Step). AllPut P (by a (s ∷ []))) (let same : steps.Heal x y ≡ step = cc in same) (tt, tt)
-  line_puts a (controls.Armed r kind at) step is =
-      subst (λ (s : Step). AllPut P (by a (s ∷ []))) (let same : steps.Armed r kind at ≡ step = cc in same) (tt, tt)
-  line_puts a (controls.Crash x) step is = absurd (let never : ⊥ = cc in never)
-  line_puts a (controls.Restart x) step is = absurd (let never : ⊥ = cc in never)
+  line_puts a =
+      line_cases (λ line step. AllPut P (by a (step ∷ []))) (λ x y. (tt, tt)) (λ x y. (tt, tt))
+      (λ actor kind at. (tt, tt))
 
   pub puts_both : (h k : List Entry) → AllPut P h → AllPut P k → AllPut P (h ++ k)
   puts_both h k first second = every-append (λ (e : Entry). Every (P e.actor) (records_at e.step)) h k first second
@@ -95,24 +89,16 @@ pub record JournalHas (P : Record → Type 0) (j : Journal) : Type 0 where
 
 step_has : (P : Record → Type 0) (j : Journal) (step : Step) → Every P (records_at step) → JournalHas P j
     → JournalHas P (journal_with j step)
-step_has P j (steps.Phase k) puts its = its
-step_has P j (steps.Cut x y) puts its = its
-step_has P j (steps.Heal x y) puts its = its
-step_has P j (steps.Armed actor kind at) puts its = its
-step_has P j (steps.Called command) puts its = its
-step_has P j (steps.Got n) puts its = its
-step_has P j (steps.Lost n) puts its = its
-step_has P j (steps.Wrote written) puts its =
-    record { records = every-append P j.records (written ∷ []) its.records puts; pending = its.pending }
-step_has P j (steps.Sent n to message) puts its = its
-step_has P j (steps.Told reply) puts its = its
-step_has P j (steps.Fell cause pending) puts its = record { records = its.records; pending = at pending puts }
+step_has P j step puts its =
+    journal_cases (λ (s : Step). Every P (records_at s)) (JournalHas P) j its
+    (λ written puts.
+    record { records = every-append P j.records (written ∷ []) its.records puts; pending = its.pending })
+    (λ cause pending puts. record { records = its.records; pending = at pending puts })
+    (λ rs puts. record { records = puts; pending = tt }) step puts
   where
     at : (o : Option Record) → Every P (option_to_list o) → Every P (option_to_list (pending_with j.pending o))
     at None all = its.pending
     at (Some written) all = all
-step_has P j (steps.Rose rs) puts its = record { records = puts; pending = tt }
-step_has P j (steps.Damaged offset) puts its = its
 
 module _ (P : ℕ → Record → Type 0) (a : ℕ) where
   journal_has : (j : Journal) (h : List Entry) → AllPut P h → JournalHas (P a) j

@@ -1,7 +1,7 @@
 -- In each run with falls whose records are kept, below the limit of steps, each record fits its actor at its place.
 use Rattle.std.proofs.Common.{◌≡◌, ℕ, ◌+◌, ◌<◌, ◌≤◌, Bool, List, [], ◌∷◌, length, Option, Some, None, sym, ap, subst}
 use Rattle.std.proofs.Common.{arith}
-use Rattle.std.specs.Prelude.{option_to_list}
+use Rattle.std.specs.Prelude.{option_to_list, MatchOption, unwrap_or}
 use Rattle.std.specs.List.{AllByRecursion as Every}
 use Rattle.qc_core.specs.Vocabulary.{IsLawfulWithFalls, journal_after, with_record}
 use Rattle.qc_core.proofs.PostsByTurns.{called_turn}
@@ -9,14 +9,13 @@ use Rattle.qc_core.proofs.LivesLaws.{journal as journal_is}
 use Rattle.qc_decl.specs.Vocabulary.{IsAccepted, actors, most_steps}
 use Rattle.qc_decl.specs.declared.declaration.Declaration.{Declaration}
 use Rattle.qc_entry.specs.declared.line.Line.{Line}
-use Rattle.qc_fit.specs.Vocabulary.{HasPlan, IsFit, IsLineDeclared, greatest_clock, most_records}
+use Rattle.qc_fit.specs.Vocabulary.{IsFit, IsLineDeclared, greatest_clock, most_records}
 use Rattle.qc_fit.proofs.Words.{as_said}
 use Rattle.qc_msg.specs.declared.record.Record.{Record}
 use Rattle.qc_msg.specs.declared.record.Record.TheVariants as records
 use Rattle.qc_msg.specs.declared.step.Step.{Step}
-use Rattle.qc_msg.specs.declared.step.Step.TheVariants as steps
 use Rattle.qc_msg.specs.declared.turn.Turn.{Turn}
-use Rattle.qc_msg.specs.Vocabulary.{Entry, deeds, own}
+use Rattle.qc_msg.specs.Vocabulary.{Entry, deeds, own, damaged_in, rose_in}
 use Rattle.qc_promise.specs.Vocabulary.{Journal, Kept, journal_of}
 use Rattle.laws_turns.specs.Vocabulary.{LinesWithin}
 use Rattle.qc_script.specs.Vocabulary.{IsScriptFor, RunsWithFalls}
@@ -30,6 +29,7 @@ use Rattle.laws_bounds.proofs.Names.{AreNamed, LinesNamed, RecordNamed}
 use Rattle.laws_bounds.proofs.Needs.{kept_bounded}
 use Rattle.laws_bounds.proofs.Putting.{JournalHas, own_journal_has}
 use Rattle.laws_bounds.proofs.Senders.{lawful_actor}
+use Rattle.laws_bounds.proofs.StepCases.{kept_cases}
 
 -- a record that names declared things, with clocks within a bound, fits
 
@@ -138,19 +138,16 @@ module _ (decl : Declaration) (accepted : IsAccepted decl) (a bound : ℕ) (low 
 -- what is put there is what rises, too
 
 risen_puts : (P : Record → Type 0) (step : Step) → Every P (records_at step) → Every P (risen_at step)
-risen_puts P (steps.Phase k) puts = tt
-risen_puts P (steps.Cut x y) puts = tt
-risen_puts P (steps.Heal x y) puts = tt
-risen_puts P (steps.Armed actor kind at) puts = tt
-risen_puts P (steps.Called command) puts = tt
-risen_puts P (steps.Got n) puts = tt
-risen_puts P (steps.Lost n) puts = tt
-risen_puts P (steps.Wrote written) puts = tt
-risen_puts P (steps.Sent n to message) puts = tt
-risen_puts P (steps.Told reply) puts = tt
-risen_puts P (steps.Fell cause pending) puts = tt
-risen_puts P (steps.Rose rs) puts = puts
-risen_puts P (steps.Damaged offset) puts = tt
+risen_puts P step puts =
+    by (rose_in step)
+    (kept_cases (λ (s : Step). Every P (records_at s)) (Every P) (λ (offset : ℕ). Unit {0}) (λ rs puts. puts)
+    (λ offset puts. tt) step puts)
+  where
+    by : (o : Option (List Record))
+        → MatchOption o (MatchOption (damaged_in step) (Unit {0}) (λ (offset : ℕ). Unit {0}))
+        (Every P) → Every P (unwrap_or o [])
+    by None puts = tt
+    by (Some rs) puts = puts
 
 module _ (decl : Declaration) (accepted : IsAccepted decl) (bound : ℕ) (low : bound ≤ greatest_clock) (most : ℕ)
     (few : most ≤ most_records) where

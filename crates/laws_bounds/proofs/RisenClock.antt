@@ -11,9 +11,10 @@ use Rattle.qc_msg.specs.Vocabulary.{Deed, Rises}
 use Rattle.qc_recover.specs.Vocabulary.{client_rises}
 use Rattle.laws_bounds.specs.Vocabulary.{MoveWithin}
 
-pub risen_clock : (decl : Declaration) (a : ℕ) (ds : List Deed) (c : Commit) (bound : ℕ) → is_client decl a ≡ true
+pub bounds_are_on_what_rises : (decl : Declaration) (a : ℕ) (ds : List Deed) (c : Commit) (bound : ℕ)
+    → is_client decl a ≡ true
     → MoveWithin bound (actor_after decl a (ds ++ Rises (records.Commit c ∷ []) ∷ [])) → c.stamp.clock ≤ bound
-risen_clock decl a ds c bound client within =
+bounds_are_on_what_rises decl a ds c bound client within =
     by (subst (MoveWithin bound) (after_rises decl a ds (records.Commit c ∷ [])
     ∙ client_risen decl a client (records.Commit c ∷ [])) within)
   where

@@ -1,6 +1,6 @@
 -- What a site, a client and the administrator are by records within a bound, and what they do as they rise, is within
 -- it.
-use Rattle.std.proofs.Common.{ℕ, ◌-◌, ◌≤◌, max, not, Bool, true, false, cond, List, [], ◌∷◌, ◌++◌, fold, map, take}
+use Rattle.std.proofs.Common.{ℕ, ◌-◌, ◌≤◌, max, not, Bool, true, false, List, [], ◌∷◌, ◌++◌, fold, map, take}
 use Rattle.std.proofs.Common.{Option, Some, None, arith}
 use Rattle.std.specs.List.{AllByRecursion as Every}
 use Rattle.std.specs.Option.{option_map_or}
@@ -28,6 +28,11 @@ use Rattle.qc_stamp.specs.declared.stamp.Stamp.{Stamp}
 use Rattle.qc_stamp.specs.declared.stamp.TxId.{TxId}
 use Rattle.laws_turns.specs.Vocabulary.{LinesWithin, PromisesWithin, SendsWithin}
 use Rattle.laws_bounds.specs.Vocabulary.{AreWithin, DecidedWithin, MoveWithin, RecordWithin}
+use Rattle.qc_msg.specs.Vocabulary.{Installing, decide_in, commit_of, is_life}
+use Rattle.laws_bounds.proofs.Cases.{decide_cases, commit_cases}
+use Rattle.laws_bounds.proofs.Options.{map_or}
+use Rattle.std.specs.Prelude.{cond, ◌+◌}
+use Rattle.laws_bounds.proofs.ClientsRisen.{with_record}
 
 module _ (bound : ℕ) where
   latest_within : (clock : ℕ) (lines : List Line) → clock ≤ bound → LinesWithin bound lines → latest clock lines ≤ bound
@@ -109,20 +114,23 @@ module _ (bound : ℕ) where
 
   client_keeps : (k : by_client_records.Kept) (r : Record) → RecordWithin bound r → CommitsWithin k
       → CommitsWithin (by_client_records.keeps k r)
-  client_keeps k records.Life here w = record { clock = w.clock; commits = w.commits }
-  client_keeps k (records.Prepare p) here w = w
-  client_keeps k (records.Done tx clock) here w = w
-  client_keeps k (records.Close epoch) here w = w
-  client_keeps k (records.Install epoch clock lines) here w = w
-  client_keeps k (records.Commit commit) here w = record {
-    clock = (let c : k.clock ≤ bound = w.clock in let d : commit.stamp.clock ≤ bound = here in omega arith);
-    commits =
-        every-append (λ (c : Commit). c.stamp.clock ≤ bound) _ (commit ∷ [])
-        (every-filter (λ (c : Commit). c.stamp.clock ≤ bound)
-        (λ (c : Commit). not (same_tx c.tx commit.tx)) k.commits w.commits)
-        (here, tt);
-  }
-  client_keeps k (records.Decide epoch clock lines) here w = w
+  client_keeps k r here w =
+      by (is_life r)
+      (map_or CommitsWithin (λ (c : Commit). c.stamp.clock ≤ bound) (with_record k) k (commit_of r)
+      (commit_cases (RecordWithin bound) (λ (c : Commit). c.stamp.clock ≤ bound) (λ c is. is) r here) w
+      (λ commit is. record {
+        clock = (let c : k.clock ≤ bound = w.clock in let d : commit.stamp.clock ≤ bound = is in omega arith);
+        commits =
+            every-append (λ (c : Commit). c.stamp.clock ≤ bound) _ (commit ∷ [])
+            (every-filter (λ (c : Commit). c.stamp.clock ≤ bound)
+            (λ (c : Commit). not (same_tx c.tx commit.tx)) k.commits w.commits)
+            (is, tt);
+      }))
+    where
+      by : (b : Bool) → CommitsWithin (option_map_or (with_record k) (commit_of r) k)
+          → CommitsWithin (cond b (record k { life = k.life + 1 }) (option_map_or (with_record k) (commit_of r) k))
+      by true kept = record { clock = w.clock; commits = w.commits }
+      by false kept = kept
 
   client_kept : (rs : List Record) (k : by_client_records.Kept) → AreWithin bound rs → CommitsWithin k
       → CommitsWithin (fold by_client_records.keeps k rs)
@@ -131,16 +139,16 @@ module _ (bound : ℕ) where
 
   -- the administrator
 
+  abbrev StartWithin : Installing → Type 0
+  StartWithin i = (i.clock ≤ bound) × LinesWithin bound i.lines
+
   decided_keeps : (k : Option Decided) (r : Record) → RecordWithin bound r → DecidedWithin bound k
       → DecidedWithin bound (admins.keeps k r)
-  decided_keeps k records.Life here w = w
-  decided_keeps k (records.Prepare p) here w = w
-  decided_keeps k (records.Done tx clock) here w = w
-  decided_keeps k (records.Close epoch) here w = w
-  decided_keeps k (records.Install epoch clock lines) here w = w
-  decided_keeps k (records.Commit commit) here w = w
-  decided_keeps k (records.Decide epoch clock lines) here w =
-      record { epoch_is = tt; clock_is = here.0; lines_are = here.1 }
+  decided_keeps k r here w =
+      map_or (DecidedWithin bound) StartWithin
+      (λ (i : Installing). Some (record { epoch = i.epoch; clock = i.clock; lines = i.lines })) k (decide_in r)
+      (decide_cases (RecordWithin bound) StartWithin (λ epoch clock lines is. is) r here) w
+      (λ i is. record { epoch_is = tt; clock_is = is.0; lines_are = is.1 })
 
   decided_kept : (rs : List Record) (k : Option Decided) → AreWithin bound rs → DecidedWithin bound k
       → DecidedWithin bound (fold admins.keeps k rs)

@@ -14,18 +14,13 @@ use Rattle.qc_fit.specs.Vocabulary.{IsFit, most_records}
 use Rattle.qc_fit.proofs.Words.{as_said}
 use Rattle.qc_msg.specs.declared.record.Record.{Record}
 use Rattle.qc_msg.specs.declared.record.Record.TheVariants as records
-use Rattle.qc_msg.specs.declared.reply.Reply.{Reply}
 use Rattle.qc_msg.specs.declared.step.Control.{Control}
-use Rattle.qc_msg.specs.declared.step.Control.TheVariants as controls
 use Rattle.qc_msg.specs.declared.step.Input.{Input}
-use Rattle.qc_msg.specs.declared.step.Input.TheVariants as inputs
 use Rattle.qc_msg.specs.declared.step.Step.{Step}
 use Rattle.qc_msg.specs.declared.step.Step.TheVariants as steps
 use Rattle.qc_msg.specs.declared.turn.Appended.{Appended}
-use Rattle.qc_msg.specs.declared.turn.Appended.TheVariants.{Done, Failed, Stopped}
-use Rattle.qc_msg.specs.declared.turn.Posting.{Posting}
 use Rattle.qc_msg.specs.declared.turn.Turn.{Turn}
-use Rattle.qc_msg.specs.Vocabulary.{Deed, Entry, Rises, by, fell, mail, marked, posted_as, sents, step_of, told, wrote}
+use Rattle.qc_msg.specs.Vocabulary.{Deed, Entry, Rises, by, mail, marked, posted_as, step_of, damaged_in, rose_in}
 use Rattle.qc_msg.proofs.GrownMail.{length-mail}
 use Rattle.qc_script.specs.Vocabulary.{RunsWithFalls, begins, control, controller_step, damaged, falls, phase, posts}
 use Rattle.qc_script.specs.Vocabulary.{rises, takes, unopened}
@@ -33,52 +28,36 @@ use Rattle.qc_script.specs.declared.script.Script.{Script}
 use Rattle.laws_bounds.specs.Vocabulary.{AllFit, AllRiseFit, IsOfClient, IsRisingShort, PromisesDeclared, risen_at}
 use Rattle.laws_bounds.proofs.FitBounds.{fit_clients, fit_few}
 use Rattle.laws_bounds.proofs.RisingTurns.{rising_asks_few, rising_short}
+use Rattle.laws_bounds.proofs.Cases.{prepare_cases}
+use Rattle.laws_bounds.proofs.StepCases.{line_cases}
+use Rattle.std.specs.Prelude.{MatchOption, unwrap_or}
+use Rattle.laws_bounds.proofs.Posts.{IsActing, acting_cases, every_by, input_acting, posts_acting}
 
 -- in a run only what the conduct lets rise does
 
 module _ (decl : Declaration) where
-  none_rise : (a n : ℕ) (ps : List Posting) (rest : List Step) → AllRiseFit decl (by a rest)
-      → AllRiseFit decl (by a (sents n ps ++ rest))
-  none_rise a n [] rest after = after
-  none_rise a n (p ∷ ps) rest after = (tt, none_rise a (n + 1) ps rest after)
-
-  told_rise : (a : ℕ) (reply : Option Reply) (rest : List Step) → AllRiseFit decl (by a rest)
-      → AllRiseFit decl (by a (told reply ++ rest))
-  told_rise a None rest after = after
-  told_rise a (Some reply) rest after = (tt, after)
-
-  last_rise : (a : ℕ) (reply : Option Reply) → AllRiseFit decl (by a (told reply))
-  last_rise a None = tt
-  last_rise a (Some reply) = (tt, tt)
+  acting_rise : (a : ℕ) (s : Step) → IsActing s → AllFit decl a 0 (risen_at s)
+  acting_rise a s acts = by (rose_in s) (acting_cases s acts)
+    where
+      by : (o : Option (List Record))
+          → MatchOption o (MatchOption (damaged_in s) (Unit {0}) (λ (offset : ℕ). ⊥)) (λ (rs : List Record). ⊥)
+          → AllFit decl a 0 (unwrap_or o [])
+      by None is = tt
+      by (Some rs) never = absurd never
 
   post_rise : (a n : ℕ) (end : Appended) (t : Turn) → AllRiseFit decl (by a (posted_as end n t))
-  post_rise a n Done t = at t.write
-    where
-      at : (w : Option Record) → AllRiseFit decl (by a (wrote w ++ (sents n t.sends ++ told t.told)))
-      at None = none_rise a n t.sends (told t.told) (last_rise a t.told)
-      at (Some written) = (tt, none_rise a n t.sends (told t.told) (last_rise a t.told))
-  post_rise a n Failed t =
-      none_rise a n t.failed_sends (told t.failed_told ++ fell _ t.write)
-      (told_rise a t.failed_told (fell _ t.write) (tt, tt))
-  post_rise a n Stopped t = told_rise a t.failed_told (fell _ t.write) (tt, tt)
+  post_rise a n end t =
+      every_by (λ (e : Entry). AllFit decl e.actor 0 (risen_at e.step)) IsActing a (acting_rise a) (posted_as end n t)
+      (posts_acting end n t)
 
   input_rise : (a : ℕ) (g : Input) → AllRiseFit decl (by a (step_of g ∷ []))
-  input_rise a (inputs.Called command) = (tt, tt)
-  input_rise a (inputs.Got e) = (tt, tt)
-  input_rise a (inputs.Lost n) = (tt, tt)
+  input_rise a g = (acting_rise a (step_of g) (input_acting g), tt)
 
   line_rise : (a : ℕ) (line : Control) (step : Step) → controller_step line ≡ Some step
       → AllRiseFit decl (by a (step ∷ []))
-  line_rise a (controls.Phase k) step is = absurd (let never : ⊥ = cc in never)
-  line_rise a (controls.Cut x y) step is =
-      subst (λ (s : Step). AllRiseFit decl (by a (s ∷ []))) (let same : steps.Cut x y ≡ step = cc in same) (tt, tt)
-  line_rise a (controls.Heal x y) step is =
-      subst (λ (s : Step). AllRiseFit decl (by a (s ∷ []))) (let same : steps.Heal x y ≡ step = cc in same) (tt, tt)
-  line_rise a (controls.Armed r kind at) step is =
-      subst (λ (s : Step). AllRiseFit decl (by a (s ∷ []))) (let same : steps.Armed r kind at ≡ step = cc in same)
-      (tt, tt)
-  line_rise a (controls.Crash x) step is = absurd (let never : ⊥ = cc in never)
-  line_rise a (controls.Restart x) step is = absurd (let never : ⊥ = cc in never)
+  line_rise a =
+      line_cases (λ line step. AllRiseFit decl (by a (step ∷ []))) (λ x y. (tt, tt)) (λ x y. (tt, tt))
+      (λ actor kind at. (tt, tt))
 
   more : (h k : List Entry) → AllRiseFit decl h → AllRiseFit decl k → AllRiseFit decl (h ++ k)
   more h k first second = every-append (λ (e : Entry). AllFit decl e.actor 0 (risen_at e.step)) h k first second
@@ -123,13 +102,8 @@ promised_clients decl a rs p accepted fit among =
 
 module _ (decl : Declaration) (a : ℕ) where
   record_declared : (before : ℕ) (r : Record) → IsFit decl a before r → PromisesDeclared decl r
-  record_declared before records.Life fit = tt
-  record_declared before (records.Prepare p) fit = fit.clients.0
-  record_declared before (records.Done tx clock) fit = tt
-  record_declared before (records.Close epoch) fit = tt
-  record_declared before (records.Install epoch clock lines) fit = tt
-  record_declared before (records.Commit c) fit = tt
-  record_declared before (records.Decide epoch clock lines) fit = tt
+  record_declared before =
+      prepare_cases (IsFit decl a before) (λ (p : Prepared). p.tx.client < decl.clients) (λ p fit. fit.clients.0)
 
   all_declared : (before : ℕ) (rs : List Record) → AllFit decl a before rs → Every (PromisesDeclared decl) rs
   all_declared before [] fit = tt

@@ -1,6 +1,6 @@
 -- Who is armed, falls and rises in a run is an actor of the script's control lines, or one that posts.
 use Rattle.std.proofs.Common.{◌≡◌, ℕ, zero, suc, ◌<◌, ◌≤◌, Bool, true, false, List, [], ◌∷◌, ◌++◌, length, Some, ap}
-use Rattle.std.proofs.Common.{◌∙◌, subst, arith}
+use Rattle.std.proofs.Common.{◌∙◌, arith}
 use Rattle.std.specs.Prelude.{slice_get}
 use Rattle.std.specs.List.{AllByRecursion as Every}
 use Rattle.qc_list.proofs.Members.{every-append, every-weaker}
@@ -23,6 +23,7 @@ use Rattle.qc_script.specs.declared.script.Script.{Script}
 use Rattle.laws_bounds.specs.Vocabulary.{AreControlsBelow, AreFaultsBelow, IsControlBelow, IsFaultBelow}
 use Rattle.laws_bounds.proofs.SettledLines.{next_line}
 use Rattle.laws_bounds.proofs.Posts.{IsActing, every_by, input_acting, posts_acting}
+use Rattle.laws_bounds.proofs.StepCases.{line_cases}
 
 -- the lines of a script that is for a declaration
 
@@ -61,15 +62,9 @@ acting_below n a low (steps.Damaged offset) acts = absurd acts
 
 line_below : (n a : ℕ) (line : Control) (step : Step) → IsControlBelow n line → controller_step line ≡ Some step
     → IsFaultBelow n a step
-line_below n a (controls.Phase k) step below is = absurd (let never : ⊥ = cc in never)
-line_below n a (controls.Cut x y) step below is =
-    subst (IsFaultBelow n a) (let same : steps.Cut x y ≡ step = cc in same) tt
-line_below n a (controls.Heal x y) step below is =
-    subst (IsFaultBelow n a) (let same : steps.Heal x y ≡ step = cc in same) tt
-line_below n a (controls.Armed r kind at) step below is =
-    subst (IsFaultBelow n a) (let same : steps.Armed r kind at ≡ step = cc in same) below
-line_below n a (controls.Crash x) step below is = absurd (let never : ⊥ = cc in never)
-line_below n a (controls.Restart x) step below is = absurd (let never : ⊥ = cc in never)
+line_below n a line step below is =
+    line_cases (λ line step. IsControlBelow n line → IsFaultBelow n a step) (λ x y below. tt) (λ x y below. tt)
+    (λ actor kind at below. below) line step is below
 
 place_within : (bs : List Bool) (a : ℕ) (t : Bool) → slice_get bs a ≡ Some t → a < length bs
 place_within [] a t is = absurd (let never : ⊥ = cc in never)

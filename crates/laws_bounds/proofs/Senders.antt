@@ -22,13 +22,15 @@ use Rattle.qc_msg.specs.declared.step.Step.TheVariants as steps
 use Rattle.qc_msg.specs.declared.turn.Posting.{Posting}
 use Rattle.qc_msg.specs.declared.turn.Turn.{Turn}
 use Rattle.qc_msg.specs.Vocabulary.{Deed, Entry, by, deed_at, deeds, envelope_of, envelopes, heard, mail, marked}
-use Rattle.qc_msg.specs.Vocabulary.{posted_as, sends_as}
+use Rattle.qc_msg.specs.Vocabulary.{posted_as, sends_as, Takes, Writes, Sends, Tells, Falls, Rises, got_in, risen_in}
 use Rattle.qc_msg.proofs.GrownMail.{mail-append, mail-taken}
 use Rattle.qc_msg.proofs.Growth.{mail-posted_as}
 use Rattle.qc_script.specs.Vocabulary.{RunsWithFalls, begins, control, damaged, falls, phase, phase_of, posts, rises}
 use Rattle.qc_script.specs.Vocabulary.{takes, unopened}
 use Rattle.qc_script.specs.declared.script.Script.{Script}
 use Rattle.laws_bounds.specs.Vocabulary.{IsOfClient, IsSound, risen_at}
+use Rattle.qc_msg.specs.declared.step.Input.TheVariants as inputs
+use Rattle.laws_bounds.proofs.StepCases.{deed_cases}
 
 abbrev pub AreFrom : ℕ → List Envelope → Type 0
 AreFrom n ms = Every (λ (e : Envelope). e.from < n) ms
@@ -111,22 +113,22 @@ heard_sound : (o : Option Envelope) → ((e : Envelope) → o ≡ Some e → IsS
 heard_sound None low = tt
 heard_sound (Some e) low = (low e refl, tt)
 
+plain_sound : (d : Deed) → risen_in d ≡ None → got_in d ≡ None → IsSound d
+plain_sound (Takes (inputs.Called command)) risen got = (tt, tt)
+plain_sound (Takes (inputs.Got e)) risen got = absurd (let never : ⊥ = cc in never)
+plain_sound (Takes (inputs.Lost number)) risen got = (tt, tt)
+plain_sound (Writes written) risen got = tt
+plain_sound (Sends number to message) risen got = tt
+plain_sound (Tells reply) risen got = tt
+plain_sound (Falls cause pending) risen got = tt
+plain_sound (Rises rs) risen got = absurd (let never : ⊥ = cc in never)
+
 deed_sound : (ms : List Envelope) (step : Step) → AreSound ms → Every IsOfClient (risen_at step)
     → Every IsSound (deed_at ms step)
-deed_sound ms (steps.Phase number) from risen = tt
-deed_sound ms (steps.Cut x y) from risen = tt
-deed_sound ms (steps.Heal x y) from risen = tt
-deed_sound ms (steps.Armed actor kind at) from risen = tt
-deed_sound ms (steps.Called command) from risen = ((tt, tt), tt)
-deed_sound ms (steps.Got number) from risen =
-    heard_sound (slice_get ms number) (λ e is. every-at IsSoundMessage ms number e from is)
-deed_sound ms (steps.Lost number) from risen = ((tt, tt), tt)
-deed_sound ms (steps.Wrote written) from risen = (tt, tt)
-deed_sound ms (steps.Sent number to message) from risen = (tt, tt)
-deed_sound ms (steps.Told reply) from risen = (tt, tt)
-deed_sound ms (steps.Fell cause pending) from risen = (tt, tt)
-deed_sound ms (steps.Rose rs) from risen = (risen, tt)
-deed_sound ms (steps.Damaged offset) from risen = tt
+deed_sound ms step from risen =
+    deed_cases ms (λ s ds. Every IsOfClient (risen_at s) → Every IsSound ds) (λ s risen. tt)
+    (λ n risen. heard_sound (slice_get ms n) (λ e is. every-at IsSoundMessage ms n e from is))
+    (λ rs risen. (risen, tt)) (λ s d none got risen. (plain_sound d none got, tt)) step risen
 
 part_from : (xs ys : List Envelope) → AreSound (xs ++ ys) → AreSound xs × AreSound ys
 part_from [] ys all = (tt, all)

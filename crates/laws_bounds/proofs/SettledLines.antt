@@ -93,13 +93,21 @@ module _ (P : Control → Type 0) where
     pub next_line : (h : List Entry) (line : Control) → slice_get (controls_left script h) 0 ≡ Some line → P line
     next_line h line is = every-at P (controls_left script h) 0 line (steps_have 0 empty_inbox h tt) is
 
+lines_sound : (decl : Declaration) (script : Script) → IsScriptFor decl script
+    → Every (λ (p : PhaseLines). Every (IsControlFor decl) p.controls) script.phases
+lines_sound decl script sound =
+    every-weaker (IsPhaseFor decl) (λ (p : PhaseLines). Every (IsControlFor decl) p.controls) (λ p all. all.0)
+    script.phases sound.phases
+
+pub lines_left : (decl : Declaration) (script : Script) → IsScriptFor decl script → (h : List Entry)
+    → Every (IsControlFor decl) (controls_left script h)
+lines_left decl script sound h =
+    steps_have (IsControlFor decl) script (lines_sound decl script sound) 0 empty_inbox h tt
+
 pub next_sound : (decl : Declaration) (script : Script) (h : List Entry) (line : Control) → IsScriptFor decl script
     → slice_get (controls_left script h) 0 ≡ Some line → IsControlFor decl line
 next_sound decl script h line sound is =
-    next_line (IsControlFor decl) script
-    (every-weaker (IsPhaseFor decl) (λ (p : PhaseLines). Every (IsControlFor decl) p.controls) (λ p all. all.0)
-    script.phases sound.phases)
-    h line is
+    next_line (IsControlFor decl) script (lines_sound decl script sound) h line is
 
 pub next_passes : (test : Control → Bool) (script : Script) (h : List Entry) (line : Control)
     → Every (λ (phase : PhaseLines). Every (λ (c : Control). test c ≡ true) phase.controls) script.phases

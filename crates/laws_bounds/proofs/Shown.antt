@@ -18,7 +18,7 @@ use Rattle.qc_mailbox.specs.Vocabulary.{after_rising_as, after_take, empty_inbox
 use Rattle.laws_turns.proofs.Places.{slice_get-within}
 use Rattle.qc_link.specs.Vocabulary.{most_actors}
 use Rattle.qc_list.proofs.Members.{every-weaker}
-use Rattle.laws_turns.proofs.Downs.{tells}
+use Rattle.laws_turns.proofs.Downs.{who_is_down_only_tells}
 use Rattle.laws_turns.proofs.Lived.{run_long}
 use Rattle.qc_msg.specs.Vocabulary.{Deed, Entry, HasRecord, IsByDisk, Rises, by, deeds, mail, marked, posted_as}
 use Rattle.qc_msg.specs.Vocabulary.{sends_as}
@@ -38,7 +38,7 @@ use Rattle.qc_script.specs.Vocabulary.{damaged, falls, inbox, is_by_line, is_up,
 use Rattle.qc_script.specs.Vocabulary.{unopened}
 use Rattle.qc_script.specs.declared.script.PhaseLines.{PhaseLines}
 use Rattle.qc_script.specs.declared.script.Script.{Script}
-use Rattle.laws_bounds.proofs.Lines.{lines_left}
+use Rattle.laws_bounds.proofs.SettledLines.{lines_left}
 
 got_within : {A : Type 0} (xs : List A) (a : ℕ) (x : A) → slice_get xs a ≡ Some x → a < length xs
 got_within [] a x is = absurd (let never : ⊥ = cc in never)
@@ -113,7 +113,7 @@ module _ (fits : ℕ → List Record → Type 0) (decl : Declaration) (script : 
           kept_post script h old.0 a turn old.1 within
               (post_receivers turn.append turn short.receivers failed.receivers)
               (may_post (IsLawfulWithFalls decl) fits decl script h inputs old.0 few
-              (tells decl) run old.1 a turn within law),
+              (who_is_down_only_tells decl) run old.1 a turn within law),
         )
 
     risen : (a : ℕ) (rs : List Record) (turn : Turn) (lines : List Control)

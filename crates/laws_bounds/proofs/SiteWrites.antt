@@ -6,7 +6,6 @@ use Rattle.qc_decl.specs.declared.declaration.Declaration.{Declaration}
 use Rattle.qc_entry.specs.Vocabulary.{has_line}
 use Rattle.qc_entry.specs.declared.line.Line.{Line}
 use Rattle.qc_msg.specs.declared.message.Message.{Message}
-use Rattle.qc_msg.specs.declared.message.Message.TheVariants as messages
 use Rattle.qc_msg.specs.declared.message.Outcome.{Outcome}
 use Rattle.qc_msg.specs.declared.message.Outcome.TheVariants.{Committed, Aborted, Active}
 use Rattle.qc_msg.specs.declared.message.Want.{Want}
@@ -14,12 +13,14 @@ use Rattle.qc_msg.specs.declared.message.Want.TheVariants.{Read, Append, Prepare
 use Rattle.qc_msg.specs.declared.step.Input.{Input}
 use Rattle.qc_msg.specs.declared.step.Input.TheVariants as inputs
 use Rattle.qc_msg.specs.declared.turn.Turn.{Turn}
-use Rattle.qc_site.specs.Vocabulary.{SiteMove, SiteState, finishes, grants, passed, site_at, site_takes}
+use Rattle.qc_site.specs.Vocabulary.{SiteMove, SiteState, finishes, grants, passed, site_at, site_takes, moved}
 use Rattle.qc_site.proofs.RequestCases.{append_cases, close_rows, install_rows, join_cases, prepare_cases, read_cases}
 use Rattle.qc_site.proofs.RequestCases.{request_cases}
 use Rattle.qc_stamp.specs.declared.stamp.TxId.{TxId}
 use Rattle.laws_turns.specs.Vocabulary.{GivenWithin, LinesWithin, MessageWithin, OutcomeWithin, SendsWithin, SiteWithin}
 use Rattle.laws_bounds.specs.Vocabulary.{AreWithin}
+use Rattle.qc_msg.specs.Vocabulary.{quiet}
+use Rattle.laws_bounds.proofs.SiteCases.{site_cases}
 
 pub record WritesWithin (bound : ℕ) (turn : Turn) : Type 0 where
   pub failed_sends : SendsWithin bound turn.failed_sends
@@ -55,21 +56,22 @@ module _ (bound : ℕ) (decl : Declaration) (s : SiteState) (from number : ℕ) 
   finished tx Aborted here = record { failed_sends = tt; write = tt }
   finished tx Active here = record { failed_sends = tt; write = tt }
 
+  silent : Writes (moved s quiet)
+  silent = record { failed_sends = tt; write = tt }
+
   at : (message : Message) → MessageWithin bound message → Writes (site_at decl s from number message)
-  at (messages.Request tx epoch life want) here =
-      request_cases Writes decl s from number tx epoch life want (record { failed_sends = tt; write = tt })
-      (λ fault is. record { failed_sends = tt; write = tt }) (λ is. granted tx want)
-  at (messages.Answer to answer) here = record { failed_sends = tt; write = tt }
-  at (messages.Decision tx verdict) here = finished tx verdict here
-  at (messages.Inquiry tx) here = record { failed_sends = tt; write = tt }
-  at (messages.Ask tx) here = record { failed_sends = tt; write = tt }
-  at (messages.Close k) here =
+  at =
+      site_cases decl s from number (λ message move. MessageWithin bound message → Writes move) (λ message here. silent)
+      (λ tx epoch life want here.
+      request_cases Writes decl s from number tx epoch life want silent
+      (λ fault is. record { failed_sends = tt; write = tt }) (λ is. granted tx want)) finished
+      (λ k here.
       close_rows Writes s from number k (record { failed_sends = tt; write = tt })
       (record { failed_sends = tt; write = tt })
-      (record { failed_sends = tt; write = tt }) (record { failed_sends = (tt, tt); write = (tt, tt) })
-  at (messages.Install k clock lines) here =
+      (record { failed_sends = tt; write = tt }) (record { failed_sends = (tt, tt); write = (tt, tt) }))
+      (λ k clock lines here.
       install_rows Writes s from number k clock lines (record { failed_sends = tt; write = tt })
-      (record { failed_sends = tt; write = tt }) (record { failed_sends = (tt, tt); write = (here, tt) })
+      (record { failed_sends = tt; write = tt }) (record { failed_sends = (tt, tt); write = (here, tt) }))
 
 -- one input
 pub site_writes_within : (bound : ℕ) (decl : Declaration) (s : SiteState) (g : Input) → SiteWithin bound s

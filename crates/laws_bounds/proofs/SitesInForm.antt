@@ -38,6 +38,7 @@ use Rattle.laws_bounds.proofs.Forms.{AnswerInForm, LineInForm, MessageInForm, Or
 use Rattle.laws_bounds.proofs.Forms.{SendsInForm, StartInForm, VerdictInForm, WantInForm, WriteInForm}
 use Rattle.laws_bounds.proofs.HeldInForm.{FoundInForm, HeldInForm, every-all_inserted, found_form, has_form, held_form}
 use Rattle.laws_bounds.proofs.HeldInForm.{lines_form, promises_held}
+use Rattle.laws_bounds.proofs.SiteCases.{site_cases}
 
 pub record SiteInForm (s : SiteState) : Type 0 where
   pub epoch : IsWithin 1 8 s.epoch
@@ -270,10 +271,8 @@ module _ (decl : Declaration) (s : SiteState) (from number : ℕ) (w : SiteInFor
 
     pub at_form : decl.clients ≤ most_clients → (message : Message) → MessageInForm message
         → SiteMoveInForm (site_at decl s from number message)
-    at_form few (messages.Request tx epoch life want) here = requested_form few tx epoch life want here.0 here.1
-    at_form few (messages.Answer to answer) here = silent
-    at_form few (messages.Decision tx verdict) here = finished tx verdict here
-    at_form few (messages.Inquiry tx) here = silent
-    at_form few (messages.Ask tx) here = silent
-    at_form few (messages.Close k) here = closed_form k here
-    at_form few (messages.Install k clock lines) here = installed_form k clock lines here
+    at_form few =
+        site_cases decl s from number (λ message move. MessageInForm message → SiteMoveInForm move)
+        (λ message here. silent)
+        (λ tx epoch life want here. requested_form few tx epoch life want here.0 here.1) finished closed_form
+        installed_form

@@ -37,6 +37,7 @@ use Rattle.laws_bounds.proofs.Names.{AnswerNamed, AreNamed, GivenNamed, LineName
 use Rattle.laws_bounds.proofs.Names.{PromiseNamed, SendsNamed, WantNamed}
 use Rattle.laws_bounds.proofs.HeldNamed.{FoundNamed, HasNamed, HeldNamed, every-all_inserted, found_named, has_named}
 use Rattle.laws_bounds.proofs.HeldNamed.{promises_held, held_named, lines_named}
+use Rattle.laws_bounds.proofs.SiteCases.{site_cases}
 
 module _ (decl : Declaration) where
   pub record SiteNamed (s : SiteState) : Type 0 where
@@ -234,13 +235,10 @@ module _ (decl : Declaration) where
         })
 
     pub at_named : (message : Message) → MessageNamed decl message → Moves (site_at decl s from number message)
-    at_named (messages.Request tx epoch life want) here = requested_named tx epoch life want here
-    at_named (messages.Answer to answer) here = silent
-    at_named (messages.Decision tx verdict) here = finished tx verdict
-    at_named (messages.Inquiry tx) here = silent
-    at_named (messages.Ask tx) here = silent
-    at_named (messages.Close epoch) here = closed_named epoch here
-    at_named (messages.Install epoch clock lines) here = installed_named epoch clock lines here.0 here.1
+    at_named =
+        site_cases decl s from number (λ message move. MessageNamed decl message → Moves move) (λ message here. silent)
+        requested_named (λ tx verdict here. finished tx verdict) closed_named
+        (λ epoch clock lines here. installed_named epoch clock lines here.0 here.1)
 
   -- one input
   pub site_takes_named : (a : ℕ) → a < decl.sites → (s : SiteState) (g : Input) → SiteNamed s → GivenNamed decl g

@@ -1,39 +1,22 @@
 -- A site that rises by records in form is in form, and in order.
-use Rattle.std.proofs.Common.{◌≡◌, ℕ, ◌≤◌, not, List, [], ◌∷◌, ◌++◌, fold, map, Option, Some, None, refl, arith}
+use Rattle.std.proofs.Common.{◌≡◌, ℕ, ◌≤◌, List, [], ◌∷◌, ◌++◌, map, Option, Some, None, refl, arith}
 use Rattle.std.specs.List.{AllByRecursion as Every}
 use Rattle.std.specs.Option.{option_map_or}
-use Rattle.qc_list.proofs.Members.{every-In, every-append, every-filter}
+use Rattle.qc_list.proofs.Members.{every-In, every-append}
 use Rattle.qc_decl.specs.declared.declaration.Declaration.{Declaration}
-use Rattle.qc_entry.specs.Vocabulary.{has_line, without}
-use Rattle.qc_entry.specs.declared.line.Line.{Line}
 use Rattle.qc_entry.specs.declared.record.Prepared.{Prepared}
-use Rattle.qc_entry.proofs.Union.{every-union}
 use Rattle.qc_msg.specs.declared.record.Record.{Record}
 use Rattle.qc_msg.specs.declared.record.Record.TheVariants as records
 use Rattle.qc_record.specs.Vocabulary.{IsWithin}
-use Rattle.qc_recover.specs.Vocabulary.{IsRecordSorted, Kept, done_lines, done_stamp, inquiry, keeps, kept_by}
-use Rattle.qc_recover.specs.Vocabulary.{nothing_kept, site_of, with_promise}
+use Rattle.qc_recover.specs.Vocabulary.{IsRecordSorted, done_lines, done_stamp, inquiry, kept_by, nothing_kept, site_of}
 use Rattle.qc_recover.proofs.SortedRecords.{risen_sorted}
-use Rattle.qc_site.specs.Vocabulary.{lines_of, prepared_of, without_prepared}
-use Rattle.qc_stamp.specs.Vocabulary.{same_tx}
+use Rattle.qc_site.specs.Vocabulary.{lines_of, prepared_of}
 use Rattle.qc_stamp.specs.declared.stamp.TxId.{TxId}
 use Rattle.laws_bounds.proofs.Forms.{LineInForm, PromiseInForm, RecordInForm, SendsInForm}
 use Rattle.laws_bounds.proofs.HeldInForm.{FoundInForm, found_form, lines_form, promises_held}
 use Rattle.laws_bounds.proofs.SitesInForm.{SiteInForm}
 use Rattle.laws_bounds.proofs.SitesTake.{SiteStands}
-
-record KeptInForm (k : Kept) : Type 0 where
-  epoch : IsWithin 1 8 k.epoch
-  began : Every LineInForm k.began
-  lines : Every LineInForm k.lines
-  prepares : Every PromiseInForm k.prepares
-  promises : Every PromiseInForm k.promises
-
-with_form : (ps : List Prepared) (p : Prepared) → Every PromiseInForm ps → PromiseInForm p
-    → Every PromiseInForm (with_promise ps p)
-with_form ps p all here =
-    every-append PromiseInForm (without_prepared ps p.tx) (p ∷ [])
-    (every-filter PromiseInForm (λ (q : Prepared). not (same_tx q.tx p.tx)) ps all) (here, tt)
+use Rattle.laws_bounds.proofs.SiteKeeps.{Gives, KeptHas, kept_has}
 
 done_form : (prepares : List Prepared) (tx : TxId) (clock : ℕ) → Every PromiseInForm prepares → 1 ≤ clock
     → Every LineInForm (done_lines prepares tx clock)
@@ -46,42 +29,19 @@ done_form prepares tx clock all least = by (prepared_of prepares tx) refl
         (let found : FoundInForm tx p = found_form prepares tx p all is in
         lines_form (done_stamp tx clock) tx p.own (record { client = refl; clock = least }) found.tx_is found.own)
 
-keeps_form : (k : Kept) (r : Record) → RecordInForm r → KeptInForm k → KeptInForm (keeps k r)
-keeps_form k records.Life here w =
-    record { epoch = w.epoch; began = w.began; lines = w.lines; prepares = w.prepares; promises = w.promises }
-keeps_form k (records.Prepare p) here w = record {
-  epoch = w.epoch;
-  began = w.began;
-  lines = every-union LineInForm k.lines p.lines w.lines here.lines.each_is;
-  prepares = with_form k.prepares p w.prepares (record { tx = here.tx; locks = here.locks; own = here.own });
-  promises = with_form k.promises p w.promises (record { tx = here.tx; locks = here.locks; own = here.own });
+gives : Gives (IsWithin 1 8) LineInForm PromiseInForm RecordInForm
+gives = record {
+  prepare = λ p here. (here.lines.each_is, record { tx = here.tx; locks = here.locks; own = here.own });
+  done = λ ps tx clock all here. done_form ps tx clock all here.1;
+  install = λ epoch clock lines here. (here.epoch_is, here.lines_are.each_is);
 }
-keeps_form k (records.Done tx clock) here w = record {
-  epoch = w.epoch;
-  began = w.began;
-  lines =
-      every-union LineInForm k.lines (without (done_lines k.prepares tx clock) k.began) w.lines
-      (every-filter LineInForm (λ (l : Line). not (has_line k.began l)) (done_lines k.prepares tx clock)
-      (done_form k.prepares tx clock w.prepares here.1));
-  prepares = w.prepares;
-  promises = every-filter PromiseInForm (λ (q : Prepared). not (same_tx q.tx tx)) k.promises w.promises;
-}
-keeps_form k (records.Close epoch) here w =
-    record { epoch = w.epoch; began = w.began; lines = w.lines; prepares = w.prepares; promises = w.promises }
-keeps_form k (records.Install epoch clock lines) here w =
-    record { epoch = here.epoch_is; began = here.lines_are.each_is; lines = tt; prepares = tt; promises = tt }
-keeps_form k (records.Commit c) here w = w
-keeps_form k (records.Decide epoch clock lines) here w = w
-
-kept_form : (rs : List Record) (k : Kept) → Every RecordInForm rs → KeptInForm k → KeptInForm (fold keeps k rs)
-kept_form [] k all w = w
-kept_form (r ∷ rs) k all w = kept_form rs (keeps k r) all.1 (keeps_form k r all.0 w)
 
 site_form : (a : ℕ) (rs : List Record) → Every RecordInForm rs → SiteInForm (site_of a rs)
 site_form a rs all =
     let first : IsWithin 1 8 nothing_kept.epoch = (omega arith, omega arith) in
-    let k : KeptInForm (kept_by rs) =
-    kept_form rs nothing_kept all (record { epoch = first; began = tt; lines = tt; prepares = tt; promises = tt }) in
+    let k : KeptHas (IsWithin 1 8) LineInForm PromiseInForm (kept_by rs) =
+    kept_has (IsWithin 1 8) LineInForm PromiseInForm RecordInForm gives rs nothing_kept all
+    (record { epoch = first; began = tt; lines = tt; prepares = tt; promises = tt }) in
     record {
       epoch = k.epoch;
       began = k.began;

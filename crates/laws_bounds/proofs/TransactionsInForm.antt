@@ -2,7 +2,7 @@
 -- told.
 use Rattle.std.proofs.Common.{◌≡◌, ℕ, zero, suc, ◌+◌, ◌≤◌, List, [], ◌∷◌, ◌++◌, length, replicate, Option, Some, None}
 use Rattle.std.proofs.Common.{option_map, refl, arith}
-use Rattle.std.specs.Prelude.{slice_get, slice_set}
+use Rattle.std.specs.Prelude.{slice_get, slice_set, MatchOption, option_and_then}
 use Rattle.std.specs.List.{AllByRecursion as Every}
 use Rattle.std.specs.Option.{option_map_or}
 use Rattle.std.proofs.lemmas.List.{length-append}
@@ -16,11 +16,14 @@ use Rattle.qc_front.specs.Vocabulary.{appended_with, doomed, lived, next_own, op
 use Rattle.qc_front.specs.Vocabulary.{weighs, with_asked, with_event, with_op, with_view}
 use Rattle.qc_msg.specs.declared.begun.Begun.{Begun}
 use Rattle.qc_msg.specs.declared.message.Answer.{Answer}
-use Rattle.qc_msg.specs.declared.message.Answer.TheVariants as answers
 use Rattle.qc_record.specs.Vocabulary.{IsOp, IsOwn}
 use Rattle.qc_view.specs.Vocabulary.{empty_view, with_log, with_own}
 use Rattle.qc_view.specs.declared.view.View.{View}
 use Rattle.laws_bounds.proofs.Forms.{CameInForm, EventInForm, InvocationInForm, LineInForm, LinesInForm, OrdinalsInForm}
+use Rattle.qc_front.specs.Answering.{with_granted}
+use Rattle.qc_msg.specs.Vocabulary.{Granting, Shutting, granted_in, shut_in}
+use Rattle.laws_bounds.proofs.Forms.{PromiseInForm}
+use Rattle.laws_bounds.proofs.Options.{map_each, map_on}
 
 every-set : {A : Type 0} (P : A → Type 0) (xs : List A) (i : ℕ) (y : A) → P y → Every P xs → Every P (slice_set xs i y)
 every-set P [] i y here all = tt
@@ -194,35 +197,20 @@ module _ (client : ℕ) where
   pub read_form : (n : ℕ) (t : Transaction) (site object : ℕ) (answer : Option Answer) → TransactionInForm client n t
       → CameInForm answer → TransactionInForm client n (read_with t site object answer)
   read_form n t site object None w here = w
-  read_form n t site object (Some (answers.Granted life clock log)) w here =
-      view_form n (lived t site life) object (option_map (λ (v : View). with_log v log) (slice_get t.views object))
-      (lived_form n t site life w)
-      (logged (slice_get t.views object) log (old_view t.views object (slice_get t.views object) refl w.views) here)
-  read_form n t site object (Some (answers.Clash holder inv event)) w here = w
-  read_form n t site object (Some (answers.Closed epoch)) w here = w
-  read_form n t site object (Some (answers.Behind epoch)) w here = w
-  read_form n t site object (Some (answers.Restarted life)) w here = w
-  read_form n t site object (Some answers.Stale) w here = w
-  read_form n t site object (Some answers.Fault) w here = w
-  read_form n t site object (Some (answers.Yes clock)) w here = w
-  read_form n t site object (Some (answers.Shut clock log prepared)) w here = w
-  read_form n t site object (Some answers.Installed) w here = w
-  read_form n t site object (Some (answers.Answered verdict)) w here = w
+  read_form n t site object (Some answer) w here =
+      map_on (TransactionInForm client n)
+      (MatchOption (shut_in answer) (Unit {0}) (λ (z : Shutting). LinesInForm z.log × Every PromiseInForm z.prepared))
+      (λ (g : Granting). LinesInForm g.log) (λ (g : Granting). with_granted (lived t site g.life) object g.log) t
+      (granted_in answer) here w
+      (λ g lines. view_form n (lived t site g.life) object
+      (option_map (λ (v : View). with_log v g.log) (slice_get t.views object)) (lived_form n t site g.life w)
+      (logged (slice_get t.views object) g.log (old_view t.views object (slice_get t.views object) refl w.views) lines))
 
   pub appended_form : (n : ℕ) (t : Transaction) (site : ℕ) (answer : Option Answer) → TransactionInForm client n t
       → TransactionInForm client n (appended_with t site answer)
-  appended_form n t site None w = w
-  appended_form n t site (Some (answers.Granted life clock log)) w = lived_form n t site life w
-  appended_form n t site (Some (answers.Clash holder inv event)) w = w
-  appended_form n t site (Some (answers.Closed epoch)) w = w
-  appended_form n t site (Some (answers.Behind epoch)) w = w
-  appended_form n t site (Some (answers.Restarted life)) w = w
-  appended_form n t site (Some answers.Stale) w = w
-  appended_form n t site (Some answers.Fault) w = w
-  appended_form n t site (Some (answers.Yes clock)) w = w
-  appended_form n t site (Some (answers.Shut clock log prepared)) w = w
-  appended_form n t site (Some answers.Installed) w = w
-  appended_form n t site (Some (answers.Answered verdict)) w = w
+  appended_form n t site answer w =
+      map_each (TransactionInForm client n) (λ (g : Granting). lived t site g.life) t
+      (option_and_then granted_in answer) w (λ g. lived_form n t site g.life w)
 
   -- what an Append carries
 

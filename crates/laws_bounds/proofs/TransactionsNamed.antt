@@ -1,6 +1,6 @@
 -- A transaction that names declared things does so with what is granted to it, and with what is told.
 use Rattle.std.proofs.Common.{◌≡◌, ℕ, zero, suc, List, [], ◌∷◌, ◌++◌, replicate, Option, Some, None, option_map, refl}
-use Rattle.std.specs.Prelude.{slice_get, slice_set}
+use Rattle.std.specs.Prelude.{slice_get, slice_set, MatchOption, option_and_then}
 use Rattle.std.specs.List.{AllByRecursion as Every}
 use Rattle.std.specs.Option.{option_map_or}
 use Rattle.qc_list.proofs.Members.{every-append, every-at, every-filter}
@@ -13,12 +13,13 @@ use Rattle.qc_front.specs.declared.transaction.Transaction.{Transaction}
 use Rattle.qc_front.specs.Vocabulary.{appended_with, lived, next_own, op_of, own_appended, read_with, resp_of, view_log}
 use Rattle.qc_front.specs.Vocabulary.{weighs, with_event, with_view}
 use Rattle.qc_msg.specs.declared.message.Answer.{Answer}
-use Rattle.qc_msg.specs.declared.message.Answer.TheVariants as answers
-use Rattle.qc_plan.specs.Vocabulary.{verdict}
 use Rattle.qc_view.specs.Vocabulary.{empty_view, with_log, with_own}
 use Rattle.qc_view.specs.declared.view.View.{View}
 use Rattle.laws_bounds.proofs.EventsNamed.{EventNamed}
-use Rattle.laws_bounds.proofs.Names.{CameNamed, LineNamed, LinesNamed, OpsNamed, OwnsNamed}
+use Rattle.laws_bounds.proofs.Names.{CameNamed, LineNamed, LinesNamed, OpsNamed, OwnsNamed, PromiseNamed}
+use Rattle.qc_front.specs.Answering.{with_granted}
+use Rattle.qc_msg.specs.Vocabulary.{Granting, Shutting, granted_in, shut_in}
+use Rattle.laws_bounds.proofs.Options.{map_each, map_on}
 
 every-set : {A : Type 0} (P : A → Type 0) (xs : List A) (i : ℕ) (y : A) → P y → Every P xs → Every P (slice_set xs i y)
 every-set P [] i y here all = tt
@@ -107,35 +108,23 @@ module _ (decl : Declaration) where
       → CameNamed decl answer
       → TransactionNamed (read_with t site object answer)
   read_named t site object None w here = w
-  read_named t site object (Some (answers.Granted life clock log)) w here =
-      view_named (lived t site life) object (option_map (λ (v : View). with_log v log) (slice_get t.views object))
+  read_named t site object (Some answer) w here =
+      map_on TransactionNamed
+      (MatchOption (shut_in answer) (Unit {0})
+      (λ (z : Shutting). LinesNamed decl z.log × Every (PromiseNamed decl) z.prepared))
+      (λ (g : Granting). LinesNamed decl g.log) (λ (g : Granting). with_granted (lived t site g.life) object g.log) t
+      (granted_in answer) here w
+      (λ g lines. view_named (lived t site g.life) object
+      (option_map (λ (v : View). with_log v g.log) (slice_get t.views object))
       (record { views = w.views; own = w.own; ops = w.ops })
-      (logged (slice_get t.views object) log (old_named t.views object (slice_get t.views object) refl w.views) here)
-  read_named t site object (Some (answers.Clash holder inv event)) w here = w
-  read_named t site object (Some (answers.Closed epoch)) w here = w
-  read_named t site object (Some (answers.Behind epoch)) w here = w
-  read_named t site object (Some (answers.Restarted life)) w here = w
-  read_named t site object (Some answers.Stale) w here = w
-  read_named t site object (Some answers.Fault) w here = w
-  read_named t site object (Some (answers.Yes clock)) w here = w
-  read_named t site object (Some (answers.Shut clock log prepared)) w here = w
-  read_named t site object (Some answers.Installed) w here = w
-  read_named t site object (Some (answers.Answered verdict)) w here = w
+      (logged (slice_get t.views object) g.log (old_named t.views object (slice_get t.views object) refl w.views)
+      lines))
 
   pub appended_named : (t : Transaction) (site : ℕ) (answer : Option Answer) → TransactionNamed t
       → TransactionNamed (appended_with t site answer)
-  appended_named t site None w = w
-  appended_named t site (Some (answers.Granted life clock log)) w = record { views = w.views; own = w.own; ops = w.ops }
-  appended_named t site (Some (answers.Clash holder inv event)) w = w
-  appended_named t site (Some (answers.Closed epoch)) w = w
-  appended_named t site (Some (answers.Behind epoch)) w = w
-  appended_named t site (Some (answers.Restarted life)) w = w
-  appended_named t site (Some answers.Stale) w = w
-  appended_named t site (Some answers.Fault) w = w
-  appended_named t site (Some (answers.Yes clock)) w = w
-  appended_named t site (Some (answers.Shut clock log prepared)) w = w
-  appended_named t site (Some answers.Installed) w = w
-  appended_named t site (Some (answers.Answered verdict)) w = w
+  appended_named t site answer w =
+      map_each TransactionNamed (λ (g : Granting). lived t site g.life) t (option_and_then granted_in answer) w
+      (λ g. record { views = w.views; own = w.own; ops = w.ops })
 
   -- what an Append carries
 

@@ -1,5 +1,5 @@
 -- What comes to an actor in a run with falls, and what it posts, as far as its calls rely on it.
-use Rattle.std.specs.Prelude.{◌≡◌, ◌<◌, ◌≤◌, List, [], length}
+use Rattle.std.specs.Prelude.{[], MatchOption, ◌≡◌, ◌<◌, ◌≤◌, List, length}
 use Rattle.std.specs.List.{AllByRecursion as Every}
 use Rattle.qc_admin.specs.Vocabulary.{GivenFits}
 use Rattle.qc_core.specs.Vocabulary.{IsFrom}
@@ -11,18 +11,13 @@ use Rattle.qc_msg.specs.declared.record.Record.{Record}
 use Rattle.qc_msg.specs.declared.record.Record.TheVariants as records
 use Rattle.qc_msg.specs.declared.turn.Posting.{Posting}
 use Rattle.qc_msg.specs.declared.turn.Turn.{Turn}
-use Rattle.qc_msg.specs.Vocabulary.{Deed, Falls, Rises, Sends, Takes, Tells, Writes}
+use Rattle.qc_msg.specs.Vocabulary.{Deed, Falls, Rises, Sends, Takes, Tells, Writes, prepare_in}
 use Rattle.qc_recover.specs.Vocabulary.{most_inquiries}
+use Rattle.qc_entry.specs.declared.record.Prepared.{Prepared}
 
 -- what a record promises is of a client below the most
 abbrev pub IsOfClient : Record → Type 0
-IsOfClient records.Life = Unit {0}
-IsOfClient (records.Prepare p) = p.tx.client < most_clients
-IsOfClient (records.Done tx clock) = Unit {0}
-IsOfClient (records.Close epoch) = Unit {0}
-IsOfClient (records.Install epoch clock lines) = Unit {0}
-IsOfClient (records.Commit c) = Unit {0}
-IsOfClient (records.Decide epoch clock lines) = Unit {0}
+IsOfClient written = MatchOption (prepare_in written) (Unit {0}) (λ (p : Prepared). p.tx.client < most_clients)
 
 -- a message that is taken comes from an actor, and tells promises of such clients; what rises is of such, too
 abbrev pub IsSound : Deed → Type 0
@@ -35,13 +30,8 @@ IsSound (Rises records) = Every IsOfClient records
 
 -- what a record promises is of a declared client
 abbrev pub PromisesDeclared : Declaration → Record → Type 0
-PromisesDeclared decl records.Life = Unit {0}
-PromisesDeclared decl (records.Prepare p) = p.tx.client < decl.clients
-PromisesDeclared decl (records.Done tx clock) = Unit {0}
-PromisesDeclared decl (records.Close epoch) = Unit {0}
-PromisesDeclared decl (records.Install epoch clock lines) = Unit {0}
-PromisesDeclared decl (records.Commit c) = Unit {0}
-PromisesDeclared decl (records.Decide epoch clock lines) = Unit {0}
+PromisesDeclared decl written =
+    MatchOption (prepare_in written) (Unit {0}) (λ (p : Prepared). p.tx.client < decl.clients)
 
 -- a rising turn has at most as many messages as records rose, and no more than a fixed number, which go to actors;
 -- where its record isn't written it has none

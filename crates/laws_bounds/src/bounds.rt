@@ -35,7 +35,7 @@ pub fn clocks_are_bounded_with_falls<C: ConductWithFalls>()
 
 /// That what rises is within the bound is needed: a client that rises with a
 /// commit record is within no lesser bound than its clock.
-#[tactic(auto, using(crate::proofs::RisenClock::risen_clock))]
+#[tactic(auto, using(crate::proofs::RisenClock::bounds_are_on_what_rises))]
 pub fn bounds_are_on_what_rises()
     ensures { (decl : Declaration) (a : ℕ) (ds : List Deed) (c : CommitRecord) (bound : ℕ)
         → is_client decl a ≡ true

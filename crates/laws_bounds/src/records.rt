@@ -17,7 +17,7 @@ use qc_script::ConductWithFalls;
 
 /// That all records of a journal fit is that each does, behind as many others as
 /// its place tells.
-#[tactic(auto, using(crate::proofs::Places::places))]
+#[tactic(auto, using(crate::proofs::Places::records_fit_at_their_places))]
 pub fn records_fit_at_their_places()
     ensures { (decl : Declaration) (a : ℕ) (records : List Record) → AllFit decl a 0 records
         ↔ ((place : ℕ) (r : Record) → slice_get records place ≡ Some r → fits decl a place r ≡ true) }

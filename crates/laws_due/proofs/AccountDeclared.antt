@@ -68,14 +68,14 @@ module _ (decl : Declaration) (accepted : IsAccepted decl) where
   phases_ask [] all = tt
   phases_ask (p ∷ phases) all = (lines_ask p.commands all.0.1, phases_ask phases all.1)
 
-pub asks_declared : (decl : Declaration) (script : Script) → IsAccepted decl → IsScriptFor decl script
+pub scripts_ask_what_is_declared : (decl : Declaration) (script : Script) → IsAccepted decl → IsScriptFor decl script
     → AsksDeclared decl script
-asks_declared decl script accepted sound = phases_ask decl accepted script.phases sound.phases
+scripts_ask_what_is_declared decl script accepted sound = phases_ask decl accepted script.phases sound.phases
 
-pub read_asks_declared : (decl : Declaration) (bytes : List ℕ) (script : Script) → IsAccepted decl
+pub read_scripts_ask_what_is_declared : (decl : Declaration) (bytes : List ℕ) (script : Script) → IsAccepted decl
     → script_of decl bytes ≡ Ok script → AsksDeclared decl script
-read_asks_declared decl bytes script accepted read =
-    asks_declared decl script accepted (script_names decl bytes script read)
+read_scripts_ask_what_is_declared decl bytes script accepted read =
+    scripts_ask_what_is_declared decl script accepted (script_names decl bytes script read)
 
 -- the administrator is asked for epochs alone
 

@@ -5,7 +5,7 @@ use Rattle.qc_core.specs.Acts as acts
 use Rattle.qc_decl.specs.Vocabulary.{administrator}
 use Rattle.qc_decl.specs.declared.declaration.Declaration.{Declaration}
 use Rattle.laws_turns.specs.Vocabulary.{ActsIn}
-use Rattle.laws_turns.proofs.Acted.{has_entry, run_acts}
+use Rattle.laws_turns.proofs.Acted.{has_entry, actors_take_and_post_by_turns}
 use Rattle.laws_turns.proofs.Idle.{no_turn}
 use Rattle.qc_msg.specs.declared.step.Input.{Input}
 use Rattle.qc_msg.specs.declared.step.Input.TheVariants as inputs
@@ -42,5 +42,5 @@ module _ (decl : Declaration) where
           → IsAdminDue decl (deeds (administrator decl) [] h)
       by place =
           let r : ActsIn decl (administrator decl) h place.0 =
-          run_acts decl script h open_inputs run (administrator decl) place.0 place.1 in
+          actors_take_and_post_by_turns decl script h open_inputs run (administrator decl) place.0 place.1 in
           idle_due (deeds (administrator decl) [] h) place.0 r.above r.acts

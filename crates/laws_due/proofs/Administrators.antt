@@ -23,9 +23,9 @@ some_site decl some = by (decl.sites == 0) refl
     by true none = absurd (let is : decl.sites ≡ 0 = eqb-true decl.sites 0 none in omega (arith, some))
     by false none = refl
 
-pub lives_due : (decl : Declaration) → 0 < decl.sites → (ds : List Deed) (b : Bool) (n : ℕ)
+pub lives_of_the_administrator_are_due : (decl : Declaration) → 0 < decl.sites → (ds : List Deed) (b : Bool) (n : ℕ)
     → Lives decl (administrator decl) ds b n → IsAdminDue decl ds
-lives_due decl some ds b n life = admin_due_in decl (some_site decl some) ds b n life
+lives_of_the_administrator_are_due decl some ds b n life = admin_due_in decl (some_site decl some) ds b n life
 
 pub run_admin_due : (decl : Declaration) (script : Script) (fits : ℕ → List Record → Type 0) → 0 < decl.sites
     → actors decl ≤ most_actors → (h : List Entry) (open_inputs : List Bool)
@@ -43,4 +43,4 @@ run_admin_due decl script fits some few h open_inputs run =
     on place =
         let lived : LivesIn decl (administrator decl) h place.0 =
         run_lives decl script fits few h open_inputs run (administrator decl) place.0 place.1 in
-        lives_due decl some (deeds (administrator decl) [] h) place.0 lived.above lived.lives
+        lives_of_the_administrator_are_due decl some (deeds (administrator decl) [] h) place.0 lived.above lived.lives

@@ -150,8 +150,8 @@ module _ (decl : Declaration) where
   stays_client [] d = refl
   stays_client (x ∷ ds) d = stays_client ds (account_at decl d x) ∙ step_client d x
 
-  pub begins_anew : (client : ℕ) (ds : List Deed) (kept : List Record)
+  pub accounts_begin_anew : (client : ℕ) (ds : List Deed) (kept : List Record)
       → account_of decl client (ds ++ Rises kept ∷ []) ≡ account_with client kept
-  begins_anew client ds kept =
+  accounts_begin_anew client ds kept =
       fold-append (account_at decl) (new_account client) ds (Rises kept ∷ [])
       ∙ ap (λ (c : ℕ). account_with c kept) (stays_client ds (new_account client))

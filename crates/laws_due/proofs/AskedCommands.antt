@@ -2,7 +2,8 @@
 use Rattle.std.proofs.Common.{[], ◌≡◌, ℕ, ◌+◌, ◌-◌, ◌==◌, ◌&&◌, not, Bool, true, false, cond, if◌then◌else◌, List, ◌∷◌}
 use Rattle.std.proofs.Common.{◌++◌, drop, Option, Some, None, slice_get, refl, subst}
 use Rattle.std.specs.Prelude.{fold, set}
-use Rattle.qc_link.specs.Vocabulary.{with_cut, without_cut}
+use Rattle.qc_link.specs.Vocabulary.{fate, with_cut, without_cut}
+use Rattle.qc_link.specs.declared.rule.Fate.{Fate}
 use Rattle.std.specs.Option.{option_map_or}
 use Rattle.std.specs.List.{AllByRecursion as Every}
 use Rattle.qc_decl.specs.declared.declaration.Declaration.{Declaration}
@@ -18,11 +19,11 @@ use Rattle.qc_msg.specs.declared.step.Input.TheVariants as inputs
 use Rattle.qc_msg.specs.declared.step.Step.{Step}
 use Rattle.qc_msg.specs.declared.step.Step.TheVariants as steps
 use Rattle.qc_msg.specs.Vocabulary.{Entry}
-use Rattle.qc_script.specs.Vocabulary.{Inbox, acting, actor_fell, after_controls, answers_by, comes, command_called}
-use Rattle.qc_script.specs.Vocabulary.{command_in, commands_for, control_acted, copy_taken, emptied, first_command}
-use Rattle.qc_script.specs.Vocabulary.{first_copy, first_lost, goes, goes_with, inbox_at, is_by_line, is_request, is_up}
-use Rattle.qc_script.specs.Vocabulary.{loss_taken, opened, opened_by, phase_begun, ready_in, reply_told, requests_to}
-use Rattle.qc_script.specs.Vocabulary.{requests_to_others, takes_commands, with_lost}
+use Rattle.qc_script.specs.Vocabulary.{Inbox, with_copies, count_of, acting, actor_fell, after_controls, answers_by}
+use Rattle.qc_script.specs.Vocabulary.{comes, command_called, command_in, commands_for, control_acted, copy_taken}
+use Rattle.qc_script.specs.Vocabulary.{emptied, first_command, first_copy, first_lost, goes, goes_with, inbox_at}
+use Rattle.qc_script.specs.Vocabulary.{is_by_line, is_request, is_up, loss_taken, opened, opened_by, phase_begun}
+use Rattle.qc_script.specs.Vocabulary.{ready_in, reply_told, requests_to, requests_to_others, takes_commands, with_lost}
 use Rattle.qc_script.specs.declared.script.PhaseLines.{PhaseLines}
 use Rattle.qc_script.specs.declared.script.Script.{Script}
 
@@ -64,7 +65,10 @@ module _ (P : Command → Type 0) where
       asks_if (e.from == a) _ (comes script.links a i e) (asks_goes (comes script.links a i e) e _ came) came
     where
       came : Asks (comes script.links a i e)
-      came = asks_if (e.to == a) _ i (asks_answers _ e.message _ all) all
+      came = asks_if (e.to == a) _ i (asks_answers (with_copies (is_up i.up a) i e fate_of) e.message fate_of all) all
+        where
+          fate_of : Fate
+          fate_of = fate script.links i.cuts e.from e.to (count_of i.from_each e.from + 1)
 
   asks_emptied : (t : Bool) (i : Inbox) → Asks i → Asks (emptied t i)
   asks_emptied true i all = all

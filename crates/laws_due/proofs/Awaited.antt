@@ -190,9 +190,9 @@ module _ (decl : Declaration) where
             untaken = old.1;
           })
 
-  pub open_awaited : (client : ℕ) (ds : List Deed) (q : ClientRequest)
+  pub open_requests_were_sent : (client : ℕ) (ds : List Deed) (q : ClientRequest)
       → In q (fold (account_at decl) (new_account client) ds).requests → q.taken ≡ None → IsAwaited ds q
-  open_awaited client ds q among untaken = by (came ds (new_account client) q untaken among)
+  open_requests_were_sent client ds q among untaken = by (came ds (new_account client) q untaken among)
     where
       by : (In q (new_account client).requests × Every (IsNotFor q.number) ds) ⊎ IsAwaited ds q → IsAwaited ds q
       by (inl none) = absurd none.0

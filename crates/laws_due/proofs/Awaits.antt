@@ -32,7 +32,8 @@ use Rattle.qc_promise.specs.Vocabulary.{is_append, is_read, read_row, resp_of, r
 use Rattle.laws_due.specs.Vocabulary.{Holds, IsDo, IsEnough, IsGranted, IsGrantedDo, IsWaiting, NoneRuns, Ties, appends}
 use Rattle.laws_due.specs.Vocabulary.{call_of, calls_in, front_of, reads, rests, votes}
 use Rattle.laws_due.proofs.Nothing.{do_row_is, tied_none}
-use Rattle.laws_due.proofs.Courses.{account_of, clients_hold, clients_tied, move_of, turns_tell}
+use Rattle.laws_due.proofs.Courses.{account_of, clients_hold, accounts_are_their_clients, move_of}
+use Rattle.laws_due.proofs.Courses.{turns_tell_their_rows}
 
 -- an open request
 
@@ -131,11 +132,11 @@ module _ (decl : Declaration) (a : ℕ) (client : is_client decl a ≡ true) (ds
   pub commands_wait_for_requests : NoneRuns (account_of decl a client ds).command
       ⊎ IsWaiting (account_of decl a client ds)
   commands_wait_for_requests = tied_waits decl (account_of decl a client ds) (move_of decl a client ds).client
-      (clients_hold decl a client ds n acts) (clients_tied decl a client ds n acts)
+      (clients_hold decl a client ds n acts) (accounts_are_their_clients decl a client ds n acts)
 
   pub clients_owe_nothing : running_row decl (account_of decl a client ds) false ≡ None
   clients_owe_nothing = tied_none decl (account_of decl a client ds) (move_of decl a client ds).client
-      (clients_hold decl a client ds n acts) (clients_tied decl a client ds n acts)
+      (clients_hold decl a client ds n acts) (accounts_are_their_clients decl a client ds n acts)
 
 -- so a `do` that everybody grants is told its answer
 
@@ -144,7 +145,7 @@ pub told_absent : (decl : Declaration) (a : ℕ) (client : is_client decl a ≡ 
     → IsGrantedDo decl (account_of decl a client ds) t object inv → answer_of decl t object inv ≡ None
     → turn.told ≡ Some replies.Absent
 told_absent decl a client ds n turn acts law t object inv g none =
-    turns_tell decl a client ds n turn acts law
+    turns_tell_their_rows decl a client ds n turn acts law
     ∙ granted_absent decl (account_of decl a client ds) t object inv g.runs g.all g.enough none
 
 pub told_response : (decl : Declaration) (a : ℕ) (client : is_client decl a ≡ true) (ds : List Deed) (n : ℕ)
@@ -153,5 +154,5 @@ pub told_response : (decl : Declaration) (a : ℕ) (client : is_client decl a �
     → IsEnough decl (account_of decl a client ds) t is_append (append_need_of decl t.epoch object event)
     → turn.told ≡ Some (replies.Response (resp_of decl object event))
 told_response decl a client ds n turn acts law t object inv event g some appended =
-    turns_tell decl a client ds n turn acts law
+    turns_tell_their_rows decl a client ds n turn acts law
     ∙ granted_answered decl (account_of decl a client ds) t object inv event g.runs g.all g.enough some appended

@@ -14,7 +14,7 @@ use Rattle.qc_promise.specs.Vocabulary.{AreRepliesDue}
 use Rattle.qc_script.specs.Vocabulary.{RunsWithFalls}
 use Rattle.qc_script.specs.declared.script.Script.{Script}
 use Rattle.laws_due.specs.Vocabulary.{Declares}
-use Rattle.laws_due.proofs.Lifelong.{lives_due}
+use Rattle.laws_due.proofs.Lifelong.{lives_of_clients_are_due}
 
 module _ (decl : Declaration) (script : Script) (fits : ℕ → List Record → Type 0) (few : actors decl ≤ most_actors)
     (h : List Entry) (open_inputs : List Bool)
@@ -43,5 +43,5 @@ module _ (decl : Declaration) (script : Script) (fits : ℕ → List Record → 
           let lived : LivesIn decl (client_actor decl client) h place.0 =
           run_lives decl script fits few h open_inputs run (client_actor decl client) place.0 place.1 in
           subst (λ (k : ℕ). AreRepliesDue decl k (deeds (client_actor decl client) [] h)) number
-          (lives_due decl (client_actor decl client) is
+          (lives_of_clients_are_due decl (client_actor decl client) is
           (deeds (client_actor decl client) [] h) place.0 lived.above lived.lives are)

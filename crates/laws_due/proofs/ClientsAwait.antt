@@ -25,7 +25,7 @@ use Rattle.qc_mailbox.proofs.FallMail.{ready_sent}
 use Rattle.laws_turns.specs.Vocabulary.{IsAwaited, open_calls}
 use Rattle.laws_turns.proofs.Acted.{deeds-silent}
 use Rattle.qc_link.specs.Vocabulary.{most_actors}
-use Rattle.laws_turns.proofs.Downs.{tells, up_is}
+use Rattle.laws_turns.proofs.Downs.{who_is_down_only_tells, up_is}
 use Rattle.laws_turns.proofs.LivedMoves.{deeds-fall, deeds-rise}
 use Rattle.qc_msg.specs.declared.call.Call.{Call}
 use Rattle.qc_msg.specs.declared.record.Record.{Record}
@@ -109,7 +109,8 @@ module _ (decl : Declaration) (script : Script) (a : ℕ) where
     up_by_inbox : (h : List Entry) (open_inputs : List Bool) → IsRun h open_inputs
         → ((actor_after decl a (deeds a [] h)).actor ≡ actors.Down → ⊥) → is_up (inbox script a h).up a ≡ true
     up_by_inbox h open_inputs run living =
-        up_by_deeds (IsLawfulWithFalls decl) fits decl script h open_inputs few (tells decl) run a a low low
+        up_by_deeds (IsLawfulWithFalls decl) fits decl script h open_inputs few (who_is_down_only_tells decl) run a a
+        low low
         ∙ sym (up_is (deeds a [] h)) ∙ by (lives.is_up (deeds a [] h)) refl
       where
         by : (u : Bool) → lives.is_up (deeds a [] h) ≡ u → u ≡ true

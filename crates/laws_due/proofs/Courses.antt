@@ -122,9 +122,9 @@ module _ (decl : Declaration) (a : ℕ) (client : is_client decl a ≡ true) whe
           ∙ ap (λ (m : ClientMove). m.turn) (after_take at.before at.given)))
           (at_turn at.before at.given first at.rest at.up at.may))
 
-  pub clients_due : (ds : List Deed) (b : Bool) (n : ℕ) → Acts decl a ds b n
+  pub deeds_of_clients_are_by_rows : (ds : List Deed) (b : Bool) (n : ℕ) → Acts decl a ds b n
       → AreByRows decl (new_account (a - decl.sites)) ds
-  clients_due ds b n acts = by b (client_acts ds b n acts)
+  deeds_of_clients_are_by_rows ds b n acts = by b (client_acts ds b n acts)
     where
       by : (z : Bool) → IsAt ds z → AreByRows decl (new_account (a - decl.sites)) ds
       by false at = at.due
@@ -132,15 +132,16 @@ module _ (decl : Declaration) (a : ℕ) (client : is_client decl a ≡ true) whe
           (due_more decl (new_account (a - decl.sites)) at.before (Takes at.given ∷ []) at.rest.due
           (input_due at.before at.given at.rest at.up at.may, tt))
 
-  pub clients_tied : (ds : List Deed) (n : ℕ) → Acts decl a ds false n → Ties decl (account_of ds) (move_of ds).client
-  clients_tied ds n acts = (client_acts ds false n acts).ties
+  pub accounts_are_their_clients : (ds : List Deed) (n : ℕ) → Acts decl a ds false n
+      → Ties decl (account_of ds) (move_of ds).client
+  accounts_are_their_clients ds n acts = (client_acts ds false n acts).ties
 
   pub clients_hold : (ds : List Deed) (n : ℕ) → Acts decl a ds false n → Holds decl (move_of ds).client
   clients_hold ds n acts = (client_acts ds false n acts).holds
 
-  pub turns_tell : (ds : List Deed) (n : ℕ) (turn : Turn) → Acts decl a ds true n → IsLawful decl a ds turn
+  pub turns_tell_their_rows : (ds : List Deed) (n : ℕ) (turn : Turn) → Acts decl a ds true n → IsLawful decl a ds turn
       → turn.told ≡ running_row decl (account_of ds) false
-  turns_tell ds n turn acts law =
+  turns_tell_their_rows ds n turn acts law =
       let at : IsAtInput ds = client_acts ds true n acts in
       ap (λ (t : Turn). t.told) (lawful_turn decl a ds turn client law ∙ ap (λ (v : List Deed). (move_of v).turn) at.is
       ∙ ap (λ (m : ClientMove). m.turn) (after_take at.before at.given))

@@ -1,5 +1,5 @@
 -- A client that waits has an open request. So where nothing is left to happen every command has ended, and a run of
--- which no phase is left is whole.
+-- which no phase is left is runs_are_whole.
 use Rattle.std.proofs.Common.{◌≡◌, ℕ, ◌+◌, ◌-◌, ◌<◌, ◌≤◌, ◌&&◌, not, Bool, true, false, cond, List, [], ◌∷◌, length}
 use Rattle.std.proofs.Common.{map, filter, Option, Some, None, is_some, slice_get, refl, sym, ap, ◌∙◌, arith}
 use Rattle.std.specs.Prelude.{is_none, replicate}
@@ -16,19 +16,19 @@ use Rattle.qc_front.specs.Going as going
 use Rattle.qc_front.proofs.Goes.{waits}
 use Rattle.laws_turns.specs.Vocabulary.{ActsIn, AsksDeclared, IsClosed, IsQuiet, IsWhole, calls_of, replies_of}
 use Rattle.laws_turns.specs.Calls as laws
-use Rattle.laws_turns.proofs.Acted.{has_entry, run_acts}
-use Rattle.laws_turns.proofs.Busy.{run_waits}
-use Rattle.laws_turns.proofs.Ends.{none_open}
-use Rattle.laws_turns.proofs.Ordered.{run_replied}
+use Rattle.laws_turns.proofs.Acted.{has_entry, actors_take_and_post_by_turns}
+use Rattle.laws_turns.proofs.Busy.{clients_wait_while_commands_run}
+use Rattle.laws_turns.proofs.Ends.{no_request_is_open_at_the_end}
+use Rattle.laws_turns.proofs.Ordered.{calls_are_replied}
 use Rattle.laws_turns.proofs.Places.{replicate_at}
-use Rattle.laws_turns.proofs.WholeLaw.{is_whole}
+use Rattle.laws_turns.proofs.WholeLaw.{runs_without_commands_are_whole}
 use Rattle.qc_msg.specs.declared.message.Answer.{Answer}
 use Rattle.qc_msg.specs.Vocabulary.{Deed, Entry, deeds}
 use Rattle.qc_promise.specs.Vocabulary.{Account, ClientRequest}
 use Rattle.qc_script.specs.declared.script.Script.{Script}
 use Rattle.qc_script.specs.Vocabulary.{controls_left, phase_of}
 use Rattle.laws_due.specs.Vocabulary.{Holds, Ties, appends, call_of, calls_in, reads, rests, votes}
-use Rattle.laws_due.proofs.Courses.{clients_hold, clients_tied}
+use Rattle.laws_due.proofs.Courses.{clients_hold, accounts_are_their_clients}
 
 -- while a commit waits for votes, one of its requests is open
 
@@ -72,13 +72,13 @@ module _ (decl : Declaration) (d : Account) (c : Client) (h : Holds decl c) wher
       absurd (untaken_called d.requests r.waits
       (sym (ap (λ (desk : Desk). laws.calls_by desk.voting c.front.doing) r.desk) ∙ none))
 
-pub unasked_rests : (decl : Declaration) (a : ℕ) → is_client decl a ≡ true → (ds : List Deed) (n : ℕ)
+pub clients_wait_only_for_requests : (decl : Declaration) (a : ℕ) → is_client decl a ≡ true → (ds : List Deed) (n : ℕ)
     → Acts decl a ds false n
     → laws.open_calls (client_after decl (a - decl.sites) ds).client ≡ []
     → laws.is_waiting (client_after decl (a - decl.sites) ds).client ≡ false
-unasked_rests decl a client ds n acts =
+clients_wait_only_for_requests decl a client ds n acts =
     tied_rests decl _ (client_after decl (a - decl.sites) ds).client (clients_hold decl a client ds n acts)
-    (clients_tied decl a client ds n acts)
+    (accounts_are_their_clients decl a client ds n acts)
 
 -- where nothing is left to happen
 
@@ -95,20 +95,21 @@ module _ (decl : Declaration) (script : Script) (accepted : IsAccepted decl) (as
       has_entry (IsLawful decl) decl script h (replicate (actors decl) false) closed a (client_within decl a client) in
       place.1 ∙ ap (λ (t : Bool). Some t) (replicate_at (actors decl) a false place.0 place.1)
 
-  pub none_runs : (a : ℕ) → is_client decl a ≡ true → is_running (deeds a [] h) ≡ false
-  none_runs a client =
-      let r : ActsIn decl a h false = run_acts decl script h (replicate (actors decl) false) closed a false
+  pub commands_end : (a : ℕ) → is_client decl a ≡ true → is_running (deeds a [] h) ≡ false
+  commands_end a client =
+      let r : ActsIn decl a h false = actors_take_and_post_by_turns decl script h (replicate (actors decl) false) closed a false
       (free a client) in
-      sym (run_waits decl script asks h (replicate (actors decl) false) closed a client (free a client))
-      ∙ unasked_rests decl a client (deeds a [] h) r.above r.acts
-      (none_open decl script accepted asks h closed quiet done a client)
+      sym (clients_wait_while_commands_run decl script asks h (replicate (actors decl) false) closed a client
+      (free a client))
+      ∙ clients_wait_only_for_requests decl a client (deeds a [] h) r.above r.acts
+      (no_request_is_open_at_the_end decl script accepted asks h closed quiet done a client)
 
-  pub all_replied : (a : ℕ) → is_client decl a ≡ true → length (calls_of a h) ≡ length (replies_of a h)
-  all_replied a client =
+  pub each_call_has_its_reply : (a : ℕ) → is_client decl a ≡ true → length (calls_of a h) ≡ length (replies_of a h)
+  each_call_has_its_reply a client =
       let count : length (calls_of a h) ≡ length (replies_of a h) + 0 =
-      run_replied decl script h (replicate (actors decl) false) closed a
-      ∙ ap (λ (t : Bool). length (replies_of a h) + cond t 1 0) (none_runs a client) in
+      calls_are_replied decl script h (replicate (actors decl) false) closed a
+      ∙ ap (λ (t : Bool). length (replies_of a h) + cond t 1 0) (commands_end a client) in
       omega arith
 
-  pub whole : length script.phases ≤ phase_of h → IsWhole decl script h
-  whole = is_whole decl script accepted asks h closed quiet done none_runs
+  pub runs_are_whole : length script.phases ≤ phase_of h → IsWhole decl script h
+  runs_are_whole = runs_without_commands_are_whole decl script accepted asks h closed quiet done commands_end

@@ -32,7 +32,7 @@ use Rattle.qc_promise.specs.Vocabulary.{posted_due, rising_turn, row_of, running
 use Rattle.qc_recover.specs.Vocabulary.{client_rises, rising}
 use Rattle.laws_due.specs.ByRows as rows
 use Rattle.laws_due.specs.Vocabulary.{Goes, IsDeclaredDeed, IsPlanned, Ties}
-use Rattle.laws_due.proofs.Anew.{begins_anew}
+use Rattle.laws_due.proofs.Anew.{accounts_begin_anew}
 use Rattle.laws_due.proofs.Commands.{free_for}
 use Rattle.laws_due.proofs.DuesOfDeeds.{IsWithin, due_as}
 use Rattle.laws_due.proofs.Dues.{due_then, within_all, within_at}
@@ -41,7 +41,7 @@ use Rattle.laws_due.proofs.Rising.{risen_account, risen_holds, risen_ties}
 use Rattle.laws_due.proofs.Standing.{IsAtRest, IsFallen, IsTied, account_is, account_more, actor_more, event_due}
 use Rattle.laws_due.proofs.Standing.{no_act, none_follows, steady_client, steady_up, turn_declared, turn_is, up_more}
 use Rattle.laws_due.proofs.Step.{inputs_are_answered_as_is_due}
-use Rattle.laws_due.proofs.Unwritten.{unknown_due}
+use Rattle.laws_due.proofs.Unwritten.{unwritten_commits_are_unknown}
 use Rattle.laws_due.proofs.Writing.{IsClientTurn, IsCommitTurn, takes_turn}
 use Rattle.laws_due.proofs.Fallings.{as_record, input_free, fallen_still}
 
@@ -54,7 +54,7 @@ module _ (decl : Declaration) (a : ℕ) (client : is_client decl a ≡ true) whe
 
   module _ (planned : IsPlanned decl first_epoch) (ds : List Deed) (r : IsAtRest decl a ds) (kept : List Record) where
     anew : account_is decl a (ds ++ Rises kept ∷ []) ≡ account_with (a - decl.sites) kept
-    anew = begins_anew decl (a - decl.sites) ds kept
+    anew = accounts_begin_anew decl (a - decl.sites) ds kept
 
     risen_rest : IsAtRest decl a ((ds ++ Rises kept ∷ []) ++ Writes records.Life ∷ [])
     risen_rest = record {
@@ -213,7 +213,7 @@ module _ (decl : Declaration) (a : ℕ) (client : is_client decl a ≡ true) whe
             subst (λ (row : Option Reply). IsReplyDue taken row after replies.Unknown)
             (sym (ap (λ (o : Option Record). due decl taken (is_some o)) pending
             ∙ due_as decl taken taken_within true))
-            (unknown_due decl taken c after is pending)
+            (unwritten_commits_are_unknown decl taken c after is pending)
 
         by : (x : Fall) → IsByDisk x → (ys : List Deed)
             → IsReplyDue taken (due decl taken (is_some (pending_next (Falls x (Some (records.Commit c)) ∷ ys))))

@@ -18,7 +18,7 @@ use Rattle.qc_msg.specs.Vocabulary.{Deed, MayEnd, Rises, Takes, deeds_as, first_
 use Rattle.qc_promise.specs.Vocabulary.{AreRepliesDue}
 use Rattle.laws_due.specs.Vocabulary.{Declares, IsDeclaredDeed, IsPlanned}
 use Rattle.laws_due.proofs.Commands.{no_site}
-use Rattle.laws_due.proofs.Courses.{clients_hold, clients_tied}
+use Rattle.laws_due.proofs.Courses.{clients_hold, accounts_are_their_clients}
 use Rattle.laws_due.proofs.Fallings.{as_record, crashes_rest, input_free, unopened_rest}
 use Rattle.laws_due.proofs.Happenings.{down_as, posted_as, rises_rest, takes_to}
 use Rattle.laws_due.proofs.Standing.{AreDue, IsAt, IsAtInput, IsAtRest, IsFallen, IsTied, Stands, actor_more, no_act}
@@ -41,7 +41,7 @@ module _ (decl : Declaration) (a : ℕ) (client : is_client decl a ≡ true) (pl
     stands = record {
       state = new_client (a - decl.sites);
       actor = ap (λ (m : ActorMove). m.actor) (at_client decl a [] tt (no_site decl a client) client);
-      ties = clients_tied decl a client [] 0 acts.starts;
+      ties = accounts_are_their_clients decl a client [] 0 acts.starts;
       holds = clients_hold decl a client [] 0 acts.starts;
       within = record { up = refl; known = planned; current = tt; command = tt };
     };
@@ -125,9 +125,11 @@ module _ (decl : Declaration) (a : ℕ) (client : is_client decl a ≡ true) (pl
       unopened_rest decl a client older cause by_disk down
       (client_lives older false m life (first_all (IsDeclaredDeed decl) older _ all))
 
-pub lives_due : (decl : Declaration) (a : ℕ) → is_client decl a ≡ true → (ds : List Deed) (b : Bool) (n : ℕ)
+pub lives_of_clients_are_due : (decl : Declaration) (a : ℕ) → is_client decl a ≡ true
+    → (ds : List Deed) (b : Bool) (n : ℕ)
     → Lives decl a ds b n → Declares decl ds → AreRepliesDue decl (a - decl.sites) ds
-lives_due decl a client ds b n life are = by b (client_lives decl a client are.first ds b n life are.deeds)
+lives_of_clients_are_due decl a client ds b n life are =
+    by b (client_lives decl a client are.first ds b n life are.deeds)
   where
     by : (z : Bool) → IsAt decl a ds z → AreRepliesDue decl (a - decl.sites) ds
     by false r = subst (AreDue decl a) (append-nil ds) (r.due [] (no_act [] refl r.up) tt)

@@ -26,7 +26,7 @@ use Rattle.qc_msg.specs.Vocabulary.{Deed, Rises, Takes, Tells, Writes, deeds_as,
 use Rattle.qc_promise.specs.Vocabulary.{Account, account_at}
 use Rattle.qc_recover.specs.Vocabulary.{client_rises, rising}
 use Rattle.laws_due.specs.Vocabulary.{Ties}
-use Rattle.laws_due.proofs.Anew.{begins_anew}
+use Rattle.laws_due.proofs.Anew.{accounts_begin_anew}
 use Rattle.laws_due.proofs.Commands.{running}
 use Rattle.laws_due.proofs.Rising.{risen_account, risen_holds, risen_ties}
 use Rattle.laws_due.proofs.Standing.{account_is, account_more, actor_more, turn_is, up_more}
@@ -147,7 +147,8 @@ module _ (decl : Declaration) (a : ℕ) (client : is_client decl a ≡ true) whe
       account_risen : account_is decl a ((ds ++ Rises kept ∷ []) ++ Writes records.Life ∷ []) ≡ risen_account decl
           (a - decl.sites) kept
       account_risen = account_more decl a (ds ++ Rises kept ∷ []) (Writes records.Life ∷ [])
-          ∙ ap (λ (d : Account). account_at decl d (Writes records.Life)) (begins_anew decl (a - decl.sites) ds kept)
+          ∙ ap (λ (d : Account). account_at decl d (Writes records.Life))
+          (accounts_begin_anew decl (a - decl.sites) ds kept)
 
   pub rising_turn : (ds : List Deed) (kept : List Record) (turn : Turn)
       → IsLawfulWithFalls decl a (ds ++ Rises kept ∷ []) turn → rising [] ≡ with_record turn

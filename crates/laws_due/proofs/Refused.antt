@@ -66,18 +66,21 @@ comes None asked (Rises records ∷ ds) is = let r : Comes None asked ds = comes
     record { calls = r.calls; order = (refl, r.order); idle = r.idle }
 comes (Some c) asked (Rises records ∷ ds) is = no_reply c asked (exchanges_from None ds) is
 
-pub all_come : (asked : List Command) (ds : List Deed) → AreAnswered asked (exchanges ds)
+pub answered_commands_were_called_in_order : (asked : List Command) (ds : List Deed) → AreAnswered asked (exchanges ds)
     → (filter_map call_in ds ≡ asked) × (AreInOrder false ds × (is_running ds ≡ false))
-all_come asked ds is = let r : Comes None asked ds = comes None asked ds is in (r.calls, (r.order, r.idle))
+answered_commands_were_called_in_order asked ds is =
+    let r : Comes None asked ds = comes None asked ds is in
+    (r.calls, (r.order, r.idle))
 
-pub all_answered : (ds : List Deed) → AreInOrder false ds → is_running ds ≡ false
+pub commands_in_order_are_answered : (ds : List Deed) → AreInOrder false ds → is_running ds ≡ false
     → AreAnswered (filter_map call_in ds) (exchanges ds)
-all_answered ds order idle = answered_from None ds order idle
+commands_in_order_are_answered ds order idle = answered_from None ds order idle
 
-pub as_many : (asked : List Command) (ds : List Deed) → AreAnswered asked (exchanges ds)
+pub answered_commands_have_a_reply_each : (asked : List Command) (ds : List Deed) → AreAnswered asked (exchanges ds)
     → length (filter_map reply_in ds) ≡ length asked
-as_many asked ds is =
-    let r : (filter_map call_in ds ≡ asked) × (AreInOrder false ds × (is_running ds ≡ false)) = all_come asked ds is in
+answered_commands_have_a_reply_each asked ds is =
+    let r : (filter_map call_in ds ≡ asked) × (AreInOrder false ds × (is_running ds ≡ false)) =
+    answered_commands_were_called_in_order asked ds is in
     let count : length (filter_map call_in ds) ≡ length (filter_map reply_in ds) + 0 = all_counted ds r.1.0
     ∙ ap (λ (t : Bool). length (filter_map reply_in ds) + open_commands t) r.1.1 in
     let same : length (filter_map call_in ds) ≡ length asked = ap length r.0 in
@@ -85,31 +88,34 @@ as_many asked ds is =
 
 -- wrong ones
 
-pub too_few : (asked : List Command) (ds : List Deed) (command : Command)
+pub missing_replies_are_refused : (asked : List Command) (ds : List Deed) (command : Command)
     → AreAnswered asked (exchanges (ds ++ Takes (inputs.Called command) ∷ [])) → ⊥
-too_few asked ds command is =
+missing_replies_are_refused asked ds command is =
     let idle : is_running (ds ++ Takes (inputs.Called command) ∷ []) ≡ false =
-    (all_come asked (ds ++ Takes (inputs.Called command) ∷ []) is).1.1 in
+    (answered_commands_were_called_in_order asked (ds ++ Takes (inputs.Called command) ∷ []) is).1.1 in
     let runs : is_running (ds ++ Takes (inputs.Called command) ∷ []) ≡ true =
     fold-append runs_at false ds (Takes (inputs.Called command) ∷ []) in
     let no : true ≡ false = sym runs ∙ idle in
     let never : ⊥ = cc in
     never
 
-pub too_many : (asked : List Command) (ds rest : List Deed) (reply : Reply) → is_running ds ≡ false
+pub needless_replies_are_refused : (asked : List Command) (ds rest : List Deed) (reply : Reply) → is_running ds ≡ false
     → AreAnswered asked (exchanges (ds ++ Tells reply ∷ rest)) → ⊥
-too_many asked ds rest reply idle is =
+needless_replies_are_refused asked ds rest reply idle is =
     let order : AreInOrder (is_running ds) (Tells reply ∷ rest) =
-    order_second false ds (Tells reply ∷ rest) (all_come asked (ds ++ Tells reply ∷ rest) is).1.0 in
+    order_second false ds (Tells reply ∷ rest)
+    (answered_commands_were_called_in_order asked (ds ++ Tells reply ∷ rest) is).1.0 in
     let no : true ≡ false = sym order.0 ∙ idle in
     let never : ⊥ = cc in
     never
 
-pub fell_between : (asked : List Command) (ds rest : List Deed) (cause : Fall) (pending : Option Record)
+pub falls_before_a_reply_are_refused : (asked : List Command) (ds rest : List Deed) (cause : Fall)
+    (pending : Option Record)
     → is_running ds ≡ true → AreAnswered asked (exchanges (ds ++ Falls cause pending ∷ rest)) → ⊥
-fell_between asked ds rest cause pending runs is =
+falls_before_a_reply_are_refused asked ds rest cause pending runs is =
     let order : AreInOrder (is_running ds) (Falls cause pending ∷ rest) =
-    order_second false ds (Falls cause pending ∷ rest) (all_come asked (ds ++ Falls cause pending ∷ rest) is).1.0 in
+    order_second false ds (Falls cause pending ∷ rest)
+    (answered_commands_were_called_in_order asked (ds ++ Falls cause pending ∷ rest) is).1.0 in
     let no : true ≡ false = sym runs ∙ order.0 in
     let never : ⊥ = cc in
     never
@@ -117,7 +123,8 @@ fell_between asked ds rest cause pending runs is =
 pub never_called : (asked : List Command) (command : Command) (ds : List Deed) → filter_map call_in ds ≡ asked
     → AreAnswered (asked ++ command ∷ []) (exchanges ds) → ⊥
 never_called asked command ds calls is =
-    let same : asked ≡ asked ++ command ∷ [] = sym calls ∙ (all_come (asked ++ command ∷ []) ds is).0 in
+    let same : asked ≡ asked ++ command ∷ [] =
+    sym calls ∙ (answered_commands_were_called_in_order (asked ++ command ∷ []) ds is).0 in
     let long : length (asked ++ command ∷ []) ≡ length asked + 1 = length-append asked (command ∷ []) in
     let short : length asked ≡ length (asked ++ command ∷ []) = ap length same in
     absurd (omega arith)
@@ -125,7 +132,7 @@ never_called asked command ds calls is =
 pub called_twice : (asked : List Command) (command : Command) (ds : List Deed)
     → filter_map call_in ds ≡ asked ++ command ∷ [] → AreAnswered asked (exchanges ds) → ⊥
 called_twice asked command ds calls is =
-    let same : asked ++ command ∷ [] ≡ asked = sym calls ∙ (all_come asked ds is).0 in
+    let same : asked ++ command ∷ [] ≡ asked = sym calls ∙ (answered_commands_were_called_in_order asked ds is).0 in
     let long : length (asked ++ command ∷ []) ≡ length asked + 1 = length-append asked (command ∷ []) in
     let short : length (asked ++ command ∷ []) ≡ length asked = ap length same in
     absurd (omega arith)

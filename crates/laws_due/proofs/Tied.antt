@@ -31,7 +31,7 @@ use Rattle.qc_promise.specs.Vocabulary.{Account, IsRecordDue, account_at, accoun
 use Rattle.laws_due.specs.ByRows as rows
 use Rattle.laws_due.specs.Vocabulary.{Goes, Holds, Ties}
 use Rattle.laws_due.proofs.Commands.{free_for, no_site, running}
-use Rattle.laws_due.proofs.Courses.{clients_hold, clients_tied}
+use Rattle.laws_due.proofs.Courses.{clients_hold, accounts_are_their_clients}
 use Rattle.laws_due.proofs.Fits.{takes_fit}
 use Rattle.laws_due.proofs.Standing.{account_is, account_more, actor_more, steady_client, steady_up, up_more}
 use Rattle.laws_due.proofs.Step.{inputs_are_answered_as_is_due}
@@ -81,7 +81,7 @@ module _ (decl : Declaration) (a : ℕ) (client : is_client decl a ≡ true) whe
     stands = record {
       state = new_client (a - decl.sites);
       actor = ap (λ (m : ActorMove). m.actor) (at_client decl a [] tt (no_site decl a client) client);
-      ties = clients_tied decl a client [] 0 acts.starts;
+      ties = accounts_are_their_clients decl a client [] 0 acts.starts;
       holds = clients_hold decl a client [] 0 acts.starts;
       busy = λ all. refl;
     };

@@ -117,10 +117,10 @@ module _ (decl : Declaration) where
       by (Some commands.Abort) (Some t) is = none_some None stamp refl is
       by (Some (commands.Epoch number)) (Some t) is = none_some None stamp refl is
 
-  pub unknown_due : (d : Account) (c : Commit) (after : List Deed)
+  pub unwritten_commits_are_unknown : (d : Account) (c : Commit) (after : List Deed)
       → IsRecordDue d (running_row decl d false) (records.Commit c) → pending_next after ≡ Some (records.Commit c)
       → IsReplyDue d (running_row decl d true) after replies.Unknown
-  unknown_due d c after is pending =
+  unwritten_commits_are_unknown d c after is pending =
       let row : (c.stamp ≡ next_stamp d) × (running_row decl d true ≡ Some replies.Unknown) =
       row_unwritten d c.stamp is.0 in (
         row.1,

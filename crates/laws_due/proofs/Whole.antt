@@ -4,9 +4,9 @@ use Rattle.std.proofs.Common.{sym, ◌∙◌, subst, le-leb, lt-ltb, arith}
 use Rattle.qc_core.specs.Vocabulary.{Acts, IsLawful}
 use Rattle.qc_decl.specs.Vocabulary.{IsAccepted, actors, administrator, client_actor, is_client}
 use Rattle.qc_decl.specs.declared.declaration.Declaration.{Declaration}
-use Rattle.laws_turns.proofs.Acted.{has_entry, run_acts}
-use Rattle.laws_turns.proofs.ByMail.{run_by_turns, run_mailed}
-use Rattle.laws_turns.proofs.Served.{run_due}
+use Rattle.laws_turns.proofs.Acted.{has_entry, actors_take_and_post_by_turns}
+use Rattle.laws_turns.proofs.ByMail.{actors_go_by_turns, messages_reach_their_receivers}
+use Rattle.laws_turns.proofs.Served.{what_sites_post_is_due}
 use Rattle.laws_turns.proofs.Up.{acts_up}
 use Rattle.laws_turns.specs.Vocabulary.{ActsIn, AsksDeclared}
 use Rattle.qc_msg.specs.declared.turn.Turn.{Turn}
@@ -17,7 +17,7 @@ use Rattle.qc_script.specs.declared.script.Script.{Script}
 use Rattle.laws_due.specs.Vocabulary.{Declares, IsWaiting, NoneRuns}
 use Rattle.laws_due.proofs.AdminIdle.{run_admin_due}
 use Rattle.laws_due.proofs.Awaits.{clients_owe_nothing, commands_wait_for_requests}
-use Rattle.laws_due.proofs.Courses.{clients_due, turns_tell}
+use Rattle.laws_due.proofs.Courses.{deeds_of_clients_are_by_rows, turns_tell_their_rows}
 use Rattle.laws_due.proofs.Declaring.{run_declares}
 use Rattle.laws_due.proofs.DuesOfDeeds.{due_is, none_due}
 use Rattle.laws_due.proofs.Dues.{all_due, within_all, within_first}
@@ -26,16 +26,16 @@ use Rattle.laws_due.proofs.StaysUp.{stays_up}
 module _ (decl : Declaration) (a : ℕ) (client : is_client decl a ≡ true) where
   -- what a client does is due
 
-  pub deeds_due : (ds : List Deed) (b : Bool) (n : ℕ) → Acts decl a ds b n → Declares decl ds
+  pub deeds_of_clients_are_due : (ds : List Deed) (b : Bool) (n : ℕ) → Acts decl a ds b n → Declares decl ds
       → AreRepliesDue decl (a - decl.sites) ds
-  deeds_due ds b n acts are =
+  deeds_of_clients_are_due ds b n acts are =
       all_due decl ds (new_account (a - decl.sites)) (acts_up decl a ds b n acts) are.deeds
-      (within_first decl (a - decl.sites) ds are) (clients_due decl a client ds b n acts)
+      (within_first decl (a - decl.sites) ds are) (deeds_of_clients_are_by_rows decl a client ds b n acts)
 
   pub turns_tell_what_is_due : (ds : List Deed) (n : ℕ) (turn : Turn) → Acts decl a ds true n → Declares decl ds
       → IsLawful decl a ds turn → turn.told ≡ due decl (account_of decl (a - decl.sites) ds) false
   turns_tell_what_is_due ds n turn acts are law =
-      turns_tell decl a client ds n turn acts law
+      turns_tell_their_rows decl a client ds n turn acts law
       ∙ sym (due_is decl (account_of decl (a - decl.sites) ds)
       (within_all decl ds (new_account (a - decl.sites)) (acts_up decl a ds true n acts) are.deeds
       (within_first decl (a - decl.sites) ds are)))
@@ -56,7 +56,7 @@ module _ (decl : Declaration) (script : Script) (h : List Entry) (open_inputs : 
 
   module _ (a : ℕ) (client : is_client decl a ≡ true) (free : slice_get open_inputs a ≡ Some false) where
     acted : ActsIn decl a h false
-    acted = run_acts decl script h open_inputs run a false free
+    acted = actors_take_and_post_by_turns decl script h open_inputs run a false free
 
     pub commands_wait : NoneRuns (account decl a h).command ⊎ IsWaiting (account decl a h)
     commands_wait = commands_wait_for_requests decl a client (deeds a [] h) acted.above acted.acts
@@ -65,9 +65,9 @@ module _ (decl : Declaration) (script : Script) (h : List Entry) (open_inputs : 
     nothing_due = what_is_due_is_told decl a client (deeds a [] h) acted.above acted.acts
 
   module _ (accepted : IsAccepted decl) (asks : AsksDeclared decl script) where
-    pub replies_due : (client : ℕ) → client < decl.clients
+    pub replies_are_due : (client : ℕ) → client < decl.clients
         → AreRepliesDue decl client (deeds (client_actor decl client) [] h)
-    replies_due client within = on (has_entry (IsLawful decl) decl script h open_inputs run
+    replies_are_due client within = on (has_entry (IsLawful decl) decl script h open_inputs run
         (client_actor decl client) low)
       where
         low : client_actor decl client < actors decl
@@ -84,17 +84,17 @@ module _ (decl : Declaration) (script : Script) (h : List Entry) (open_inputs : 
             → AreRepliesDue decl client (deeds (client_actor decl client) [] h)
         on place =
             let acts : ActsIn decl (client_actor decl client) h place.0 =
-            run_acts decl script h open_inputs run (client_actor decl client) place.0 place.1 in
+            actors_take_and_post_by_turns decl script h open_inputs run (client_actor decl client) place.0 place.1 in
             subst (λ (k : ℕ). AreRepliesDue decl k (deeds (client_actor decl client) [] h)) number
-            (deeds_due decl (client_actor decl client) is
+            (deeds_of_clients_are_due decl (client_actor decl client) is
             (deeds (client_actor decl client) [] h) place.0 acts.above acts.acts
             (run_declares decl accepted script asks h open_inputs run (client_actor decl client)))
 
-    pub all_is_due : Due decl h
-    all_is_due = record {
-      turns = run_by_turns decl script h open_inputs run;
-      mail = run_mailed decl script h open_inputs run;
-      replies = replies_due;
-      sites = λ site within. run_due decl script h open_inputs run site within;
+    pub runs_are_due : Due decl h
+    runs_are_due = record {
+      turns = actors_go_by_turns decl script h open_inputs run;
+      mail = messages_reach_their_receivers decl script h open_inputs run;
+      replies = replies_are_due;
+      sites = λ site within. what_sites_post_is_due decl script h open_inputs run site within;
       admin = run_admin_due decl script h open_inputs run;
     }

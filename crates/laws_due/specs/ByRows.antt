@@ -1,22 +1,17 @@
 -- What a client's deeds follow from, by the rows alone: each reply and each record is that of the running command's
 -- row, no input comes where one has a reply, and each request is one that the command asks for.
-use Rattle.std.specs.Prelude.{◌≡◌, ℕ, true, false, List, [], ◌∷◌}
+use Rattle.std.specs.Prelude.{[], MatchOption, ◌≡◌, ℕ, true, false, List, ◌∷◌}
 use Rattle.qc_decl.specs.declared.declaration.Declaration.{Declaration}
 use Rattle.qc_msg.specs.declared.message.Message.{Message}
-use Rattle.qc_msg.specs.declared.message.Message.TheVariants as messages
-use Rattle.qc_msg.specs.Vocabulary.{Deed, Falls, Rises, Sends, Takes, Tells, Writes}
+use Rattle.qc_msg.specs.Vocabulary.{Deed, Falls, Rises, Sends, Takes, Tells, Writes, Requested, request_in}
 use Rattle.qc_promise.specs.Vocabulary.{Account, IsInputDue, IsRecordDue, IsReplyDue, account_at, is_asked_for}
 use Rattle.qc_promise.specs.Vocabulary.{running_row}
 
 -- a request goes to the site that is next, and asks what the running command calls for
 abbrev pub IsSendDue : Declaration → Account → ℕ → Message → Type 0
-IsSendDue decl d to (messages.Request tx epoch life want) = is_asked_for decl d to tx epoch life want ≡ true
-IsSendDue decl d to (messages.Answer number answer) = Unit {0}
-IsSendDue decl d to (messages.Decision tx verdict) = Unit {0}
-IsSendDue decl d to (messages.Inquiry tx) = Unit {0}
-IsSendDue decl d to (messages.Ask tx) = Unit {0}
-IsSendDue decl d to (messages.Close epoch) = Unit {0}
-IsSendDue decl d to (messages.Install epoch clock log) = Unit {0}
+IsSendDue decl d to message =
+    MatchOption (request_in message) (Unit {0})
+    (λ (q : Requested). is_asked_for decl d to q.tx q.epoch q.life q.want ≡ true)
 
 -- one deed, the account of those before it being d; of one life: nobody falls or rises
 abbrev pub IsByRow : Declaration → Account → Deed → Type 0

@@ -1,26 +1,22 @@
 -- What comes to a client speaks of what is declared: a `do` of an object with a type, an answer of an epoch with a
 -- plan.
-use Rattle.std.specs.Prelude.{◌≡◌, ℕ, true, List, Option, Some, None, is_some, option_and_then}
+use Rattle.std.specs.Prelude.{MatchOption, ◌≡◌, ℕ, true, List, Option, Some, None, is_some, option_and_then}
 use Rattle.std.specs.List.{AllByRecursion as Every}
 use Rattle.qc_decl.specs.Vocabulary.{plan_in, table_at}
 use Rattle.qc_decl.specs.declared.declaration.Declaration.{Declaration}
 use Rattle.qc_msg.specs.declared.message.Message.{Message}
 use Rattle.qc_msg.specs.declared.step.Command.{Command}
-use Rattle.qc_msg.specs.declared.step.Command.TheVariants as commands
 use Rattle.qc_msg.specs.declared.step.Input.{Input}
 use Rattle.qc_msg.specs.declared.step.Input.TheVariants as inputs
 use Rattle.qc_msg.specs.Vocabulary.{Answered, Deed, Falls, Rises, Sends, Takes, Tells, Writes, answer_in, closed_in}
-use Rattle.qc_msg.specs.Vocabulary.{first_epoch}
+use Rattle.qc_msg.specs.Vocabulary.{first_epoch, Invocation, do_in}
 
 abbrev pub IsPlanned : Declaration → ℕ → Type 0
 IsPlanned decl epoch = is_some (plan_in decl epoch) ≡ true
 
 abbrev pub IsDeclaredCommand : Declaration → Command → Type 0
-IsDeclaredCommand decl commands.Begin = Unit {0}
-IsDeclaredCommand decl (commands.Do object inv) = is_some (table_at decl object) ≡ true
-IsDeclaredCommand decl commands.Commit = Unit {0}
-IsDeclaredCommand decl commands.Abort = Unit {0}
-IsDeclaredCommand decl (commands.Epoch number) = Unit {0}
+IsDeclaredCommand decl command =
+    MatchOption (do_in command) (Unit {0}) (λ (i : Invocation). is_some (table_at decl i.object) ≡ true)
 
 -- the epoch that a message tells a client, where it says that another one is closed
 abbrev pub epoch_told : Message → Option ℕ

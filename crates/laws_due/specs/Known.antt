@@ -1,14 +1,13 @@
 -- What the administrator is asked, and whom he asks: a script asks him for epochs alone, and each Ask of a run with
 -- falls is about a transaction of a declared client.
-use Rattle.std.specs.Prelude.{◌≡◌, ℕ, ◌<◌, Bool, List}
+use Rattle.std.specs.Prelude.{MatchOption, ◌≡◌, ℕ, ◌<◌, Bool, List}
 use Rattle.std.specs.List.{AllByRecursion as Every}
 use Rattle.qc_core.specs.Vocabulary.{IsLawfulWithFalls}
 use Rattle.qc_decl.specs.Vocabulary.{administrator}
 use Rattle.qc_decl.specs.declared.declaration.Declaration.{Declaration}
-use Rattle.qc_msg.specs.Vocabulary.{Entry, mail}
+use Rattle.qc_msg.specs.Vocabulary.{Entry, mail, asking_in, epoch_in}
 use Rattle.qc_msg.specs.declared.message.Envelope.{Envelope}
 use Rattle.qc_msg.specs.declared.message.Message.{Message}
-use Rattle.qc_msg.specs.declared.message.Message.TheVariants as messages
 use Rattle.qc_msg.specs.declared.record.Record.{Record}
 use Rattle.qc_msg.specs.declared.step.Command.{Command}
 use Rattle.qc_msg.specs.declared.step.Command.TheVariants as commands
@@ -16,15 +15,10 @@ use Rattle.qc_script.specs.Vocabulary.{RunsWithFalls}
 use Rattle.qc_script.specs.declared.script.CommandLine.{CommandLine}
 use Rattle.qc_script.specs.declared.script.PhaseLines.{PhaseLines}
 use Rattle.qc_script.specs.declared.script.Script.{Script}
+use Rattle.qc_stamp.specs.declared.stamp.TxId.{TxId}
 
 abbrev pub IsKnown : Declaration → Message → Type 0
-IsKnown decl (messages.Request tx epoch life want) = Unit {0}
-IsKnown decl (messages.Answer number answer) = Unit {0}
-IsKnown decl (messages.Decision tx verdict) = Unit {0}
-IsKnown decl (messages.Inquiry tx) = Unit {0}
-IsKnown decl (messages.Ask tx) = tx.client < decl.clients
-IsKnown decl (messages.Close epoch) = Unit {0}
-IsKnown decl (messages.Install epoch clock log) = Unit {0}
+IsKnown decl message = MatchOption (asking_in message) (Unit {0}) (λ (tx : TxId). tx.client < decl.clients)
 
 abbrev pub AsksKnown : (ℕ → List Record → Type 0) → Declaration → Script → Type 0
 AsksKnown fits decl script =
@@ -34,11 +28,7 @@ AsksKnown fits decl script =
 -- a script asks the administrator for epochs alone
 
 abbrev pub IsEpoch : Command → Type 0
-IsEpoch commands.Begin = ⊥
-IsEpoch (commands.Do object inv) = ⊥
-IsEpoch commands.Commit = ⊥
-IsEpoch commands.Abort = ⊥
-IsEpoch (commands.Epoch number) = Unit {0}
+IsEpoch command = MatchOption (epoch_in command) ⊥ (λ (x : ℕ). Unit {0})
 
 abbrev pub AsksEpochs : Declaration → Script → Type 0
 AsksEpochs decl script =

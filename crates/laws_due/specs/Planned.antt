@@ -1,14 +1,13 @@
 -- A record whose epoch has a plan.
+use Rattle.std.specs.Prelude.{MatchOption, ℕ}
 use Rattle.qc_decl.specs.declared.declaration.Declaration.{Declaration}
 use Rattle.qc_msg.specs.declared.record.Record.{Record}
-use Rattle.qc_msg.specs.declared.record.Record.TheVariants as records
 use Rattle.laws_due.specs.Declares.{IsPlanned}
+use Rattle.qc_msg.specs.Vocabulary.{Installing, close_in, decide_in, install_in}
 
 abbrev pub IsRecordPlanned : Declaration → Record → Type 0
-IsRecordPlanned decl records.Life = Unit {0}
-IsRecordPlanned decl (records.Prepare prepared) = Unit {0}
-IsRecordPlanned decl (records.Done tx clock) = Unit {0}
-IsRecordPlanned decl (records.Close epoch) = IsPlanned decl epoch
-IsRecordPlanned decl (records.Install epoch clock lines) = IsPlanned decl epoch
-IsRecordPlanned decl (records.Commit commit) = Unit {0}
-IsRecordPlanned decl (records.Decide epoch clock lines) = IsPlanned decl epoch
+IsRecordPlanned decl written =
+    MatchOption (close_in written)
+    (MatchOption (install_in written)
+    (MatchOption (decide_in written) (Unit {0}) (λ (i : Installing). IsPlanned decl i.epoch))
+    (λ (i : Installing). IsPlanned decl i.epoch)) (λ (epoch : ℕ). IsPlanned decl epoch)

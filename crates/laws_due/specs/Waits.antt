@@ -1,5 +1,5 @@
 -- That a running command waits for a request, and what a `do` comes to that everybody grants.
-use Rattle.std.specs.Prelude.{◌≡◌, ◌≤◌, ℕ, Bool, List, ◌∷◌, ◌++◌, Some, None}
+use Rattle.std.specs.Prelude.{MatchOption, ◌≡◌, ◌≤◌, ℕ, Bool, List, ◌∷◌, ◌++◌, Some, None}
 use Rattle.std.specs.List.{AllByRecursion as Every}
 use Rattle.qc_list.specs.Vocabulary.{In}
 use Rattle.qc_stamp.specs.declared.stamp.TxId.{TxId}
@@ -12,7 +12,7 @@ use Rattle.qc_msg.specs.declared.message.Message.TheVariants as messages
 use Rattle.qc_msg.specs.declared.message.Want.{Want}
 use Rattle.qc_msg.specs.declared.step.Input.{Input}
 use Rattle.qc_msg.specs.declared.step.Input.TheVariants as inputs
-use Rattle.qc_msg.specs.Vocabulary.{Deed, Falls, Rises, Sends, Takes, Tells, Writes}
+use Rattle.qc_msg.specs.Vocabulary.{Deed, Falls, Rises, Sends, Takes, Tells, Writes, Answered, answer_in}
 use Rattle.qc_plan.specs.Vocabulary.{has_granted, weight}
 use Rattle.qc_promise.specs.Vocabulary.{Account, ClientRequest, Current, is_read, round_of, weights_of}
 use Rattle.laws_due.specs.Ties.{IsDo}
@@ -43,13 +43,7 @@ pub record IsGrantedDo (decl : Declaration) (d : Account) (t : Current) (object 
 -- an input is the answer to the request of a number, or tells that it is lost
 
 abbrev pub IsAnswerTo : ℕ → Message → Type 0
-IsAnswerTo number (messages.Request tx epoch life want) = ⊥
-IsAnswerTo number (messages.Answer to answer) = to ≡ number
-IsAnswerTo number (messages.Decision tx verdict) = ⊥
-IsAnswerTo number (messages.Inquiry tx) = ⊥
-IsAnswerTo number (messages.Ask tx) = ⊥
-IsAnswerTo number (messages.Close epoch) = ⊥
-IsAnswerTo number (messages.Install epoch clock log) = ⊥
+IsAnswerTo number message = MatchOption (answer_in message) ⊥ (λ (a : Answered). a.to ≡ number)
 
 abbrev pub IsFor : ℕ → Input → Type 0
 IsFor number (inputs.Called command) = ⊥

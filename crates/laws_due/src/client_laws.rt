@@ -34,7 +34,7 @@ pub fn inputs_are_answered_as_is_due()
 {}
 
 /// Where a client has no open input, the account of its deeds tells it.
-#[tactic(auto, using(crate::proofs::Courses::clients_tied))]
+#[tactic(auto, using(crate::proofs::Courses::accounts_are_their_clients))]
 pub fn accounts_are_their_clients()
     ensures { (decl : Declaration) (a : ℕ) → is_client decl a ≡ true → (ds : List Deed) (n : ℕ)
         → Acts decl a ds false n
@@ -44,7 +44,7 @@ pub fn accounts_are_their_clients()
 
 /// As a client rises, its account is that of the records that it rose with,
 /// whatever it did before.
-#[tactic(auto, using(crate::proofs::Anew::begins_anew))]
+#[tactic(auto, using(crate::proofs::Anew::accounts_begin_anew))]
 pub fn accounts_begin_anew()
     ensures { (decl : Declaration) (client : ℕ) (ds : List Deed) (kept : List Record)
         → account_of decl client (ds ++ Rises kept ∷ []) ≡ account_with client kept }
@@ -52,7 +52,7 @@ pub fn accounts_begin_anew()
 
 /// A client's turn tells what the running command's row tells after its input,
 /// and nothing where the row tells nothing.
-#[tactic(auto, using(crate::proofs::Courses::turns_tell))]
+#[tactic(auto, using(crate::proofs::Courses::turns_tell_their_rows))]
 pub fn turns_tell_their_rows()
     ensures { (decl : Declaration) (a : ℕ) → is_client decl a ≡ true → (ds : List Deed) (n : ℕ) (turn : Turn)
         → Acts decl a ds true n → IsLawful decl a ds turn
@@ -69,14 +69,14 @@ pub fn turns_tell_what_is_due()
 
 /// All that a client records, asks and tells is by the rows of its commands, by
 /// the account of what it did before.
-#[tactic(auto, using(crate::proofs::Courses::clients_due))]
+#[tactic(auto, using(crate::proofs::Courses::deeds_of_clients_are_by_rows))]
 pub fn deeds_of_clients_are_by_rows()
     ensures { (decl : Declaration) (a : ℕ) → is_client decl a ≡ true → (ds : List Deed) (is_open : Bool) (n : ℕ)
         → Acts decl a ds is_open n → AreByRows decl (new_account (a - decl.sites)) ds }
 {}
 
 /// So each of its deeds is due, where what came to it is declared.
-#[tactic(auto, using(crate::proofs::Whole::deeds_due))]
+#[tactic(auto, using(crate::proofs::Whole::deeds_of_clients_are_due))]
 pub fn deeds_of_clients_are_due()
     ensures { (decl : Declaration) (a : ℕ) → is_client decl a ≡ true → (ds : List Deed) (is_open : Bool) (n : ℕ)
         → Acts decl a ds is_open n → Declares decl ds → AreRepliesDue decl (a - decl.sites) ds }
@@ -84,7 +84,7 @@ pub fn deeds_of_clients_are_due()
 
 /// Where a client is to write a commit record and its disk falls as it writes
 /// it, Unknown is the reply of its row, with just that record pending.
-#[tactic(auto, using(crate::proofs::Unwritten::unknown_due))]
+#[tactic(auto, using(crate::proofs::Unwritten::unwritten_commits_are_unknown))]
 pub fn unwritten_commits_are_unknown()
     ensures { (decl : Declaration) (d : Account) (c : Commit) (after : List Deed)
         → IsRecordDue d (running_row decl d false) (records.Commit c)

@@ -17,7 +17,7 @@ ghost use Rattle.qc_script.specs.declared.script.Script.{Script};
 
 /// A client without an open input that has no open request waits for nothing:
 /// neither for the votes of a commit nor for what a `do` asked.
-#[tactic(auto, using(crate::proofs::Ended::unasked_rests))]
+#[tactic(auto, using(crate::proofs::Ended::clients_wait_only_for_requests))]
 pub fn clients_wait_only_for_requests()
     ensures { (decl : Declaration) (a : ℕ) → is_client decl a ≡ true → (ds : List Deed) (n : ℕ)
         → Acts decl a ds false n → open_calls (client_after decl (a - decl.sites) ds).client ≡ []
@@ -26,7 +26,7 @@ pub fn clients_wait_only_for_requests()
 
 /// Every command ends: no client runs one where no input is open, nothing is
 /// ready for any actor, and each control line of the phases so far has acted.
-#[tactic(auto, using(crate::proofs::Ended::none_runs))]
+#[tactic(auto, using(crate::proofs::Ended::commands_end))]
 pub fn commands_end()
     ensures { (decl : Declaration) (script : Script) → IsAccepted decl → AsksDeclared decl script
         → (h : List Entry) → IsClosed decl script h → IsQuiet decl script h → controls_left script h ≡ []
@@ -34,7 +34,7 @@ pub fn commands_end()
 {}
 
 /// So each command that a client called has its reply there.
-#[tactic(auto, using(crate::proofs::Ended::all_replied))]
+#[tactic(auto, using(crate::proofs::Ended::each_call_has_its_reply))]
 pub fn each_call_has_its_reply()
     ensures { (decl : Declaration) (script : Script) → IsAccepted decl → AsksDeclared decl script
         → (h : List Entry) → IsClosed decl script h → IsQuiet decl script h → controls_left script h ≡ []
@@ -43,7 +43,7 @@ pub fn each_call_has_its_reply()
 
 /// And such a run of which no phase is left is whole, whatever order its events
 /// came in.
-#[tactic(auto, using(crate::proofs::Ended::whole))]
+#[tactic(auto, using(crate::proofs::Ended::runs_are_whole))]
 pub fn runs_are_whole()
     ensures { (decl : Declaration) (script : Script) → IsAccepted decl → AsksDeclared decl script
         → (h : List Entry) → IsClosed decl script h → IsQuiet decl script h → controls_left script h ≡ []

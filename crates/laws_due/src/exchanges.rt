@@ -20,14 +20,14 @@ ghost use Rattle.qc_msg.specs.declared.step.Input.TheVariants.{Called};
 
 /// Commands that are answered in some deeds are just those that were called in
 /// them, and there commands and replies are in order, and in the end none runs.
-#[tactic(auto, using(crate::proofs::Refused::all_come))]
+#[tactic(auto, using(crate::proofs::Refused::answered_commands_were_called_in_order))]
 pub fn answered_commands_were_called_in_order()
     ensures { (asked : List Command) (ds : List Deed) → AreAnswered asked (exchanges ds)
         → (filter_map call_in ds ≡ asked) × (AreInOrder false ds × (is_running ds ≡ false)) }
 {}
 
 /// So there are as many replies as commands.
-#[tactic(auto, using(crate::proofs::Refused::as_many))]
+#[tactic(auto, using(crate::proofs::Refused::answered_commands_have_a_reply_each))]
 pub fn answered_commands_have_a_reply_each()
     ensures { (asked : List Command) (ds : List Deed) → AreAnswered asked (exchanges ds)
         → length (filter_map reply_in ds) ≡ length asked }
@@ -35,28 +35,28 @@ pub fn answered_commands_have_a_reply_each()
 
 /// The other way round, commands in order of which none runs in the end are
 /// answered.
-#[tactic(auto, using(crate::proofs::Refused::all_answered))]
+#[tactic(auto, using(crate::proofs::Refused::commands_in_order_are_answered))]
 pub fn commands_in_order_are_answered()
     ensures { (ds : List Deed) → AreInOrder false ds → is_running ds ≡ false
         → AreAnswered (filter_map call_in ds) (exchanges ds) }
 {}
 
 /// A reply too few: nothing is answered whose last command was told none.
-#[tactic(auto, using(crate::proofs::Refused::too_few))]
+#[tactic(auto, using(crate::proofs::Refused::missing_replies_are_refused))]
 pub fn missing_replies_are_refused()
     ensures { (asked : List Command) (ds : List Deed) (command : Command)
         → AreAnswered asked (exchanges (ds ++ Takes (Called command) ∷ [])) → ⊥ }
 {}
 
 /// A reply too many: one that is told where no command runs.
-#[tactic(auto, using(crate::proofs::Refused::too_many))]
+#[tactic(auto, using(crate::proofs::Refused::needless_replies_are_refused))]
 pub fn needless_replies_are_refused()
     ensures { (asked : List Command) (ds rest : List Deed) (reply : Reply) → is_running ds ≡ false
         → AreAnswered asked (exchanges (ds ++ Tells reply ∷ rest)) → ⊥ }
 {}
 
 /// A client that falls while a command runs: whatever it is told after that.
-#[tactic(auto, using(crate::proofs::Refused::fell_between))]
+#[tactic(auto, using(crate::proofs::Refused::falls_before_a_reply_are_refused))]
 pub fn falls_before_a_reply_are_refused()
     ensures { (asked : List Command) (ds rest : List Deed) (cause : Fall) (pending : Option Record)
         → is_running ds ≡ true → AreAnswered asked (exchanges (ds ++ Falls cause pending ∷ rest)) → ⊥ }

@@ -20,7 +20,7 @@ ghost use Rattle.qc_script.specs.declared.script.Script.{Script};
 /// In every run of a script that asks for what is declared each deed of a client
 /// is due: each reply, with its commit record where it has one, each record, and
 /// no input comes while a reply is due that isn't told.
-#[tactic(auto, using(crate::proofs::Whole::replies_due))]
+#[tactic(auto, using(crate::proofs::Whole::replies_are_due))]
 pub fn replies_are_due()
     ensures { (decl : Declaration) (script : Script) (h : List Entry) (open_inputs : List Bool)
         → Runs (IsLawful decl) decl script h open_inputs → IsAccepted decl → AsksDeclared decl script
@@ -31,7 +31,7 @@ pub fn replies_are_due()
 /// So all that is promised of a history is due in every such run: actors act by
 /// turns, messages reach their receivers, what clients tell and write is due, and
 /// what sites post. The administrator does nothing in it.
-#[tactic(auto, using(crate::proofs::Whole::all_is_due))]
+#[tactic(auto, using(crate::proofs::Whole::runs_are_due))]
 pub fn runs_are_due()
     ensures { (decl : Declaration) (script : Script) (h : List Entry) (open_inputs : List Bool)
         → Runs (IsLawful decl) decl script h open_inputs → IsAccepted decl → AsksDeclared decl script → Due decl h }

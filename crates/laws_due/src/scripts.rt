@@ -11,14 +11,14 @@ ghost use Rattle.qc_script.specs.declared.script.Script.{Script};
 
 /// A script that names what an accepted declaration declares asks for declared
 /// objects alone, and no client to move an epoch.
-#[tactic(auto, using(crate::proofs::AccountDeclared::asks_declared))]
+#[tactic(auto, using(crate::proofs::AccountDeclared::scripts_ask_what_is_declared))]
 pub fn scripts_ask_what_is_declared()
     ensures { (decl : Declaration) (script : Script)
         → IsAccepted decl → IsScriptFor decl script → AsksDeclared decl script }
 {}
 
 /// So does each script that is read for such a declaration.
-#[tactic(auto, using(crate::proofs::AccountDeclared::read_asks_declared))]
+#[tactic(auto, using(crate::proofs::AccountDeclared::read_scripts_ask_what_is_declared))]
 pub fn read_scripts_ask_what_is_declared()
     ensures { (decl : Declaration) (bytes : List ℕ) (script : Script)
         → IsAccepted decl → script_of decl bytes ≡ Ok script → AsksDeclared decl script }

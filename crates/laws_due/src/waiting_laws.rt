@@ -30,7 +30,7 @@ pub fn commands_wait_for_requests()
 
 /// An open request was sent, and neither an answer to it nor its loss was taken
 /// since.
-#[tactic(auto, using(crate::proofs::Awaited::open_awaited))]
+#[tactic(auto, using(crate::proofs::Awaited::open_requests_were_sent))]
 pub fn open_requests_were_sent()
     ensures { (decl : Declaration) (client : ℕ) (ds : List Deed) (q : ClientRequest)
         → In q (account_of decl client ds).requests → q.taken ≡ None → IsAwaited ds q }

@@ -21,6 +21,7 @@ use Rattle.qc_msg.specs.declared.step.Input.TheVariants as inputs
 use Rattle.qc_msg.specs.Vocabulary.{Deed, Sends, Takes, has_granted, with_life}
 use Rattle.qc_promise.specs.Vocabulary.{Account, ClientRequest, Current, granted, is_open, lived, promised, taken_for}
 use Rattle.qc_promise.specs.Vocabulary.{told_by, with_read}
+use Rattle.laws_guarantees.proofs.AccountCases.{told_cases}
 
 -- the request was sent for this transaction
 pub record WasSent (ds : List Deed) (q : ClientRequest) (tx : TxId) : Type 0 where
@@ -135,20 +136,11 @@ promised_requests d clock Prepare = (refl, refl, refl)
 
 pub told_requests : (d : Account) (p : ClientRequest) (answer : Option Answer)
     → ((told_by d p answer).requests ≡ d.requests) × ((told_by d p answer).command ≡ d.command)
-told_requests d p None = (refl, refl)
-told_requests d p (Some (answers.Granted life clock log)) = granted_requests d p.site life clock log p.want
-told_requests d p (Some (answers.Clash holder inv event)) = (refl, refl)
-told_requests d p (Some (answers.Closed epoch)) = (refl, refl)
-told_requests d p (Some (answers.Behind epoch)) = (refl, refl)
-told_requests d p (Some (answers.Restarted life)) = (refl, refl)
-told_requests d p (Some answers.Stale) = (refl, refl)
-told_requests d p (Some answers.Fault) = (refl, refl)
-told_requests d p (Some (answers.Yes clock)) =
-    (let r : ((promised d clock p.want).requests ≡ d.requests) × ((promised d clock p.want).command ≡ d.command)
-    × ((promised d clock p.want).current ≡ d.current) = promised_requests d clock p.want in (r.0, r.1))
-told_requests d p (Some (answers.Shut clock log prepared)) = (refl, refl)
-told_requests d p (Some answers.Installed) = (refl, refl)
-told_requests d p (Some (answers.Answered verdict)) = (refl, refl)
+told_requests d p answer = told_cases d p (λ a e. (e.requests ≡ d.requests) × (e.command ≡ d.command))
+    (λ a. (refl, refl)) (λ life clock log. granted_requests d p.site life clock log p.want) (λ epoch. (refl, refl))
+    (λ clock.
+    let r : ((promised d clock p.want).requests ≡ d.requests) × ((promised d clock p.want).command ≡ d.command)
+    × ((promised d clock p.want).current ≡ d.current) = promised_requests d clock p.want in (r.0, r.1)) answer
 
 -- the answer grants
 pub record IsGrant (answer : Option Answer) : Type 0 where
@@ -209,30 +201,19 @@ changed (Some x) site life clock log change keeps t is =
 
 pub told_current : (d : Account) (p : ClientRequest) (answer : Option Answer) (t : Current)
     → (told_by d p answer).current ≡ Some t → IsSameBut d.current p.site answer t
-told_current d p None t is = same_but d.current p.site None t is
-told_current d p (Some (answers.Granted life clock log)) t is = by p.want is
+told_current d p answer t is = told_cases d p (λ a e. e.current ≡ Some t → IsSameBut d.current p.site a t)
+    (λ a is. same_but d.current p.site a t is) (λ life clock log is. by life clock log p.want is)
+    (λ epoch is. same_but d.current p.site (Some (answers.Closed epoch)) t is)
+    (λ clock is. same_but d.current p.site (Some (answers.Yes clock)) t
+    (sym (promised_requests d clock p.want).2 ∙ is)) answer is
   where
-    by : (w : Want) → (granted d p.site life clock log w).current ≡ Some t
+    by : (life clock : ℕ) (log : List Line) (w : Want) → (granted d p.site life clock log w).current ≡ Some t
         → IsSameBut d.current p.site (Some (answers.Granted life clock log)) t
-    by (Read object inv) is = changed d.current p.site life clock log
+    by life clock log (Read object inv) is = changed d.current p.site life clock log
         (λ (x : Current). with_read (lived x p.site life) object log) (λ x. (refl, refl)) t is
-    by (Append object view own) is = changed d.current p.site life clock log (λ (x : Current). lived x p.site life)
-        (λ x. (refl, refl)) t is
-    by Prepare is = same_but d.current p.site (Some (answers.Granted life clock log)) t is
-told_current d p (Some (answers.Clash holder inv event)) t is =
-    same_but d.current p.site (Some (answers.Clash holder inv event)) t is
-told_current d p (Some (answers.Closed epoch)) t is = same_but d.current p.site (Some (answers.Closed epoch)) t is
-told_current d p (Some (answers.Behind epoch)) t is = same_but d.current p.site (Some (answers.Behind epoch)) t is
-told_current d p (Some (answers.Restarted life)) t is = same_but d.current p.site (Some (answers.Restarted life)) t is
-told_current d p (Some answers.Stale) t is = same_but d.current p.site (Some answers.Stale) t is
-told_current d p (Some answers.Fault) t is = same_but d.current p.site (Some answers.Fault) t is
-told_current d p (Some (answers.Yes clock)) t is =
-    same_but d.current p.site (Some (answers.Yes clock)) t (sym (promised_requests d clock p.want).2 ∙ is)
-told_current d p (Some (answers.Shut clock log prepared)) t is =
-    same_but d.current p.site (Some (answers.Shut clock log prepared)) t is
-told_current d p (Some answers.Installed) t is = same_but d.current p.site (Some answers.Installed) t is
-told_current d p (Some (answers.Answered verdict)) t is =
-    same_but d.current p.site (Some (answers.Answered verdict)) t is
+    by life clock log (Append object view own) is = changed d.current p.site life clock log
+        (λ (x : Current). lived x p.site life) (λ x. (refl, refl)) t is
+    by life clock log Prepare is = same_but d.current p.site (Some (answers.Granted life clock log)) t is
 
 -- a request that is open has the number, and nothing was taken for it
 

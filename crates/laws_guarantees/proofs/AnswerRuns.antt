@@ -1,6 +1,6 @@
 -- In each undisturbed run each answer fits its request, by what its site was sent before.
 use Rattle.std.proofs.Common.{[], ◌≡◌, ℕ, ◌+◌, ◌-◌, ◌==◌, Bool, true, List, ◌∷◌, ◌++◌, length, Some, slice_get, refl}
-use Rattle.std.proofs.Common.{sym, ap, ◌∙◌, subst, arith, eqb-true}
+use Rattle.std.proofs.Common.{sym, ap, ◌∙◌, subst, arith, eqb-true, Option, None}
 use Rattle.std.specs.List.{AllByRecursion as Every}
 use Rattle.std.proofs.lemmas.List.{append_assoc}
 use Rattle.std.proofs.lemmas.List.Elements.{filter_map-append}
@@ -13,13 +13,13 @@ use Rattle.qc_decl.specs.declared.declaration.Declaration.{Declaration}
 use Rattle.qc_msg.specs.declared.message.Answer.{Answer}
 use Rattle.qc_msg.specs.declared.message.Envelope.{Envelope}
 use Rattle.qc_msg.specs.declared.message.Message.{Message}
-use Rattle.qc_msg.specs.declared.message.Message.TheVariants as messages
 use Rattle.qc_msg.specs.declared.step.Input.{Input}
 use Rattle.qc_msg.specs.declared.step.Input.TheVariants as inputs
 use Rattle.qc_msg.specs.declared.step.Step.TheVariants as steps
 use Rattle.qc_msg.specs.declared.turn.Posting.{Posting}
 use Rattle.qc_msg.specs.declared.turn.Turn.{Turn}
-use Rattle.qc_msg.specs.Vocabulary.{Deed, Entry, Takes, by, deeds, envelopes, mail, posted, quiet}
+use Rattle.qc_msg.specs.Vocabulary.{Deed, Entry, Takes, by, deeds, envelopes, mail, posted, quiet, Answered, Requested}
+use Rattle.qc_msg.specs.Vocabulary.{answer_in}
 use Rattle.qc_msg.proofs.GrownMail.{mail-append, mail-posted, mail-taken}
 use Rattle.qc_script.specs.Vocabulary.{Runs, phase_of}
 use Rattle.qc_script.specs.Runs.{begins, takes, posts, phase, control}
@@ -36,7 +36,7 @@ use Rattle.laws_guarantees.proofs.ClientWords.{AreClientWords, IsClientWord, cli
 use Rattle.laws_turns.proofs.Served.{first_part}
 use Rattle.laws_guarantees.proofs.FirstDeeds.{FirstGiven}
 use Rattle.laws_guarantees.proofs.FirstAccounts.{TakesFirst}
-use Rattle.laws_guarantees.proofs.FirstRuns.{given_first, run_first, takes_first}
+use Rattle.laws_guarantees.proofs.FirstRuns.{given_first, lives_and_epochs_are_the_first, takes_first}
 use Rattle.laws_guarantees.proofs.FirstSites.{deeds_calm}
 use Rattle.laws_guarantees.proofs.Fitting.{AnswersTo, FitsMessage, IfAnswers, fits_on}
 use Rattle.laws_guarantees.proofs.Held.{held_open}
@@ -45,6 +45,8 @@ use Rattle.laws_guarantees.proofs.Opened.{IsAtTake, opened}
 use Rattle.laws_guarantees.proofs.Passing.{no_request_is_lost}
 use Rattle.laws_guarantees.proofs.AnswersLater.{in_middle, split_at, SayFitting, fitting_envelopes, word_fits}
 use Rattle.laws_guarantees.proofs.AnswersLater.{all_later}
+use Rattle.laws_guarantees.proofs.MessageCases.{asking_cases}
+use Rattle.std.specs.Prelude.{MatchOption}
 
 module _ (decl : Declaration) (script : Script) (calm : IsUndisturbed script) where
   module _ (older : List Entry) (before : List Bool) (run : Runs (IsLawful decl) decl script older before) (b : ℕ) (turn : Turn) (is_opened : slice_get before b ≡ Some true) (lawful : IsLawful decl b (deeds b [] older) turn) where
@@ -53,14 +55,15 @@ module _ (decl : Declaration) (script : Script) (calm : IsUndisturbed script) wh
 
     hears_first : FirstGiven at.given
     hears_first =
-        given_first older b at.given (run_first decl script older before run)
+        given_first older b at.given (lives_and_epochs_are_the_first decl script older before run)
         (subst (In (Takes at.given)) (sym at.is) (In-last (Takes at.given) at.before))
 
     before_calm : Every TakesCalm at.before
     before_calm =
         deeds_calm at.before
         (first_part TakesFirst at.before (Takes at.given ∷ [])
-        (subst (Every TakesFirst) at.is (takes_first older b (run_first decl script older before run))))
+        (subst (Every TakesFirst) at.is
+        (takes_first older b (lives_and_epochs_are_the_first decl script older before run))))
 
     arrives : Arrives script b older
     arrives = no_request_is_lost decl script older before calm run b
@@ -104,35 +107,33 @@ module _ (decl : Declaration) (script : Script) (calm : IsUndisturbed script) wh
 
       answered : (answer : Answer) (number : ℕ) → number ≡ e.number → (m : Message) → e.message ≡ m
           → FitsMessage (taken_in at.before) m answer → IsAnswered (mail older) b number answer
-      answered answer number same (messages.Request tx epoch life want) is fit = record {
-        request = e;
-        among = sent;
-        number_is = sym same;
-        site_is = own;
-        tx = tx;
-        epoch = epoch;
-        life = life;
-        want = want;
-        is = is;
-        fits =
-            subst (λ (v : List Envelope). Fits v tx want answer)
-            (sym (ap (λ (k : ℕ). sent_before b k (mail older)) same ∙ earlier)) fit;
-      }
-      answered answer number same (messages.Answer to other) is never = absurd never
-      answered answer number same (messages.Decision tx verdict) is never = absurd never
-      answered answer number same (messages.Inquiry tx) is never = absurd never
-      answered answer number same (messages.Ask tx) is never = absurd never
-      answered answer number same (messages.Close epoch) is never = absurd never
-      answered answer number same (messages.Install epoch clock log) is never = absurd never
+      answered answer number same m = asking_cases
+          (λ m o. e.message ≡ m
+          → MatchOption o ⊥ (λ (q : Requested). Fits (taken_in at.before) q.tx q.want answer)
+          → IsAnswered (mail older) b number answer)
+          (λ m is never. absurd never)
+          (λ tx epoch life want is fit. record {
+            request = e;
+            among = sent;
+            number_is = sym same;
+            site_is = own;
+            tx = tx;
+            epoch = epoch;
+            life = life;
+            want = want;
+            is = is;
+            fits = subst (λ (v : List Envelope). Fits v tx want answer)
+                (sym (ap (λ (k : ℕ). sent_before b k (mail older)) same ∙ earlier)) fit;
+          }) m
 
       one : (m : Message) → IfAnswers (taken_in at.before) e.number e.message m → IfAnswered (mail older) b m
-      one (messages.Request tx epoch life want) r = tt
-      one (messages.Answer to answer) r = answered answer to r.0 e.message refl r.1
-      one (messages.Decision tx verdict) r = tt
-      one (messages.Inquiry tx) r = tt
-      one (messages.Ask tx) r = tt
-      one (messages.Close epoch) r = tt
-      one (messages.Install epoch clock log) r = tt
+      one m = by (answer_in m)
+        where
+          by : (o : Option Answered) → MatchOption o (Unit {0})
+              (λ (a : Answered). (a.to ≡ e.number) × FitsMessage (taken_in at.before) e.message a.answer)
+              → MatchOption o (Unit {0}) (λ (a : Answered). IsAnswered (mail older) b a.to a.answer)
+          by None r = tt
+          by (Some a) r = answered a.answer a.to r.0 e.message refl r.1
 
       hears : SayFitting (mail older) b (site_takes decl (site_after decl b at.before).site (inputs.Got e)).turn.sends
       hears =
@@ -194,6 +195,6 @@ module _ (decl : Declaration) (script : Script) (calm : IsUndisturbed script) wh
       subst AnswersFit (sym (mail-silent older (controller decl) step (control_silent line step is)))
       (run_answered older before run)
 
-pub answers_fit : (decl : Declaration) (script : Script) → IsUndisturbed script
+pub answers_fit_their_requests : (decl : Declaration) (script : Script) → IsUndisturbed script
     → (h : List Entry) (open_inputs : List Bool) → Runs (IsLawful decl) decl script h open_inputs → AnswersFit (mail h)
-answers_fit decl script calm h open_inputs run = run_answered decl script calm h open_inputs run
+answers_fit_their_requests decl script calm h open_inputs run = run_answered decl script calm h open_inputs run

@@ -1,8 +1,8 @@
 -- What stands before a message in a part of a list is the same part of what stands before it in the list; what fits
 -- still does after more mail.
 use Rattle.std.proofs.Common.{[], ◌≡◌, ℕ, zero, suc, ◌+◌, ◌-◌, ◌<◌, ◌≤◌, inl, inr, Bool, true, false, cond, List, ◌∷◌}
-use Rattle.std.proofs.Common.{◌++◌, length, refl, sym, ap, ◌∙◌, subst, arith}
-use Rattle.std.specs.Prelude.{filter, take}
+use Rattle.std.proofs.Common.{◌++◌, length, refl, sym, ap, ◌∙◌, subst, arith, Option, Some, None}
+use Rattle.std.specs.Prelude.{filter, take, MatchOption}
 use Rattle.std.specs.List.{AllByRecursion as Every}
 use Rattle.std.proofs.lemmas.List.{take-append-le}
 use Rattle.qc_list.specs.Vocabulary.{In}
@@ -10,12 +10,12 @@ use Rattle.qc_list.proofs.Members.{In-first, In-second, In-unfiltered, every-wea
 use Rattle.qc_msg.specs.declared.message.Answer.{Answer}
 use Rattle.qc_msg.specs.declared.message.Envelope.{Envelope}
 use Rattle.qc_msg.specs.declared.message.Message.{Message}
-use Rattle.qc_msg.specs.declared.message.Message.TheVariants as messages
 use Rattle.qc_msg.specs.declared.turn.Posting.{Posting}
-use Rattle.qc_msg.specs.Vocabulary.{by, envelopes}
+use Rattle.qc_msg.specs.Vocabulary.{by, envelopes, Answered, answer_in}
 use Rattle.laws_turns.proofs.Numbered.{AreNumbered}
 use Rattle.laws_guarantees.specs.Vocabulary.{Fits, IfAnswered, IsAnswered, sent_to}
 use Rattle.laws_guarantees.proofs.ClientWords.{IsClientWord}
+use Rattle.laws_guarantees.proofs.MessageCases.{answering_cases}
 
 -- numbers are places: what stands before a message in a part of a list is the same part of what stands before it
 
@@ -105,13 +105,12 @@ module _ (ms more : List Envelope) (numbered : AreNumbered 0 ms) where
         omega arith
 
   if_later : (from : ℕ) (m : Message) → IfAnswered ms from m → IfAnswered (ms ++ more) from m
-  if_later from (messages.Request tx epoch life want) r = tt
-  if_later from (messages.Answer to answer) r = answered_later from to answer r
-  if_later from (messages.Decision tx verdict) r = tt
-  if_later from (messages.Inquiry tx) r = tt
-  if_later from (messages.Ask tx) r = tt
-  if_later from (messages.Close epoch) r = tt
-  if_later from (messages.Install epoch clock log) r = tt
+  if_later from m = by (answer_in m)
+    where
+      by : (o : Option Answered) → MatchOption o (Unit {0}) (λ (a : Answered). IsAnswered ms from a.to a.answer)
+          → MatchOption o (Unit {0}) (λ (a : Answered). IsAnswered (ms ++ more) from a.to a.answer)
+      by None r = tt
+      by (Some a) r = answered_later from a.to a.answer r
 
   pub all_later : (es : List Envelope) → Every (λ (e : Envelope). IfAnswered ms e.from e.message) es
       → Every (λ (e : Envelope). IfAnswered (ms ++ more) e.from e.message) es
@@ -128,10 +127,6 @@ fitting_envelopes ms a n [] all = tt
 fitting_envelopes ms a n (p ∷ ps) all = (all.0, fitting_envelopes ms a (n + 1) ps all.1)
 
 pub word_fits : (ms : List Envelope) (from : ℕ) (m : Message) → IsClientWord m → IfAnswered ms from m
-word_fits ms from (messages.Request tx epoch life want) word = tt
-word_fits ms from (messages.Answer to answer) never = absurd never
-word_fits ms from (messages.Decision tx verdict) word = tt
-word_fits ms from (messages.Inquiry tx) word = tt
-word_fits ms from (messages.Ask tx) word = tt
-word_fits ms from (messages.Close epoch) word = tt
-word_fits ms from (messages.Install epoch clock log) word = tt
+word_fits ms from m = answering_cases
+    (λ m o. IsClientWord m → MatchOption o (Unit {0}) (λ (a : Answered). IsAnswered ms from a.to a.answer))
+    (λ m word. tt) (λ to answer never. absurd never) m

@@ -29,6 +29,7 @@ use Rattle.qc_stamp.specs.declared.stamp.Stamp.{Stamp}
 use Rattle.qc_site.proofs.RequestCases.{append_cases, close_cases, prepare_cases, read_cases, request_cases}
 use Rattle.qc_site.proofs.Cases.{install_cases}
 use Rattle.laws_guarantees.proofs.ForgettingAnswers.{same_answer}
+use Rattle.laws_guarantees.proofs.SiteCases.{site_cases}
 
 -- each answer of a move is to this number, and has this
 abbrev pub Says : ℕ → (Answer → Type 0) → SiteMove → Type 0
@@ -149,15 +150,14 @@ answers_inputs decl s (inputs.Got e) p k x among is = by e.message among
 
     by : (m : Message) → In p (site_at decl (passed s e.message) e.from e.number m).turn.sends
         → IsAnswering (inputs.Got e) k
-    by (messages.Request tx epoch life want) there =
-        numbered (request_says decl (passed s e.message) e.from e.number tx epoch life want p k x there is).0
-    by (messages.Answer to answer) there = absurd there
-    by (messages.Decision tx verdict) there = absurd (none tx verdict there)
-    by (messages.Inquiry tx) there = absurd there
-    by (messages.Ask tx) there = absurd there
-    by (messages.Close epoch) there = numbered (close_says (passed s e.message) e.from e.number epoch p k x there is).0
-    by (messages.Install epoch clock log) there =
-        numbered (install_says (passed s e.message) e.from e.number epoch clock log p k x there is).0
+    by m = site_cases decl (passed s e.message) e.from e.number
+        (λ m move. In p move.turn.sends → IsAnswering (inputs.Got e) k) (λ m there. absurd there)
+        (λ tx epoch life want there.
+        numbered (request_says decl (passed s e.message) e.from e.number tx epoch life want p k x there is).0)
+        (λ tx verdict there. absurd (none tx verdict there))
+        (λ epoch there. numbered (close_says (passed s e.message) e.from e.number epoch p k x there is).0)
+        (λ epoch clock log there.
+        numbered (install_says (passed s e.message) e.from e.number epoch clock log p k x there is).0) m
 
 -- where a request was sent under the number, it is the request that is answered
 pub answers_request : (g : Input) (k : ℕ) (r : IsAnswering g k) (tx : TxId) (epoch life : ℕ) (want : Want)

@@ -18,11 +18,10 @@ use Rattle.qc_msg.specs.declared.step.Input.TheVariants as inputs
 use Rattle.qc_msg.specs.Vocabulary.{quiet, sending, site_called, without_call}
 use Rattle.qc_front.specs.declared.transaction.Transaction.{Transaction}
 use Rattle.qc_front.specs.Conduct as fronts
-use Rattle.qc_front.specs.Vocabulary.{appending_takes, reading_takes}
 use Rattle.qc_commit.specs.declared.desk.Desk.{Desk}
 use Rattle.qc_commit.specs.declared.desk.Voting.{Voting}
 use Rattle.qc_commit.specs.Conduct as desks
-use Rattle.qc_commit.specs.Vocabulary.{DeskMove, are_cast, blank, cast, first_against, participants, prepares, vote_of}
+use Rattle.qc_commit.specs.Vocabulary.{are_cast, blank, cast, first_against, participants, prepares, vote_of}
 use Rattle.qc_commit.specs.Desk as desk_moves
 use Rattle.qc_client.specs.declared.client.Client.{Client}
 use Rattle.qc_client.specs.Vocabulary.{ClientMove, answered_by, by_desk, by_front, called, client_takes, commits, heard}
@@ -32,6 +31,7 @@ use Rattle.laws_turns.proofs.DealtCommands.{IsInHand}
 use Rattle.laws_guarantees.specs.Vocabulary.{open_said}
 use Rattle.laws_guarantees.proofs.SitesTold.{Keeps, decision_less, ends, open_posted, silent, spoken}
 use Rattle.laws_guarantees.proofs.AskedSites.{called_keeps, takes_keeps}
+use Rattle.laws_guarantees.proofs.ClientCases.{called_cases, heard_cases}
 
 module _ (s : ℕ) (x : TxId) where
   module _ (decl : Declaration) (c : Client) where
@@ -108,11 +108,7 @@ module _ (s : ℕ) (x : TxId) where
         by false = prepare_keeps t.begun c.front.clock.value (ap begun_in is)
 
     calls_keep : (command : Command) → Client_keeps (called decl c command)
-    calls_keep commands.Begin = fronted commands.Begin
-    calls_keep (commands.Do object inv) = fronted (commands.Do object inv)
-    calls_keep commands.Commit = committing c.front.transaction refl
-    calls_keep commands.Abort = fronted commands.Abort
-    calls_keep (commands.Epoch number) = fronted (commands.Epoch number)
+    calls_keep command = called_cases decl c Client_keeps fronted (committing c.front.transaction refl) command
 
     comes_keep : IsInHand c.desk.voting c.front.transaction → (number : ℕ) (answer : Option Answer)
         → Client_keeps (answered_by decl c c.desk.voting number answer)
@@ -132,15 +128,10 @@ module _ (s : ℕ) (x : TxId) where
 
     hears : IsInHand c.desk.voting c.front.transaction → (from number : ℕ) (m : Message)
         → Client_keeps (heard decl c from number m)
-    hears hand from number (messages.Request y epoch life want) = nothing
-    hears hand from number (messages.Answer to answer) = comes_keep hand to (Some answer)
-    hears hand from number (messages.Decision y v) = nothing
-    hears hand from number (messages.Inquiry y) =
-        said from (messages.Decision y (outcome_of c y)) (λ before. decision_less s x before y (outcome_of c y))
-    hears hand from number (messages.Ask y) =
-        said from (messages.Answer number (answers.Answered (outcome_of c y))) (λ before is. is)
-    hears hand from number (messages.Close epoch) = nothing
-    hears hand from number (messages.Install epoch clock log) = nothing
+    hears hand from number m = heard_cases decl c from number (λ m move. Client_keeps move) (λ m. nothing)
+        (λ to answer. comes_keep hand to (Some answer))
+        (λ y. said from (messages.Decision y (outcome_of c y)) (λ before. decision_less s x before y (outcome_of c y)))
+        (λ y. said from (messages.Answer number (answers.Answered (outcome_of c y))) (λ before is. is)) m
 
     -- one input
     pub input_keeps : IsInHand c.desk.voting c.front.transaction → (g : Input) → Client_keeps (client_takes decl c g)

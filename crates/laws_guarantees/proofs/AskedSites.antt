@@ -1,7 +1,7 @@
 -- A transaction knows each site that it asked to hold something, and its end is told to them all: of a front end's moves.
 use Rattle.std.proofs.Common.{[], ◌≡◌, ℕ, nat_le, Bool, true, false, cond, List, ◌∷◌, ◌++◌, length, Option, Some, None}
 use Rattle.std.proofs.Common.{option_map, refl, ap, ◌∙◌, subst}
-use Rattle.std.specs.Prelude.{slice_get}
+use Rattle.std.specs.Prelude.{slice_get, option_and_then}
 use Rattle.qc_stamp.specs.declared.stamp.TxId.{TxId}
 use Rattle.qc_decl.specs.declared.declaration.Declaration.{Declaration}
 use Rattle.qc_decl.specs.Vocabulary.{append_need_of, most_transaction_operations, read_need_of}
@@ -11,7 +11,6 @@ use Rattle.qc_plan.specs.Vocabulary.{RoundState, note, verdict, wanted}
 use Rattle.qc_msg.specs.declared.begun.Begun.{Begun}
 use Rattle.qc_msg.specs.declared.call.Call.{Call}
 use Rattle.qc_msg.specs.declared.message.Answer.{Answer}
-use Rattle.qc_msg.specs.declared.message.Answer.TheVariants as answers
 use Rattle.qc_msg.specs.declared.message.Outcome.TheVariants.{Aborted}
 use Rattle.qc_msg.specs.declared.reply.Reply.{Reply}
 use Rattle.qc_msg.specs.declared.reply.Reply.TheVariants as replies
@@ -20,7 +19,7 @@ use Rattle.qc_msg.specs.declared.step.Command.{Command}
 use Rattle.qc_msg.specs.declared.step.Command.TheVariants as commands
 use Rattle.qc_msg.specs.declared.turn.Posting.{Posting}
 use Rattle.qc_msg.specs.declared.turn.Turn.{Turn}
-use Rattle.qc_msg.specs.Vocabulary.{quiet, site_called, telling, without_call}
+use Rattle.qc_msg.specs.Vocabulary.{quiet, site_called, telling, without_call, Granting, granted_in}
 use Rattle.qc_view.specs.declared.view.View.{View}
 use Rattle.qc_view.specs.Vocabulary.{with_log, with_own}
 use Rattle.qc_front.specs.declared.doing.Doing.{Doing}
@@ -30,12 +29,13 @@ use Rattle.qc_front.specs.declared.transaction.Transaction.{Transaction}
 use Rattle.qc_front.specs.Vocabulary.{FrontMove, aborts, answer_of, answered, append_by, append_want, appended_with}
 use Rattle.qc_front.specs.Vocabulary.{appending_takes, begins, doomed, fresh, gives_up, learns, lived, next_own}
 use Rattle.qc_front.specs.Vocabulary.{next_tx, op_of, performs, read_by, read_want, read_with, reading_takes, reads}
-use Rattle.qc_front.specs.Vocabulary.{resp_of, round_for, standing_of, with_event, with_op}
+use Rattle.qc_front.specs.Vocabulary.{resp_of, round_for, standing_of, with_event, with_op, with_granted}
 use Rattle.qc_front.specs.Conduct as fronts
 use Rattle.qc_front.specs.Front as front_moves
 use Rattle.qc_front.proofs.CommandsKeep.{view_keeps}
 use Rattle.qc_front.proofs.Keeping.{appended_is}
 use Rattle.laws_guarantees.proofs.SitesTold.{open_posted, HasAsked, like, silent, asks, ends}
+use Rattle.std.specs.Option.{option_map_or}
 
 module _ (s : ℕ) (x : TxId) where
   abbrev Keeps : Option Transaction → Option Transaction → List Posting → Type 0
@@ -157,21 +157,20 @@ module _ (s : ℕ) (x : TxId) where
     read_begun : (t : Transaction) (site object : ℕ) (answer : Option Answer)
         → ((read_with t site object answer).begun.tx ≡ t.begun.tx)
         × ((read_with t site object answer).begun.asked ≡ t.begun.asked)
-    read_begun t site object None = (refl, refl)
-    read_begun t site object (Some (answers.Granted life clock log)) = (
-      ap (λ (b : Begun). b.tx) (view_keeps (lived t site life) object (option_map (λ (v : View). with_log v log) (slice_get t.views object))),
-      ap (λ (b : Begun). b.asked) (view_keeps (lived t site life) object (option_map (λ (v : View). with_log v log) (slice_get t.views object))),
-    )
-    read_begun t site object (Some (answers.Clash holder inv event)) = (refl, refl)
-    read_begun t site object (Some (answers.Closed epoch)) = (refl, refl)
-    read_begun t site object (Some (answers.Behind epoch)) = (refl, refl)
-    read_begun t site object (Some (answers.Restarted life)) = (refl, refl)
-    read_begun t site object (Some answers.Stale) = (refl, refl)
-    read_begun t site object (Some answers.Fault) = (refl, refl)
-    read_begun t site object (Some (answers.Yes clock)) = (refl, refl)
-    read_begun t site object (Some (answers.Shut clock log prepared)) = (refl, refl)
-    read_begun t site object (Some answers.Installed) = (refl, refl)
-    read_begun t site object (Some (answers.Answered verdict)) = (refl, refl)
+    read_begun t site object answer = by (option_and_then granted_in answer)
+      where
+        by : (o : Option Granting)
+            → ((option_map_or (λ (g : Granting). with_granted (lived t site g.life) object g.log) o t).begun.tx
+            ≡ t.begun.tx)
+            × ((option_map_or (λ (g : Granting). with_granted (lived t site g.life) object g.log) o t).begun.asked
+            ≡ t.begun.asked)
+        by None = (refl, refl)
+        by (Some g) = (
+          ap (λ (b : Begun). b.tx) (view_keeps (lived t site g.life) object
+              (option_map (λ (v : View). with_log v g.log) (slice_get t.views object))),
+          ap (λ (b : Begun). b.asked) (view_keeps (lived t site g.life) object
+              (option_map (λ (v : View). with_log v g.log) (slice_get t.views object))),
+        )
 
     pub takes_keeps : (doing : Doing) (o : Option Transaction) (number : ℕ) (answer : Option Answer)
         → front.transaction ≡ o → Front_keeps o (fronts.takes_in decl front doing o number answer)

@@ -1,7 +1,7 @@
 -- An account's requests: they stand while a command runs, and are for its transaction.
 use Rattle.std.proofs.Common.{◌≡◌, ℕ, zero, suc, ◌+◌, ◌==◌, ◌&&◌, ◌⊎◌, inl, inr, Bool, true, false, cond, List, [], ◌∷◌}
 use Rattle.std.proofs.Common.{◌++◌, fold, Option, Some, None, option_map, refl, sym, ap, ◌∙◌, subst}
-use Rattle.std.specs.Prelude.{is_some, take}
+use Rattle.std.specs.Prelude.{is_some, take, MatchOption}
 use Rattle.std.specs.List.{AllByRecursion as Every, find}
 use Rattle.std.specs.Option.{option_map_or}
 use Rattle.std.proofs.lemmas.List.Sums.{fold-append}
@@ -13,10 +13,8 @@ use Rattle.qc_lock.proofs.Entries.{tx_apart}
 use Rattle.qc_msg.specs.declared.message.Answer.{Answer}
 use Rattle.qc_msg.specs.declared.message.Envelope.{Envelope}
 use Rattle.qc_msg.specs.declared.message.Message.{Message}
-use Rattle.qc_msg.specs.declared.message.Message.TheVariants as messages
 use Rattle.qc_msg.specs.declared.message.Want.{Want}
 use Rattle.qc_msg.specs.declared.record.Record.{Record}
-use Rattle.qc_msg.specs.declared.record.Record.TheVariants as records
 use Rattle.qc_msg.specs.declared.reply.Reply.{Reply}
 use Rattle.qc_msg.specs.declared.step.Command.{Command}
 use Rattle.qc_msg.specs.declared.step.Input.{Input}
@@ -24,7 +22,7 @@ use Rattle.qc_msg.specs.declared.step.Input.TheVariants as inputs
 use Rattle.qc_msg.specs.declared.turn.Posting.{Posting}
 use Rattle.qc_msg.specs.declared.turn.Turn.{Turn}
 use Rattle.qc_msg.specs.Vocabulary.{Deed, Falls, Rises, Sends, Takes, Tells, Writes, envelopes, sends_of, tells_of}
-use Rattle.qc_msg.specs.Vocabulary.{turn_deeds, writes_of}
+use Rattle.qc_msg.specs.Vocabulary.{turn_deeds, writes_of, Requested, request_in, Decided, decision_in}
 use Rattle.qc_core.specs.Vocabulary.{AreSteady, is_running, runs_at}
 use Rattle.qc_promise.specs.Vocabulary.{Account, ClientRequest, Current, account_at, account_heard, account_sent}
 use Rattle.qc_promise.specs.Vocabulary.{account_taken, account_written, command_asks, counted, counted_for}
@@ -34,6 +32,7 @@ use Rattle.laws_guarantees.specs.Vocabulary.{asks_to_hold, name_of, open_said, s
 use Rattle.laws_guarantees.proofs.Accounts.{IsTakenNow, after_taken, told_requests}
 use Rattle.laws_guarantees.proofs.RequestGrounds.{asked_current}
 use Rattle.laws_guarantees.proofs.Names.{sends_stay, stays_named, writes_stay}
+use Rattle.laws_guarantees.proofs.AccountCases.{heard_cases, sent_cases, written_cases}
 
 -- a request after an input was there before it
 
@@ -62,14 +61,9 @@ counted_from d n answer q among = by (find (is_open n) d.requests) among
         (subst (In q) (told_requests (record d { requests = taken_for n answer d.requests }) p answer).0 there))
 
 heard_from : (d : Account) (m : Message) (q : ClientRequest) → In q (account_heard d m).requests → IsFrom d q
-heard_from d (messages.Request tx epoch life want) q among =
-    record { old = q; among = among; number = refl; site = refl }
-heard_from d (messages.Answer to answer) q among = counted_from d to (Some answer) q among
-heard_from d (messages.Decision tx verdict) q among = record { old = q; among = among; number = refl; site = refl }
-heard_from d (messages.Inquiry tx) q among = record { old = q; among = among; number = refl; site = refl }
-heard_from d (messages.Ask tx) q among = record { old = q; among = among; number = refl; site = refl }
-heard_from d (messages.Close epoch) q among = record { old = q; among = among; number = refl; site = refl }
-heard_from d (messages.Install epoch clock log) q among = record { old = q; among = among; number = refl; site = refl }
+heard_from d m q among = heard_cases d (λ m e. In q e.requests → IsFrom d q)
+    (λ m among. record { old = q; among = among; number = refl; site = refl })
+    (λ to answer among. counted_from d to (Some answer) q among) m among
 
 pub taken_from : (d : Account) (g : Input) (q : ClientRequest) → In q (account_taken d g).requests → IsFrom d q
 taken_from d (inputs.Called command) q never = absurd never
@@ -90,13 +84,8 @@ counted_command d n answer = by (find (is_open n) d.requests)
     by (Some q) = (told_requests (record d { requests = taken_for n answer d.requests }) q answer).1
 
 heard_command : (d : Account) (m : Message) → (account_heard d m).command ≡ d.command
-heard_command d (messages.Request tx epoch life want) = refl
-heard_command d (messages.Answer to answer) = counted_command d to (Some answer)
-heard_command d (messages.Decision tx verdict) = refl
-heard_command d (messages.Inquiry tx) = refl
-heard_command d (messages.Ask tx) = refl
-heard_command d (messages.Close epoch) = refl
-heard_command d (messages.Install epoch clock log) = refl
+heard_command d m = heard_cases d (λ m e. e.command ≡ d.command) (λ m. refl)
+    (λ to answer. counted_command d to (Some answer)) m
 
 busy_taken : (d : Account) (running : Bool) (g : Input) → IsBusy d running
     → IsBusy (account_taken d g) (runs_at running (Takes g))
@@ -114,13 +103,9 @@ busy_taken d running (inputs.Lost n) b =
     }
 
 busy_written : (d : Account) (running : Bool) (w : Record) → IsBusy d running → IsBusy (account_written d w) running
-busy_written d running records.Life b = record { command = b.command; requests = b.requests }
-busy_written d running (records.Prepare prepared) b = b
-busy_written d running (records.Done tx clock) b = b
-busy_written d running (records.Close epoch) b = b
-busy_written d running (records.Install epoch clock lines) b = b
-busy_written d running (records.Commit commit) b = record { command = b.command; requests = b.requests }
-busy_written d running (records.Decide epoch clock lines) b = b
+busy_written d running w b = written_cases d (λ e. IsBusy e running) b
+    (record { command = b.command; requests = b.requests })
+    (λ commit. record { command = b.command; requests = b.requests }) w
 
 second_of : (x y : Bool) → (x && y) ≡ true → y ≡ true
 second_of true y is = is
@@ -143,26 +128,11 @@ asked_command decl d to tx epoch life want is = by d.current is
 
 busy_sent : (decl : Declaration) (d : Account) (running : Bool) (n to : ℕ) (m : Message) → IsBusy d running
     → IsBusy (account_sent decl d n to m) running
-busy_sent decl d running n to (messages.Request tx epoch life want) b =
-    by (is_asked_for decl d to tx epoch life want) refl
-  where
-    by : (t : Bool) → is_asked_for decl d to tx epoch life want ≡ t
-        → IsBusy (cond t (record d {
-          requests = d.requests
-              ++ record { number = n; site = to; life = life; want = want; taken = None } ∷ [];
-        }) d) running
-    by true is = record {
+busy_sent decl d running n to m b = sent_cases decl d n to (λ m e. IsBusy e running) (λ m. b)
+    (λ tx epoch life want is. record {
       command = b.command;
-      requests = λ q among. sym b.command
-          ∙ asked_command decl d to tx epoch life want is;
-    }
-    by false is = b
-busy_sent decl d running n to (messages.Answer request answer) b = b
-busy_sent decl d running n to (messages.Decision tx verdict) b = b
-busy_sent decl d running n to (messages.Inquiry tx) b = b
-busy_sent decl d running n to (messages.Ask tx) b = b
-busy_sent decl d running n to (messages.Close epoch) b = b
-busy_sent decl d running n to (messages.Install epoch clock log) b = b
+      requests = λ q among. sym b.command ∙ asked_command decl d to tx epoch life want is;
+    }) m
 
 busy_from : (decl : Declaration) (d : Account) (running : Bool) (ds : List Deed) → AreSteady ds → IsBusy d running
     → IsBusy (fold (account_at decl) d ds) (fold runs_at running ds)
@@ -206,13 +176,7 @@ told_clears decl d n turn q among = by turn.told refl
 -- requests of a turn are for the begun transaction
 
 abbrev pub IsNamed : Option TxId → Message → Type 0
-IsNamed name (messages.Request tx epoch life want) = name ≡ Some tx
-IsNamed name (messages.Answer to answer) = Unit {0}
-IsNamed name (messages.Decision tx verdict) = Unit {0}
-IsNamed name (messages.Inquiry tx) = Unit {0}
-IsNamed name (messages.Ask tx) = Unit {0}
-IsNamed name (messages.Close epoch) = Unit {0}
-IsNamed name (messages.Install epoch clock log) = Unit {0}
+IsNamed name m = MatchOption (request_in m) (Unit {0}) (λ (q : Requested). name ≡ Some q.tx)
 
 pub due_second : (decl : Declaration) (d : Account) (xs ys : List Deed) → AreByRows decl d (xs ++ ys)
     → AreByRows decl (fold (account_at decl) d xs) ys
@@ -220,15 +184,16 @@ due_second decl d [] ys due = due
 due_second decl d (x ∷ xs) ys due = due_second decl (account_at decl d x) xs ys due.1
 
 named_send : (decl : Declaration) (d : Account) (to : ℕ) (m : Message) → IsSendDue decl d to m → IsNamed (name_of d) m
-named_send decl d to (messages.Request tx epoch life want) due =
-    let r : (t : Current) × (d.current ≡ Some t) × (t.tx ≡ tx) = asked_current decl d to tx epoch life want due in
-    ap (λ (o : Option Current). option_map (λ (t : Current). t.tx) o) r.1 ∙ ap (λ (y : TxId). Some y) r.2
-named_send decl d to (messages.Answer number answer) due = tt
-named_send decl d to (messages.Decision tx verdict) due = tt
-named_send decl d to (messages.Inquiry tx) due = tt
-named_send decl d to (messages.Ask tx) due = tt
-named_send decl d to (messages.Close epoch) due = tt
-named_send decl d to (messages.Install epoch clock log) due = tt
+named_send decl d to m due = by (request_in m) due
+  where
+    by : (o : Option Requested)
+        → MatchOption o (Unit {0}) (λ (q : Requested). is_asked_for decl d to q.tx q.epoch q.life q.want ≡ true)
+        → MatchOption o (Unit {0}) (λ (q : Requested). name_of d ≡ Some q.tx)
+    by None asked = tt
+    by (Some q) asked =
+        let r : (t : Current) × (d.current ≡ Some t) × (t.tx ≡ q.tx) =
+        asked_current decl d to q.tx q.epoch q.life q.want asked in
+        ap (λ (o : Option Current). option_map (λ (t : Current). t.tx) o) r.1 ∙ ap (λ (y : TxId). Some y) r.2
 
 named_sends : (decl : Declaration) (d : Account) (n : ℕ) (ps : List Posting) (more : List Deed)
     → AreByRows decl d (sends_of n ps ++ more) → Every (λ (p : Posting). IsNamed (name_of d) p.message) ps
@@ -252,21 +217,25 @@ turn_named decl d n turn due =
 
 less_said : (x : TxId) (name : Option TxId) → (name ≡ Some x → ⊥) → (before : Bool) (m : Message) → IsNamed name m
     → open_said x before m ≡ true → before ≡ true
-less_said x name other before (messages.Request tx epoch life want) named = by (same_tx tx x) refl
+less_said x name other before m = by (request_in m) (decision_in m)
   where
-    by : (t : Bool) → same_tx tx x ≡ t → cond (t && asks_to_hold want) true before ≡ true → before ≡ true
-    by true same is = absurd (other (named ∙ ap (λ (y : TxId). Some y) (tx_apart tx x same)))
-    by false differs is = is
-less_said x name other before (messages.Answer to answer) named = λ is. is
-less_said x name other before (messages.Decision tx verdict) named = by (same_tx tx x && is_final verdict)
-  where
-    by : (t : Bool) → cond t false before ≡ true → before ≡ true
-    by true is = absurd (let never : ⊥ = cc in never)
-    by false is = is
-less_said x name other before (messages.Inquiry tx) named = λ is. is
-less_said x name other before (messages.Ask tx) named = λ is. is
-less_said x name other before (messages.Close epoch) named = λ is. is
-less_said x name other before (messages.Install epoch clock log) named = λ is. is
+    test : (tx : TxId) (want : Want) (t : Bool) → name ≡ Some tx → same_tx tx x ≡ t
+        → cond (t && asks_to_hold want) true before ≡ true → before ≡ true
+    test tx want true named same is = absurd (other (named ∙ ap (λ (y : TxId). Some y) (tx_apart tx x same)))
+    test tx want false named differs is = is
+
+    ends : (t : Bool) → cond t false before ≡ true → before ≡ true
+    ends true is = absurd (let never : ⊥ = cc in never)
+    ends false is = is
+
+    by : (o : Option Requested) (v : Option Decided)
+        → MatchOption o (Unit {0}) (λ (q : Requested). name ≡ Some q.tx)
+        → option_map_or (λ (q : Requested). cond (same_tx q.tx x && asks_to_hold q.want) true before) o
+        (option_map_or (λ (v : Decided). cond (same_tx v.tx x && is_final v.verdict) false before) v before) ≡ true
+        → before ≡ true
+    by (Some q) v named is = test q.tx q.want (same_tx q.tx x) named refl is
+    by None (Some v) named is = ends (same_tx v.tx x && is_final v.verdict) is
+    by None None named is = is
 
 pub less_open : (x : TxId) (name : Option TxId) → (name ≡ Some x → ⊥)
     → (s a n k : ℕ) (ps : List Posting) (before : Bool) → Every (λ (p : Posting). IsNamed name p.message) ps

@@ -8,19 +8,17 @@ use Rattle.qc_decl.specs.Vocabulary.{first_site}
 use Rattle.qc_decl.specs.declared.declaration.Declaration.{Declaration}
 use Rattle.qc_plan.specs.Vocabulary.{cyclic, first, weighing}
 use Rattle.qc_msg.specs.declared.message.Answer.{Answer}
-use Rattle.qc_msg.specs.declared.message.Answer.TheVariants as answers
 use Rattle.qc_msg.specs.declared.message.Message.{Message}
-use Rattle.qc_msg.specs.declared.message.Message.TheVariants as messages
 use Rattle.qc_msg.specs.declared.message.Want.{Want}
 use Rattle.qc_msg.specs.declared.message.Want.TheVariants.{Append, Prepare, Read}
 use Rattle.qc_msg.specs.declared.record.Record.{Record}
-use Rattle.qc_msg.specs.declared.record.Record.TheVariants as records
 use Rattle.qc_msg.specs.declared.step.Input.{Input}
 use Rattle.qc_msg.specs.declared.step.Input.TheVariants as inputs
 use Rattle.qc_promise.specs.Vocabulary.{Account, ClientRequest, Current, account_heard, account_taken, account_written}
 use Rattle.qc_promise.specs.Vocabulary.{counted, counted_for, granted, is_append, is_open, is_read, is_this, lived}
 use Rattle.qc_promise.specs.Vocabulary.{promised, taken_for, told_by, weights_of, with_current, with_read}
 use Rattle.laws_guarantees.proofs.Accounts.{told_requests}
+use Rattle.laws_guarantees.proofs.AccountCases.{heard_cases, told_cases, written_cases}
 
 -- the sites of positive weight in a client's order
 abbrev pub order : Declaration → ℕ → ℕ → List ℕ
@@ -109,18 +107,9 @@ promised_epoch d clock (Append object view own) = record { client = refl; epoch 
 promised_epoch d clock Prepare = record { client = refl; epoch = refl }
 
 told_epoch : (d : Account) (q : ClientRequest) (answer : Option Answer) → KeepsEpoch d (told_by d q answer)
-told_epoch d q None = record { client = refl; epoch = refl }
-told_epoch d q (Some (answers.Granted life clock log)) = granted_epoch d q.site life clock log q.want
-told_epoch d q (Some (answers.Clash holder inv event)) = record { client = refl; epoch = refl }
-told_epoch d q (Some (answers.Closed epoch)) = record { client = refl; epoch = refl }
-told_epoch d q (Some (answers.Behind epoch)) = record { client = refl; epoch = refl }
-told_epoch d q (Some (answers.Restarted life)) = record { client = refl; epoch = refl }
-told_epoch d q (Some answers.Stale) = record { client = refl; epoch = refl }
-told_epoch d q (Some answers.Fault) = record { client = refl; epoch = refl }
-told_epoch d q (Some (answers.Yes clock)) = promised_epoch d clock q.want
-told_epoch d q (Some (answers.Shut clock log prepared)) = record { client = refl; epoch = refl }
-told_epoch d q (Some answers.Installed) = record { client = refl; epoch = refl }
-told_epoch d q (Some (answers.Answered verdict)) = record { client = refl; epoch = refl }
+told_epoch d q answer = told_cases d q (λ a e. KeepsEpoch d e) (λ a. record { client = refl; epoch = refl })
+    (λ life clock log. granted_epoch d q.site life clock log q.want) (λ epoch. record { client = refl; epoch = refl })
+    (λ clock. promised_epoch d clock q.want) answer
 
 module _ (decl : Declaration) (half : Want → Bool) where
   counted_order : (d : Account) (n : ℕ) (answer : Option Answer) → IsInOrder decl half d
@@ -138,13 +127,8 @@ module _ (decl : Declaration) (half : Want → Bool) where
           ∙ (λ i. take (sym (ap (count_in half) same ∙ s.1) i) (order decl (sym k.client i) epoch))
 
   heard_order : (d : Account) (m : Message) → IsInOrder decl half d → IsInOrder decl half (account_heard d m)
-  heard_order d (messages.Request tx epoch life want) old = old
-  heard_order d (messages.Answer to answer) old = counted_order d to (Some answer) old
-  heard_order d (messages.Decision tx verdict) old = old
-  heard_order d (messages.Inquiry tx) old = old
-  heard_order d (messages.Ask tx) old = old
-  heard_order d (messages.Close epoch) old = old
-  heard_order d (messages.Install epoch clock log) old = old
+  heard_order d m old = heard_cases d (λ m e. IsInOrder decl half e) (λ m. old)
+      (λ to answer. counted_order d to (Some answer) old) m
 
   pub taken_order : (d : Account) (g : Input) → IsInOrder decl half d → IsInOrder decl half (account_taken d g)
   taken_order d (inputs.Called command) old epoch is = refl
@@ -152,13 +136,7 @@ module _ (decl : Declaration) (half : Want → Bool) where
   taken_order d (inputs.Lost n) old epoch is = counted_order d n None old epoch is
 
   pub written_order : (d : Account) (w : Record) → IsInOrder decl half d → IsInOrder decl half (account_written d w)
-  written_order d records.Life old = old
-  written_order d (records.Prepare prepared) old = old
-  written_order d (records.Done tx clock) old = old
-  written_order d (records.Close epoch) old = old
-  written_order d (records.Install epoch clock lines) old = old
-  written_order d (records.Commit commit) old = old
-  written_order d (records.Decide epoch clock lines) old = old
+  written_order d w old = written_cases d (IsInOrder decl half) old old (λ commit. old) w
 
 -- a request goes to the next site
 

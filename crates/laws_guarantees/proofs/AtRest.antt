@@ -19,12 +19,12 @@ use Rattle.laws_guarantees.proofs.OwnWords.{open_begun}
 use Rattle.laws_guarantees.proofs.Passing.{no_request_is_lost}
 use Rattle.laws_guarantees.proofs.Uncut.{calm_deeds}
 
-pub held_begun : (decl : Declaration) (script : Script) → IsAccepted decl → AsksDeclared decl script
+pub what_is_held_at_rest_is_begun : (decl : Declaration) (script : Script) → IsAccepted decl → AsksDeclared decl script
     → IsUndisturbed script → (h : List Entry) (open_inputs : List Bool) → Runs (IsLawful decl) decl script h open_inputs
     → (site : ℕ) → (inbox script site h).copies ≡ []
     → Every (λ (x : Held). begun_by decl (client_actor decl x.tx.client) h ≡ Some x.tx)
     (site_after decl site (deeds site [] h)).site.held
-held_begun decl script accepted asks calm h open_inputs run site none =
+what_is_held_at_rest_is_begun decl script accepted asks calm h open_inputs run site none =
     every-weaker (λ (x : Held). is_open x.tx (taken site h) ≡ true)
     (λ (x : Held). begun_by decl (client_actor decl x.tx.client) h ≡ Some x.tx)
     (λ x is. open_begun decl script accepted asks h open_inputs run site x.tx (ap (is_open x.tx) (sym all) ∙ is))

@@ -13,9 +13,7 @@ use Rattle.qc_entry.proofs.Union.{in_first}
 use Rattle.qc_view.specs.declared.view.View.{View}
 use Rattle.qc_decl.specs.declared.declaration.Declaration.{Declaration}
 use Rattle.qc_msg.specs.declared.message.Answer.{Answer}
-use Rattle.qc_msg.specs.declared.message.Answer.TheVariants as answers
 use Rattle.qc_msg.specs.declared.message.Message.{Message}
-use Rattle.qc_msg.specs.declared.message.Message.TheVariants as messages
 use Rattle.qc_msg.specs.declared.message.Want.{Want}
 use Rattle.qc_msg.specs.declared.message.Want.TheVariants.{Read, Append, Prepare}
 use Rattle.qc_msg.specs.declared.step.Input.{Input}
@@ -29,6 +27,7 @@ use Rattle.qc_promise.specs.Vocabulary.{counted, counted_for, granted, is_open, 
 use Rattle.qc_promise.specs.Vocabulary.{view_of, with_read}
 use Rattle.laws_guarantees.proofs.FirstGrants.{KeepsLives, life_added, same_lives}
 use Rattle.laws_due.specs.Vocabulary.{AreBegun, IsBegun, Ties, appends, reads, rests, votes}
+use Rattle.laws_guarantees.proofs.AccountCases.{heard_cases, told_cases}
 
 -- an input takes nothing from a view
 
@@ -122,18 +121,9 @@ promised_kept d clock Prepare t is = same d.current t is
 
 told_kept : (d : Account) (q : ClientRequest) (answer : Option Answer) (t : Current)
     → (told_by d q answer).current ≡ Some t → WasBegun d.current t
-told_kept d q None t is = same d.current t is
-told_kept d q (Some (answers.Granted life clock log)) t is = granted_kept d q.site life clock log q.want t is
-told_kept d q (Some (answers.Clash holder inv event)) t is = same d.current t is
-told_kept d q (Some (answers.Closed epoch)) t is = same d.current t is
-told_kept d q (Some (answers.Behind epoch)) t is = same d.current t is
-told_kept d q (Some (answers.Restarted life)) t is = same d.current t is
-told_kept d q (Some answers.Stale) t is = same d.current t is
-told_kept d q (Some answers.Fault) t is = same d.current t is
-told_kept d q (Some (answers.Yes clock)) t is = promised_kept d clock q.want t is
-told_kept d q (Some (answers.Shut clock log prepared)) t is = same d.current t is
-told_kept d q (Some answers.Installed) t is = same d.current t is
-told_kept d q (Some (answers.Answered verdict)) t is = same d.current t is
+told_kept d q answer t is = told_cases d q (λ a e. e.current ≡ Some t → WasBegun d.current t)
+    (λ a is. same d.current t is) (λ life clock log is. granted_kept d q.site life clock log q.want t is)
+    (λ epoch is. same d.current t is) (λ clock is. promised_kept d clock q.want t is) answer is
 
 counted_kept : (d : Account) (n : ℕ) (answer : Option Answer) (t : Current) → (counted d n answer).current ≡ Some t
     → WasBegun d.current t
@@ -144,13 +134,8 @@ counted_kept d n answer t is = by (find (is_open n) d.requests) is
     by (Some q) e = told_kept (record d { requests = taken_for n answer d.requests }) q answer t e
 
 heard_kept : (d : Account) (m : Message) (t : Current) → (account_heard d m).current ≡ Some t → WasBegun d.current t
-heard_kept d (messages.Request tx epoch life want) t is = same d.current t is
-heard_kept d (messages.Answer to answer) t is = counted_kept d to (Some answer) t is
-heard_kept d (messages.Decision tx verdict) t is = same d.current t is
-heard_kept d (messages.Inquiry tx) t is = same d.current t is
-heard_kept d (messages.Ask tx) t is = same d.current t is
-heard_kept d (messages.Close epoch) t is = same d.current t is
-heard_kept d (messages.Install epoch clock log) t is = same d.current t is
+heard_kept d m t is = heard_cases d (λ m e. e.current ≡ Some t → WasBegun d.current t) (λ m is. same d.current t is)
+    (λ to answer is. counted_kept d to (Some answer) t is) m is
 
 pub taken_kept : (d : Account) (g : Input) (t : Current) → (account_taken d g).current ≡ Some t → WasBegun d.current t
 taken_kept d (inputs.Called command) t is = same d.current t is

@@ -8,7 +8,7 @@ use Rattle.qc_core.proofs.LivesOfActors.{same_turn}
 use Rattle.qc_decl.specs.Vocabulary.{actors, administrator, controller}
 use Rattle.qc_decl.specs.declared.declaration.Declaration.{Declaration}
 use Rattle.laws_turns.specs.Vocabulary.{ActsIn, AreCalm, IsCalm}
-use Rattle.laws_turns.proofs.Acted.{has_place, run_acts}
+use Rattle.laws_turns.proofs.Acted.{has_place, actors_take_and_post_by_turns}
 use Rattle.laws_turns.proofs.Up.{run_up}
 use Rattle.qc_msg.proofs.DeedsGrow.{deeds-append}
 use Rattle.qc_msg.specs.declared.record.Record.{Record}
@@ -98,7 +98,7 @@ module _ (fits : ℕ → List Record → Type 0) (decl : Declaration) (script : 
     | inl low ↦ low
     | inr past ↦ (let within : a < actors decl = has_place (IsLawful decl) decl script older before run a true taken in
         let at : a ≡ administrator decl = omega arith in
-        let its : ActsIn decl a older true = run_acts decl script older before run a true taken in
+        let its : ActsIn decl a older true = actors_take_and_post_by_turns decl script older before run a true taken in
         absurd (no_input decl a (deeds a [] older) its.above its.acts (ap (λ (b : ℕ). deeds b [] older) at ∙ idle)))
   ]
 

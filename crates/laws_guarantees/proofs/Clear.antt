@@ -29,12 +29,12 @@ use Rattle.qc_script.specs.Vocabulary.{Runs, phase_of}
 use Rattle.qc_script.specs.Runs.{begins, takes, posts, phase, control}
 use Rattle.qc_script.specs.declared.script.Script.{Script}
 use Rattle.laws_turns.specs.Vocabulary.{ActsIn, AsksDeclared}
-use Rattle.laws_turns.proofs.Acted.{deeds-silent, run_acts}
+use Rattle.laws_turns.proofs.Acted.{deeds-silent, actors_take_and_post_by_turns}
 use Rattle.laws_turns.proofs.Idle.{posts_before}
 use Rattle.laws_turns.proofs.Arrivals.{what_is_ready_was_sent}
 use Rattle.laws_turns.proofs.Numbered.{IsSilent, control_silent, mail-silent, phase_silent, run_numbered}
 use Rattle.laws_turns.proofs.Places.{slice_get-set_same}
-use Rattle.laws_due.proofs.Courses.{clients_due}
+use Rattle.laws_due.proofs.Courses.{deeds_of_clients_are_by_rows}
 use Rattle.laws_due.specs.Vocabulary.{AreByRows}
 use Rattle.qc_promise.specs.Vocabulary.{Account, ClientRequest, Current, account, account_at, account_taken}
 use Rattle.qc_promise.specs.Vocabulary.{new_account}
@@ -209,10 +209,10 @@ module _ (decl : Declaration) (script : Script) (accepted : IsAccepted decl) (as
 
       all_named : Every (λ (p : Posting). IsNamed (begun_by decl b older) p.message) turn.sends
       all_named =
-          let acts : ActsIn decl b (older ++ by b (posted (length (mail older)) turn)) false = run_acts decl script (older ++ by b (posted (length (mail older)) turn)) (slice_set before b false) next b false (slice_get-set_same before b false true is_opened) in
+          let acts : ActsIn decl b (older ++ by b (posted (length (mail older)) turn)) false = actors_take_and_post_by_turns decl script (older ++ by b (posted (length (mail older)) turn)) (slice_set before b false) next b false (slice_get-set_same before b false true is_opened) in
           turn_named decl (account decl b older) (length (mail older)) turn
           (due_second decl (new_account (b - decl.sites)) (deeds b [] older) (turn_deeds (length (mail older)) turn)
-          (subst (λ (ds : List Deed). AreByRows decl (new_account (b - decl.sites)) ds) grown (clients_due decl b named (deeds b [] (older ++ by b (posted (length (mail older)) turn))) false acts.above acts.acts)))
+          (subst (λ (ds : List Deed). AreByRows decl (new_account (b - decl.sites)) ds) grown (deeds_of_clients_are_by_rows decl b named (deeds b [] (older ++ by b (posted (length (mail older)) turn))) false acts.above acts.acts)))
 
       own_clear : (q : ClientRequest) → In q (account decl b (older ++ by b (posted (length (mail older)) turn))).requests → IsClear decl b (older ++ by b (posted (length (mail older)) turn)) q
       own_clear q among x is unnamed = split (turn_old decl (account decl b older) (length (mail older)) turn q here)

@@ -18,7 +18,7 @@ use Rattle.qc_msg.specs.declared.step.Input.{Input}
 use Rattle.qc_msg.specs.declared.step.Input.TheVariants as inputs
 use Rattle.qc_msg.specs.declared.turn.Posting.{Posting}
 use Rattle.qc_msg.specs.declared.turn.Turn.{Turn}
-use Rattle.qc_msg.specs.Vocabulary.{decisions, site_called}
+use Rattle.qc_msg.specs.Vocabulary.{decisions, site_called, Answered}
 use Rattle.qc_commit.specs.declared.desk.Desk.{Desk}
 use Rattle.qc_commit.specs.declared.desk.Voting.{Voting}
 use Rattle.qc_commit.specs.Conduct as desks
@@ -31,6 +31,9 @@ use Rattle.qc_front.proofs.Sending.{called_sent, takes_sent}
 use Rattle.qc_client.specs.declared.client.Client.{Client}
 use Rattle.qc_client.specs.Vocabulary.{answered, answered_by, by_desk, by_front, called, client_takes, commits, heard}
 use Rattle.laws_guarantees.proofs.ForgettingAnswers.{answer_in}
+use Rattle.laws_guarantees.proofs.MessageCases.{answering_cases}
+use Rattle.laws_guarantees.proofs.ClientCases.{called_cases, heard_cases}
+use Rattle.std.specs.Prelude.{option_map}
 
 -- no message of the turn is an answer
 abbrev AnswersNothing : Turn → Type 0
@@ -44,13 +47,9 @@ either P false x y here there = there
 
 sent_none : (decl : Declaration) (before after : Front) (to : ℕ) (m : Message) → IsSent decl before after to m
     → answer_in m ≡ None
-sent_none decl before after to (messages.Request tx epoch life want) s = refl
-sent_none decl before after to (messages.Answer number answer) s = absurd s
-sent_none decl before after to (messages.Decision tx verdict) s = refl
-sent_none decl before after to (messages.Inquiry tx) s = refl
-sent_none decl before after to (messages.Ask tx) s = refl
-sent_none decl before after to (messages.Close epoch) s = refl
-sent_none decl before after to (messages.Install epoch clock log) s = refl
+sent_none decl before after to m s = answering_cases
+    (λ m o. IsSent decl before after to m → option_map (λ (a : Answered). a.answer) o ≡ None) (λ m s. refl)
+    (λ number answer s. absurd s) m s
 
 front_none : (decl : Declaration) (c : Client) (m : FrontMove) → AreSent decl c.front m
     → AnswersNothing (by_front c m).turn
@@ -107,16 +106,9 @@ module _ (decl : Declaration) where
       by false = prepare_none c.desk t.begun c.front.clock.value
 
   called_none : (c : Client) (command : Command) → AnswersNothing (called decl c command).turn
-  called_none c commands.Begin = front_none decl c (fronts.called decl c.front commands.Begin)
-      (called_sent decl c.front commands.Begin)
-  called_none c (commands.Do object inv) =
-      front_none decl c (fronts.called decl c.front (commands.Do object inv))
-      (called_sent decl c.front (commands.Do object inv))
-  called_none c commands.Commit = commits_none c c.front.transaction
-  called_none c commands.Abort = front_none decl c (fronts.called decl c.front commands.Abort)
-      (called_sent decl c.front commands.Abort)
-  called_none c (commands.Epoch number) = front_none decl c (fronts.called decl c.front (commands.Epoch number))
-      (called_sent decl c.front (commands.Epoch number))
+  called_none c command = called_cases decl c (λ move. AnswersNothing move.turn)
+      (λ command. front_none decl c (fronts.called decl c.front command) (called_sent decl c.front command))
+      (commits_none c c.front.transaction) command
 
   answered_none : (c : Client) (number : ℕ) (answer : Option Answer)
       → AnswersNothing (answered decl c number answer).turn
@@ -146,11 +138,10 @@ module _ (decl : Declaration) where
 
       by : (m : Message) → e.message ≡ m → In p (heard decl c e.from e.number m).turn.sends
           → (f : Envelope) × (inputs.Got e ≡ inputs.Got f) × ((t : TxId) × (f.message ≡ messages.Ask t))
-      by (messages.Request tx epoch life want) same there = absurd there
-      by (messages.Answer to answer) same there =
-          some_none (answer_in p.message) x (answered_none c to (Some answer) p there) (ap answer_in is)
-      by (messages.Decision tx verdict) same there = absurd there
-      by (messages.Inquiry tx) same there = told e.from tx _ there
-      by (messages.Ask tx) same there = (e, refl, (tx, same))
-      by (messages.Close epoch) same there = absurd there
-      by (messages.Install epoch clock log) same there = absurd there
+      by m = heard_cases decl c e.from e.number
+          (λ m move. e.message ≡ m → In p move.turn.sends
+          → (f : Envelope) × (inputs.Got e ≡ inputs.Got f) × ((t : TxId) × (f.message ≡ messages.Ask t)))
+          (λ m same there. absurd there)
+          (λ to answer same there.
+          some_none (answer_in p.message) x (answered_none c to (Some answer) p there) (ap answer_in is))
+          (λ tx same there. told e.from tx _ there) (λ tx same there. (e, refl, (tx, same))) m

@@ -29,15 +29,13 @@ use Rattle.laws_turns.proofs.FrontGoesOn.{FrontKind, IsRequestFor}
 use Rattle.laws_turns.proofs.FrontKinds.{called-kind, takes-kind}
 use Rattle.laws_turns.proofs.HandMoves.{IsHandMove, prepare-it, vote-it}
 use Rattle.laws_guarantees.proofs.FirstDeeds.{FirstGiven}
+use Rattle.std.specs.Prelude.{MatchOption}
+use Rattle.qc_msg.specs.Vocabulary.{Decided, Requested, decision_in, request_in}
+use Rattle.laws_guarantees.proofs.ClientCases.{called_cases, heard_cases}
 
 abbrev pub IsClientWord : Message → Type 0
-IsClientWord (messages.Request tx epoch life want) = Unit {0}
-IsClientWord (messages.Answer to answer) = ⊥
-IsClientWord (messages.Decision tx verdict) = Unit {0}
-IsClientWord (messages.Inquiry tx) = ⊥
-IsClientWord (messages.Ask tx) = ⊥
-IsClientWord (messages.Close epoch) = ⊥
-IsClientWord (messages.Install epoch clock log) = ⊥
+IsClientWord m = MatchOption (request_in m) (MatchOption (decision_in m) ⊥ (λ (v : Decided). Unit {0}))
+    (λ (q : Requested). Unit {0})
 
 abbrev pub AreClientWords : List Posting → Type 0
 AreClientWords ps = Every (λ (p : Posting). IsClientWord p.message) ps
@@ -92,11 +90,7 @@ module _ (decl : Declaration) (c : Client) where
           (prepare-it decl c.desk t.begun c.front.clock.value)
 
   calls : (command : Command) → Says (called decl c command)
-  calls commands.Begin = fronted commands.Begin
-  calls (commands.Do object inv) = fronted (commands.Do object inv)
-  calls commands.Commit = committing c.front.transaction
-  calls commands.Abort = fronted commands.Abort
-  calls (commands.Epoch number) = fronted (commands.Epoch number)
+  calls command = called_cases decl c Says fronted (committing c.front.transaction) command
 
   comes : (number : ℕ) (answer : Option Answer) → Says (answered_by decl c c.desk.voting number answer)
   comes number answer = by c.desk.voting refl
@@ -107,13 +101,10 @@ module _ (decl : Declaration) (c : Client) where
 
   hears : (from number : ℕ) (m : Message) → FirstGiven
       (inputs.Got (record { number = number; from = from; to = 0; message = m })) → Says (heard decl c from number m)
-  hears from number (messages.Request tx epoch life want) first = tt
-  hears from number (messages.Answer to answer) first = comes to (Some answer)
-  hears from number (messages.Decision tx verdict) first = tt
-  hears from number (messages.Inquiry tx) first = (tt, tt)
-  hears from number (messages.Ask tx) never = absurd never
-  hears from number (messages.Close epoch) first = tt
-  hears from number (messages.Install epoch clock log) first = tt
+  hears from number m first = heard_cases decl c from number
+      (λ m move. FirstGiven (inputs.Got (record { number = number; from = from; to = 0; message = m })) → Says move)
+      (λ m first. tt) (λ to answer first. comes to (Some answer)) (λ tx first. (tt, tt))
+      (λ tx never. absurd never) m first
 
   pub client_words : (g : Input) → FirstGiven g → AreClientWords (client_takes decl c g).turn.sends
   client_words (inputs.Called command) first = calls command

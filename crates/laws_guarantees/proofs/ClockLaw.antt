@@ -1,6 +1,6 @@
 -- The stamp of a record has passed each clock that its client counted before.
-use Rattle.std.proofs.Common.{◌≡◌, ◌<◌, ◌≤◌, ◌+◌, ◌-◌, ℕ, Bool, true, false, cond, List, [], ◌∷◌, ◌++◌, Option, Some}
-use Rattle.std.proofs.Common.{None, refl, sym, ap, ◌∙◌, slice_get, subst, arith}
+use Rattle.std.proofs.Common.{◌≡◌, ◌<◌, ◌≤◌, ◌+◌, ◌-◌, ℕ, Bool, true, List, [], ◌∷◌, ◌++◌, Option, Some, None, refl}
+use Rattle.std.proofs.Common.{sym, ap, ◌∙◌, slice_get, subst, arith}
 use Rattle.std.specs.Prelude.{fold}
 use Rattle.std.specs.List.{find}
 use Rattle.std.proofs.lemmas.List.Sums.{fold-append}
@@ -12,7 +12,6 @@ use Rattle.qc_entry.specs.declared.record.Commit.{Commit as CommitRecord}
 use Rattle.qc_msg.specs.declared.message.Answer.{Answer}
 use Rattle.qc_msg.specs.declared.message.Answer.TheVariants as answers
 use Rattle.qc_msg.specs.declared.message.Message.{Message}
-use Rattle.qc_msg.specs.declared.message.Message.TheVariants as messages
 use Rattle.qc_msg.specs.declared.message.Want.{Want}
 use Rattle.qc_msg.specs.declared.message.Want.TheVariants.{Read, Append, Prepare}
 use Rattle.qc_msg.specs.declared.record.Record.{Record}
@@ -22,25 +21,25 @@ use Rattle.qc_msg.specs.declared.reply.Half.TheVariants as halves
 use Rattle.qc_msg.specs.declared.reply.Reply.{Reply}
 use Rattle.qc_msg.specs.declared.reply.Reply.TheVariants as replies
 use Rattle.qc_msg.specs.declared.step.Command.{Command}
-use Rattle.qc_msg.specs.declared.step.Command.TheVariants as commands
 use Rattle.qc_msg.specs.declared.step.Input.{Input}
 use Rattle.qc_msg.specs.declared.step.Input.TheVariants as inputs
 use Rattle.qc_msg.specs.Vocabulary.{Deed, Entry, Falls, Rises, Sends, Takes, Tells, Writes, deeds}
 use Rattle.qc_promise.specs.Vocabulary.{Account, ClientRequest, account_at, account_heard, account_sent, account_taken}
 use Rattle.qc_promise.specs.Vocabulary.{account_told_in, account_written, counted, counted_for, found_absent, granted}
-use Rattle.qc_promise.specs.Vocabulary.{is_asked_for, is_open, new_account, promised, responded, short_of, taken_for}
-use Rattle.qc_promise.specs.Vocabulary.{told_by}
+use Rattle.qc_promise.specs.Vocabulary.{is_open, new_account, promised, responded, short_of, taken_for, told_by}
 use Rattle.laws_due.specs.Vocabulary.{AreByRows, IsByRow}
 use Rattle.qc_core.specs.Vocabulary.{IsLawful}
 use Rattle.qc_decl.specs.Vocabulary.{is_client}
 use Rattle.qc_script.specs.Vocabulary.{Runs}
 use Rattle.qc_script.specs.declared.script.Script.{Script}
-use Rattle.laws_turns.proofs.Acted.{has_entry, run_acts}
+use Rattle.laws_turns.proofs.Acted.{has_entry, actors_take_and_post_by_turns}
 use Rattle.laws_turns.specs.Vocabulary.{ActsIn}
-use Rattle.laws_due.proofs.Courses.{clients_due}
+use Rattle.laws_due.proofs.Courses.{deeds_of_clients_are_by_rows}
 use Rattle.laws_guarantees.specs.Vocabulary.{GrantTells, IsCounted, PromiseTells, Tells as TellsClock}
 use Rattle.laws_guarantees.proofs.Requests.{due_at}
 use Rattle.laws_guarantees.proofs.DueStamps.{due_stamp}
+use Rattle.laws_guarantees.proofs.AccountCases.{absent_cases, heard_cases, reply_cases, responded_cases, sent_cases}
+use Rattle.laws_guarantees.proofs.AccountCases.{told_cases, written_cases}
 
 module _ (decl : Declaration) where
   -- a client's clock never falls
@@ -60,18 +59,9 @@ module _ (decl : Declaration) where
   same_clock d = omega arith
 
   told_clock : (d : Account) (q : ClientRequest) (answer : Option Answer) → d.clock ≤ (told_by d q answer).clock
-  told_clock d q None = same_clock d
-  told_clock d q (Some (answers.Granted life clock log)) = granted_clock d q.site life clock log q.want
-  told_clock d q (Some (answers.Clash holder inv event)) = same_clock d
-  told_clock d q (Some (answers.Closed epoch)) = same_clock d
-  told_clock d q (Some (answers.Behind epoch)) = same_clock d
-  told_clock d q (Some (answers.Restarted life)) = same_clock d
-  told_clock d q (Some answers.Stale) = same_clock d
-  told_clock d q (Some answers.Fault) = same_clock d
-  told_clock d q (Some (answers.Yes clock)) = promised_clock d clock q.want
-  told_clock d q (Some (answers.Shut clock log prepared)) = same_clock d
-  told_clock d q (Some answers.Installed) = same_clock d
-  told_clock d q (Some (answers.Answered outcome)) = same_clock d
+  told_clock d q answer = told_cases d q (λ a e. d.clock ≤ e.clock) (λ a. same_clock d)
+      (λ life clock log. granted_clock d q.site life clock log q.want) (λ epoch. same_clock d)
+      (λ clock. promised_clock d clock q.want) answer
 
   counted_clock : (d : Account) (n : ℕ) (answer : Option Answer) → d.clock ≤ (counted d n answer).clock
   counted_clock d n answer = by (find (is_open n) d.requests)
@@ -81,53 +71,22 @@ module _ (decl : Declaration) where
       by (Some q) = told_clock (record d { requests = taken_for n answer d.requests }) q answer
 
   heard_clock : (d : Account) (m : Message) → d.clock ≤ (account_heard d m).clock
-  heard_clock d (messages.Request tx epoch life want) = same_clock d
-  heard_clock d (messages.Answer to answer) = counted_clock d to (Some answer)
-  heard_clock d (messages.Decision tx outcome) = same_clock d
-  heard_clock d (messages.Inquiry tx) = same_clock d
-  heard_clock d (messages.Ask tx) = same_clock d
-  heard_clock d (messages.Close epoch) = same_clock d
-  heard_clock d (messages.Install epoch clock log) = same_clock d
+  heard_clock d m = heard_cases d (λ m e. d.clock ≤ e.clock) (λ m. same_clock d)
+      (λ to answer. counted_clock d to (Some answer)) m
 
   pub written_clock : (d : Account) (w : Record) → d.clock ≤ (account_written d w).clock
-  written_clock d records.Life = same_clock d
-  written_clock d (records.Prepare prepared) = same_clock d
-  written_clock d (records.Done tx clock) = same_clock d
-  written_clock d (records.Close epoch) = same_clock d
-  written_clock d (records.Install epoch clock lines) = same_clock d
-  written_clock d (records.Commit commit) = same_clock d
-  written_clock d (records.Decide epoch clock lines) = same_clock d
+  written_clock d w = written_cases d (λ e. d.clock ≤ e.clock) (same_clock d) (same_clock d)
+      (λ commit. same_clock d) w
 
   pub sent_clock : (d : Account) (n to : ℕ) (m : Message) → d.clock ≤ (account_sent decl d n to m).clock
-  sent_clock d n to (messages.Request tx epoch life want) = by (is_asked_for decl d to tx epoch life want)
-    where
-      by : (b : Bool) → d.clock ≤ (cond b (record d
-          { requests = d.requests ++ record { number = n; site = to; life = life; want = want; taken = None } ∷ [] })
-          d).clock
-      by true = same_clock d
-      by false = same_clock d
-  sent_clock d n to (messages.Answer request answer) = same_clock d
-  sent_clock d n to (messages.Decision tx outcome) = same_clock d
-  sent_clock d n to (messages.Inquiry tx) = same_clock d
-  sent_clock d n to (messages.Ask tx) = same_clock d
-  sent_clock d n to (messages.Close epoch) = same_clock d
-  sent_clock d n to (messages.Install epoch clock log) = same_clock d
+  sent_clock d n to m = sent_cases decl d n to (λ m e. d.clock ≤ e.clock) (λ m. same_clock d)
+      (λ tx epoch life want is. same_clock d) m
 
   responded_clock : (d : Account) (c : Option Command) → d.clock ≤ (responded decl d c).clock
-  responded_clock d None = same_clock d
-  responded_clock d (Some commands.Begin) = same_clock d
-  responded_clock d (Some (commands.Do object inv)) = same_clock d
-  responded_clock d (Some commands.Commit) = same_clock d
-  responded_clock d (Some commands.Abort) = same_clock d
-  responded_clock d (Some (commands.Epoch number)) = same_clock d
+  responded_clock d c = responded_cases decl d (λ e. d.clock ≤ e.clock) (same_clock d) (λ object inv. same_clock d) c
 
   absent_clock : (d : Account) (c : Option Command) → d.clock ≤ (found_absent d c).clock
-  absent_clock d None = same_clock d
-  absent_clock d (Some commands.Begin) = same_clock d
-  absent_clock d (Some (commands.Do object inv)) = same_clock d
-  absent_clock d (Some commands.Commit) = same_clock d
-  absent_clock d (Some commands.Abort) = same_clock d
-  absent_clock d (Some (commands.Epoch number)) = same_clock d
+  absent_clock d c = absent_cases d (λ e. d.clock ≤ e.clock) (same_clock d) (λ object inv. same_clock d) c
 
   short_clock : (d : Account) (half : Half) → d.clock ≤ (short_of d half).clock
   short_clock d halves.Read = same_clock d
@@ -137,25 +96,12 @@ module _ (decl : Declaration) where
   pub reply_clock : (d : Account) (reply : Reply)
       → ((stamp : Stamp) → reply ≡ replies.Committed stamp → stamp.clock ≡ d.clock + 1)
       → d.clock ≤ (account_told_in decl d reply).clock
-  reply_clock d replies.Down is = same_clock d
-  reply_clock d (replies.Already tx) is = same_clock d
-  reply_clock d (replies.Began tx) is = same_clock d
-  reply_clock d replies.NoTransaction is = same_clock d
-  reply_clock d replies.Doomed is = same_clock d
-  reply_clock d replies.TooLong is = same_clock d
-  reply_clock d (replies.Closed epoch site) is = same_clock d
-  reply_clock d (replies.Conflict tx site) is = same_clock d
-  reply_clock d (replies.Quorum half got need) is = short_clock d half
-  reply_clock d replies.Absent is = absent_clock d d.command
-  reply_clock d (replies.Response resp) is = responded_clock d d.command
-  reply_clock d (replies.Aborted why) is = same_clock d
-  reply_clock d replies.Unknown is = same_clock d
-  reply_clock d (replies.Committed stamp) is = let next : stamp.clock ≡ d.clock + 1 = is stamp refl in omega arith
-  reply_clock d replies.Dropped is = same_clock d
-  reply_clock d (replies.Order current) is = same_clock d
-  reply_clock d (replies.InDoubt tx site) is = same_clock d
-  reply_clock d replies.Fault is = same_clock d
-  reply_clock d (replies.Moved closed installed) is = same_clock d
+  reply_clock d reply is = reply_cases decl d
+      (λ r e. ((stamp : Stamp) → r ≡ replies.Committed stamp → stamp.clock ≡ d.clock + 1) → d.clock ≤ e.clock)
+      (λ r none. same_clock d) (λ tx none. same_clock d)
+      (λ stamp one. let next : stamp.clock ≡ d.clock + 1 = one stamp refl in omega arith) (λ r none. same_clock d)
+      (λ r none. same_clock d) (λ r half none. short_clock d half) (λ r none. absent_clock d d.command)
+      (λ r none. responded_clock d d.command) reply is
 
   pub take_clock : (d : Account) (g : Input) → d.clock ≤ (account_taken d g).clock
   take_clock d (inputs.Called command) = same_clock d
@@ -268,6 +214,7 @@ module _ (decl : Declaration) where
     where
       by : (t : Bool) × (slice_get open_inputs a ≡ Some t) → clock < c.stamp.clock
       by slot =
-          let acts : ActsIn decl a h slot.0 = run_acts decl script h open_inputs run a slot.0 slot.1 in
+          let acts : ActsIn decl a h slot.0 =
+          actors_take_and_post_by_turns decl script h open_inputs run a slot.0 slot.1 in
           record_passes (a - decl.sites) (deeds a [] h) front back c clock
-          (clients_due decl a client (deeds a [] h) slot.0 acts.above acts.acts) is k
+          (deeds_of_clients_are_by_rows decl a client (deeds a [] h) slot.0 acts.above acts.acts) is k

@@ -25,12 +25,12 @@ use Rattle.qc_msg.proofs.Growth.{operations-grow}
 use Rattle.qc_script.specs.Vocabulary.{IsScriptFor, Runs}
 use Rattle.qc_script.specs.declared.script.Script.{Script}
 use Rattle.laws_turns.specs.Vocabulary.{ActsIn, AsksDeclared}
-use Rattle.laws_turns.proofs.Acted.{run_acts}
+use Rattle.laws_turns.proofs.Acted.{actors_take_and_post_by_turns}
 use Rattle.qc_promise.specs.Vocabulary.{Account, ClientRequest, Current, account, against, are_votes_in, commit_row}
 use Rattle.qc_promise.specs.Vocabulary.{first_against, is_prepare, next_stamp, requests_for, row_of, running_row}
 use Rattle.qc_promise.specs.Vocabulary.{vote_row}
-use Rattle.laws_due.proofs.Courses.{turns_tell}
-use Rattle.laws_due.proofs.AccountDeclared.{asks_declared}
+use Rattle.laws_due.proofs.Courses.{turns_tell_their_rows}
+use Rattle.laws_due.proofs.AccountDeclared.{scripts_ask_what_is_declared}
 use Rattle.laws_guarantees.proofs.Remembered.{counted_remembered}
 use Rattle.laws_guarantees.specs.Vocabulary.{CommitOf, CommitSucceeds, CommitsSucceed, EachReply, IsCommitted}
 use Rattle.laws_guarantees.specs.Vocabulary.{IsUndisturbed, OfRunning}
@@ -97,10 +97,10 @@ module _ (decl : Declaration) (script : Script) (accepted : IsAccepted decl) (as
       (at (account decl b older).current refl (account decl b older).command refl))
     where
       acts : ActsIn decl b older true
-      acts = run_acts decl script older before run b true is_opened
+      acts = actors_take_and_post_by_turns decl script older before run b true is_opened
 
       due_now : running_row decl (account decl b older) false ≡ Some r
-      due_now = sym (turns_tell decl b named (deeds b [] older) acts.above turn acts.acts lawful) ∙ told
+      due_now = sym (turns_tell_their_rows decl b named (deeds b [] older) acts.above turn acts.acts lawful) ∙ told
 
       free : first_against (requests_for is_prepare (account decl b older)) ≡ None
       free = nobody_against (requests_for is_prepare (account decl b older)) (λ q among.
@@ -147,10 +147,10 @@ IsFew h = operations_of h ≤ 2 * most_committed_operations
 few_before : (h k : List Entry) → IsFew (h ++ k) → IsFew h
 few_before h k few = let less : operations_of h ≤ operations_of (h ++ k) = operations-grow h k in omega arith
 
-pub commits_succeed : (decl : Declaration) (script : Script) → IsAccepted decl → IsScriptFor decl script
+pub undisturbed_commits_succeed : (decl : Declaration) (script : Script) → IsAccepted decl → IsScriptFor decl script
     → IsUndisturbed script → (h : List Entry) (open_inputs : List Bool) → Runs (IsLawful decl) decl script h open_inputs
     → operations_of h ≤ 2 * most_committed_operations → CommitsSucceed decl h
-commits_succeed decl script accepted sound calm h open_inputs run few =
-    run_commits decl script accepted (asks_declared decl script accepted sound) calm IsFew few_before
+undisturbed_commits_succeed decl script accepted sound calm h open_inputs run few =
+    run_commits decl script accepted (scripts_ask_what_is_declared decl script accepted sound) calm IsFew few_before
     (λ older before its_run within a named q among want taken. counted_remembered decl script accepted sound older
     before its_run within a q answers.Stale named (among, want, taken) tt) h open_inputs run few

@@ -21,7 +21,7 @@ use Rattle.qc_promise.specs.Vocabulary.{ClientRequest, Current, account, fits_re
 use Rattle.qc_script.specs.Vocabulary.{IsScriptFor, Runs}
 use Rattle.qc_script.specs.declared.script.Script.{Script}
 use Rattle.qc_site.specs.Vocabulary.{SiteState, prepare_length, promise_of, site_after}
-use Rattle.laws_turns.proofs.Served.{run_shown}
+use Rattle.laws_turns.proofs.Served.{sites_are_what_their_steps_show}
 use Rattle.laws_guarantees.specs.Vocabulary.{IsOpenVote, IsRemembered}
 use Rattle.laws_due.specs.Vocabulary.{Votes}
 use Rattle.qc_client.specs.Vocabulary.{client_after}
@@ -38,7 +38,8 @@ module _ (decl : Declaration) (script : Script) (accepted : IsAccepted decl) (so
       (few : operations_of h ≤ 2 * most_committed_operations) where
     shown : (site : ℕ) → is_site decl site ≡ true → slice_get open_inputs site ≡ Some false
         → IsShown (deeds site [] h) (site_after decl site (deeds site [] h)).site
-    shown site is free = run_shown decl script h open_inputs run site (ltb-true site decl.sites is) free
+    shown site is free =
+        sites_are_what_their_steps_show decl script h open_inputs run site (ltb-true site decl.sites is) free
 
     closed_remembers : (a : ℕ) (q : ClientRequest) (t : Current) (client : is_client decl a ≡ true)
         → (account decl a h).current ≡ Some t

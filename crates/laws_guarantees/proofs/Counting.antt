@@ -19,6 +19,7 @@ use Rattle.qc_promise.specs.Vocabulary.{promised, taken_for, told_by, with_read}
 use Rattle.laws_guarantees.proofs.Accounts.{HasGrounds, IsGrant, IsSameBut, WasGranted, WasSent, WasTaken, after_taken}
 use Rattle.laws_guarantees.proofs.Accounts.{found_in, granted_more, open_number, promised_requests, same_grounds}
 use Rattle.laws_guarantees.proofs.Accounts.{sent_more, taken_more, told_current, told_requests}
+use Rattle.laws_guarantees.proofs.AccountCases.{told_cases}
 
 -- the deed that takes it
 abbrev pub IsTakeOf : Deed → ℕ → Option Answer → Type 0
@@ -77,21 +78,13 @@ counted_grounds ds x d number answer takes k = by (find (is_open number) d.reque
 
                 never_none : (d : Account) (p : ClientRequest) (answer : Option Answer) (t : Current)
                     → d.current ≡ Some t → (told_by d p answer).current ≡ None → ⊥
-                never_none d p None t was is = let never : ⊥ = cc in never
-                never_none d p (Some (answers.Granted life clock log)) t was is =
-                    by_want d p.site life clock log p.want t was is
-                never_none d p (Some (answers.Clash holder inv event)) t was is = let never : ⊥ = cc in never
-                never_none d p (Some (answers.Closed epoch)) t was is = let never : ⊥ = cc in never
-                never_none d p (Some (answers.Behind epoch)) t was is = let never : ⊥ = cc in never
-                never_none d p (Some (answers.Restarted life)) t was is = let never : ⊥ = cc in never
-                never_none d p (Some answers.Stale) t was is = let never : ⊥ = cc in never
-                never_none d p (Some answers.Fault) t was is = let never : ⊥ = cc in never
-                never_none d p (Some (answers.Yes clock)) t was is =
+                never_none d p answer t was is = told_cases d p (λ a e. e.current ≡ None → ⊥)
+                    (λ a none. let never : ⊥ = cc in never)
+                    (λ life clock log none. by_want d p.site life clock log p.want t was none)
+                    (λ epoch none. let never : ⊥ = cc in never)
+                    (λ clock none.
                     let same : (promised d clock p.want).current ≡ d.current = (promised_requests d clock p.want).2 in
-                    let never : ⊥ = cc in never
-                never_none d p (Some (answers.Shut clock log prepared)) t was is = let never : ⊥ = cc in never
-                never_none d p (Some answers.Installed) t was is = let never : ⊥ = cc in never
-                never_none d p (Some (answers.Answered verdict)) t was is = let never : ⊥ = cc in never
+                    let never : ⊥ = cc in never) answer is
 
             at : (o : Option Current) → (told_by (record d { requests = taken_for number answer d.requests }) p
                 answer).current ≡ o → (t : Current) → d.current ≡ Some t → WasSent ds q t.tx

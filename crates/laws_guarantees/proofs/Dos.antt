@@ -10,7 +10,6 @@ use Rattle.qc_core.specs.Vocabulary.{IsLawful, is_running}
 use Rattle.qc_decl.specs.Vocabulary.{IsAccepted, administrator, client_actor, is_client}
 use Rattle.qc_decl.specs.declared.declaration.Declaration.{Declaration}
 use Rattle.qc_msg.specs.declared.reply.Reply.{Reply}
-use Rattle.qc_msg.specs.declared.reply.Reply.TheVariants as replies
 use Rattle.qc_msg.specs.declared.step.Command.{Command}
 use Rattle.qc_msg.specs.declared.step.Command.TheVariants as commands
 use Rattle.qc_msg.specs.declared.turn.Turn.{Turn}
@@ -20,11 +19,11 @@ use Rattle.qc_msg.proofs.Growth.{deeds-posted}
 use Rattle.qc_script.specs.Vocabulary.{Runs}
 use Rattle.qc_script.specs.declared.script.Script.{Script}
 use Rattle.laws_turns.specs.Vocabulary.{ActsIn, AsksDeclared}
-use Rattle.laws_turns.proofs.Acted.{run_acts}
+use Rattle.laws_turns.proofs.Acted.{actors_take_and_post_by_turns}
 use Rattle.laws_turns.proofs.Idle.{idle}
 use Rattle.laws_guarantees.proofs.IdleDeeds.{idle_named}
 use Rattle.qc_promise.specs.Vocabulary.{Current, account, account_at, do_row, new_account, row_of, running_row}
-use Rattle.laws_due.proofs.Courses.{turns_tell}
+use Rattle.laws_due.proofs.Courses.{turns_tell_their_rows}
 use Rattle.laws_guarantees.specs.Vocabulary.{DoOf, DoSucceeds, DosSucceed, EachReply, IsDone, IsOpenElsewhere, IsStill}
 use Rattle.laws_guarantees.specs.Vocabulary.{IsUndisturbed, OfRunning, begun_by, name_of}
 use Rattle.laws_guarantees.proofs.Asking.{IsBusy, is_busy}
@@ -34,7 +33,7 @@ use Rattle.laws_guarantees.proofs.Names.{Stays, untold_stays}
 use Rattle.laws_guarantees.proofs.OwnWords.{client_is}
 use Rattle.laws_guarantees.proofs.PartsOf.{posted_parts}
 use Rattle.laws_guarantees.proofs.Still.{one_still}
-use Rattle.laws_guarantees.proofs.GoodRows.{GoodReply, row_good}
+use Rattle.laws_guarantees.proofs.GoodRows.{GoodReply, is_absent, is_clash, is_response, row_good}
 use Rattle.laws_turns.proofs.Up.{run_up}
 
 module _ (decl : Declaration) (script : Script) (accepted : IsAccepted decl) (asks : AsksDeclared decl script)
@@ -101,25 +100,9 @@ module _ (decl : Declaration) (script : Script) (accepted : IsAccepted decl) (as
 
     done : is_running (deeds b [] older) ≡ true → (r : Reply) → GoodReply decl b older r
         → IsDone decl (older ++ by b (posted (length (mail older)) (untold turn))) b r
-    done runs replies.Down never = never
-    done runs (replies.Already tx) never = never
-    done runs (replies.Began tx) never = never
-    done runs replies.NoTransaction never = never
-    done runs replies.Doomed never = never
-    done runs replies.TooLong never = never
-    done runs (replies.Closed epoch site) never = never
-    done runs (replies.Conflict tx site) good = open_now runs tx good
-    done runs (replies.Quorum half got need) never = never
-    done runs replies.Absent good = tt
-    done runs (replies.Response resp) good = tt
-    done runs (replies.Aborted why) never = never
-    done runs replies.Unknown never = never
-    done runs (replies.Committed stamp) never = never
-    done runs replies.Dropped never = never
-    done runs (replies.Order current) never = never
-    done runs (replies.InDoubt tx site) never = never
-    done runs replies.Fault never = never
-    done runs (replies.Moved closed installed) never = never
+    done runs _ (is_clash tx site good) = open_now runs tx good
+    done runs _ is_absent = tt
+    done runs _ (is_response resp) = tt
 
   -- what is written and sent with a reply leaves the account's transaction and command
 
@@ -150,10 +133,10 @@ module _ (decl : Declaration) (script : Script) (accepted : IsAccepted decl) (as
       (at (account decl b older).current refl (account decl b older).command refl))
     where
       acts : ActsIn decl b older true
-      acts = run_acts decl script older before run b true is_opened
+      acts = actors_take_and_post_by_turns decl script older before run b true is_opened
 
       due_now : running_row decl (account decl b older) false ≡ Some r
-      due_now = sym (turns_tell decl b named (deeds b [] older) acts.above turn acts.acts lawful) ∙ told
+      due_now = sym (turns_tell_their_rows decl b named (deeds b [] older) acts.above turn acts.acts lawful) ∙ told
 
       at : (o : Option Current) → (account decl b older).current ≡ o → (c : Option Command)
           → (account decl b older).command ≡ c → OfRunning
@@ -179,7 +162,8 @@ module _ (decl : Declaration) (script : Script) (accepted : IsAccepted decl) (as
   run_dos h open_inputs run = run_each (DoSucceeds decl) (λ h. Unit {0})
       (λ h k within. tt) decl script reply_succeeds h open_inputs run tt
 
-pub dos_succeed : (decl : Declaration) (script : Script) → IsAccepted decl → AsksDeclared decl script
+pub undisturbed_dos_succeed : (decl : Declaration) (script : Script) → IsAccepted decl → AsksDeclared decl script
     → IsUndisturbed script → (h : List Entry) (open_inputs : List Bool) → Runs (IsLawful decl) decl script h open_inputs
     → DosSucceed decl h
-dos_succeed decl script accepted asks calm h open_inputs run = run_dos decl script accepted asks calm h open_inputs run
+undisturbed_dos_succeed decl script accepted asks calm h open_inputs run =
+    run_dos decl script accepted asks calm h open_inputs run

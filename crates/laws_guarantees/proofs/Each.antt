@@ -8,7 +8,6 @@ use Rattle.qc_decl.specs.declared.declaration.Declaration.{Declaration}
 use Rattle.qc_msg.specs.declared.record.Record.{Record}
 use Rattle.qc_msg.specs.declared.reply.Reply.{Reply}
 use Rattle.qc_msg.specs.declared.step.Control.{Control}
-use Rattle.qc_msg.specs.declared.step.Control.TheVariants as controls
 use Rattle.qc_msg.specs.declared.step.Input.{Input}
 use Rattle.qc_msg.specs.declared.step.Input.TheVariants as inputs
 use Rattle.qc_msg.specs.declared.step.Step.{Step}
@@ -24,6 +23,7 @@ use Rattle.qc_site.specs.Vocabulary.{site_after}
 use Rattle.laws_turns.proofs.Stamped.{site_answering}
 use Rattle.laws_turns.proofs.Bounding.{lawful_turn}
 use Rattle.laws_guarantees.specs.Vocabulary.{EachReply, IfTold}
+use Rattle.laws_guarantees.proofs.ControlCases.{control_cases}
 
 -- a turn without its reply: what stands before that in the history
 abbrev pub untold : Turn → Turn
@@ -82,14 +82,7 @@ module _ (P : List Entry → ℕ → Reply → Type 0) where
 
   control_quiet : (before : List Entry) (a : ℕ) (line : Control) (step : Step) → step_of_control line ≡ Some step
       → IfTold P before a step
-  control_quiet before a (controls.Phase k) step is = absurd (let never : ⊥ = cc in never)
-  control_quiet before a (controls.Cut x y) step is =
-      subst (IfTold P before a) (let same : steps.Cut x y ≡ step = cc in same) tt
-  control_quiet before a (controls.Heal x y) step is =
-      subst (IfTold P before a) (let same : steps.Heal x y ≡ step = cc in same) tt
-  control_quiet before a (controls.Armed actor kind at) step is = absurd (let never : ⊥ = cc in never)
-  control_quiet before a (controls.Crash x) step is = absurd (let never : ⊥ = cc in never)
-  control_quiet before a (controls.Restart x) step is = absurd (let never : ⊥ = cc in never)
+  control_quiet before a = control_cases (IfTold P before a) (λ x y. tt) (λ x y. tt)
 
   -- Q holds of the history, and of what stands before in it
   module _ (Q : List Entry → Type 0) (shorter : (h k : List Entry) → Q (h ++ k) → Q h) (decl : Declaration)

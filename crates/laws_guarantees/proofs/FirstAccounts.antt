@@ -7,18 +7,14 @@ use Rattle.qc_stamp.specs.declared.stamp.TxId.{TxId}
 use Rattle.qc_stamp.specs.Vocabulary.{first_life, same_tx}
 use Rattle.qc_decl.specs.declared.declaration.Declaration.{Declaration}
 use Rattle.qc_msg.specs.declared.begun.LifeAt.{LifeAt}
-use Rattle.qc_msg.specs.declared.message.Answer.{Answer}
 use Rattle.qc_msg.specs.declared.message.Message.{Message}
 use Rattle.qc_msg.specs.declared.message.Message.TheVariants as messages
 use Rattle.qc_msg.specs.declared.message.Want.{Want}
-use Rattle.qc_msg.specs.declared.record.Record.TheVariants as records
 use Rattle.qc_msg.specs.declared.reply.Half.TheVariants as halves
 use Rattle.qc_msg.specs.declared.reply.Half.{Half}
 use Rattle.qc_msg.specs.declared.reply.Reply.{Reply}
-use Rattle.qc_msg.specs.declared.reply.Reply.TheVariants as replies
 use Rattle.qc_msg.specs.declared.step.Command.{Command}
-use Rattle.qc_msg.specs.declared.step.Command.TheVariants as commands
-use Rattle.qc_msg.specs.Vocabulary.{Deed, Falls, Rises, Sends, Takes, Tells, Writes, life_of}
+use Rattle.qc_msg.specs.Vocabulary.{Deed, Falls, Rises, Sends, Takes, Tells, Writes, life_of, Requested, request_in}
 use Rattle.qc_promise.specs.Vocabulary.{Account, Current, account_at, account_fallen, account_sent, account_taken}
 use Rattle.qc_promise.specs.Vocabulary.{account_told, account_told_in, account_with, account_written, command_asks}
 use Rattle.qc_promise.specs.Vocabulary.{doomed_if, found_absent, is_append, is_asked_for, is_of, lived, new_account}
@@ -27,15 +23,12 @@ use Rattle.laws_due.specs.Vocabulary.{AreByRows, IsSendDue}
 use Rattle.laws_guarantees.specs.Vocabulary.{IsFirst}
 use Rattle.laws_guarantees.proofs.FirstDeeds.{FirstLives, FirstCurrent, IsFirstAccount, changed, FirstGiven}
 use Rattle.laws_guarantees.proofs.FirstDeeds.{taken_first, written_first, sent_first, responded_first}
+use Rattle.laws_guarantees.proofs.AccountCases.{absent_cases, reply_cases}
+use Rattle.std.specs.Prelude.{MatchOption}
 
 absent_first : (d : Account) (o : Option Command) → IsFirstAccount d → IsFirstAccount (found_absent d o)
-absent_first d None f = f
-absent_first d (Some commands.Begin) f = f
-absent_first d (Some (commands.Do object inv)) f =
-    changed d (λ (t : Current). with_absent t object inv) (λ t first. first) f
-absent_first d (Some commands.Commit) f = f
-absent_first d (Some commands.Abort) f = f
-absent_first d (Some (commands.Epoch number)) f = f
+absent_first d o f = absent_cases d IsFirstAccount f
+    (λ object inv. changed d (λ (t : Current). with_absent t object inv) (λ t first. first) f) o
 
 short_first : (d : Account) (half : Half) → IsFirstAccount d → IsFirstAccount (short_of d half)
 short_first d halves.Read f = f
@@ -47,25 +40,10 @@ refused_first d f = changed d (doomed_if (not (length (requests_for is_append d)
 
 told_in_first : (decl : Declaration) (d : Account) (r : Reply) → IsFirstAccount d
     → IsFirstAccount (account_told_in decl d r)
-told_in_first decl d replies.Down f = f
-told_in_first decl d (replies.Already tx) f = f
-told_in_first decl d (replies.Began tx) f = record { known = f.known; current = (f.known, tt) }
-told_in_first decl d replies.NoTransaction f = f
-told_in_first decl d replies.Doomed f = f
-told_in_first decl d replies.TooLong f = f
-told_in_first decl d (replies.Closed epoch site) f = refused_first d f
-told_in_first decl d (replies.Conflict tx site) f = refused_first d f
-told_in_first decl d (replies.Quorum half got need) f = short_first d half f
-told_in_first decl d replies.Absent f = absent_first d d.command f
-told_in_first decl d (replies.Response resp) f = responded_first decl d d.command f
-told_in_first decl d (replies.Aborted why) f = record { known = f.known; current = tt }
-told_in_first decl d replies.Unknown f = record { known = f.known; current = tt }
-told_in_first decl d (replies.Committed stamp) f = record { known = f.known; current = tt }
-told_in_first decl d replies.Dropped f = record { known = f.known; current = tt }
-told_in_first decl d (replies.Order current) f = f
-told_in_first decl d (replies.InDoubt tx site) f = f
-told_in_first decl d replies.Fault f = f
-told_in_first decl d (replies.Moved closed installed) f = f
+told_in_first decl d r f = reply_cases decl d (λ r e. IsFirstAccount e) (λ r. f)
+    (λ tx. record { known = f.known; current = (f.known, tt) }) (λ stamp. record { known = f.known; current = tt })
+    (λ r. record { known = f.known; current = tt }) (λ r. refused_first d f) (λ r half. short_first d half f)
+    (λ r. absent_first d d.command f) (λ r. responded_first decl d d.command f) r
 
 reply_first : (decl : Declaration) (d : Account) (r : Reply) → IsFirstAccount d → IsFirstAccount (account_told decl d r)
 reply_first decl d r f =
@@ -116,13 +94,8 @@ asked_first decl d to tx epoch life want f is = by d.current f.current is
 -- over all that a client does
 
 abbrev pub RequestIsFirst : Message → Type 0
-RequestIsFirst (messages.Request tx epoch life want) = IsFirst (messages.Request tx epoch life want)
-RequestIsFirst (messages.Answer to answer) = Unit {0}
-RequestIsFirst (messages.Decision tx verdict) = Unit {0}
-RequestIsFirst (messages.Inquiry tx) = Unit {0}
-RequestIsFirst (messages.Ask tx) = Unit {0}
-RequestIsFirst (messages.Close epoch) = Unit {0}
-RequestIsFirst (messages.Install epoch clock log) = Unit {0}
+RequestIsFirst m = MatchOption (request_in m) (Unit {0})
+    (λ (q : Requested). IsFirst (messages.Request q.tx q.epoch q.life q.want))
 
 abbrev pub TakesFirst : Deed → Type 0
 TakesFirst (Takes g) = FirstGiven g
@@ -142,13 +115,13 @@ SendsFirst (Rises records) = Unit {0}
 
 sent_is : (decl : Declaration) (d : Account) (to : ℕ) (m : Message) → IsFirstAccount d → IsSendDue decl d to m
     → RequestIsFirst m
-sent_is decl d to (messages.Request tx epoch life want) f due = asked_first decl d to tx epoch life want f due
-sent_is decl d to (messages.Answer number answer) f due = tt
-sent_is decl d to (messages.Decision tx verdict) f due = tt
-sent_is decl d to (messages.Inquiry tx) f due = tt
-sent_is decl d to (messages.Ask tx) f due = tt
-sent_is decl d to (messages.Close epoch) f due = tt
-sent_is decl d to (messages.Install epoch clock log) f due = tt
+sent_is decl d to m f due = by (request_in m) due
+  where
+    by : (o : Option Requested)
+        → MatchOption o (Unit {0}) (λ (q : Requested). is_asked_for decl d to q.tx q.epoch q.life q.want ≡ true)
+        → MatchOption o (Unit {0}) (λ (q : Requested). IsFirst (messages.Request q.tx q.epoch q.life q.want))
+    by None asked = tt
+    by (Some q) asked = asked_first decl d to q.tx q.epoch q.life q.want f asked
 
 pub deeds_first : (decl : Declaration) (d : Account) (ds : List Deed) → IsFirstAccount d → AreByRows decl d ds
     → Every TakesFirst ds → Every SendsFirst ds

@@ -7,23 +7,19 @@ use Rattle.qc_entry.specs.declared.line.Line.{Line}
 use Rattle.qc_decl.specs.declared.declaration.Declaration.{Declaration}
 use Rattle.qc_msg.specs.declared.begun.LifeAt.{LifeAt}
 use Rattle.qc_msg.specs.declared.message.Answer.{Answer}
-use Rattle.qc_msg.specs.declared.message.Answer.TheVariants as answers
 use Rattle.qc_msg.specs.declared.message.Message.{Message}
-use Rattle.qc_msg.specs.declared.message.Message.TheVariants as messages
 use Rattle.qc_msg.specs.declared.message.Want.{Want}
 use Rattle.qc_msg.specs.declared.message.Want.TheVariants as wants
 use Rattle.qc_msg.specs.declared.record.Record.{Record}
-use Rattle.qc_msg.specs.declared.record.Record.TheVariants as records
 use Rattle.qc_msg.specs.declared.step.Command.{Command}
-use Rattle.qc_msg.specs.declared.step.Command.TheVariants as commands
 use Rattle.qc_msg.specs.declared.step.Input.{Input}
 use Rattle.qc_msg.specs.declared.step.Input.TheVariants as inputs
 use Rattle.qc_msg.specs.Vocabulary.{first_epoch, has_granted, with_life}
 use Rattle.qc_promise.specs.Vocabulary.{Account, ClientRequest, Current, account_heard, account_sent, account_taken}
-use Rattle.qc_promise.specs.Vocabulary.{account_written, answer_of, counted, counted_for, granted, is_asked_for}
-use Rattle.qc_promise.specs.Vocabulary.{is_open, lived, promised, responded, taken_for, told_by, with_current}
-use Rattle.qc_promise.specs.Vocabulary.{with_read, with_response}
+use Rattle.qc_promise.specs.Vocabulary.{account_written, answer_of, counted, counted_for, granted, is_open, lived}
+use Rattle.qc_promise.specs.Vocabulary.{promised, responded, taken_for, told_by, with_current, with_read, with_response}
 use Rattle.laws_guarantees.specs.Vocabulary.{IsFirst, IsFirstAnswer}
+use Rattle.laws_guarantees.proofs.AccountCases.{heard_cases, responded_cases, sent_cases, told_cases, written_cases}
 
 abbrev pub FirstLives : List LifeAt → Type 0
 FirstLives lives = Every (λ (l : LifeAt). l.life ≡ first_life) lives
@@ -81,18 +77,9 @@ FirstTaken (Some answer) = IsFirstAnswer answer
 
 told_first : (d : Account) (q : ClientRequest) (answer : Option Answer) → FirstTaken answer → IsFirstAccount d
     → IsFirstAccount (told_by d q answer)
-told_first d q None first f = f
-told_first d q (Some (answers.Granted life clock log)) first f = granted_first d q.site life clock log q.want first f
-told_first d q (Some (answers.Clash holder inv event)) first f = f
-told_first d q (Some (answers.Closed epoch)) never f = absurd never
-told_first d q (Some (answers.Behind epoch)) never f = absurd never
-told_first d q (Some (answers.Restarted life)) never f = absurd never
-told_first d q (Some answers.Stale) first f = f
-told_first d q (Some answers.Fault) never f = absurd never
-told_first d q (Some (answers.Yes clock)) first f = promised_first d clock q.want f
-told_first d q (Some (answers.Shut clock log prepared)) never f = absurd never
-told_first d q (Some answers.Installed) never f = absurd never
-told_first d q (Some (answers.Answered verdict)) never f = absurd never
+told_first d q answer first f = told_cases d q (λ a e. FirstTaken a → IsFirstAccount e) (λ a first. f)
+    (λ life clock log first. granted_first d q.site life clock log q.want first f) (λ epoch never. absurd never)
+    (λ clock first. promised_first d clock q.want f) answer first
 
 counted_first : (d : Account) (number : ℕ) (answer : Option Answer) → FirstTaken answer → IsFirstAccount d
     → IsFirstAccount (counted d number answer)
@@ -105,13 +92,8 @@ counted_first d number answer first f = by (find (is_open number) d.requests)
         (record { known = f.known; current = f.current })
 
 heard_first : (d : Account) (m : Message) → IsFirst m → IsFirstAccount d → IsFirstAccount (account_heard d m)
-heard_first d (messages.Request tx epoch life want) first f = f
-heard_first d (messages.Answer to answer) first f = counted_first d to (Some answer) first f
-heard_first d (messages.Decision tx verdict) first f = f
-heard_first d (messages.Inquiry tx) first f = f
-heard_first d (messages.Ask tx) first f = f
-heard_first d (messages.Close epoch) first f = f
-heard_first d (messages.Install epoch clock log) first f = f
+heard_first d m first f = heard_cases d (λ m e. IsFirst m → IsFirstAccount e) (λ m first. f)
+    (λ to answer first. counted_first d to (Some answer) first f) m first
 
 abbrev pub FirstGiven : Input → Type 0
 FirstGiven (inputs.Called command) = Unit {0}
@@ -126,33 +108,13 @@ taken_first d (inputs.Lost number) first f = counted_first d number None tt f
 -- what is written, sent and told
 
 pub written_first : (d : Account) (w : Record) → IsFirstAccount d → IsFirstAccount (account_written d w)
-written_first d records.Life f = record { known = f.known; current = f.current }
-written_first d (records.Prepare prepared) f = f
-written_first d (records.Done tx clock) f = f
-written_first d (records.Close epoch) f = f
-written_first d (records.Install epoch clock lines) f = f
-written_first d (records.Commit commit) f = record { known = f.known; current = f.current }
-written_first d (records.Decide epoch clock lines) f = f
+written_first d w f = written_cases d IsFirstAccount f (record { known = f.known; current = f.current })
+    (λ commit. record { known = f.known; current = f.current }) w
 
 pub sent_first : (decl : Declaration) (d : Account) (number to : ℕ) (m : Message) → IsFirstAccount d
     → IsFirstAccount (account_sent decl d number to m)
-sent_first decl d number to (messages.Request tx epoch life want) f = by (is_asked_for decl d to tx epoch life want)
-  where
-    by : (t : Bool)
-        → IsFirstAccount
-        (cond t
-        (record d {
-          requests =
-              d.requests ++ record { number = number; site = to; life = life; want = want; taken = None } ∷ [];
-        }) d)
-    by true = record { known = f.known; current = f.current }
-    by false = f
-sent_first decl d number to (messages.Answer request answer) f = f
-sent_first decl d number to (messages.Decision tx verdict) f = f
-sent_first decl d number to (messages.Inquiry tx) f = f
-sent_first decl d number to (messages.Ask tx) f = f
-sent_first decl d number to (messages.Close epoch) f = f
-sent_first decl d number to (messages.Install epoch clock log) f = f
+sent_first decl d number to m f = sent_cases decl d number to (λ m e. IsFirstAccount e) (λ m. f)
+    (λ tx epoch life want is. record { known = f.known; current = f.current }) m
 
 response_first : (decl : Declaration) (t : Current) (object inv : ℕ) (o : Option ℕ) → FirstTransaction t
     → FirstTransaction (with_response decl t object inv o)
@@ -161,11 +123,6 @@ response_first decl t object inv (Some event) first = first
 
 pub responded_first : (decl : Declaration) (d : Account) (o : Option Command) → IsFirstAccount d
     → IsFirstAccount (responded decl d o)
-responded_first decl d None f = f
-responded_first decl d (Some commands.Begin) f = f
-responded_first decl d (Some (commands.Do object inv)) f =
-    changed d (λ (t : Current). with_response decl t object inv (answer_of decl t object inv))
-    (λ t first. response_first decl t object inv (answer_of decl t object inv) first) f
-responded_first decl d (Some commands.Commit) f = f
-responded_first decl d (Some commands.Abort) f = f
-responded_first decl d (Some (commands.Epoch number)) f = f
+responded_first decl d o f = responded_cases decl d IsFirstAccount f
+    (λ object inv. changed d (λ (t : Current). with_response decl t object inv (answer_of decl t object inv))
+    (λ t first. response_first decl t object inv (answer_of decl t object inv) first) f) o

@@ -29,11 +29,11 @@ use Rattle.qc_site.specs.Site as sites
 use Rattle.laws_atomic.proofs.FirstSites.{TakesCalm, after_at_first}
 use Rattle.qc_client.specs.Vocabulary.{ClientMove, client_after, client_does, moved, new_client}
 use Rattle.laws_turns.specs.Vocabulary.{ActsIn}
-use Rattle.laws_turns.proofs.Acted.{run_acts}
+use Rattle.laws_turns.proofs.Acted.{actors_take_and_post_by_turns}
 use Rattle.laws_turns.proofs.Numbered.{control_silent, mail-silent, phase_silent}
 use Rattle.laws_turns.proofs.Places.{slice_get-set_same}
 use Rattle.laws_turns.proofs.Served.{first_part, second_part}
-use Rattle.laws_due.proofs.Courses.{clients_due}
+use Rattle.laws_due.proofs.Courses.{deeds_of_clients_are_by_rows}
 use Rattle.laws_due.specs.Vocabulary.{AreByRows}
 use Rattle.qc_promise.specs.Vocabulary.{new_account}
 use Rattle.laws_turns.proofs.Bounding.{lawful_turn, turn-posts}
@@ -141,7 +141,7 @@ module _ (decl : Declaration) (script : Script) where
         → SayFirst turn.sends
     by_client named its =
         let acts : ActsIn decl b (older ++ by b (posted (length (mail older)) turn)) false =
-        run_acts decl script (older ++ by b (posted (length (mail older)) turn))
+        actors_take_and_post_by_turns decl script (older ++ by b (posted (length (mail older)) turn))
         (slice_set before b false) next b false (slice_get-set_same before b false true taken) in
         let grown : deeds b [] (older ++ by b (posted (length (mail older)) turn)) ≡ deeds b [] older ++ turn_deeds
         (length (mail older)) turn = deeds-posted b (length (mail older)) older turn in
@@ -152,7 +152,8 @@ module _ (decl : Declaration) (script : Script) where
         deeds_first decl (new_account (b - decl.sites)) (deeds b [] older ++ turn_deeds (length (mail older)) turn)
         (new_first (b - decl.sites))
         (subst (λ (ds : List Deed). AreByRows decl (new_account (b - decl.sites)) ds) grown
-        (clients_due decl b named (deeds b [] (older ++ by b (posted (length (mail older)) turn))) false acts.above
+        (deeds_of_clients_are_by_rows decl b named (deeds b [] (older ++ by b (posted (length (mail older)) turn)))
+        false acts.above
         acts.acts)) takes in
         turn_said (length (mail older)) turn (second_part SendsFirst (deeds b [] older)
         (turn_deeds (length (mail older)) turn) sends)
@@ -163,21 +164,22 @@ module _ (decl : Declaration) (script : Script) where
         (λ is its. subst (λ (t : Turn). SayFirst t.sends) (sym its) (by_site is))
         (λ is named its. by_client named its) refl
 
-  pub run_first : (h : List Entry) (open_inputs : List Bool) → Runs (IsLawful decl) decl script h open_inputs
+  pub lives_and_epochs_are_the_first : (h : List Entry) (open_inputs : List Bool)
+      → Runs (IsLawful decl) decl script h open_inputs
       → AreFirst (mail h)
-  run_first h open_inputs begins = tt
-  run_first h open_inputs (takes a taken before older run free ready) =
-      subst AreFirst (sym (mail-taken older a taken)) (run_first older before run)
-  run_first h open_inputs (posts a turn before older run taken lawful) =
+  lives_and_epochs_are_the_first h open_inputs begins = tt
+  lives_and_epochs_are_the_first h open_inputs (takes a taken before older run free ready) =
+      subst AreFirst (sym (mail-taken older a taken)) (lives_and_epochs_are_the_first older before run)
+  lives_and_epochs_are_the_first h open_inputs (posts a turn before older run taken lawful) =
       subst AreFirst (sym (mail-append older (by a (posted (length (mail older)) turn))
       ∙ ap (λ (v : List Envelope). mail older ++ v) (mail-posted a (length (mail older)) turn)))
       (every-append (λ (e : Envelope). IsFirst e.message) (mail older) (envelopes a (length (mail older)) turn.sends)
-      (run_first older before run)
+      (lives_and_epochs_are_the_first older before run)
       (first_envelopes a (length (mail older)) turn.sends
-      (says older before run (run_first older before run) a turn taken lawful)))
-  run_first h open_inputs (phase before older run none done calm more) =
+      (says older before run (lives_and_epochs_are_the_first older before run) a turn taken lawful)))
+  lives_and_epochs_are_the_first h open_inputs (phase before older run none done calm more) =
       subst AreFirst (sym (mail-silent older (controller decl) (steps.Phase (phase_of older + 1))
-      (phase_silent (phase_of older + 1)))) (run_first older before run)
-  run_first h open_inputs (control line lines step before older run left is) =
+      (phase_silent (phase_of older + 1)))) (lives_and_epochs_are_the_first older before run)
+  lives_and_epochs_are_the_first h open_inputs (control line lines step before older run left is) =
       subst AreFirst (sym (mail-silent older (controller decl) step (control_silent line step is)))
-      (run_first older before run)
+      (lives_and_epochs_are_the_first older before run)

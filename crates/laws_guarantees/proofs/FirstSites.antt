@@ -15,12 +15,14 @@ use Rattle.qc_msg.specs.declared.step.Input.TheVariants as inputs
 use Rattle.qc_msg.specs.declared.turn.Posting.{Posting}
 use Rattle.qc_msg.specs.Vocabulary.{Deed, Falls, Rises, Sends, Takes, Tells, Writes, first_epoch}
 use Rattle.qc_site.specs.Vocabulary.{SiteMove, SiteState, closed_fault, fault_of, grants, life_fault, passed, site_at}
-use Rattle.qc_site.specs.Vocabulary.{site_takes}
+use Rattle.qc_site.specs.Vocabulary.{site_takes, finishes}
 use Rattle.qc_site.proofs.RequestCases.{append_cases, join_cases, prepare_cases, read_cases, request_cases}
 use Rattle.laws_atomic.proofs.FirstSites.{IsAtFirst, IsCalmGiven, IsCalmMessage, TakesCalm}
 use Rattle.laws_guarantees.specs.Vocabulary.{IsFirst}
 use Rattle.laws_guarantees.proofs.FirstDeeds.{FirstGiven}
 use Rattle.laws_guarantees.proofs.FirstAccounts.{TakesFirst}
+use Rattle.laws_guarantees.proofs.SiteCases.{site_cases}
+use Rattle.qc_msg.specs.declared.message.Outcome.{Outcome}
 
 -- a request of the first epoch, which names the first life or none, isn't refused for them
 pub first_free : (n : ℕ) (s : SiteState) (epoch life : ℕ) → IsAtFirst n s → epoch ≡ first_epoch
@@ -58,20 +60,17 @@ module _ (decl : Declaration) (n : ℕ) (s : SiteState) (first : IsAtFirst n s) 
   granted tx Prepare = prepare_cases SaysFirst s from number tx (tt, tt) (λ held stands. (tt, tt))
       (λ held made. (tt, tt))
 
+  decided : (tx : TxId) (verdict : Outcome) → SaysFirst (finishes s tx verdict)
+  decided tx (Committed stamp) = join_cases SaysFirst s tx stamp (λ none. tt) (λ p some. tt)
+  decided tx Aborted = tt
+  decided tx Active = tt
+
   at : (m : Message) → IsFirst m → SaysFirst (site_at decl s from number m)
-  at (messages.Request tx epoch life want) is =
-      request_cases SaysFirst decl s from number tx epoch life want tt
+  at m = site_cases decl s from number (λ m move. IsFirst m → SaysFirst move) (λ m is. tt)
+      (λ tx epoch life want is. request_cases SaysFirst decl s from number tx epoch life want tt
       (λ fault refused. absurd (let free : fault_of s epoch life ≡ None = first_free n s epoch life first is.0 is.1 in
-      let never : ⊥ = cc in never))
-      (λ free. granted tx want)
-  at (messages.Answer to answer) is = tt
-  at (messages.Decision tx (Committed stamp)) is = join_cases SaysFirst s tx stamp (λ none. tt) (λ p some. tt)
-  at (messages.Decision tx Aborted) is = tt
-  at (messages.Decision tx Active) is = tt
-  at (messages.Inquiry tx) is = tt
-  at (messages.Ask tx) is = tt
-  at (messages.Close epoch) never = absurd never
-  at (messages.Install epoch clock log) never = absurd never
+      let never : ⊥ = cc in never)) (λ free. granted tx want))
+      (λ tx verdict is. decided tx verdict) (λ epoch never. absurd never) (λ epoch clock log never. absurd never) m
 
 pub site_first : (decl : Declaration) (n : ℕ) (s : SiteState) (g : Input) → IsAtFirst n s → FirstGiven g
     → SaysFirst (site_takes decl s g)

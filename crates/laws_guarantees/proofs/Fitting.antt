@@ -13,31 +13,25 @@ use Rattle.qc_msg.specs.declared.message.Want.TheVariants.{Append, Prepare, Read
 use Rattle.qc_msg.specs.declared.step.Input.TheVariants as inputs
 use Rattle.qc_msg.specs.declared.turn.Posting.{Posting}
 use Rattle.qc_site.specs.Vocabulary.{SiteMove, SiteState, fault_of, grants, passed, relation_at, site_at, site_takes}
+use Rattle.qc_site.specs.Vocabulary.{finishes}
 use Rattle.laws_atomic.proofs.FirstSites.{IsAtFirst}
 use Rattle.qc_site.proofs.RequestCases.{append_cases, join_cases, prepare_cases, read_cases, request_cases}
 use Rattle.laws_guarantees.specs.Vocabulary.{Fits, IsFirst}
 use Rattle.laws_guarantees.proofs.FirstSites.{first_free}
 use Rattle.laws_guarantees.proofs.Held.{AreOpen, IsInTheWay, append_way, read_way}
+use Rattle.std.specs.Prelude.{MatchOption}
+use Rattle.qc_msg.specs.Vocabulary.{Answered, Requested, answer_in, request_in}
+use Rattle.laws_guarantees.proofs.SiteCases.{site_cases}
+use Rattle.qc_msg.specs.declared.message.Outcome.{Outcome}
 
 -- an answer, of a site that took these messages, to the message of this number
 
 abbrev pub FitsMessage : List Envelope → Message → Answer → Type 0
-FitsMessage ms (messages.Request tx epoch life want) answer = Fits ms tx want answer
-FitsMessage ms (messages.Answer to other) answer = ⊥
-FitsMessage ms (messages.Decision tx verdict) answer = ⊥
-FitsMessage ms (messages.Inquiry tx) answer = ⊥
-FitsMessage ms (messages.Ask tx) answer = ⊥
-FitsMessage ms (messages.Close epoch) answer = ⊥
-FitsMessage ms (messages.Install epoch clock log) answer = ⊥
+FitsMessage ms m answer = MatchOption (request_in m) ⊥ (λ (q : Requested). Fits ms q.tx q.want answer)
 
 abbrev pub IfAnswers : List Envelope → ℕ → Message → Message → Type 0
-IfAnswers ms number m (messages.Request tx epoch life want) = Unit {0}
-IfAnswers ms number m (messages.Answer to answer) = (to ≡ number) × FitsMessage ms m answer
-IfAnswers ms number m (messages.Decision tx verdict) = Unit {0}
-IfAnswers ms number m (messages.Inquiry tx) = Unit {0}
-IfAnswers ms number m (messages.Ask tx) = Unit {0}
-IfAnswers ms number m (messages.Close epoch) = Unit {0}
-IfAnswers ms number m (messages.Install epoch clock log) = Unit {0}
+IfAnswers ms number m sent = MatchOption (answer_in sent) (Unit {0})
+    (λ (a : Answered). (a.to ≡ number) × FitsMessage ms m a.answer)
 
 abbrev pub AnswersTo : List Envelope → ℕ → Message → SiteMove → Type 0
 AnswersTo ms number m move = Every (λ (p : Posting). IfAnswers ms number m p.message) move.turn.sends
@@ -62,21 +56,20 @@ module _ (decl : Declaration) (ms : List Envelope) (n : ℕ) (s : SiteState) (fi
       prepare_cases (AnswersTo ms number (messages.Request tx epoch life Prepare)) s from number tx ((refl, tt), tt)
       (λ held stands. ((refl, tt), tt)) (λ held made. ((refl, tt), tt))
 
-  at : (m : Message) → IsFirst m → AnswersTo ms number m (site_at decl s from number m)
-  at (messages.Request tx epoch life want) is =
-      request_cases (AnswersTo ms number (messages.Request tx epoch life want)) decl s from number tx epoch life want tt
-      (λ fault refused. absurd (let free : fault_of s epoch life ≡ None = first_free n s epoch life first is.0 is.1 in
-      let never : ⊥ = cc in never))
-      (λ free. granted tx epoch life want)
-  at (messages.Answer to answer) is = tt
-  at (messages.Decision tx (Committed stamp)) is =
+  decided : (tx : TxId) (verdict : Outcome)
+      → AnswersTo ms number (messages.Decision tx verdict) (finishes s tx verdict)
+  decided tx (Committed stamp) =
       join_cases (AnswersTo ms number (messages.Decision tx (Committed stamp))) s tx stamp (λ none. tt) (λ p some. tt)
-  at (messages.Decision tx Aborted) is = tt
-  at (messages.Decision tx Active) is = tt
-  at (messages.Inquiry tx) is = tt
-  at (messages.Ask tx) is = tt
-  at (messages.Close epoch) never = absurd never
-  at (messages.Install epoch clock log) never = absurd never
+  decided tx Aborted = tt
+  decided tx Active = tt
+
+  at : (m : Message) → IsFirst m → AnswersTo ms number m (site_at decl s from number m)
+  at m = site_cases decl s from number (λ m move. IsFirst m → AnswersTo ms number m move) (λ m is. tt)
+      (λ tx epoch life want is. request_cases (AnswersTo ms number (messages.Request tx epoch life want)) decl s from
+      number tx epoch life want tt
+      (λ fault refused. absurd (let free : fault_of s epoch life ≡ None = first_free n s epoch life first is.0 is.1 in
+      let never : ⊥ = cc in never)) (λ free. granted tx epoch life want))
+      (λ tx verdict is. decided tx verdict) (λ epoch never. absurd never) (λ epoch clock log never. absurd never) m
 
 -- the site once its clock has passed
 pub fits_on : (decl : Declaration) (ms : List Envelope) (n : ℕ) (s : SiteState) (e : Envelope) → IsAtFirst n s

@@ -2,7 +2,7 @@
 use Rattle.std.proofs.Common.{◌≡◌, ℕ, ◌-◌, ◌<◌, ◌≤◌, ◌==◌, inl, inr, nat_le, Bool, true, false, cond, List, [], ◌∷◌}
 use Rattle.std.proofs.Common.{◌++◌, map, length, Option, Some, None, option_map, slice_get, refl, sym, ap, ◌∙◌, subst}
 use Rattle.std.proofs.Common.{arith, eqb-true}
-use Rattle.std.specs.Prelude.{drop, take}
+use Rattle.std.specs.Prelude.{drop, take, MatchOption}
 use Rattle.std.proofs.lemmas.Bool.{leb-true}
 use Rattle.std.proofs.lemmas.List.{append-nil, length-map, take-append-drop}
 use Rattle.qc_list.specs.Vocabulary.{In}
@@ -17,28 +17,28 @@ use Rattle.qc_plan.specs.declared.standing.Asked.{Asked}
 use Rattle.qc_plan.specs.declared.standing.Verdict.{Verdict}
 use Rattle.qc_plan.specs.declared.standing.Verdict.TheVariants as verdicts
 use Rattle.qc_msg.specs.declared.message.Answer.{Answer}
-use Rattle.qc_msg.specs.declared.message.Answer.TheVariants as answers
 use Rattle.qc_msg.specs.declared.message.Want.{Want}
 use Rattle.qc_msg.specs.declared.message.Want.TheVariants.{Append, Prepare, Read}
 use Rattle.qc_msg.specs.declared.reply.Reply.{Reply}
 use Rattle.qc_msg.specs.declared.reply.Reply.TheVariants as replies
-use Rattle.qc_msg.specs.Vocabulary.{Entry, deeds}
+use Rattle.qc_msg.specs.Vocabulary.{Entry, deeds, Clashing, Granting, clash_in, closed_in, granted_in}
 use Rattle.qc_script.specs.Vocabulary.{Runs}
 use Rattle.qc_script.specs.declared.script.Script.{Script}
 use Rattle.laws_turns.specs.Vocabulary.{ActsIn, AsksDeclared}
-use Rattle.laws_turns.proofs.Acted.{run_acts}
+use Rattle.laws_turns.proofs.Acted.{actors_take_and_post_by_turns}
 use Rattle.qc_promise.specs.Vocabulary.{Account, ClientRequest, Current, account, answer_of, answer_row, append_row}
 use Rattle.qc_promise.specs.Vocabulary.{asked_by, do_row, is_append, is_read, read_row, requests_for, resp_of, round_of}
 use Rattle.qc_promise.specs.Vocabulary.{standing_of, weights_of}
-use Rattle.laws_due.proofs.Courses.{clients_due}
+use Rattle.laws_due.proofs.Courses.{deeds_of_clients_are_by_rows}
 use Rattle.laws_guarantees.specs.Vocabulary.{IsUndisturbed}
 use Rattle.laws_guarantees.proofs.Clear.{IsElsewhere}
 use Rattle.laws_guarantees.proofs.UndisturbedCounted.{GoodHold, GoodTaken, taken_good}
 use Rattle.laws_guarantees.proofs.Verdicts.{AreGood, GoodStanding, GoodVerdict, append_light, good_verdict}
 use Rattle.laws_guarantees.proofs.Verdicts.{granted_sites, order_heavy, read_light}
-use Rattle.laws_guarantees.proofs.AskingOrder.{IsHalf, count_in, order, sites_in}
-use Rattle.laws_guarantees.proofs.AskingOrder.{of_appends, of_reads}
+use Rattle.laws_guarantees.proofs.AskingOrder.{IsHalf, count_in, order, sites_in, of_appends, of_reads}
 use Rattle.laws_guarantees.proofs.Voters.{in_order}
+use Rattle.std.specs.Option.{option_map_or}
+use Rattle.qc_plan.specs.declared.standing.Standing.TheVariants as standings
 
 -- a half's requests with their answers
 
@@ -59,17 +59,17 @@ good_standing decl a h (Some (Some answer)) want half is_half its good =
 
     by : (answer : Answer) → GoodHold decl a h answer
         → GoodStanding (IsElsewhere decl a h) (Some (standing_of (Some answer)))
-    by (answers.Granted life clock log) good = tt
-    by (answers.Clash holder inv event) good = good
-    by (answers.Closed epoch) never = absurd never
-    by (answers.Behind epoch) never = absurd never
-    by (answers.Restarted life) never = absurd never
-    by answers.Stale never = absurd never
-    by answers.Fault never = absurd never
-    by (answers.Yes clock) never = absurd never
-    by (answers.Shut clock log prepared) never = absurd never
-    by answers.Installed never = absurd never
-    by (answers.Answered verdict) never = absurd never
+    by answer = at (granted_in answer) (clash_in answer) (closed_in answer)
+      where
+        at : (g : Option Granting) (c : Option Clashing) (closed : Option ℕ)
+            → MatchOption g (MatchOption c ⊥ (λ (c : Clashing). IsElsewhere decl a h c.holder))
+            (λ (g : Granting). Unit {0})
+            → GoodStanding (IsElsewhere decl a h) (Some (option_map_or (λ (x : Granting). standings.Granted) g
+            (option_map_or (λ (c : Clashing). standings.Clash c.holder) c
+            (option_map_or standings.Closed closed standings.Missing))))
+        at (Some g) c closed good = tt
+        at None (Some c) closed good = good
+        at None None closed never = absurd never
 
 good_asked : (P : TxId → Type 0) (qs : List ClientRequest)
     → ((q : ClientRequest) → In q qs → GoodStanding P (option_map standing_of q.taken)) → AreGood P (map asked_by qs)
@@ -86,26 +86,10 @@ none_left [] is = refl
 none_left (x ∷ xs) is = absurd (let none : length (x ∷ xs) ≡ 0 = eqb-true (length (x ∷ xs)) 0 is in omega arith)
 
 -- a good reply to a `do`
-abbrev pub GoodReply : Declaration → ℕ → List Entry → Reply → Type 0
-GoodReply decl a h replies.Down = ⊥
-GoodReply decl a h (replies.Already tx) = ⊥
-GoodReply decl a h (replies.Began tx) = ⊥
-GoodReply decl a h replies.NoTransaction = ⊥
-GoodReply decl a h replies.Doomed = ⊥
-GoodReply decl a h replies.TooLong = ⊥
-GoodReply decl a h (replies.Closed epoch site) = ⊥
-GoodReply decl a h (replies.Conflict tx site) = IsElsewhere decl a h tx
-GoodReply decl a h (replies.Quorum half got need) = ⊥
-GoodReply decl a h replies.Absent = Unit {0}
-GoodReply decl a h (replies.Response resp) = Unit {0}
-GoodReply decl a h (replies.Aborted why) = ⊥
-GoodReply decl a h replies.Unknown = ⊥
-GoodReply decl a h (replies.Committed stamp) = ⊥
-GoodReply decl a h replies.Dropped = ⊥
-GoodReply decl a h (replies.Order current) = ⊥
-GoodReply decl a h (replies.InDoubt tx site) = ⊥
-GoodReply decl a h replies.Fault = ⊥
-GoodReply decl a h (replies.Moved closed installed) = ⊥
+pub data GoodReply (decl : Declaration) (a : ℕ) (h : List Entry) : Reply → Type 0 where
+  is_clash : (tx : TxId) (site : ℕ) → IsElsewhere decl a h tx → GoodReply decl a h (replies.Conflict tx site)
+  is_absent : GoodReply decl a h replies.Absent
+  is_response : (resp : ℕ) → GoodReply decl a h (replies.Response resp)
 
 module _ (decl : Declaration) (script : Script) (accepted : IsAccepted decl) (asks : AsksDeclared decl script)
     (calm : IsUndisturbed script) where
@@ -118,7 +102,7 @@ module _ (decl : Declaration) (script : Script) (accepted : IsAccepted decl) (as
     d = account decl a h
 
     acts : ActsIn decl a h true
-    acts = run_acts decl script h open_inputs run a true is_opened
+    acts = actors_take_and_post_by_turns decl script h open_inputs run a true is_opened
 
     half_asked : (half : Want → Bool) → IsHalf half
         → AreGood (IsElsewhere decl a h) (map asked_by (requests_for half (account decl a h)))
@@ -134,7 +118,7 @@ module _ (decl : Declaration) (script : Script) (accepted : IsAccepted decl) (as
         (order decl (account decl a h).client t.epoch)
     ordered half is_half =
         in_order decl half is_half (a - decl.sites) (deeds a [] h)
-        (clients_due decl a named (deeds a [] h) true acts.above acts.acts) t.epoch
+        (deeds_of_clients_are_by_rows decl a named (deeds a [] h) true acts.above acts.acts) t.epoch
         (ap (λ (o : Option Current). option_map (λ (t : Current). t.epoch) o) current)
 
     half_verdict : (half : Want → Bool) → IsHalf half → (need : ℕ) → need ≤ total (weights_of decl t.epoch)
@@ -175,15 +159,18 @@ module _ (decl : Declaration) (script : Script) (accepted : IsAccepted decl) (as
         → append_row decl object event v ≡ Some r → GoodReply decl a h r
     append_good object event r verdicts.Waiting good is = absurd (let never : ⊥ = cc in never)
     append_good object event r verdicts.Met good is =
-        subst (GoodReply decl a h) (let same : replies.Response (resp_of decl object event) ≡ r = cc in same) tt
+        subst (GoodReply decl a h) (let same : replies.Response (resp_of decl object event) ≡ r = cc in same)
+        (is_response (resp_of decl object event))
     append_good object event r (verdicts.Closed epoch site) never is = absurd never
     append_good object event r (verdicts.Clash tx site) good is =
-        subst (GoodReply decl a h) (let same : replies.Conflict tx site ≡ r = cc in same) good
+        subst (GoodReply decl a h) (let same : replies.Conflict tx site ≡ r = cc in same)
+        (is_clash tx site good)
     append_good object event r (verdicts.Short got need) never is = absurd never
 
     answer_good : (object : ℕ) (r : Reply) (o : Option ℕ) → answer_row decl (account decl a h) t object o ≡ Some r
         → GoodReply decl a h r
-    answer_good object r None is = subst (GoodReply decl a h) (let same : replies.Absent ≡ r = cc in same) tt
+    answer_good object r None is = subst (GoodReply decl a h) (let same : replies.Absent ≡ r = cc in same)
+        is_absent
     answer_good object r (Some event) is =
         append_good object event r (verdict (round_of decl (account decl a h) t is_append
         (append_need_of decl t.epoch object event)))
@@ -196,7 +183,8 @@ module _ (decl : Declaration) (script : Script) (accepted : IsAccepted decl) (as
     read_good object inv r verdicts.Met good is = answer_good object r (answer_of decl t object inv) is
     read_good object inv r (verdicts.Closed epoch site) never is = absurd never
     read_good object inv r (verdicts.Clash tx site) good is =
-        subst (GoodReply decl a h) (let same : replies.Conflict tx site ≡ r = cc in same) good
+        subst (GoodReply decl a h) (let same : replies.Conflict tx site ≡ r = cc in same)
+        (is_clash tx site good)
     read_good object inv r (verdicts.Short got need) never is = absurd never
 
     pub row_good : (object inv : ℕ) (r : Reply) → t.doomed ≡ false → length t.ops < most_transaction_operations

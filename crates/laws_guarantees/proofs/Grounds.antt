@@ -1,6 +1,6 @@
 -- So the account of a client's deeds has grounds in them, and an open request of it stays one or is sent anew.
-use Rattle.std.proofs.Common.{[], ◌≡◌, ◌⊎◌, ◌≤◌, ◌+◌, ℕ, ◌==◌, ◌&&◌, Bool, true, false, cond, List, ◌∷◌, ◌++◌, inl, inr}
-use Rattle.std.proofs.Common.{Option, Some, None, sym, ap, ◌∙◌, subst, arith}
+use Rattle.std.proofs.Common.{[], ◌≡◌, ◌⊎◌, ◌≤◌, ◌+◌, ℕ, ◌==◌, ◌&&◌, List, ◌∷◌, ◌++◌, inl, inr, Option, Some, None, sym}
+use Rattle.std.proofs.Common.{ap, ◌∙◌, subst, arith}
 use Rattle.std.specs.Prelude.{fold, is_none}
 use Rattle.std.specs.List.{find}
 use Rattle.qc_list.specs.Vocabulary.{In}
@@ -8,10 +8,8 @@ use Rattle.qc_list.proofs.Members.{In-more}
 use Rattle.qc_decl.specs.declared.declaration.Declaration.{Declaration}
 use Rattle.qc_msg.specs.declared.message.Answer.{Answer}
 use Rattle.qc_msg.specs.declared.message.Message.{Message}
-use Rattle.qc_msg.specs.declared.message.Message.TheVariants as messages
 use Rattle.qc_msg.specs.declared.message.Want.{Want}
 use Rattle.qc_msg.specs.declared.record.Record.{Record}
-use Rattle.qc_msg.specs.declared.record.Record.TheVariants as records
 use Rattle.qc_msg.specs.declared.reply.Reply.{Reply}
 use Rattle.qc_msg.specs.declared.step.Input.{Input}
 use Rattle.qc_msg.specs.declared.step.Input.TheVariants as inputs
@@ -19,8 +17,9 @@ use Rattle.qc_msg.specs.declared.turn.Posting.{Posting}
 use Rattle.qc_msg.specs.declared.turn.Turn.{Turn}
 use Rattle.qc_msg.specs.Vocabulary.{sends_of, tells_of, turn_deeds, writes_of}
 use Rattle.qc_promise.specs.Vocabulary.{Account, ClientRequest, account_at, account_heard, account_sent, account_taken}
-use Rattle.qc_promise.specs.Vocabulary.{account_written, counted, counted_for, is_asked_for, taken_for}
+use Rattle.qc_promise.specs.Vocabulary.{account_written, counted, counted_for, taken_for}
 use Rattle.laws_guarantees.proofs.Accounts.{after_taken, told_requests}
+use Rattle.laws_guarantees.proofs.AccountCases.{heard_cases, sent_cases, written_cases}
 
 module _ (decl : Declaration) where
   abbrev more_requests : Account → ℕ → ℕ → ℕ → Want → Account
@@ -48,13 +47,8 @@ module _ (decl : Declaration) where
 
   heard_open : (d : Account) (m : Message) (q : ClientRequest) → q.taken ≡ None → In q (account_heard d m).requests
       → In q d.requests
-  heard_open d (messages.Request tx epoch life want) q untaken among = among
-  heard_open d (messages.Answer to answer) q untaken among = counted_open d to (Some answer) q untaken among
-  heard_open d (messages.Decision tx verdict) q untaken among = among
-  heard_open d (messages.Inquiry tx) q untaken among = among
-  heard_open d (messages.Ask tx) q untaken among = among
-  heard_open d (messages.Close epoch) q untaken among = among
-  heard_open d (messages.Install epoch clock log) q untaken among = among
+  heard_open d m q untaken among = heard_cases d (λ m e. In q e.requests → In q d.requests) (λ m among. among)
+      (λ to answer among. counted_open d to (Some answer) q untaken among) m among
 
   -- one that is open after an input was before it
   pub open_before : (d : Account) (g : Input) (q : ClientRequest) → q.taken ≡ None → In q (account_taken d g).requests
@@ -64,32 +58,18 @@ module _ (decl : Declaration) where
   open_before d (inputs.Lost n) q untaken among = counted_open d n None q untaken among
 
   written_same : (d : Account) (w : Record) (q : ClientRequest) → In q (account_written d w).requests → In q d.requests
-  written_same d records.Life q among = among
-  written_same d (records.Prepare prepared) q among = among
-  written_same d (records.Done tx clock) q among = among
-  written_same d (records.Close epoch) q among = among
-  written_same d (records.Install epoch clock lines) q among = among
-  written_same d (records.Commit commit) q among = among
-  written_same d (records.Decide epoch clock lines) q among = among
+  written_same d w q among = written_cases d (λ e. In q e.requests → In q d.requests) (λ among. among)
+      (λ among. among) (λ commit among. among) w among
 
   sent_same : (d : Account) (n to : ℕ) (m : Message) (q : ClientRequest) → In q (account_sent decl d n to m).requests
       → In q d.requests ⊎ ((q.number ≡ n) × (q.taken ≡ None))
-  sent_same d n to (messages.Request tx epoch life want) q among = by (is_asked_for decl d to tx epoch life want) among
-    where
-      by : (b : Bool) → In q (cond b (more_requests d n to life want) d).requests
-          → In q d.requests ⊎ ((q.number ≡ n) × (q.taken ≡ None))
-      by true there =
-          elim (In-more q (record { number = n; site = to; life = life; want = want; taken = None }) d.requests there) [
-            | inl old ↦ inl old
-            | inr new ↦ inr (ap (λ (y : ClientRequest). y.number) new, ap (λ (y : ClientRequest). y.taken) new)
-          ]
-      by false there = inl there
-  sent_same d n to (messages.Answer request answer) q among = inl among
-  sent_same d n to (messages.Decision tx verdict) q among = inl among
-  sent_same d n to (messages.Inquiry tx) q among = inl among
-  sent_same d n to (messages.Ask tx) q among = inl among
-  sent_same d n to (messages.Close epoch) q among = inl among
-  sent_same d n to (messages.Install epoch clock log) q among = inl among
+  sent_same d n to m q among = sent_cases decl d n to
+      (λ m e. In q e.requests → In q d.requests ⊎ ((q.number ≡ n) × (q.taken ≡ None))) (λ m among. inl among)
+      (λ tx epoch life want is among.
+      elim (In-more q (record { number = n; site = to; life = life; want = want; taken = None }) d.requests among) [
+        | inl old ↦ inl old
+        | inr new ↦ inr (ap (λ (y : ClientRequest). y.number) new, ap (λ (y : ClientRequest). y.taken) new)
+      ]) m among
 
   told_none : (d : Account) (reply : Option Reply) (q : ClientRequest)
       → In q (fold (account_at decl) d (tells_of reply)).requests → In q d.requests

@@ -1,3 +1,9 @@
+pub mod MessageCases
+pub mod ClientCases
+pub mod SiteCases
+pub mod ControlCases
+pub mod AccountCases
+pub mod RowCases
 pub mod Mailed
 pub mod Accounts
 pub mod Counting

@@ -15,8 +15,8 @@ use Rattle.qc_commit.specs.declared.desk.Voting.{Voting}
 use Rattle.qc_front.specs.declared.transaction.Transaction.{Transaction}
 use Rattle.qc_promise.specs.Vocabulary.{Account, Current, account, account_taken, view_of}
 use Rattle.laws_due.specs.Vocabulary.{Ties}
-use Rattle.laws_due.proofs.Courses.{clients_tied}
-use Rattle.laws_turns.proofs.Acted.{run_acts}
+use Rattle.laws_due.proofs.Courses.{accounts_are_their_clients}
+use Rattle.laws_turns.proofs.Acted.{actors_take_and_post_by_turns}
 use Rattle.laws_turns.specs.Vocabulary.{ActsIn}
 use Rattle.theory_machine.specs.Vocabulary.{Aborted, Active, IsOutcome, IsShown, State, Status, op_of, state}
 use Rattle.theory_machine.specs.State as machine
@@ -85,11 +85,11 @@ module _ (decl : Declaration) (script : Script) (accepted : IsAccepted decl) (so
             );
       }
   tied_to a client false slot t is =
-      let acts : ActsIn decl a h false = run_acts decl script h open_inputs run a false slot in
+      let acts : ActsIn decl a h false = actors_take_and_post_by_turns decl script h open_inputs run a false slot in
       record {
         was = account decl a h;
         tied = subst (Ties decl (account decl a h)) (sym ((stood.clients_are a client).closed slot))
-            (clients_tied decl a client (deeds a [] h) acts.above acts.acts);
+            (accounts_are_their_clients decl a client (deeds a [] h) acts.above acts.acts);
         begun = record {
           old = t;
           was = is;

@@ -12,19 +12,43 @@ use Rattle.qc_msg.specs.declared.step.Input.TheVariants as inputs
 use Rattle.qc_msg.specs.declared.step.Step.{Step}
 use Rattle.qc_msg.specs.declared.step.Step.TheVariants as steps
 use Rattle.qc_msg.specs.Vocabulary.{Deed, Entry, Falls, Rises, Sends, Takes, Tells, Writes, deed_at, deeds, envelope_at}
-use Rattle.qc_msg.specs.Vocabulary.{envelope_of, heard, mail}
+use Rattle.qc_msg.specs.Vocabulary.{envelope_of, heard, mail, got_in}
 
 abbrev pub sent_as : ℕ → ℕ → ℕ → Message → Envelope
 sent_as a n to m = record { number = n; from = a; to = to; message = m }
 
 -- the message that a deed sends
-abbrev message_of : ℕ → Deed → Option Envelope
+abbrev pub message_of : ℕ → Deed → Option Envelope
 message_of a (Takes g) = None
 message_of a (Writes written) = None
 message_of a (Sends n to m) = Some (sent_as a n to m)
 message_of a (Tells reply) = None
 message_of a (Falls cause pending) = None
 message_of a (Rises records) = None
+
+-- and the one that it takes
+abbrev pub taken_of : Deed → Option Envelope
+taken_of d = got_in d
+
+-- a step is one deed, which sends a message, takes one or does neither, or it is none
+pub step_cases : (ms : List Envelope) (a : ℕ) (P : List Deed → Option Envelope → Type 0) → P [] None
+    → ((d : Deed) → message_of a d ≡ None → taken_of d ≡ None → P (d ∷ []) None)
+    → ((k : ℕ) → P (heard (slice_get ms k)) None)
+    → ((n to : ℕ) (m : Message) → P (Sends n to m ∷ []) (Some (sent_as a n to m))) → (step : Step)
+    → P (deed_at ms step) (envelope_at a step)
+step_cases ms a P none other takes sends (steps.Phase k) = none
+step_cases ms a P none other takes sends (steps.Cut x y) = none
+step_cases ms a P none other takes sends (steps.Heal x y) = none
+step_cases ms a P none other takes sends (steps.Armed actor kind at) = none
+step_cases ms a P none other takes sends (steps.Called command) = other (Takes (inputs.Called command)) refl refl
+step_cases ms a P none other takes sends (steps.Got k) = takes k
+step_cases ms a P none other takes sends (steps.Lost k) = other (Takes (inputs.Lost k)) refl refl
+step_cases ms a P none other takes sends (steps.Wrote written) = other (Writes written) refl refl
+step_cases ms a P none other takes sends (steps.Sent n to m) = sends n to m
+step_cases ms a P none other takes sends (steps.Told reply) = other (Tells reply) refl refl
+step_cases ms a P none other takes sends (steps.Fell cause pending) = other (Falls cause pending) refl refl
+step_cases ms a P none other takes sends (steps.Rose records) = other (Rises records) refl refl
+step_cases ms a P none other takes sends (steps.Damaged offset) = none
 
 heard_sends : (o : Option Envelope) (n to : ℕ) (m : Message) → In (Sends n to m) (heard o) → ⊥
 heard_sends None n to m among = among
@@ -36,26 +60,19 @@ one_sent a n to m d same = ap (message_of a) (sym same)
 
 step_sent : (a : ℕ) (ms : List Envelope) (step : Step) (n to : ℕ) (m : Message) → In (Sends n to m) (deed_at ms step)
     → envelope_at a step ≡ Some (sent_as a n to m)
-step_sent a ms (steps.Phase k) n to m among = absurd among
-step_sent a ms (steps.Cut x y) n to m among = absurd among
-step_sent a ms (steps.Heal x y) n to m among = absurd among
-step_sent a ms (steps.Armed actor kind at) n to m among = absurd among
-step_sent a ms (steps.Called command) n to m (inl same) = absurd (let never : ⊥ = cc in never)
-step_sent a ms (steps.Called command) n to m (inr never) = absurd never
-step_sent a ms (steps.Got k) n to m among = absurd (heard_sends (slice_get ms k) n to m among)
-step_sent a ms (steps.Lost k) n to m (inl same) = absurd (let never : ⊥ = cc in never)
-step_sent a ms (steps.Lost k) n to m (inr never) = absurd never
-step_sent a ms (steps.Wrote written) n to m (inl same) = absurd (let never : ⊥ = cc in never)
-step_sent a ms (steps.Wrote written) n to m (inr never) = absurd never
-step_sent a ms (steps.Sent k receiver message) n to m (inl same) = one_sent a n to m (Sends k receiver message) same
-step_sent a ms (steps.Sent k receiver message) n to m (inr never) = absurd never
-step_sent a ms (steps.Told reply) n to m (inl same) = absurd (let never : ⊥ = cc in never)
-step_sent a ms (steps.Told reply) n to m (inr never) = absurd never
-step_sent a ms (steps.Fell cause pending) n to m (inl same) = absurd (let never : ⊥ = cc in never)
-step_sent a ms (steps.Fell cause pending) n to m (inr never) = absurd never
-step_sent a ms (steps.Rose records) n to m (inl same) = absurd (let never : ⊥ = cc in never)
-step_sent a ms (steps.Rose records) n to m (inr never) = absurd never
-step_sent a ms (steps.Damaged offset) n to m among = absurd among
+step_sent a ms step n to m = step_cases ms a (λ ds o. In (Sends n to m) ds → o ≡ Some (sent_as a n to m))
+    (λ among. absurd among)
+    (λ d unsent untaken among. elim among [
+      | inl same ↦
+          absurd (let is : Some (sent_as a n to m) ≡ None = ap (message_of a) same ∙ unsent in
+          let never : ⊥ = cc in never)
+      | inr never ↦ absurd never
+    ])
+    (λ k among. absurd (heard_sends (slice_get ms k) n to m among))
+    (λ k receiver message among. elim among [
+      | inl same ↦ one_sent a n to m (Sends k receiver message) same
+      | inr never ↦ absurd never
+    ]) step
 
 cons_first : (o : Option Envelope) (e : Envelope) (xs : List Envelope) → o ≡ Some e → In e (cons_option o xs)
 cons_first None e xs is = absurd (let never : ⊥ = cc in never)
@@ -90,21 +107,12 @@ sent_mail a ms (e ∷ h) n to m among = by (e.actor == a) refl among
 
 step_mailed : (ms : List Envelope) (a : ℕ) (step : Step) (x : Envelope) → Some x ≡ envelope_at a step
     → (x.from ≡ a) × In (Sends x.number x.to x.message) (deed_at ms step)
-step_mailed ms a (steps.Phase k) x is = absurd (let never : ⊥ = cc in never)
-step_mailed ms a (steps.Cut y z) x is = absurd (let never : ⊥ = cc in never)
-step_mailed ms a (steps.Heal y z) x is = absurd (let never : ⊥ = cc in never)
-step_mailed ms a (steps.Armed actor kind at) x is = absurd (let never : ⊥ = cc in never)
-step_mailed ms a (steps.Called command) x is = absurd (let never : ⊥ = cc in never)
-step_mailed ms a (steps.Got k) x is = absurd (let never : ⊥ = cc in never)
-step_mailed ms a (steps.Lost k) x is = absurd (let never : ⊥ = cc in never)
-step_mailed ms a (steps.Wrote written) x is = absurd (let never : ⊥ = cc in never)
-step_mailed ms a (steps.Sent k receiver message) x is =
-    let same : x ≡ sent_as a k receiver message = cc in
-    (ap (λ (y : Envelope). y.from) same, inl (ap (λ (y : Envelope). Sends y.number y.to y.message) same))
-step_mailed ms a (steps.Told reply) x is = absurd (let never : ⊥ = cc in never)
-step_mailed ms a (steps.Fell cause pending) x is = absurd (let never : ⊥ = cc in never)
-step_mailed ms a (steps.Rose records) x is = absurd (let never : ⊥ = cc in never)
-step_mailed ms a (steps.Damaged offset) x is = absurd (let never : ⊥ = cc in never)
+step_mailed ms a step x = step_cases ms a
+    (λ ds o. Some x ≡ o → (x.from ≡ a) × In (Sends x.number x.to x.message) ds)
+    (λ is. absurd (let never : ⊥ = cc in never)) (λ d unsent untaken is. absurd (let never : ⊥ = cc in never))
+    (λ k is. absurd (let never : ⊥ = cc in never))
+    (λ k receiver message is. let same : x ≡ sent_as a k receiver message = cc in
+    (ap (λ (y : Envelope). y.from) same, inl (ap (λ (y : Envelope). Sends y.number y.to y.message) same))) step
 
 pub mail_sent : (ms : List Envelope) (h : List Entry) (x : Envelope) → In x (mail h)
     → In (Sends x.number x.to x.message) (deeds x.from ms h)
@@ -133,16 +141,6 @@ mail_sent ms (e ∷ h) x among =
 
 -- what was taken
 
-abbrev taken_of : Deed → Option Envelope
-taken_of (Takes (inputs.Called command)) = None
-taken_of (Takes (inputs.Got e)) = Some e
-taken_of (Takes (inputs.Lost n)) = None
-taken_of (Writes written) = None
-taken_of (Sends n to m) = None
-taken_of (Tells reply) = None
-taken_of (Falls cause pending) = None
-taken_of (Rises records) = None
-
 in_at : (ms : List Envelope) (n : ℕ) (e : Envelope) → slice_get ms n ≡ Some e → In e ms
 in_at ms n e is = every-at (λ (x : Envelope). In x ms) ms n e
     (every-from_In (λ (x : Envelope). In x ms) ms (λ x among. among)) is
@@ -154,28 +152,17 @@ heard_takes ms n e (Some x) is (inl same) = in_at ms n e (is ∙ sym (ap taken_o
 heard_takes ms n e (Some x) is (inr never) = absurd never
 
 step_taken : (ms : List Envelope) (step : Step) (e : Envelope) → In (Takes (inputs.Got e)) (deed_at ms step) → In e ms
-step_taken ms (steps.Phase k) e among = absurd among
-step_taken ms (steps.Cut x y) e among = absurd among
-step_taken ms (steps.Heal x y) e among = absurd among
-step_taken ms (steps.Armed actor kind at) e among = absurd among
-step_taken ms (steps.Called command) e (inl same) =
-    absurd (let is : Some e ≡ None = ap taken_of same in let never : ⊥ = cc in never)
-step_taken ms (steps.Called command) e (inr never) = absurd never
-step_taken ms (steps.Got k) e among = heard_takes ms k e (slice_get ms k) refl among
-step_taken ms (steps.Lost k) e (inl same) =
-    absurd (let is : Some e ≡ None = ap taken_of same in let never : ⊥ = cc in never)
-step_taken ms (steps.Lost k) e (inr never) = absurd never
-step_taken ms (steps.Wrote written) e (inl same) = absurd (let never : ⊥ = cc in never)
-step_taken ms (steps.Wrote written) e (inr never) = absurd never
-step_taken ms (steps.Sent k receiver message) e (inl same) = absurd (let never : ⊥ = cc in never)
-step_taken ms (steps.Sent k receiver message) e (inr never) = absurd never
-step_taken ms (steps.Told reply) e (inl same) = absurd (let never : ⊥ = cc in never)
-step_taken ms (steps.Told reply) e (inr never) = absurd never
-step_taken ms (steps.Fell cause pending) e (inl same) = absurd (let never : ⊥ = cc in never)
-step_taken ms (steps.Fell cause pending) e (inr never) = absurd never
-step_taken ms (steps.Rose records) e (inl same) = absurd (let never : ⊥ = cc in never)
-step_taken ms (steps.Rose records) e (inr never) = absurd never
-step_taken ms (steps.Damaged offset) e among = absurd among
+step_taken ms step e = step_cases ms 0 (λ ds o. In (Takes (inputs.Got e)) ds → In e ms) (λ among. absurd among)
+    (λ d unsent untaken among. elim among [
+      | inl same ↦
+          absurd (let is : Some e ≡ None = ap taken_of same ∙ untaken in let never : ⊥ = cc in never)
+      | inr never ↦ absurd never
+    ])
+    (λ k among. heard_takes ms k e (slice_get ms k) refl among)
+    (λ k receiver message among. elim among [
+      | inl same ↦ absurd (let is : Some e ≡ None = ap taken_of same in let never : ⊥ = cc in never)
+      | inr never ↦ absurd never
+    ]) step
 
 more_mail : (ms : List Envelope) (o : Option Envelope) (xs : List Envelope)
     → (ms ++ option_to_list o) ++ xs ≡ ms ++ cons_option o xs

@@ -30,6 +30,7 @@ use Rattle.laws_atomic.proofs.Posted.{control_writes, taken_writes}
 use Rattle.laws_atomic.proofs.Silent.{site_silent}
 use Rattle.laws_atomic.proofs.Stood.{OpenSite, Stood}
 use Rattle.laws_atomic.proofs.RunsStand.{runs_stand}
+use Rattle.laws_guarantees.proofs.MessageCases.{commit_cases}
 
 -- an element of two lists that are appended stands in the first or in the second
 pub data IsIn {A : Type 0} (xs ys before : List A) (x : A) (after : List A) : Type 0 where
@@ -177,14 +178,9 @@ pub record IsWrittenIn (h : List Entry) (c : CommitRecord) : Type 0 where
   pub stands : h ≡ before ++ wrote actor c ∷ after
 
 wrote_record : (r : Record) (c : CommitRecord) → commit_of r ≡ Some c → r ≡ records.Commit c
-wrote_record records.Life c is = absurd (let never : ⊥ = cc in never)
-wrote_record (records.Prepare prepared) c is = absurd (let never : ⊥ = cc in never)
-wrote_record (records.Done tx clock) c is = absurd (let never : ⊥ = cc in never)
-wrote_record (records.Close epoch) c is = absurd (let never : ⊥ = cc in never)
-wrote_record (records.Install epoch clock lines) c is = absurd (let never : ⊥ = cc in never)
-wrote_record (records.Commit commit) c is = let same : commit ≡ c = cc in
-    ap (λ (x : CommitRecord). records.Commit x) same
-wrote_record (records.Decide epoch clock lines) c is = absurd (let never : ⊥ = cc in never)
+wrote_record r c is = commit_cases (λ r o. o ≡ Some c → r ≡ records.Commit c)
+    (λ r is. absurd (let never : ⊥ = cc in never))
+    (λ commit is. let same : commit ≡ c = cc in ap (λ (x : CommitRecord). records.Commit x) same) r is
 
 wrote_step : (s : Step) (c : CommitRecord) → commit_in s ≡ Some c → s ≡ steps.Wrote (records.Commit c)
 wrote_step (steps.Phase k) c is = absurd (let never : ⊥ = cc in never)

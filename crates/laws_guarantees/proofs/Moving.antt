@@ -1,6 +1,5 @@
 -- What one deed does to the begun transaction of an account: it changes it, ends it, or begins one of the next number.
-use Rattle.std.proofs.Common.{◌≡◌, ◌+◌, ℕ, Bool, true, false, cond, List, [], ◌∷◌, ◌++◌, Option, Some, None, option_map}
-use Rattle.std.proofs.Common.{refl, sym, ap, subst}
+use Rattle.std.proofs.Common.{◌≡◌, ◌+◌, ℕ, List, [], ◌∷◌, Option, Some, None, option_map, refl, sym, ap, subst}
 use Rattle.std.specs.List.{find}
 use Rattle.qc_stamp.specs.declared.stamp.TxId.{TxId}
 use Rattle.qc_list.specs.Vocabulary.{In}
@@ -9,27 +8,25 @@ use Rattle.qc_entry.specs.declared.line.Line.{Line}
 use Rattle.qc_entry.specs.declared.line.Op.{Op}
 use Rattle.qc_decl.specs.declared.declaration.Declaration.{Declaration}
 use Rattle.qc_msg.specs.declared.message.Answer.{Answer}
-use Rattle.qc_msg.specs.declared.message.Answer.TheVariants as answers
 use Rattle.qc_msg.specs.declared.message.Message.{Message}
-use Rattle.qc_msg.specs.declared.message.Message.TheVariants as messages
 use Rattle.qc_msg.specs.declared.message.Want.{Want}
 use Rattle.qc_msg.specs.declared.message.Want.TheVariants.{Read, Append, Prepare}
 use Rattle.qc_msg.specs.declared.record.Record.{Record}
-use Rattle.qc_msg.specs.declared.record.Record.TheVariants as records
 use Rattle.qc_msg.specs.declared.reply.Half.{Half}
 use Rattle.qc_msg.specs.declared.reply.Half.TheVariants as halves
 use Rattle.qc_msg.specs.declared.reply.Reply.{Reply}
 use Rattle.qc_msg.specs.declared.reply.Reply.TheVariants as replies
 use Rattle.qc_msg.specs.declared.step.Command.{Command}
-use Rattle.qc_msg.specs.declared.step.Command.TheVariants as commands
 use Rattle.qc_msg.specs.declared.step.Input.TheVariants as inputs
 use Rattle.qc_core.specs.Vocabulary.{AreSteady}
 use Rattle.qc_msg.specs.Vocabulary.{Deed, Falls, Rises, Sends, Takes, Tells, Writes}
 use Rattle.qc_promise.specs.Vocabulary.{Account, ClientRequest, Current, account_at, account_heard, account_sent}
 use Rattle.qc_promise.specs.Vocabulary.{account_told_in, account_written, answer_of, counted, counted_for, found_absent}
-use Rattle.qc_promise.specs.Vocabulary.{granted, is_asked_for, is_open, lived, new_current, promised, responded}
-use Rattle.qc_promise.specs.Vocabulary.{short_of, taken_for, told_by, with_read, with_response}
+use Rattle.qc_promise.specs.Vocabulary.{granted, is_open, lived, new_current, promised, responded, short_of, taken_for}
+use Rattle.qc_promise.specs.Vocabulary.{told_by, with_read, with_response, with_absent}
 use Rattle.laws_guarantees.proofs.FirstGrants.{KeepsLives, life_added, same_lives}
+use Rattle.laws_guarantees.proofs.AccountCases.{absent_cases, heard_cases, reply_cases, responded_cases, sent_cases}
+use Rattle.laws_guarantees.proofs.AccountCases.{told_cases, written_cases}
 
 -- what one deed does to the begun transaction: it changes that, keeping its name and its operations; it ends it; or it
 -- begins one
@@ -77,18 +74,9 @@ module _ (decl : Declaration) where
   promised_step d clock Prepare = stays d
 
   told_step : (d : Account) (q : ClientRequest) (answer : Option Answer) → Step d (told_by d q answer)
-  told_step d q None = stays d
-  told_step d q (Some (answers.Granted life clock log)) = granted_step d q.site life clock log q.want
-  told_step d q (Some (answers.Clash holder inv event)) = stays d
-  told_step d q (Some (answers.Closed epoch)) = stays d
-  told_step d q (Some (answers.Behind epoch)) = stays d
-  told_step d q (Some (answers.Restarted life)) = stays d
-  told_step d q (Some answers.Stale) = stays d
-  told_step d q (Some answers.Fault) = stays d
-  told_step d q (Some (answers.Yes clock)) = promised_step d clock q.want
-  told_step d q (Some (answers.Shut clock log prepared)) = stays d
-  told_step d q (Some answers.Installed) = stays d
-  told_step d q (Some (answers.Answered outcome)) = stays d
+  told_step d q answer = told_cases d q (λ a e. Step d e) (λ a. stays d)
+      (λ life clock log. granted_step d q.site life clock log q.want) (λ epoch. stays d)
+      (λ clock. promised_step d clock q.want) answer
 
   counted_step : (d : Account) (n : ℕ) (answer : Option Answer) → Step d (counted d n answer)
   counted_step d n answer = by (find (is_open n) d.requests)
@@ -98,36 +86,13 @@ module _ (decl : Declaration) where
       by (Some q) = told_step (record d { requests = taken_for n answer d.requests }) q answer
 
   heard_step : (d : Account) (m : Message) → Step d (account_heard d m)
-  heard_step d (messages.Request tx epoch life want) = stays d
-  heard_step d (messages.Answer to answer) = counted_step d to (Some answer)
-  heard_step d (messages.Decision tx outcome) = stays d
-  heard_step d (messages.Inquiry tx) = stays d
-  heard_step d (messages.Ask tx) = stays d
-  heard_step d (messages.Close epoch) = stays d
-  heard_step d (messages.Install epoch clock log) = stays d
+  heard_step d m = heard_cases d (λ m e. Step d e) (λ m. stays d) (λ to answer. counted_step d to (Some answer)) m
 
   written_step : (d : Account) (w : Record) → Step d (account_written d w)
-  written_step d records.Life = stays d
-  written_step d (records.Prepare prepared) = stays d
-  written_step d (records.Done tx clock) = stays d
-  written_step d (records.Close epoch) = stays d
-  written_step d (records.Install epoch clock lines) = stays d
-  written_step d (records.Commit commit) = stays d
-  written_step d (records.Decide epoch clock lines) = stays d
+  written_step d w = written_cases d (λ e. Step d e) (stays d) (stays d) (λ commit. stays d) w
 
   sent_step : (d : Account) (n to : ℕ) (m : Message) → Step d (account_sent decl d n to m)
-  sent_step d n to (messages.Request tx epoch life want) = by (is_asked_for decl d to tx epoch life want)
-    where
-      by : (b : Bool) → Step d (cond b (record d
-          { requests = d.requests ++ record { number = n; site = to; life = life; want = want; taken = None } ∷ [] }) d)
-      by true = stays d
-      by false = stays d
-  sent_step d n to (messages.Answer request answer) = stays d
-  sent_step d n to (messages.Decision tx outcome) = stays d
-  sent_step d n to (messages.Inquiry tx) = stays d
-  sent_step d n to (messages.Ask tx) = stays d
-  sent_step d n to (messages.Close epoch) = stays d
-  sent_step d n to (messages.Install epoch clock log) = stays d
+  sent_step d n to m = sent_cases decl d n to (λ m e. Step d e) (λ m. stays d) (λ tx epoch life want is. stays d) m
 
   response_name : (t : Current) (object inv : ℕ) (o : Option ℕ) → (with_response decl t object inv o).tx ≡ t.tx
   response_name t object inv None = refl
@@ -144,25 +109,16 @@ module _ (decl : Declaration) where
   response_lives t object inv (Some event) = same_lives t.lives
 
   responded_step : (d : Account) (c : Option Command) → Step d (responded decl d c)
-  responded_step d None = stays d
-  responded_step d (Some commands.Begin) = stays d
-  responded_step d (Some (commands.Do object inv)) =
-      Changes refl (λ (t : Current). with_response decl t object inv (answer_of decl t object inv))
+  responded_step d c = responded_cases decl d (λ e. Step d e) (stays d)
+      (λ object inv. Changes refl (λ (t : Current). with_response decl t object inv (answer_of decl t object inv))
       (λ t. response_name t object inv (answer_of decl t object inv))
       (λ t. response_ops t object inv (answer_of decl t object inv))
-      (λ t. response_lives t object inv (answer_of decl t object inv)) refl
-  responded_step d (Some commands.Commit) = stays d
-  responded_step d (Some commands.Abort) = stays d
-  responded_step d (Some (commands.Epoch number)) = stays d
+      (λ t. response_lives t object inv (answer_of decl t object inv)) refl) c
 
   absent_step : (d : Account) (c : Option Command) → Step d (found_absent d c)
-  absent_step d None = stays d
-  absent_step d (Some commands.Begin) = stays d
-  absent_step d (Some (commands.Do object inv)) =
-      Changes refl _ (λ t. refl) (λ t op among. In-first op t.ops _ among) (λ t. same_lives t.lives) refl
-  absent_step d (Some commands.Commit) = stays d
-  absent_step d (Some commands.Abort) = stays d
-  absent_step d (Some (commands.Epoch number)) = stays d
+  absent_step d c = absent_cases d (λ e. Step d e) (stays d)
+      (λ object inv. Changes refl (λ (t : Current). with_absent t object inv) (λ t. refl)
+      (λ t op among. In-first op t.ops _ among) (λ t. same_lives t.lives) refl) c
 
   short_step : (d : Account) (half : Half) → Step d (short_of d half)
   short_step d halves.Read = stays d
@@ -171,27 +127,13 @@ module _ (decl : Declaration) where
 
   reply_step : (d : Account) (reply : Reply) → ((tx : TxId) → reply ≡ replies.Began tx → tx.number ≡ d.count + 1)
       → Step d (account_told_in decl d reply)
-  reply_step d replies.Down is = stays d
-  reply_step d (replies.Already tx) is = stays d
-  reply_step d (replies.Began tx) is = Begins refl (new_current tx d.known) refl (is tx refl)
-  reply_step d replies.NoTransaction is = stays d
-  reply_step d replies.Doomed is = stays d
-  reply_step d replies.TooLong is = stays d
-  reply_step d (replies.Closed epoch site) is =
-      alters d.count d.current _ (λ t. refl) (λ t. refl) (λ t. same_lives t.lives)
-  reply_step d (replies.Conflict tx site) is =
-      alters d.count d.current _ (λ t. refl) (λ t. refl) (λ t. same_lives t.lives)
-  reply_step d (replies.Quorum half got need) is = short_step d half
-  reply_step d replies.Absent is = absent_step d d.command
-  reply_step d (replies.Response resp) is = responded_step d d.command
-  reply_step d (replies.Aborted why) is = Ends refl refl
-  reply_step d replies.Unknown is = Ends refl refl
-  reply_step d (replies.Committed stamp) is = Ends refl refl
-  reply_step d replies.Dropped is = Ends refl refl
-  reply_step d (replies.Order current) is = stays d
-  reply_step d (replies.InDoubt tx site) is = stays d
-  reply_step d replies.Fault is = stays d
-  reply_step d (replies.Moved closed installed) is = stays d
+  reply_step d reply is = reply_cases decl d
+      (λ r e. ((tx : TxId) → r ≡ replies.Began tx → tx.number ≡ d.count + 1) → Step d e) (λ r none. stays d)
+      (λ tx one. Begins refl (new_current tx d.known) refl (one tx refl)) (λ stamp none. Ends refl refl)
+      (λ r none. Ends refl refl)
+      (λ r none. alters d.count d.current _ (λ t. refl) (λ t. refl) (λ t. same_lives t.lives))
+      (λ r half none. short_step d half) (λ r none. absent_step d d.command) (λ r none. responded_step d d.command)
+      reply is
 
   -- a deed that is neither a fall nor a rise, with which a transaction begins by the next number alone
   pub steady_step : (d : Account) (x : Deed) → AreSteady (x ∷ [])

@@ -1,6 +1,6 @@
 -- The name of the transaction that a client has begun changes only as a reply is told, and it is the client's.
-use Rattle.std.proofs.Common.{◌≡◌, ℕ, ◌+◌, Bool, true, false, if◌then◌else◌, List, [], ◌∷◌, ◌++◌, fold, Option, Some}
-use Rattle.std.proofs.Common.{None, option_map, refl, sym, ap, ◌∙◌, subst}
+use Rattle.std.proofs.Common.{◌≡◌, ℕ, ◌+◌, List, [], ◌∷◌, ◌++◌, fold, Option, Some, None, option_map, refl, sym, ap}
+use Rattle.std.proofs.Common.{◌∙◌, subst}
 use Rattle.std.specs.Prelude.{max}
 use Rattle.std.specs.List.{find}
 use Rattle.std.proofs.lemmas.List.Sums.{fold-append}
@@ -8,13 +8,10 @@ use Rattle.qc_stamp.specs.declared.stamp.TxId.{TxId}
 use Rattle.qc_entry.specs.declared.line.Line.{Line}
 use Rattle.qc_decl.specs.declared.declaration.Declaration.{Declaration}
 use Rattle.qc_msg.specs.declared.message.Answer.{Answer}
-use Rattle.qc_msg.specs.declared.message.Answer.TheVariants as answers
 use Rattle.qc_msg.specs.declared.message.Message.{Message}
-use Rattle.qc_msg.specs.declared.message.Message.TheVariants as messages
 use Rattle.qc_msg.specs.declared.message.Want.{Want}
 use Rattle.qc_msg.specs.declared.message.Want.TheVariants as wants
 use Rattle.qc_msg.specs.declared.record.Record.{Record}
-use Rattle.qc_msg.specs.declared.record.Record.TheVariants as records
 use Rattle.qc_msg.specs.declared.reply.Reply.{Reply}
 use Rattle.qc_msg.specs.declared.step.Input.{Input}
 use Rattle.qc_msg.specs.declared.step.Input.TheVariants as inputs
@@ -25,10 +22,11 @@ use Rattle.qc_client.specs.declared.client.Client.{Client}
 use Rattle.qc_front.specs.declared.front.Front.{Front}
 use Rattle.qc_front.specs.declared.transaction.Transaction.{Transaction}
 use Rattle.qc_promise.specs.Vocabulary.{Account, ClientRequest, Current, account_at, account_heard, account_sent}
-use Rattle.qc_promise.specs.Vocabulary.{account_taken, account_written, counted, counted_for, granted, is_asked_for}
-use Rattle.qc_promise.specs.Vocabulary.{is_open, lived, promised, taken_for, told_by, with_current, with_read}
+use Rattle.qc_promise.specs.Vocabulary.{account_taken, account_written, counted, counted_for, granted, is_open, lived}
+use Rattle.qc_promise.specs.Vocabulary.{promised, taken_for, told_by, with_current, with_read}
 use Rattle.laws_due.specs.Vocabulary.{AreBegun, IsBegun, Ties, appends, reads, rests, votes}
 use Rattle.laws_guarantees.specs.Vocabulary.{name_of}
+use Rattle.laws_guarantees.proofs.AccountCases.{heard_cases, sent_cases, told_cases, written_cases}
 
 -- a change of the begun transaction that keeps its name
 named_with : (d : Account) (change : Current → Current) → ((t : Current) → (change t).tx ≡ t.tx)
@@ -55,18 +53,9 @@ promised_named d clock (wants.Append object view own) = refl
 promised_named d clock wants.Prepare = refl
 
 told_named : (d : Account) (q : ClientRequest) (answer : Option Answer) → name_of (told_by d q answer) ≡ name_of d
-told_named d q None = refl
-told_named d q (Some (answers.Granted life clock log)) = granted_named d q.site life clock log q.want
-told_named d q (Some (answers.Clash holder inv event)) = refl
-told_named d q (Some (answers.Closed epoch)) = refl
-told_named d q (Some (answers.Behind epoch)) = refl
-told_named d q (Some (answers.Restarted life)) = refl
-told_named d q (Some answers.Stale) = refl
-told_named d q (Some answers.Fault) = refl
-told_named d q (Some (answers.Yes clock)) = promised_named d clock q.want
-told_named d q (Some (answers.Shut clock log prepared)) = refl
-told_named d q (Some answers.Installed) = refl
-told_named d q (Some (answers.Answered verdict)) = refl
+told_named d q answer = told_cases d q (λ a e. name_of e ≡ name_of d) (λ a. refl)
+    (λ life clock log. granted_named d q.site life clock log q.want) (λ epoch. refl)
+    (λ clock. promised_named d clock q.want) answer
 
 counted_named : (d : Account) (number : ℕ) (answer : Option Answer) → name_of (counted d number answer) ≡ name_of d
 counted_named d number answer = by (find (is_open number) d.requests)
@@ -76,13 +65,8 @@ counted_named d number answer = by (find (is_open number) d.requests)
     by (Some q) = told_named (record d { requests = taken_for number answer d.requests }) q answer
 
 heard_named : (d : Account) (m : Message) → name_of (account_heard d m) ≡ name_of d
-heard_named d (messages.Request tx epoch life want) = refl
-heard_named d (messages.Answer to answer) = counted_named d to (Some answer)
-heard_named d (messages.Decision tx verdict) = refl
-heard_named d (messages.Inquiry tx) = refl
-heard_named d (messages.Ask tx) = refl
-heard_named d (messages.Close epoch) = refl
-heard_named d (messages.Install epoch clock log) = refl
+heard_named d m = heard_cases d (λ m e. name_of e ≡ name_of d) (λ m. refl)
+    (λ to answer. counted_named d to (Some answer)) m
 
 pub taken_named : (d : Account) (g : Input) → name_of (account_taken d g) ≡ name_of d
 taken_named d (inputs.Called command) = refl
@@ -106,29 +90,13 @@ stays_on d e f first second = record {
 }
 
 written_stays : (d : Account) (w : Record) → Stays d (account_written d w)
-written_stays d records.Life = record { current = refl; command = refl }
-written_stays d (records.Prepare prepared) = stayed d
-written_stays d (records.Done tx clock) = stayed d
-written_stays d (records.Close epoch) = stayed d
-written_stays d (records.Install epoch clock lines) = stayed d
-written_stays d (records.Commit commit) = record { current = refl; command = refl }
-written_stays d (records.Decide epoch clock lines) = stayed d
+written_stays d w = written_cases d (Stays d) (stayed d) (record { current = refl; command = refl })
+    (λ commit. record { current = refl; command = refl }) w
 
 sent_stays : (decl : Declaration) (d : Account) (number to : ℕ) (m : Message)
     → Stays d (account_sent decl d number to m)
-sent_stays decl d number to (messages.Request tx epoch life want) = by (is_asked_for decl d to tx epoch life want)
-  where
-    by : (t : Bool) → Stays d (if t then record d
-        { requests = d.requests ++ record { number = number; site = to; life = life; want = want; taken = None } ∷ [] }
-        else d)
-    by true = record { current = refl; command = refl }
-    by false = stayed d
-sent_stays decl d number to (messages.Answer request answer) = stayed d
-sent_stays decl d number to (messages.Decision tx verdict) = stayed d
-sent_stays decl d number to (messages.Inquiry tx) = stayed d
-sent_stays decl d number to (messages.Ask tx) = stayed d
-sent_stays decl d number to (messages.Close epoch) = stayed d
-sent_stays decl d number to (messages.Install epoch clock log) = stayed d
+sent_stays decl d number to m = sent_cases decl d number to (λ m e. Stays d e) (λ m. stayed d)
+    (λ tx epoch life want is. record { current = refl; command = refl }) m
 
 pub writes_stay : (decl : Declaration) (d : Account) (write : Option Record)
     → Stays d (fold (account_at decl) d (writes_of write))

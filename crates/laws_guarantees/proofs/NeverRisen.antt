@@ -1,5 +1,5 @@
 -- In a run without falls nobody rises: so its committed operations are those of the records that were written.
-use Rattle.std.proofs.Common.{◌≡◌, ℕ, ◌+◌, Bool, List, [], ◌∷◌, ◌++◌, length, Option, Some, None, subst}
+use Rattle.std.proofs.Common.{◌≡◌, ℕ, ◌+◌, Bool, List, [], ◌∷◌, ◌++◌, length, Option, Some, None}
 use Rattle.std.specs.List.{AllByRecursion as Every}
 use Rattle.std.specs.Prelude.{sum_by}
 use Rattle.qc_decl.specs.declared.declaration.Declaration.{Declaration}
@@ -11,16 +11,15 @@ use Rattle.qc_msg.specs.Vocabulary.{step_of, told, written, wrote}
 use Rattle.qc_msg.specs.declared.record.Record.{Record}
 use Rattle.qc_msg.specs.declared.reply.Reply.{Reply}
 use Rattle.qc_msg.specs.declared.step.Control.{Control}
-use Rattle.qc_msg.specs.declared.step.Control.TheVariants as controls
 use Rattle.qc_msg.specs.declared.step.Input.{Input}
 use Rattle.qc_msg.specs.declared.step.Input.TheVariants as inputs
 use Rattle.qc_msg.specs.declared.step.Step.{Step}
-use Rattle.qc_msg.specs.declared.step.Step.TheVariants as steps
 use Rattle.qc_msg.specs.declared.turn.Posting.{Posting}
 use Rattle.qc_msg.specs.declared.turn.Turn.{Turn}
 use Rattle.qc_script.specs.Vocabulary.{Runs, step_of_control}
 use Rattle.qc_script.specs.Runs.{begins, takes, posts, phase, control}
 use Rattle.qc_script.specs.declared.script.Script.{Script}
+use Rattle.laws_guarantees.proofs.ControlCases.{control_cases}
 
 abbrev AreNoRises : List Entry → Type 0
 AreNoRises h = Every (λ (e : Entry). IsNoRise e.step) h
@@ -54,12 +53,7 @@ no_post n turn =
     (every-append IsNoRise (sents n turn.sends) (told turn.told) (no_message n turn.sends) (no_reply turn.told))
 
 no_control : (line : Control) (step : Step) → step_of_control line ≡ Some step → IsNoRise step
-no_control (controls.Phase k) step is = absurd (let never : ⊥ = cc in never)
-no_control (controls.Cut a b) step is = subst IsNoRise (let same : steps.Cut a b ≡ step = cc in same) tt
-no_control (controls.Heal a b) step is = subst IsNoRise (let same : steps.Heal a b ≡ step = cc in same) tt
-no_control (controls.Armed actor kind at) step is = absurd (let never : ⊥ = cc in never)
-no_control (controls.Crash a) step is = absurd (let never : ⊥ = cc in never)
-no_control (controls.Restart a) step is = absurd (let never : ⊥ = cc in never)
+no_control line = control_cases IsNoRise (λ a b. tt) (λ a b. tt) line
 
 module _ (lawful : ℕ → List Deed → Turn → Type 0) (decl : Declaration) (script : Script) where
   more : (h k : List Entry) → AreNoRises h → AreNoRises k → AreNoRises (h ++ k)

@@ -1,5 +1,5 @@
 -- In an undisturbed run nobody takes that a request is lost, and no account counts a loss.
-use Rattle.std.proofs.Common.{[], ◌≡◌, ℕ, ◌+◌, ◌-◌, ◌==◌, ◌⊎◌, inl, inr, Bool, true, false, cond, List, ◌∷◌, ◌++◌, fold}
+use Rattle.std.proofs.Common.{[], ◌≡◌, ℕ, ◌+◌, ◌-◌, ◌==◌, ◌⊎◌, inl, inr, Bool, true, false, List, ◌∷◌, ◌++◌, fold}
 use Rattle.std.proofs.Common.{length, Option, Some, None, refl, sym, ap, ◌∙◌, subst, eqb-true}
 use Rattle.std.specs.Prelude.{drop}
 use Rattle.std.specs.List.{AllByRecursion as Every, find}
@@ -10,10 +10,7 @@ use Rattle.qc_decl.specs.Vocabulary.{controller}
 use Rattle.qc_decl.specs.declared.declaration.Declaration.{Declaration}
 use Rattle.qc_msg.specs.declared.message.Answer.{Answer}
 use Rattle.qc_msg.specs.declared.message.Message.{Message}
-use Rattle.qc_msg.specs.declared.message.Message.TheVariants as messages
-use Rattle.qc_msg.specs.declared.message.Want.TheVariants.{Prepare}
 use Rattle.qc_msg.specs.declared.record.Record.{Record}
-use Rattle.qc_msg.specs.declared.record.Record.TheVariants as records
 use Rattle.qc_msg.specs.declared.step.Input.{Input}
 use Rattle.qc_msg.specs.declared.step.Input.TheVariants as inputs
 use Rattle.qc_msg.specs.declared.step.Step.TheVariants as steps
@@ -29,13 +26,14 @@ use Rattle.laws_turns.proofs.Arrivals.{what_is_ready_was_sent}
 use Rattle.laws_turns.proofs.ReadyFirst.{ready_loss}
 use Rattle.laws_turns.proofs.Numbered.{control_silent, phase_silent}
 use Rattle.qc_promise.specs.Vocabulary.{Account, ClientRequest, account_at, account_fallen, account_heard, account_sent}
-use Rattle.qc_promise.specs.Vocabulary.{account_taken, account_with, account_written, counted, counted_for}
-use Rattle.qc_promise.specs.Vocabulary.{is_asked_for, is_open, taken_for}
+use Rattle.qc_promise.specs.Vocabulary.{account_taken, account_with, account_written, counted, counted_for, is_open}
+use Rattle.qc_promise.specs.Vocabulary.{taken_for}
 use Rattle.laws_turns.proofs.Bounding.{turn-posts}
 use Rattle.laws_turns.proofs.ClientsWithin.{IsPost}
 use Rattle.laws_guarantees.specs.Vocabulary.{Arrives, IsUndisturbed}
 use Rattle.laws_guarantees.proofs.Accounts.{IsTakenNow, after_taken, told_requests}
 use Rattle.laws_guarantees.proofs.Passing.{no_request_is_lost}
+use Rattle.laws_guarantees.proofs.AccountCases.{heard_cases, sent_cases, written_cases}
 
 -- nothing that an account counts is a loss, where no loss was taken
 
@@ -69,46 +67,20 @@ counted_lost d n answer none q among is = by (find (is_open n) d.requests) among
         there))
 
 heard_lost : (d : Account) (m : Message) → NoneLost d → NoneLost (account_heard d m)
-heard_lost d (messages.Request tx epoch life want) none = none
-heard_lost d (messages.Answer to answer) none = counted_lost d to answer none
-heard_lost d (messages.Decision tx verdict) none = none
-heard_lost d (messages.Inquiry tx) none = none
-heard_lost d (messages.Ask tx) none = none
-heard_lost d (messages.Close epoch) none = none
-heard_lost d (messages.Install epoch clock log) none = none
+heard_lost d m none = heard_cases d (λ m e. NoneLost e) (λ m. none) (λ to answer. counted_lost d to answer none) m
 
 written_lost : (d : Account) (w : Record) → NoneLost d → NoneLost (account_written d w)
-written_lost d records.Life none = none
-written_lost d (records.Prepare prepared) none = none
-written_lost d (records.Done tx clock) none = none
-written_lost d (records.Close epoch) none = none
-written_lost d (records.Install epoch clock lines) none = none
-written_lost d (records.Commit commit) none = none
-written_lost d (records.Decide epoch clock lines) none = none
+written_lost d w none = written_cases d NoneLost none none (λ commit. none) w
 
 sent_lost : (decl : Declaration) (d : Account) (n to : ℕ) (m : Message) → NoneLost d
     → NoneLost (account_sent decl d n to m)
-sent_lost decl d n to (messages.Request tx epoch life want) none = by (is_asked_for decl d to tx epoch life want)
-  where
-    by : (t : Bool) → NoneLost
-        (cond t
-        (record d
-        { requests = d.requests ++ record { number = n; site = to; life = life; want = want; taken = None } ∷ [] })
-        d)
-    by true q among is =
-        more (In-more q (record { number = n; site = to; life = life; want = want; taken = None }) d.requests among)
-      where
-        more : In q d.requests ⊎ (q ≡ record { number = n; site = to; life = life; want = want; taken = None }) → ⊥
-        more (inl old) = none q old is
-        more (inr new) =
-            let fresh : q.taken ≡ None = ap (λ (y : ClientRequest). y.taken) new in let never : ⊥ = cc in never
-    by false q among is = none q among is
-sent_lost decl d n to (messages.Answer request answer) none = none
-sent_lost decl d n to (messages.Decision tx verdict) none = none
-sent_lost decl d n to (messages.Inquiry tx) none = none
-sent_lost decl d n to (messages.Ask tx) none = none
-sent_lost decl d n to (messages.Close epoch) none = none
-sent_lost decl d n to (messages.Install epoch clock log) none = none
+sent_lost decl d n to m none = sent_cases decl d n to (λ m e. NoneLost e) (λ m. none)
+    (λ tx epoch life want asked q among is.
+    elim (In-more q (record { number = n; site = to; life = life; want = want; taken = None }) d.requests among) [
+      | inl old ↦ none q old is
+      | inr new ↦
+          (let fresh : q.taken ≡ None = ap (λ (y : ClientRequest). y.taken) new in let never : ⊥ = cc in never)
+    ]) m
 
 pub lost_from : (decl : Declaration) (d : Account) (ds : List Deed) → Every IsNoLoss ds → NoneLost d
     → NoneLost (fold (account_at decl) d ds)

@@ -7,21 +7,20 @@ use Rattle.qc_stamp.specs.declared.stamp.TxId.{TxId}
 use Rattle.qc_decl.specs.Vocabulary.{IsAccepted, is_client, is_site}
 use Rattle.qc_decl.specs.declared.declaration.Declaration.{Declaration}
 use Rattle.qc_msg.specs.declared.message.Message.{Message}
-use Rattle.qc_msg.specs.declared.message.Message.TheVariants as messages
 use Rattle.qc_msg.specs.declared.message.Want.TheVariants.{Append, Prepare, Read}
 use Rattle.qc_msg.specs.declared.record.Record.{Record}
 use Rattle.qc_msg.specs.declared.reply.Reply.{Reply}
 use Rattle.qc_msg.specs.declared.turn.Posting.{Posting}
 use Rattle.qc_msg.specs.declared.turn.Turn.{Turn}
 use Rattle.qc_msg.specs.Vocabulary.{Deed, Falls, Rises, Sends, Takes, Tells, Writes, quiet, sends_of, tells_of}
-use Rattle.qc_msg.specs.Vocabulary.{turn_deeds, writes_of}
+use Rattle.qc_msg.specs.Vocabulary.{turn_deeds, writes_of, Requested, request_in}
 use Rattle.qc_front.specs.declared.transaction.Transaction.{Transaction}
 use Rattle.qc_client.specs.declared.client.Client.{Client}
 use Rattle.qc_client.specs.Vocabulary.{ClientMove, client_after, client_does, client_takes, moved, new_client, sent_one}
 use Rattle.qc_core.specs.Vocabulary.{Acts, posts, starts, takes}
 use Rattle.qc_promise.specs.Vocabulary.{Account, account_at, new_account}
 use Rattle.laws_due.specs.Vocabulary.{Ties}
-use Rattle.laws_due.proofs.Courses.{clients_tied}
+use Rattle.laws_due.proofs.Courses.{accounts_are_their_clients}
 use Rattle.laws_turns.proofs.Bounding.{lawful_turn, turn-posts}
 use Rattle.laws_turns.proofs.ClientsWithin.{IsPost}
 use Rattle.laws_turns.proofs.InRuns.{IsResting, deals_acts}
@@ -29,6 +28,9 @@ use Rattle.laws_guarantees.specs.Vocabulary.{name_of}
 use Rattle.laws_guarantees.proofs.AskedClients.{input_keeps}
 use Rattle.laws_guarantees.proofs.SitesTold.{HasAsked, open_posted, open_sent}
 use Rattle.laws_guarantees.proofs.Names.{front_name, taken_named, tied_named}
+use Rattle.qc_client.specs.Conduct.{requested}
+use Rattle.std.specs.Option.{option_map_or}
+use Rattle.qc_msg.specs.declared.message.Want.{Want}
 
 -- whether a transaction is open at a site, by what a client sent
 
@@ -69,15 +71,18 @@ turn_done s x before n turn =
 
 transaction_one : (c : Client) (number to : ℕ) (message : Message)
     → (sent_one c number to message).front.transaction ≡ c.front.transaction
-transaction_one c number to (messages.Request other epoch life (Read object inv)) = refl
-transaction_one c number to (messages.Request other epoch life (Append object view own)) = refl
-transaction_one c number to (messages.Request other epoch life Prepare) = refl
-transaction_one c number to (messages.Answer other answer) = refl
-transaction_one c number to (messages.Decision other verdict) = refl
-transaction_one c number to (messages.Inquiry other) = refl
-transaction_one c number to (messages.Ask other) = refl
-transaction_one c number to (messages.Close epoch) = refl
-transaction_one c number to (messages.Install epoch clock log) = refl
+transaction_one c number to message = by (request_in message)
+  where
+    want : (w : Want) → (requested c number to w).front.transaction ≡ c.front.transaction
+    want (Read object inv) = refl
+    want (Append object view own) = refl
+    want Prepare = refl
+
+    by : (o : Option Requested)
+        → (option_map_or (λ (q : Requested). requested c number to q.want) o c).front.transaction
+        ≡ c.front.transaction
+    by None = refl
+    by (Some q) = want q.want
 
 transaction_posts : (decl : Declaration) (m : ClientMove) (ds : List Deed) → Every IsPost ds
     → (fold (client_does decl) m ds).client.front.transaction ≡ m.client.front.transaction
@@ -164,7 +169,8 @@ module _ (decl : Declaration) (accepted : IsAccepted decl) (a : ℕ) (no_site : 
       λ is. subst (HasAsked s x) (sym kept) (old.next (sym more ∙ is)) in
       let tied : Ties decl (account_of (before ++ turn_deeds first turn))
       (client_after decl (a - decl.sites) (before ++ turn_deeds first turn)).client =
-      clients_tied decl a named (before ++ turn_deeds first turn) _ (posts before turn m first done above lawful) in
+      accounts_are_their_clients decl a named (before ++ turn_deeds first turn) _
+      (posts before turn m first done above lawful) in
       record {
         asked = asks;
         name = λ is. tied_named decl (account_of (before ++ turn_deeds first turn))

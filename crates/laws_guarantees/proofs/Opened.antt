@@ -7,7 +7,7 @@ use Rattle.qc_msg.specs.Vocabulary.{Deed, Entry, Takes, deeds}
 use Rattle.qc_script.specs.Vocabulary.{Runs}
 use Rattle.qc_script.specs.declared.script.Script.{Script}
 use Rattle.laws_turns.specs.Vocabulary.{ActsIn}
-use Rattle.laws_turns.proofs.Acted.{run_acts}
+use Rattle.laws_turns.proofs.Acted.{actors_take_and_post_by_turns}
 
 pub record IsAtTake (decl : Declaration) (a : ℕ) (ds : List Deed) : Type 0 where
   pub before : List Deed
@@ -31,5 +31,5 @@ pub opened : (decl : Declaration) (script : Script) (h : List Entry) (open_input
     → Runs (IsLawful decl) decl script h open_inputs → (a : ℕ) → slice_get open_inputs a ≡ Some true
     → IsAtTake decl a (deeds a [] h)
 opened decl script h open_inputs run a is =
-    let r : ActsIn decl a h true = run_acts decl script h open_inputs run a true is in
+    let r : ActsIn decl a h true = actors_take_and_post_by_turns decl script h open_inputs run a true is in
     at_take decl a (deeds a [] h) true r.above r.acts

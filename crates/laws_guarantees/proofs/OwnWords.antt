@@ -1,7 +1,7 @@
 -- Only a transaction's own client asks for it and tells its end. So what is open at a site by the mail is begun.
 use Rattle.std.proofs.Common.{◌≡◌, ℕ, ◌+◌, ◌-◌, ◌<◌, ◌≤◌, ◌==◌, ◌&&◌, nat_le, nat_lt, Bool, true, false, cond, List, []}
 use Rattle.std.proofs.Common.{◌∷◌, ◌++◌, fold, Option, Some, None, slice_get, refl, sym, ap, ◌∙◌, subst, arith, eq-eqb}
-use Rattle.std.specs.Prelude.{option_to_list}
+use Rattle.std.specs.Prelude.{option_to_list, MatchOption}
 use Rattle.std.specs.List.{AllByRecursion as Every, cons_option}
 use Rattle.std.proofs.lemmas.Bool.{le-leb, ltb-true, ltb-false, lt-ltb}
 use Rattle.std.proofs.lemmas.List.Sums.{fold-append}
@@ -18,56 +18,52 @@ use Rattle.qc_msg.specs.declared.message.Message.TheVariants as messages
 use Rattle.qc_msg.specs.declared.message.Outcome.{Outcome}
 use Rattle.qc_msg.specs.declared.message.Outcome.TheVariants as outcomes
 use Rattle.qc_msg.specs.declared.step.Step.{Step}
-use Rattle.qc_msg.specs.declared.step.Step.TheVariants as steps
-use Rattle.qc_msg.specs.Vocabulary.{Deed, Entry, Sends, deed_at, deeds, envelope_at, envelope_of, heard, mail}
+use Rattle.qc_msg.specs.Vocabulary.{Deed, Entry, Sends, deed_at, deeds, envelope_at, envelope_of, heard, mail, Decided}
+use Rattle.qc_msg.specs.Vocabulary.{Requested, decision_in, request_in, Falls, Rises, Takes, Tells, Writes}
 use Rattle.qc_promise.specs.Vocabulary.{Committed, Dead, Status, Unborn, is_final, status}
 use Rattle.qc_core.specs.Vocabulary.{IsLawful}
 use Rattle.qc_script.specs.Vocabulary.{Runs}
 use Rattle.qc_script.specs.declared.script.Script.{Script}
 use Rattle.laws_turns.specs.Vocabulary.{ActsIn, AsksDeclared}
-use Rattle.laws_turns.proofs.Acted.{run_acts}
+use Rattle.laws_turns.proofs.Acted.{actors_take_and_post_by_turns}
 use Rattle.laws_turns.proofs.Idle.{IsInput, idle}
 use Rattle.laws_guarantees.proofs.IdleDeeds.{idle_open}
 use Rattle.laws_turns.proofs.Proper.{run_proper}
 use Rattle.laws_turns.proofs.SiteReplies.{IsProperFrom}
-use Rattle.laws_turns.proofs.DecisionLaws.{moves_on}
+use Rattle.laws_turns.proofs.DecisionLaws.{transactions_move_on}
 use Rattle.laws_turns.proofs.InRuns.{HasPlace, client_low, client_no_site, client_number, run_place}
 use Rattle.laws_turns.proofs.Lasting.{Came, request_born, verdict_came}
 use Rattle.laws_turns.proofs.Moving.{Good, IsFromClient, IsMail}
 use Rattle.laws_turns.proofs.RunsGood.{all_good}
 use Rattle.laws_turns.proofs.StatusActs.{HasPage, pages}
-use Rattle.laws_guarantees.proofs.Mailed.{mail_sent}
+use Rattle.laws_guarantees.proofs.Mailed.{mail_sent, message_of, step_cases}
 use Rattle.laws_guarantees.specs.Vocabulary.{asks_to_hold, begun_by, is_open_at, open_said, sent_to}
 use Rattle.laws_guarantees.proofs.SitesTold.{open_sent}
 use Rattle.laws_guarantees.proofs.OpenDeeds.{open_did, open_done, open_named}
+use Rattle.std.specs.Option.{option_map_or}
 
 -- a message that changes whether a transaction is open
 
 abbrev pub Concerns : TxId → Message → Type 0
-Concerns x (messages.Request tx epoch life want) = same_tx tx x ≡ true
-Concerns x (messages.Answer to answer) = ⊥
-Concerns x (messages.Decision tx verdict) = same_tx tx x ≡ true
-Concerns x (messages.Inquiry tx) = ⊥
-Concerns x (messages.Ask tx) = ⊥
-Concerns x (messages.Close epoch) = ⊥
-Concerns x (messages.Install epoch clock log) = ⊥
+Concerns x m = MatchOption (request_in m)
+    (MatchOption (decision_in m) ⊥ (λ (v : Decided). same_tx v.tx x ≡ true)) (λ (q : Requested). same_tx q.tx x ≡ true)
 
 unconcerned : (x : TxId) (before : Bool) (m : Message) → (Concerns x m → ⊥) → open_said x before m ≡ before
-unconcerned x before (messages.Request tx epoch life want) none = by (same_tx tx x) refl
+unconcerned x before m = by (request_in m) (decision_in m)
   where
-    by : (t : Bool) → same_tx tx x ≡ t → cond (t && asks_to_hold want) true before ≡ before
-    by true same = absurd (none same)
-    by false other = refl
-unconcerned x before (messages.Answer to answer) none = refl
-unconcerned x before (messages.Decision tx verdict) none = by (same_tx tx x) refl
-  where
-    by : (t : Bool) → same_tx tx x ≡ t → cond (t && is_final verdict) false before ≡ before
-    by true same = absurd (none same)
-    by false other = refl
-unconcerned x before (messages.Inquiry tx) none = refl
-unconcerned x before (messages.Ask tx) none = refl
-unconcerned x before (messages.Close epoch) none = refl
-unconcerned x before (messages.Install epoch clock log) none = refl
+    test : (tx : TxId) (becomes holds t : Bool) → (same_tx tx x ≡ true → ⊥) → same_tx tx x ≡ t
+        → cond (t && holds) becomes before ≡ before
+    test tx becomes holds true none same = absurd (none same)
+    test tx becomes holds false none other = refl
+
+    by : (o : Option Requested) (v : Option Decided)
+        → (MatchOption o (MatchOption v ⊥ (λ (v : Decided). same_tx v.tx x ≡ true))
+        (λ (q : Requested). same_tx q.tx x ≡ true) → ⊥)
+        → option_map_or (λ (q : Requested). cond (same_tx q.tx x && asks_to_hold q.want) true before) o
+        (option_map_or (λ (v : Decided). cond (same_tx v.tx x && is_final v.verdict) false before) v before) ≡ before
+    by (Some q) v none = test q.tx true (asks_to_hold q.want) (same_tx q.tx x) none refl
+    by None (Some v) none = test v.tx false (is_final v.verdict) (same_tx v.tx x) none refl
+    by None None none = refl
 
 abbrev pub IsOwn : ℕ → TxId → Envelope → Type 0
 IsOwn c x e = Concerns x e.message → e.from ≡ c
@@ -126,24 +122,25 @@ module _ (s : ℕ) (x : TxId) (c : ℕ) where
       by true is = refl
       by false other = quiet other (to == s)
 
+  unsent_same : (a : ℕ) (before : Bool) (d : Deed) → message_of a d ≡ None → open_did s x before d ≡ before
+  unsent_same a before (Takes given) unsent = refl
+  unsent_same a before (Writes written) unsent = refl
+  unsent_same a before (Sends n to m) unsent = absurd (let never : ⊥ = cc in never)
+  unsent_same a before (Tells reply) unsent = refl
+  unsent_same a before (Falls cause pending) unsent = refl
+  unsent_same a before (Rises records) unsent = refl
+
   step_same : (b : ℕ) (ms : List Envelope) (step : Step) (before : Bool)
       → Every (IsOwn c x) (option_to_list (envelope_at b step))
       → fold (open_did s x) before (cond (b == c) (deed_at ms step) [])
       ≡ fold (λ (was : Bool) (e : Envelope). open_sent s x was e.to e.message) before
       (option_to_list (envelope_at b step))
-  step_same b ms (steps.Phase k) before own = no_deed before (b == c)
-  step_same b ms (steps.Cut y z) before own = no_deed before (b == c)
-  step_same b ms (steps.Heal y z) before own = no_deed before (b == c)
-  step_same b ms (steps.Armed actor kind at) before own = no_deed before (b == c)
-  step_same b ms (steps.Called command) before own = nothing_done before (b == c) _ refl
-  step_same b ms (steps.Got n) before own = hears before (b == c) (slice_get ms n)
-  step_same b ms (steps.Lost n) before own = nothing_done before (b == c) _ refl
-  step_same b ms (steps.Wrote written) before own = nothing_done before (b == c) _ refl
-  step_same b ms (steps.Sent n to message) before own = sent_same b n to message before own.0
-  step_same b ms (steps.Told reply) before own = nothing_done before (b == c) _ refl
-  step_same b ms (steps.Fell cause pending) before own = nothing_done before (b == c) _ refl
-  step_same b ms (steps.Rose records) before own = nothing_done before (b == c) _ refl
-  step_same b ms (steps.Damaged offset) before own = no_deed before (b == c)
+  step_same b ms step before = step_cases ms b
+      (λ ds o. Every (IsOwn c x) (option_to_list o) → fold (open_did s x) before (cond (b == c) ds [])
+      ≡ fold (λ (was : Bool) (e : Envelope). open_sent s x was e.to e.message) before (option_to_list o))
+      (λ own. no_deed before (b == c))
+      (λ d unsent untaken own. nothing_done before (b == c) d (unsent_same b before d unsent))
+      (λ n own. hears before (b == c) (slice_get ms n)) (λ n to m own. sent_same b n to m before own.0) step
 
   first_own : (o : Option Envelope) (es : List Envelope) → Every (IsOwn c x) (cons_option o es)
       → Every (IsOwn c x) (option_to_list o)
@@ -186,7 +183,8 @@ module _ (decl : Declaration) (script : Script) (accepted : IsAccepted decl) (as
   place a named = run_place decl script h open_inputs run a (client_low decl a named)
 
   turns : (a : ℕ) (named : is_client decl a ≡ true) → ActsIn decl a h (place a named).is_open
-  turns a named = run_acts decl script h open_inputs run a (place a named).is_open (place a named).at
+  turns a named =
+      actors_take_and_post_by_turns decl script h open_inputs run a (place a named).is_open (place a named).at
 
   -- who sends something is a site or a client
 
@@ -241,7 +239,7 @@ module _ (decl : Declaration) (script : Script) (accepted : IsAccepted decl) (as
           subst (IsProperFrom decl e.from e.to) is proper in
           let named : is_client decl e.from ≡ true = sender_is e among p.0 in
           let its : tx ≡ x = tx_apart tx x same in
-          born_own e.from named x (request_born x Unborn (deeds e.from [] h) e.number e.to epoch life want (moves_on decl script h open_inputs accepted run e.from named x)
+          born_own e.from named x (request_born x Unborn (deeds e.from [] h) e.number e.to epoch life want (transactions_move_on decl script h open_inputs accepted run e.from named x)
           (subst (λ (t : TxId). In (Sends e.number e.to (messages.Request t epoch life want)) (deeds e.from [] h)) its
           (sent (messages.Request tx epoch life want) is)))
       by (messages.Answer to answer) is never = absurd never
@@ -249,7 +247,7 @@ module _ (decl : Declaration) (script : Script) (accepted : IsAccepted decl) (as
           let w : IsMail decl h e = every-In (IsMail decl h) e (mail h) good.mail_is among in
           let named : is_client decl e.from ≡ true = subst (IsFromClient decl e.from) is w.from in
           let its : tx ≡ x = tx_apart tx x same in
-          born_own e.from named x (ended_born x verdict (status (deeds e.from [] h) x) (verdict_came x Unborn (deeds e.from [] h) e.number e.to verdict (moves_on decl script h open_inputs accepted run e.from named x)
+          born_own e.from named x (ended_born x verdict (status (deeds e.from [] h) x) (verdict_came x Unborn (deeds e.from [] h) e.number e.to verdict (transactions_move_on decl script h open_inputs accepted run e.from named x)
           (subst (λ (t : TxId). In (Sends e.number e.to (messages.Decision t verdict)) (deeds e.from [] h)) its
           (sent (messages.Decision tx verdict) is))))
       by (messages.Inquiry tx) is never = absurd never

@@ -16,10 +16,10 @@ use Rattle.qc_msg.proofs.DeedsGrow.{deeds-append}
 use Rattle.qc_promise.specs.Vocabulary.{Account, Current, account, account_at, account_told, answer_of, found_absent}
 use Rattle.qc_promise.specs.Vocabulary.{new_account, responded, with_absent, with_response}
 use Rattle.laws_due.specs.Vocabulary.{AreByRows, IsByRow}
-use Rattle.laws_due.proofs.Courses.{clients_due}
+use Rattle.laws_due.proofs.Courses.{deeds_of_clients_are_by_rows}
 use Rattle.qc_script.specs.Vocabulary.{Runs}
 use Rattle.qc_script.specs.declared.script.Script.{Script}
-use Rattle.laws_turns.proofs.Acted.{has_entry, run_acts}
+use Rattle.laws_turns.proofs.Acted.{has_entry, actors_take_and_post_by_turns}
 use Rattle.laws_turns.specs.Vocabulary.{ActsIn}
 use Rattle.laws_guarantees.proofs.Requests.{due_at}
 use Rattle.laws_guarantees.specs.Vocabulary.{Records}
@@ -42,12 +42,13 @@ module _ (decl : Declaration) (script : Script) (h : List Entry) (open_inputs : 
     where
       by : (t : Bool) × (slice_get open_inputs a ≡ Some t) → IsByRow decl (account decl a before) (Tells reply)
       by slot =
-          let acts : ActsIn decl a h slot.0 = run_acts decl script h open_inputs run a slot.0 slot.1 in
+          let acts : ActsIn decl a h slot.0 =
+          actors_take_and_post_by_turns decl script h open_inputs run a slot.0 slot.1 in
           due_at decl (deeds a [] before) (Tells reply)
           (deeds a (mail before ++ option_to_list (envelope_of (marked a (steps.Told reply)))) after)
           (new_account (a - decl.sites))
           (subst (AreByRows decl (new_account (a - decl.sites))) (ap (deeds a []) is ∙ parts reply after)
-          (clients_due decl a client (deeds a [] h) slot.0 acts.above acts.acts))
+          (deeds_of_clients_are_by_rows decl a client (deeds a [] h) slot.0 acts.above acts.acts))
 
   behind : (reply : Reply) → account decl a (before ++ marked a (steps.Told reply) ∷ []) ≡ account_told decl
       (account decl a before) reply

@@ -12,10 +12,10 @@ use Rattle.qc_msg.specs.Vocabulary.{Entry, Writes, deeds, envelope_of, mail}
 use Rattle.qc_msg.proofs.DeedsGrow.{deeds-append}
 use Rattle.qc_promise.specs.Vocabulary.{Account, Current, account, commit_of, new_account}
 use Rattle.laws_due.specs.Vocabulary.{AreByRows, IsByRow}
-use Rattle.laws_due.proofs.Courses.{clients_due}
+use Rattle.laws_due.proofs.Courses.{deeds_of_clients_are_by_rows}
 use Rattle.qc_script.specs.Vocabulary.{IsScriptFor, Runs}
 use Rattle.qc_script.specs.declared.script.Script.{Script}
-use Rattle.laws_turns.proofs.Acted.{has_entry, run_acts}
+use Rattle.laws_turns.proofs.Acted.{has_entry, actors_take_and_post_by_turns}
 use Rattle.laws_turns.specs.Vocabulary.{ActsIn}
 use Rattle.laws_guarantees.proofs.DueStamps.{due_stamp}
 use Rattle.laws_guarantees.proofs.Requests.{due_at}
@@ -47,8 +47,9 @@ module _ (decl : Declaration) (script : Script) (accepted : IsAccepted decl) (so
       by : (t : Bool) × (slice_get open_inputs a ≡ Some t)
           → AreByRows decl (new_account (a - decl.sites)) (deeds a [] h)
       by slot =
-          let acts : ActsIn decl a h slot.0 = run_acts decl script h open_inputs run a slot.0 slot.1 in
-          clients_due decl a client (deeds a [] h) slot.0 acts.above acts.acts
+          let acts : ActsIn decl a h slot.0 =
+          actors_take_and_post_by_turns decl script h open_inputs run a slot.0 slot.1 in
+          deeds_of_clients_are_by_rows decl a client (deeds a [] h) slot.0 acts.above acts.acts
 
   -- a record is due where it stands: it is of what was begun, and its stamp comes next
   pub record IsDueThere (before : List Entry) (a : ℕ) (c : CommitRecord) : Type 0 where

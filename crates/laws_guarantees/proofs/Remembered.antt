@@ -26,11 +26,11 @@ use Rattle.qc_promise.specs.Vocabulary.{Account, ClientRequest, account, account
 use Rattle.qc_script.specs.Vocabulary.{IsScriptFor, Runs, phase_of}
 use Rattle.qc_script.specs.Runs.{begins, takes, posts, phase, control}
 use Rattle.qc_script.specs.declared.script.Script.{Script}
-use Rattle.laws_turns.proofs.Acted.{deeds-silent, run_acts}
+use Rattle.laws_turns.proofs.Acted.{deeds-silent, actors_take_and_post_by_turns}
 use Rattle.laws_turns.proofs.Arrivals.{what_is_ready_was_sent}
 use Rattle.laws_turns.proofs.Numbered.{control_silent, phase_silent}
 use Rattle.laws_turns.specs.Vocabulary.{ActsIn}
-use Rattle.laws_due.proofs.Courses.{turns_tell}
+use Rattle.laws_due.proofs.Courses.{turns_tell_their_rows}
 use Rattle.laws_due.proofs.Mute.{IsMuteDeed, sites_mute}
 use Rattle.laws_guarantees.proofs.Grounds.{turn_old}
 use Rattle.laws_guarantees.proofs.ForgettingAnswers.{Forgets}
@@ -168,12 +168,12 @@ module _ (decl : Declaration) (script : Script) (accepted : IsAccepted decl) (so
             turn_tells (length (mail h)) turn (replies.Aborted (causes.Forgot site)) among in
             let v : IsForgottenVote decl (account decl b h) site =
             due_why decl (account decl b h) site
-            (sym (turns_tell decl b client (deeds b [] h) acts.above turn acts.acts law) ∙ told) in
+            (sym (turns_tell_their_rows decl b client (deeds b [] h) acts.above turn acts.acts law) ∙ told) in
             counted_remembered h open_inputs run few b v.0 v.1 client v.2 v.3)
       ]
     where
       acts : ActsIn decl b h true
-      acts = run_acts decl script h open_inputs run b true taken
+      acts = actors_take_and_post_by_turns decl script h open_inputs run b true taken
 
   pub never_told : (h : List Entry) (open_inputs : List Bool) → Runs (IsLawful decl) decl script h open_inputs
       → operations_of h ≤ 2 * most_committed_operations → IsNeverTold h

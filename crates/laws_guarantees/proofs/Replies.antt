@@ -7,36 +7,24 @@ use Rattle.qc_decl.specs.declared.declaration.Declaration.{Declaration}
 use Rattle.qc_msg.specs.declared.record.Record.{Record}
 use Rattle.qc_msg.specs.declared.reply.Reply.{Reply}
 use Rattle.qc_msg.specs.declared.step.Control.{Control}
-use Rattle.qc_msg.specs.declared.step.Control.TheVariants as controls
 use Rattle.qc_msg.specs.declared.step.Input.{Input}
 use Rattle.qc_msg.specs.declared.step.Input.TheVariants as inputs
 use Rattle.qc_msg.specs.declared.step.Step.{Step}
 use Rattle.qc_msg.specs.declared.step.Step.TheVariants as steps
 use Rattle.qc_msg.specs.declared.turn.Posting.{Posting}
-use Rattle.qc_msg.specs.Vocabulary.{Entry, by, mail, marked, posted, sents, step_of, told, wrote}
+use Rattle.qc_msg.specs.Vocabulary.{Entry, by, mail, marked, posted, sents, step_of, told, wrote, replied_in}
 use Rattle.qc_script.specs.Vocabulary.{Runs, phase_of, step_of_control}
 use Rattle.qc_script.specs.Runs.{begins, takes, posts, phase, control}
 use Rattle.qc_script.specs.declared.script.Script.{Script}
 use Rattle.laws_turns.proofs.Places.{slice_get-set_same}
 use Rattle.laws_guarantees.specs.Vocabulary.{IsRunWithout}
 use Rattle.laws_guarantees.proofs.Moments.{First, Second, split}
+use Rattle.laws_guarantees.proofs.ControlCases.{control_cases}
 
 -- the reply of a step that told one
 
 abbrev reply_of : Step → Option Reply
-reply_of (steps.Phase k) = None
-reply_of (steps.Cut a b) = None
-reply_of (steps.Heal a b) = None
-reply_of (steps.Armed actor kind at) = None
-reply_of (steps.Called command) = None
-reply_of (steps.Got n) = None
-reply_of (steps.Lost n) = None
-reply_of (steps.Wrote w) = None
-reply_of (steps.Sent n to message) = None
-reply_of (steps.Told reply) = Some reply
-reply_of (steps.Fell cause pending) = None
-reply_of (steps.Rose w) = None
-reply_of (steps.Damaged offset) = None
+reply_of step = replied_in step
 
 one_none : (e : Entry) → reply_of e.step ≡ None → (m : List Entry) (a : ℕ) (reply : Reply) (after : List Entry)
     → e ∷ [] ≡ m ++ marked a (steps.Told reply) ∷ after → ⊥
@@ -84,12 +72,7 @@ posted_last b n (Some w) ps o (x ∷ m) a reply after is = sends_last b n ps o m
 
 -- a control line tells no reply
 control_none : (line : Control) (step : Step) → step_of_control line ≡ Some step → reply_of step ≡ None
-control_none (controls.Phase k) step is = absurd (let never : ⊥ = cc in never)
-control_none (controls.Cut a b) step is = ap reply_of (let same : step ≡ steps.Cut a b = cc in same)
-control_none (controls.Heal a b) step is = ap reply_of (let same : step ≡ steps.Heal a b = cc in same)
-control_none (controls.Armed actor kind at) step is = absurd (let never : ⊥ = cc in never)
-control_none (controls.Crash a) step is = absurd (let never : ⊥ = cc in never)
-control_none (controls.Restart a) step is = absurd (let never : ⊥ = cc in never)
+control_none line = control_cases (λ step. reply_of step ≡ None) (λ a b. refl) (λ a b. refl) line
 
 module _ (decl : Declaration) (script : Script) where
   pub replies_end_their_turns : (h : List Entry) (open_inputs : List Bool)

@@ -1,6 +1,6 @@
 -- What the running command asks for is of the begun transaction, and has grounds in the deeds; so has a reply.
-use Rattle.std.proofs.Common.{[], ◌≡◌, ◌+◌, ℕ, ◌==◌, ◌&&◌, Bool, true, false, cond, List, ◌∷◌, ◌++◌, inl, inr, Option}
-use Rattle.std.proofs.Common.{Some, None, option_map, refl, sym, ap, ◌∙◌, subst, append_assoc}
+use Rattle.std.proofs.Common.{[], ◌≡◌, ◌+◌, ℕ, ◌==◌, ◌&&◌, true, false, List, ◌∷◌, ◌++◌, inl, inr, Option, Some, None}
+use Rattle.std.proofs.Common.{option_map, refl, sym, ap, ◌∙◌, subst, append_assoc}
 use Rattle.std.specs.Prelude.{fold}
 use Rattle.std.specs.Option.{option_map_or}
 use Rattle.std.proofs.lemmas.List.{append-nil}
@@ -11,24 +11,22 @@ use Rattle.qc_list.specs.Vocabulary.{In}
 use Rattle.qc_list.proofs.Members.{In-first, In-last, In-more}
 use Rattle.qc_decl.specs.declared.declaration.Declaration.{Declaration}
 use Rattle.qc_msg.specs.declared.begun.LifeAt.{LifeAt}
-use Rattle.qc_msg.specs.declared.message.Answer.{Answer}
 use Rattle.qc_msg.specs.declared.message.Message.{Message}
 use Rattle.qc_msg.specs.declared.message.Message.TheVariants as messages
 use Rattle.qc_msg.specs.declared.message.Want.{Want}
 use Rattle.qc_msg.specs.declared.reply.Half.{Half}
 use Rattle.qc_msg.specs.declared.reply.Half.TheVariants as halves
 use Rattle.qc_msg.specs.declared.reply.Reply.{Reply}
-use Rattle.qc_msg.specs.declared.reply.Reply.TheVariants as replies
 use Rattle.qc_msg.specs.declared.step.Command.{Command}
-use Rattle.qc_msg.specs.declared.step.Command.TheVariants as commands
 use Rattle.qc_msg.specs.declared.step.Input.TheVariants as inputs
 use Rattle.qc_msg.specs.Vocabulary.{Deed, Falls, Rises, Sends, Takes, Tells, Writes, has_granted}
 use Rattle.qc_promise.specs.Vocabulary.{Account, ClientRequest, Current, account_at, account_sent, account_told_in}
 use Rattle.qc_promise.specs.Vocabulary.{answer_of, command_asks, found_absent, is_asked_for, is_of, new_account}
-use Rattle.qc_promise.specs.Vocabulary.{new_current, refused, requested, responded, short_of, with_response}
+use Rattle.qc_promise.specs.Vocabulary.{new_current, refused, responded, short_of, with_response, with_absent}
 use Rattle.laws_guarantees.proofs.Accounts.{HasGrounds, WasGranted, WasSent, and_first, granted_more, same_grounds}
 use Rattle.laws_guarantees.proofs.Accounts.{sent_more, taken_more}
 use Rattle.laws_guarantees.proofs.TakenGrounds.{take_grounds, written_grounds}
+use Rattle.laws_guarantees.proofs.AccountCases.{absent_cases, reply_cases, responded_cases, sent_cases}
 
 module _ (decl : Declaration) where
   -- a request
@@ -55,24 +53,18 @@ module _ (decl : Declaration) where
       record d
       { requests = d.requests ++ record { number = n; site = to; life = life; want = want; taken = None } ∷ [] }
 
-  requested_grounds : (ds : List Deed) (d : Account) (n to : ℕ) (tx : TxId) (epoch life : ℕ) (want : Want)
-      → HasGrounds ds d
-      → HasGrounds (ds ++ Sends n to (messages.Request tx epoch life want) ∷ [])
-      (requested decl d n to tx epoch life want)
-  requested_grounds ds d n to tx epoch life want k = by (is_asked_for decl d to tx epoch life want) refl
-    where
-      by : (b : Bool) → is_asked_for decl d to tx epoch life want ≡ b
-          → HasGrounds (ds ++ Sends n to (messages.Request tx epoch life want) ∷ [])
-          (cond b (more_requests d n to life want) d)
-      by false is = same_grounds ds (Sends n to (messages.Request tx epoch life want)) d d refl refl refl k
-      by true is = record {
-        sent =
-            λ q among. elim (In-more q (record { number = n; site = to; life = life; want = want; taken = None })
-            d.requests among) [
-              | inl old ↦
-                  (let s : (t : Current) × (d.current ≡ Some t) × WasSent ds q t.tx = k.sent q old in
-                  (s.0, s.1, sent_more ds (Sends n to (messages.Request tx epoch life want)) q s.0.tx s.2))
-              | inr new ↦ (let c : (t : Current) × (d.current ≡ Some t) × (t.tx ≡ tx) = asked_current d to tx epoch life want is in (
+  asked_grounds : (ds : List Deed) (d : Account) (n to : ℕ) (tx : TxId) (epoch life : ℕ) (want : Want)
+      → HasGrounds ds d → is_asked_for decl d to tx epoch life want ≡ true
+      → HasGrounds (ds ++ Sends n to (messages.Request tx epoch life want) ∷ []) (more_requests d n to life want)
+  asked_grounds ds d n to tx epoch life want k is = record {
+    sent =
+        λ q among. elim (In-more q (record { number = n; site = to; life = life; want = want; taken = None })
+        d.requests among) [
+          | inl old ↦
+              (let s : (t : Current) × (d.current ≡ Some t) × WasSent ds q t.tx = k.sent q old in
+              (s.0, s.1, sent_more ds (Sends n to (messages.Request tx epoch life want)) q s.0.tx s.2))
+          | inr new ↦ (let c : (t : Current) × (d.current ≡ Some t) × (t.tx ≡ tx) =
+              asked_current d to tx epoch life want is in (
                 c.0,
                 c.1,
                 subst
@@ -85,38 +77,29 @@ module _ (decl : Declaration) where
                           (In-last (Sends n to (messages.Request tx epoch life want)) ds);
                     }),
               ))
-            ];
-        taken =
-            λ q answer among it. elim (In-more q
-            (record { number = n; site = to; life = life; want = want; taken = None }) d.requests among) [
-              | inl old ↦
-                  taken_more ds (Sends n to (messages.Request tx epoch life want)) q.number answer (k.taken q answer old it)
-              | inr new ↦
-                  absurd (let none : None ≡ Some (Some answer) = sym (ap (λ (y : ClientRequest). y.taken) new) ∙ it in
-                  let never : ⊥ = cc in never)
-            ];
-        granted =
-            λ t site it has. granted_more ds (Sends n to (messages.Request tx epoch life want)) t.tx site
-            (k.granted t site it has);
-        called =
-            λ c it. In-first (Takes (inputs.Called c)) ds (Sends n to (messages.Request tx epoch life want) ∷ [])
-            (k.called c it);
-      }
+        ];
+    taken =
+        λ q answer among it. elim (In-more q
+        (record { number = n; site = to; life = life; want = want; taken = None }) d.requests among) [
+          | inl old ↦
+              taken_more ds (Sends n to (messages.Request tx epoch life want)) q.number answer (k.taken q answer old it)
+          | inr new ↦
+              absurd (let none : None ≡ Some (Some answer) = sym (ap (λ (y : ClientRequest). y.taken) new) ∙ it in
+              let never : ⊥ = cc in never)
+        ];
+    granted =
+        λ t site it has. granted_more ds (Sends n to (messages.Request tx epoch life want)) t.tx site
+        (k.granted t site it has);
+    called =
+        λ c it. In-first (Takes (inputs.Called c)) ds (Sends n to (messages.Request tx epoch life want) ∷ [])
+        (k.called c it);
+  }
 
   sent_grounds : (ds : List Deed) (d : Account) (n to : ℕ) (m : Message) → HasGrounds ds d
       → HasGrounds (ds ++ Sends n to m ∷ []) (account_sent decl d n to m)
-  sent_grounds ds d n to (messages.Request tx epoch life want) k = requested_grounds ds d n to tx epoch life want k
-  sent_grounds ds d n to (messages.Answer request answer) k =
-      same_grounds ds (Sends n to (messages.Answer request answer)) d d refl refl refl k
-  sent_grounds ds d n to (messages.Decision tx verdict) k =
-      same_grounds ds (Sends n to (messages.Decision tx verdict)) d d refl refl refl k
-  sent_grounds ds d n to (messages.Inquiry tx) k =
-      same_grounds ds (Sends n to (messages.Inquiry tx)) d d refl refl refl k
-  sent_grounds ds d n to (messages.Ask tx) k = same_grounds ds (Sends n to (messages.Ask tx)) d d refl refl refl k
-  sent_grounds ds d n to (messages.Close epoch) k =
-      same_grounds ds (Sends n to (messages.Close epoch)) d d refl refl refl k
-  sent_grounds ds d n to (messages.Install epoch clock log) k =
-      same_grounds ds (Sends n to (messages.Install epoch clock log)) d d refl refl refl k
+  sent_grounds ds d n to m k = sent_cases decl d n to (λ m e. HasGrounds (ds ++ Sends n to m ∷ []) e)
+      (λ m. same_grounds ds (Sends n to m) d d refl refl refl k)
+      (λ tx epoch life want is. asked_grounds ds d n to tx epoch life want k is) m
 
   -- a reply
 
@@ -156,22 +139,13 @@ module _ (decl : Declaration) where
   response_keeps object inv (Some event) x = (refl, refl)
 
   responded_kept : (d : Account) (c : Option Command) → KeepsLives d (responded decl d c)
-  responded_kept d None = kept d d refl
-  responded_kept d (Some commands.Begin) = kept d d refl
-  responded_kept d (Some (commands.Do object inv)) =
-      kept_by d (λ (t : Current). with_response decl t object inv (answer_of decl t object inv))
-      (λ x. response_keeps object inv (answer_of decl x object inv) x)
-  responded_kept d (Some commands.Commit) = kept d d refl
-  responded_kept d (Some commands.Abort) = kept d d refl
-  responded_kept d (Some (commands.Epoch number)) = kept d d refl
+  responded_kept d c = responded_cases decl d (KeepsLives d) (kept d d refl)
+      (λ object inv. kept_by d (λ (t : Current). with_response decl t object inv (answer_of decl t object inv))
+      (λ x. response_keeps object inv (answer_of decl x object inv) x)) c
 
   absent_kept : (d : Account) (c : Option Command) → KeepsLives d (found_absent d c)
-  absent_kept d None = kept d d refl
-  absent_kept d (Some commands.Begin) = kept d d refl
-  absent_kept d (Some (commands.Do object inv)) = kept_by d _ (λ x. (refl, refl))
-  absent_kept d (Some commands.Commit) = kept d d refl
-  absent_kept d (Some commands.Abort) = kept d d refl
-  absent_kept d (Some (commands.Epoch number)) = kept d d refl
+  absent_kept d c = absent_cases d (KeepsLives d) (kept d d refl)
+      (λ object inv. kept_by d (λ (t : Current). with_absent t object inv) (λ x. (refl, refl))) c
 
   short_kept : (d : Account) (half : Half) → KeepsLives d (short_of d half)
   short_kept d halves.Read = kept d d refl
@@ -182,31 +156,14 @@ module _ (decl : Declaration) where
   refused_kept d = kept_by d _ (λ x. (refl, refl))
 
   pub told_kept : (d : Account) (reply : Reply) → KeepsLives d (account_told_in decl d reply)
-  told_kept d replies.Down = kept d d refl
-  told_kept d (replies.Already tx) = kept d d refl
-  told_kept d (replies.Began tx) =
-      record {
+  told_kept d reply = reply_cases decl d (λ r e. KeepsLives d e) (λ r. kept d d refl)
+      (λ tx. record {
         lives = λ t site is has. absurd (let same : t ≡ new_current tx d.known = cc in
-            let none : has_granted t.lives site ≡ false =
-            ap (λ (y : Current). has_granted y.lives site) same in
+            let none : has_granted t.lives site ≡ false = ap (λ (y : Current). has_granted y.lives site) same in
             let never : ⊥ = cc in never);
-      }
-  told_kept d replies.NoTransaction = kept d d refl
-  told_kept d replies.Doomed = kept d d refl
-  told_kept d replies.TooLong = kept d d refl
-  told_kept d (replies.Closed epoch site) = refused_kept d
-  told_kept d (replies.Conflict tx site) = refused_kept d
-  told_kept d (replies.Quorum half got need) = short_kept d half
-  told_kept d replies.Absent = absent_kept d d.command
-  told_kept d (replies.Response resp) = responded_kept d d.command
-  told_kept d (replies.Aborted why) = none_now d (record d { current = None }) refl
-  told_kept d replies.Unknown = none_now d (record d { current = None }) refl
-  told_kept d (replies.Committed stamp) = none_now d (record d { current = None; clock = stamp.clock }) refl
-  told_kept d replies.Dropped = none_now d (record d { current = None }) refl
-  told_kept d (replies.Order current) = kept d d refl
-  told_kept d (replies.InDoubt tx site) = kept d d refl
-  told_kept d replies.Fault = kept d d refl
-  told_kept d (replies.Moved closed installed) = kept d d refl
+      }) (λ stamp. none_now d (record d { current = None; clock = stamp.clock }) refl)
+      (λ r. none_now d (record d { current = None }) refl) (λ r. refused_kept d) (λ r half. short_kept d half)
+      (λ r. absent_kept d d.command) (λ r. responded_kept d d.command) reply
 
   told_grounds : (ds : List Deed) (d : Account) (reply : Reply) → HasGrounds ds d
       → HasGrounds (ds ++ Tells reply ∷ []) (account_at decl d (Tells reply))

@@ -23,30 +23,32 @@ use Rattle.qc_msg.specs.declared.step.Step.TheVariants as steps
 use Rattle.qc_msg.specs.declared.turn.Posting.{Posting}
 use Rattle.qc_msg.specs.declared.turn.Turn.{Turn}
 use Rattle.qc_msg.specs.Vocabulary.{Deed, Entry, Sends, Takes, by as by_actor, deeds, mail, marked, posted, sends_of}
-use Rattle.qc_msg.specs.Vocabulary.{step_of, tells_of, turn_deeds, writes_of}
+use Rattle.qc_msg.specs.Vocabulary.{step_of, tells_of, turn_deeds, writes_of, Requested}
 use Rattle.qc_msg.proofs.DeedsGrow.{deeds-other}
 use Rattle.qc_msg.proofs.Growth.{deeds-posted, deeds-taken}
 use Rattle.qc_script.specs.Vocabulary.{IsScriptFor, Runs, phase_of}
 use Rattle.qc_script.specs.Runs.{begins, takes, posts, phase, control}
 use Rattle.qc_script.specs.declared.script.Script.{Script}
-use Rattle.laws_turns.proofs.Acted.{deeds-silent, has_entry, run_acts}
+use Rattle.laws_turns.proofs.Acted.{deeds-silent, has_entry, actors_take_and_post_by_turns}
 use Rattle.laws_turns.proofs.Idle.{IsInput, idle}
 use Rattle.laws_turns.proofs.Arrivals.{what_is_ready_was_sent}
 use Rattle.laws_turns.proofs.Numbered.{control_silent, phase_silent}
 use Rattle.laws_turns.proofs.Proper.{run_proper}
 use Rattle.laws_turns.proofs.SiteReplies.{IsProperFrom}
 use Rattle.laws_turns.specs.Vocabulary.{ActsIn}
-use Rattle.laws_due.proofs.Courses.{clients_due}
-use Rattle.laws_due.proofs.AccountDeclared.{asks_declared}
+use Rattle.laws_due.proofs.Courses.{deeds_of_clients_are_by_rows}
+use Rattle.laws_due.proofs.AccountDeclared.{scripts_ask_what_is_declared}
 use Rattle.laws_refinement.specs.Vocabulary.{IsNamed}
 use Rattle.laws_atomic.specs.Vocabulary.{AreNamed}
 use Rattle.laws_atomic.proofs.Asked.{ready_named}
 use Rattle.laws_atomic.proofs.Names.{script_named}
 use Rattle.laws_guarantees.proofs.Mailed.{mail_sent}
-use Rattle.laws_guarantees.proofs.NetMessages.{AreFullMessages, IsFullMessage}
+use Rattle.laws_guarantees.proofs.NetMessages.{AreFullMessages}
 use Rattle.laws_guarantees.proofs.Requests.{request_right}
-use Rattle.laws_guarantees.proofs.Room.{AreNamedMessages, IsNamedMessage, IsNamedWant}
+use Rattle.laws_guarantees.proofs.Room.{AreNamedMessages, IsNamedWant}
 use Rattle.laws_guarantees.proofs.SiteMoves.{IsFull}
+use Rattle.laws_guarantees.proofs.MessageCases.{asking_cases}
+use Rattle.std.specs.Prelude.{MatchOption}
 
 abbrev command_in : Deed → Option Command
 command_in (Takes (inputs.Called command)) = Some command
@@ -147,38 +149,26 @@ module _ (decl : Declaration) (script : Script) (accepted : IsAccepted decl) (so
     request_is_right e tx epoch life want sent is =
         let p : IsProperFrom decl e.from e.to e.message =
         every-In (λ (x : Envelope). IsProperFrom decl x.from x.to x.message) e (mail h)
-        (run_proper decl script accepted (asks_declared decl script accepted sound) h open_inputs run) sent in
+        (run_proper decl script accepted (scripts_ask_what_is_declared decl script accepted sound) h open_inputs run)
+        sent in
         let q : IsProperFrom decl e.from e.to (messages.Request tx epoch life want) =
         subst (IsProperFrom decl e.from e.to) is p in
         let client : is_client decl e.from ≡ true = client_of e.from q.0 (sender_within e sent) in
         let slot : (t : Bool) × (slice_get open_inputs e.from ≡ Some t) =
         has_entry (IsLawful decl) decl script h open_inputs run e.from (client_within decl e.from client) in
-        let acts : ActsIn decl e.from h slot.0 = run_acts decl script h open_inputs run e.from slot.0 slot.1 in
+        let acts : ActsIn decl e.from h slot.0 =
+        actors_take_and_post_by_turns decl script h open_inputs run e.from slot.0 slot.1 in
         request_right decl (e.from - decl.sites) (deeds e.from [] h) e.number e.to tx epoch life want
-        (clients_due decl e.from client (deeds e.from [] h) slot.0 acts.above acts.acts)
+        (deeds_of_clients_are_by_rows decl e.from client (deeds e.from [] h) slot.0 acts.above acts.acts)
         (λ c among. called_named h open_inputs run e.from c among)
         (subst (λ (m : Message). In (Sends e.number e.to m) (deeds e.from [] h)) is (mail_sent [] h e sent))
 
     pub mail_named : AreNamedMessages decl (mail h)
-    mail_named e sent = by e.message refl
-      where
-        by : (m : Message) → e.message ≡ m → IsNamedMessage decl m
-        by (messages.Request tx epoch life want) is = (request_is_right e tx epoch life want sent is).0
-        by (messages.Answer number answer) is = tt
-        by (messages.Decision tx verdict) is = tt
-        by (messages.Inquiry tx) is = tt
-        by (messages.Ask tx) is = tt
-        by (messages.Close epoch) is = tt
-        by (messages.Install epoch clock log) is = tt
+    mail_named e sent = asking_cases
+        (λ m o. e.message ≡ m → MatchOption o (Unit {0}) (λ (q : Requested). IsNamedWant decl q.want)) (λ m is. tt)
+        (λ tx epoch life want is. (request_is_right e tx epoch life want sent is).0) e.message refl
 
     pub mail_full : AreFullMessages (mail h)
-    mail_full e sent = by e.message refl
-      where
-        by : (m : Message) → e.message ≡ m → IsFullMessage m
-        by (messages.Request tx epoch life want) is = (request_is_right e tx epoch life want sent is).1
-        by (messages.Answer number answer) is = tt
-        by (messages.Decision tx verdict) is = tt
-        by (messages.Inquiry tx) is = tt
-        by (messages.Ask tx) is = tt
-        by (messages.Close epoch) is = tt
-        by (messages.Install epoch clock log) is = tt
+    mail_full e sent = asking_cases
+        (λ m o. e.message ≡ m → MatchOption o (Unit {0}) (λ (q : Requested). IsFull q.want)) (λ m is. tt)
+        (λ tx epoch life want is. (request_is_right e tx epoch life want sent is).1) e.message refl

@@ -2,7 +2,7 @@
 use Rattle.std.proofs.Common.{◌*◌, ◌≡◌, ◌≤◌, ◌<◌, ◌+◌, ◌-◌, ℕ, zero, suc, nat_le, not, true, List, [], ◌∷◌, ◌++◌, inl}
 use Rattle.std.proofs.Common.{inr, length, length-append, Option, Some, None, slice_get, refl, sym, ap, ◌∙◌, subst}
 use Rattle.std.proofs.Common.{arith}
-use Rattle.std.specs.Prelude.{sum_by, count_by, option_and_then}
+use Rattle.std.specs.Prelude.{sum_by, count_by, option_and_then, MatchOption}
 use Rattle.std.proofs.lemmas.Bool.{le-leb}
 use Rattle.std.proofs.lemmas.List.{length-map}
 use Rattle.std.proofs.lemmas.List.Sums.{count_by-le-length, length-filter}
@@ -20,10 +20,9 @@ use Rattle.qc_lock.specs.Vocabulary.{held_of}
 use Rattle.qc_lock.proofs.Order.{sorted-find}
 use Rattle.qc_msg.specs.declared.message.Envelope.{Envelope}
 use Rattle.qc_msg.specs.declared.message.Message.{Message}
-use Rattle.qc_msg.specs.declared.message.Message.TheVariants as messages
 use Rattle.qc_msg.specs.declared.message.Want.{Want}
 use Rattle.qc_msg.specs.declared.message.Want.TheVariants.{Read, Append, Prepare}
-use Rattle.qc_msg.specs.Vocabulary.{answered}
+use Rattle.qc_msg.specs.Vocabulary.{answered, Requested, request_in}
 use Rattle.theory_onecopy.specs.Vocabulary.{Executed, own_line}
 use Rattle.theory_machine.specs.Vocabulary.{AreInOrder, IsExecutedOrChosen, IsOwnClosedAt, LogLaws, Voting as IsVoting}
 use Rattle.theory_machine.specs.Vocabulary.{items_of, op_of, site_after, state}
@@ -52,13 +51,7 @@ IsNamedWant decl (Append object view own) = Unit {0}
 IsNamedWant decl Prepare = Unit {0}
 
 abbrev pub IsNamedMessage : Declaration → Message → Type 0
-IsNamedMessage decl (messages.Request tx epoch life want) = IsNamedWant decl want
-IsNamedMessage decl (messages.Answer number answer) = Unit {0}
-IsNamedMessage decl (messages.Decision tx verdict) = Unit {0}
-IsNamedMessage decl (messages.Inquiry tx) = Unit {0}
-IsNamedMessage decl (messages.Ask tx) = Unit {0}
-IsNamedMessage decl (messages.Close epoch) = Unit {0}
-IsNamedMessage decl (messages.Install epoch clock log) = Unit {0}
+IsNamedMessage decl m = MatchOption (request_in m) (Unit {0}) (λ (q : Requested). IsNamedWant decl q.want)
 
 abbrev pub AreNamedMessages : Declaration → List Envelope → Type 0
 AreNamedMessages decl mail = (e : Envelope) → In e mail → IsNamedMessage decl e.message

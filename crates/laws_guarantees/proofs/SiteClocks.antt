@@ -24,8 +24,8 @@ use Rattle.theory_machine.specs.Vocabulary.{state}
 use Rattle.qc_script.specs.Vocabulary.{IsScriptFor, Runs}
 use Rattle.qc_script.specs.declared.script.Script.{Script}
 use Rattle.qc_site.specs.Vocabulary.{SiteState, known, site_after}
-use Rattle.laws_turns.proofs.Acted.{run_acts}
-use Rattle.laws_turns.proofs.Served.{run_due, run_shown}
+use Rattle.laws_turns.proofs.Acted.{actors_take_and_post_by_turns}
+use Rattle.laws_turns.proofs.Served.{what_sites_post_is_due, sites_are_what_their_steps_show}
 use Rattle.laws_turns.specs.Vocabulary.{ActsIn}
 use Rattle.laws_turns.proofs.FirstLives.{only_life}
 use Rattle.laws_turns.proofs.Up.{run_up}
@@ -152,7 +152,7 @@ module _ (decl : Declaration) (script : Script) (h : List Entry) (open_inputs : 
     (run : Runs (IsLawful decl) decl script h open_inputs) (site : ℕ) (is : is_site decl site ≡ true)
     (free : slice_get open_inputs site ≡ Some false) where
   acts : ActsIn decl site h false
-  acts = run_acts decl script h open_inputs run site false free
+  acts = actors_take_and_post_by_turns decl script h open_inputs run site false free
 
   up : AreSteady (deeds site [] h)
   up = run_up (IsLawful decl) decl script h open_inputs run site
@@ -161,7 +161,7 @@ module _ (decl : Declaration) (script : Script) (h : List Entry) (open_inputs : 
       → clock ≤ clock_shown (deeds site [] h)
   dones_passed tx clock among =
       elim (done_brought decl [] (deeds site [] h) tx clock up
-      (run_due decl script h open_inputs run site (ltb-true site decl.sites is)) among) [
+      (what_sites_post_is_due decl script h open_inputs run site (ltb-true site decl.sites is)) among) [
         | inl next ↦
             absurd (subst (λ (acts : List Act). In (Wrote (records.Done tx clock)) acts)
             (none_first decl site (deeds site [] h) false acts.above acts.acts) next)
@@ -172,7 +172,7 @@ module _ (decl : Declaration) (script : Script) (h : List Entry) (open_inputs : 
       → l.stamp.clock ≤ clock_shown (deeds site [] h)
   lines_passed accepted sound l among =
       let s : IsShown (deeds site [] h) (site_after decl site (deeds site [] h)).site =
-      run_shown decl script h open_inputs run site (ltb-true site decl.sites is) free in
+      sites_are_what_their_steps_show decl script h open_inputs run site (ltb-true site decl.sites is) free in
       let here : (stood decl script accepted sound h open_inputs run).net.sites site ≡ (site_after decl site (deeds site [] h)).site = ((stood decl script accepted sound h open_inputs run).sites_are site is).closed free in
       let m : SiteMirrors decl ((stood decl script accepted sound h open_inputs run).net.sites site) ((state (mirror decl script accepted sound h open_inputs run).acts).deeds site) ((state (mirror decl script accepted sound h open_inputs run).acts).life site) = (mirror decl script accepted sound h open_inputs run).agrees.sites site is (all_up decl (stood decl script accepted sound h open_inputs run).net (stood decl script accepted sound h open_inputs run).calm site) in
       let there : In l (known ((stood decl script accepted sound h open_inputs run).net.sites site)) =

@@ -26,12 +26,13 @@ use Rattle.qc_msg.specs.declared.turn.Posting.{Posting}
 use Rattle.qc_site.specs.Vocabulary.{SiteMove, SiteState, answers as answering_turn, clashing, closed_fault, fault_of}
 use Rattle.qc_site.specs.Vocabulary.{grants, is_final, is_prepared, moved, prepare_length, prepares, promise_of}
 use Rattle.qc_site.specs.Vocabulary.{promised, site_at, votes}
-use Rattle.qc_msg.specs.Vocabulary.{quiet}
+use Rattle.qc_msg.specs.Vocabulary.{quiet, Granting, granted_in}
 use Rattle.qc_site.proofs.RequestCases.{append_cases, choose, fault_is, prepare_cases, read_cases, request_cases}
 use Rattle.qc_site.proofs.Cases.{state_cases}
 use Rattle.laws_atomic.proofs.FirstSites.{IsCalmMessage}
 use Rattle.laws_guarantees.proofs.ForgettingAnswers.{Forgets}
 use Rattle.laws_guarantees.proofs.AnswersToInputs.{Says, says_one, says_clash, says_nothing}
+use Rattle.std.specs.Prelude.{MatchOption}
 
 -- what is given is held
 
@@ -87,17 +88,7 @@ IsFull (Append object view own) = 0 < length own
 IsFull Prepare = Unit {0}
 
 abbrev IsNoGrant : Answer → Type 0
-IsNoGrant (answers.Granted life clock log) = ⊥
-IsNoGrant (answers.Clash holder inv event) = Unit {0}
-IsNoGrant (answers.Closed epoch) = Unit {0}
-IsNoGrant (answers.Behind epoch) = Unit {0}
-IsNoGrant (answers.Restarted life) = Unit {0}
-IsNoGrant answers.Stale = Unit {0}
-IsNoGrant answers.Fault = Unit {0}
-IsNoGrant (answers.Yes clock) = Unit {0}
-IsNoGrant (answers.Shut clock log prepared) = Unit {0}
-IsNoGrant answers.Installed = Unit {0}
-IsNoGrant (answers.Answered verdict) = Unit {0}
+IsNoGrant answer = MatchOption (granted_in answer) (Unit {0}) (λ (g : Granting). ⊥)
 
 abbrev HoldsGranted : TxId → SiteMove → Type 0
 HoldsGranted tx m =

@@ -33,7 +33,7 @@ use Rattle.qc_script.specs.Runs.{posts}
 use Rattle.qc_script.specs.declared.script.Script.{Script}
 use Rattle.qc_client.specs.Vocabulary.{client_after}
 use Rattle.qc_site.specs.Vocabulary.{SiteMove, passed, prepare_length, promise_of, site_after, site_at, site_takes}
-use Rattle.laws_turns.proofs.Acted.{has_entry, run_acts}
+use Rattle.laws_turns.proofs.Acted.{has_entry, actors_take_and_post_by_turns}
 use Rattle.laws_turns.proofs.Places.{slice_get-set_other, slice_get-set_same}
 use Rattle.laws_turns.specs.Vocabulary.{ActsIn}
 use Rattle.laws_refinement.specs.Vocabulary.{Backed, IsRequest}
@@ -200,7 +200,7 @@ module _ (decl : Declaration) (script : Script) (accepted : IsAccepted decl) (so
         lawful false false none is = absurd (let never : ⊥ = cc in never)
 
     acts : ActsIn decl a h true
-    acts = run_acts decl script h open_inputs run a true opened
+    acts = actors_take_and_post_by_turns decl script h open_inputs run a true opened
 
     abbrev pub later : List Entry
     later = h ++ by_actor a (posted (length (mail h)) turn)

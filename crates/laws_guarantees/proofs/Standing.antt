@@ -26,6 +26,7 @@ use Rattle.qc_promise.specs.Vocabulary.{standing_by, stands}
 use Rattle.theory_machine.specs.Vocabulary.{Item, Lock, Own}
 use Rattle.laws_refinement.specs.Vocabulary.{IsHeld}
 use Rattle.laws_refinement.proofs.Held.{given_keeps, lock_given_here, own_given_here}
+use Rattle.laws_guarantees.proofs.MessageCases.{asking_cases}
 
 -- a transaction that no final Decision ends among deeds
 
@@ -103,7 +104,11 @@ was_taken (d ∷ ds) g among = elim (in_split g (option_map_or (standing_by ds) 
 
     at_message : (e : Envelope) (m : Message) → e.message ≡ m
         → In g (option_map_or (standing_as e.number ds) (request_in m) []) → WasTakenFor (Takes (inputs.Got e) ∷ ds) g
-    at_message e (messages.Request tx epoch life want) is here =
+    at_message e m = asking_cases
+        (λ m o. e.message ≡ m → In g (option_map_or (standing_as e.number ds) o [])
+        → WasTakenFor (Takes (inputs.Got e) ∷ ds) g)
+        (λ m is here. absurd here)
+        (λ tx epoch life want is here.
         let same : g ≡ record { tx = tx; want = want } =
         by_test (stands e.number tx ds) (record { tx = tx; want = want }) here in
         record {
@@ -112,13 +117,7 @@ was_taken (d ∷ ds) g among = elim (in_split g (option_map_or (standing_by ds) 
           epoch = epoch;
           life = life;
           content = is ∙ (λ i. messages.Request (sym same i).tx epoch life (sym same i).want);
-        }
-    at_message e (messages.Answer to answer) is here = absurd here
-    at_message e (messages.Decision tx verdict) is here = absurd here
-    at_message e (messages.Inquiry tx) is here = absurd here
-    at_message e (messages.Ask tx) is here = absurd here
-    at_message e (messages.Close epoch) is here = absurd here
-    at_message e (messages.Install epoch clock log) is here = absurd here
+        }) m
 
     at_deed : (d : Deed) → In g (option_map_or (standing_by ds) (got_in d) []) → WasTakenFor (d ∷ ds) g
     at_deed (Takes (inputs.Called command)) here = absurd here

@@ -30,16 +30,16 @@ use Rattle.qc_script.specs.Runs.{begins, takes, posts, phase, control}
 use Rattle.qc_script.specs.declared.script.PhaseLines.{PhaseLines}
 use Rattle.qc_script.specs.declared.script.Script.{Script}
 use Rattle.laws_turns.specs.Vocabulary.{ActsIn, AsksDeclared, IsClosed, IsQuiet, asked_until, call_in, calls_of}
-use Rattle.laws_turns.proofs.Acted.{as_many, deeds-silent, run_acts}
+use Rattle.laws_turns.proofs.Acted.{as_many, deeds-silent, actors_take_and_post_by_turns}
 use Rattle.laws_turns.proofs.PhaseCalls.{phase_posted}
-use Rattle.laws_turns.proofs.Calling.{run_asked}
+use Rattle.laws_turns.proofs.Calling.{calls_are_asked}
 use Rattle.laws_turns.proofs.Ends.{copies_none, losts_none, nothing_ready}
 use Rattle.laws_turns.proofs.Numbered.{phase_silent}
 use Rattle.laws_turns.proofs.Places.{slice_get-within}
 use Rattle.laws_turns.proofs.TurnReplies.{running_more, running_turn}
 use Rattle.laws_turns.proofs.Replying.{told_runs}
 use Rattle.laws_turns.proofs.Running.{busy_is_running}
-use Rattle.laws_due.proofs.Ended.{none_runs}
+use Rattle.laws_due.proofs.Ended.{commands_end}
 use Rattle.qc_promise.specs.Vocabulary.{account, account_at, new_account}
 use Rattle.laws_guarantees.specs.Vocabulary.{Arrives, AsksOne, IsStill, IsUndisturbed, begun_by, name_of}
 use Rattle.laws_guarantees.proofs.Names.{stays_named, untold_stays}
@@ -65,7 +65,7 @@ module _ (decl : Declaration) (script : Script) (accepted : IsAccepted decl) (as
       phased = phase_posted h b (length (mail h)) turn
 
       acts : ActsIn decl b h true
-      acts = run_acts decl script h before run b true open_still
+      acts = actors_take_and_post_by_turns decl script h before run b true open_still
 
       here : Still b h → Still b (h ++ by b (posted (length (mail h)) turn))
       here old = record {
@@ -146,9 +146,9 @@ module _ (decl : Declaration) (script : Script) (accepted : IsAccepted decl) (as
         no_commands (takes_commands decl c) (inbox script c h).busy (inbox script c h).commands
         (ap (λ (t : Bool). t || (c == administrator decl)) named)
         (busy_is_running script c h (run_up (IsLawful decl) decl script h before run c)
-        ∙ none_runs decl script accepted asks h closed rests done c named) idle in
+        ∙ commands_end decl script accepted asks h closed rests done c named) idle in
         sym (append-nil (calls_of c h)) ∙ ap (λ (v : List Command). calls_of c h ++ v) (sym left)
-        ∙ run_asked decl script c h before run
+        ∙ calls_are_asked decl script c h before run
 
     now : List Entry
     now = h ++ marked (controller decl) (steps.Phase (phase_of h + 1)) ∷ []
@@ -163,7 +163,7 @@ module _ (decl : Declaration) (script : Script) (accepted : IsAccepted decl) (as
         (marked (controller decl) (steps.Phase (phase_of h + 1)) ∷ []) in
         let after : suc (phase_of h) ≡ phase_of h + 1 = omega arith in
         record {
-          running = ap is_running same ∙ none_runs decl script accepted asks h closed rests done c named;
+          running = ap is_running same ∙ commands_end decl script accepted asks h closed rests done c named;
           called =
               ap (λ (ds : List Deed). filter_map call_in ds) same ∙ all_called c named
               ∙ sym (append-nil (asked_until c script (phase_of h)))
@@ -224,9 +224,9 @@ module _ (decl : Declaration) (script : Script) (accepted : IsAccepted decl) (as
       let quiet : (inbox script 0 older).controls ≡ [] = r.calm.controls in
       absurd (let never : ⊥ = cc in never)
 
-pub one_acts : (decl : Declaration) (script : Script) → IsAccepted decl → AsksDeclared decl script
+pub one_client_acts_at_a_time : (decl : Declaration) (script : Script) → IsAccepted decl → AsksDeclared decl script
     → IsUndisturbed script → (h : List Entry) (open_inputs : List Bool) → Runs (IsLawful decl) decl script h open_inputs
     → (c d : ℕ) → is_client decl c ≡ true → is_client decl d ≡ true → (c ≡ d → ⊥)
     → IsStill decl script c h ⊎ IsStill decl script d h
-one_acts decl script accepted asks calm h open_inputs run c d c_named d_named differ =
+one_client_acts_at_a_time decl script accepted asks calm h open_inputs run c d c_named d_named differ =
     one_still decl script accepted asks calm h open_inputs run c d c_named d_named differ

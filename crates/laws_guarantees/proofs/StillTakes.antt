@@ -25,7 +25,7 @@ use Rattle.qc_script.specs.declared.script.Script.{Script}
 use Rattle.laws_turns.specs.Vocabulary.{AsksDeclared, asked_in_all, asked_until, call_in, calls_of}
 use Rattle.laws_turns.proofs.Arrivals.{what_is_ready_was_sent}
 use Rattle.laws_turns.proofs.PhaseCalls.{phase_taken}
-use Rattle.laws_turns.proofs.Calling.{run_asked}
+use Rattle.laws_turns.proofs.Calling.{calls_are_asked}
 use Rattle.laws_turns.proofs.TurnReplies.{running_more}
 use Rattle.qc_promise.specs.Vocabulary.{account, account_at, new_account}
 use Rattle.laws_guarantees.specs.Vocabulary.{IsStill, IsUndisturbed, before_phase, begun_by, name_of}
@@ -144,7 +144,7 @@ module _ (decl : Declaration) (script : Script) (accepted : IsAccepted decl) (as
               absurd (too_long (calls_of b h) (inbox script b (h ++ marked b (step_of g) ∷ [])).commands command
               (ap (λ (v : List Command). v ++ (inbox script b (h ++ marked b (step_of g) ∷ [])).commands)
               (sym (calls ∙ ap (λ (x : Input). calls_of b h ++ filter_map call_in (Takes x ∷ [])) is))
-              ∙ run_asked decl script b (h ++ marked b (step_of g) ∷ []) (slice_set before b true)
+              ∙ calls_are_asked decl script b (h ++ marked b (step_of g) ∷ []) (slice_set before b true)
               (takes b g before h run free rdy)
               ∙ ap (asked_until b script) phased ∙ sym old.called))
           by (inputs.Got e) is =

@@ -39,18 +39,19 @@ use Rattle.qc_site.proofs.RequestCases.{append_cases, join_cases, prepare_cases,
 use Rattle.qc_site.specs.Vocabulary.{SiteMove, SiteState, finishes, grants, moved, new_site, passed, site_after}
 use Rattle.qc_site.specs.Vocabulary.{site_at, site_does, site_takes}
 use Rattle.laws_turns.specs.Vocabulary.{ActsIn, AsksDeclared}
-use Rattle.laws_turns.proofs.Acted.{has_entry, run_acts}
+use Rattle.laws_turns.proofs.Acted.{has_entry, actors_take_and_post_by_turns}
 use Rattle.laws_turns.proofs.Idle.{IsInput, idle}
 use Rattle.laws_turns.proofs.Proper.{run_proper}
 use Rattle.laws_turns.proofs.Served.{first_part, lawful_site, second_part}
 use Rattle.laws_turns.proofs.SiteReplies.{IsProperFrom}
 use Rattle.laws_turns.proofs.Up.{run_up}
-use Rattle.laws_due.proofs.AccountDeclared.{asks_declared}
-use Rattle.laws_due.proofs.Whole.{all_is_due}
+use Rattle.laws_due.proofs.AccountDeclared.{scripts_ask_what_is_declared}
+use Rattle.laws_due.proofs.Whole.{runs_are_due}
 use Rattle.laws_atomic.proofs.FirstSites.{IsCalmGiven, IsCalmMessage, TakesCalm}
 use Rattle.laws_atomic.proofs.Stood.{heard_calm}
 use Rattle.laws_guarantees.proofs.Mailed.{taken_mail}
 use Rattle.laws_guarantees.proofs.Opened.{IsAtTake, at_take}
+use Rattle.laws_guarantees.proofs.SiteCases.{site_cases}
 
 -- a record that neither closes an epoch nor begins one
 
@@ -103,14 +104,10 @@ module _ (decl : Declaration) where
 
   message_uncut : (s : SiteState) (from number : ℕ) (m : Message) → IsCalmMessage m
       → HasNoCut (site_at decl s from number m)
-  message_uncut s from number (messages.Request tx epoch life want) calm =
-      request_uncut s from number tx epoch life want
-  message_uncut s from number (messages.Answer to answer) calm = refl
-  message_uncut s from number (messages.Decision tx verdict) calm = outcome_uncut s tx verdict
-  message_uncut s from number (messages.Inquiry tx) calm = refl
-  message_uncut s from number (messages.Ask tx) calm = refl
-  message_uncut s from number (messages.Close epoch) calm = absurd calm
-  message_uncut s from number (messages.Install epoch clock log) calm = absurd calm
+  message_uncut s from number m = site_cases decl s from number (λ m move. IsCalmMessage m → HasNoCut move)
+      (λ m calm. refl) (λ tx epoch life want calm. request_uncut s from number tx epoch life want)
+      (λ tx verdict calm. outcome_uncut s tx verdict) (λ epoch calm. absurd calm)
+      (λ epoch clock log calm. absurd calm) m
 
   input_uncut : (s : SiteState) (g : Input) → IsCalmGiven g → HasNoCut (site_takes decl s g)
   input_uncut s (inputs.Called command) calm = refl
@@ -190,16 +187,17 @@ module _ (decl : Declaration) (script : Script) (accepted : IsAccepted decl) (so
 
       on : (t : Bool) × (slice_get open_inputs a ≡ Some t) → AreNoCuts (deeds a [] h)
       on place =
-          let acts : ActsIn decl a h place.0 = run_acts decl script h open_inputs run a place.0 place.1 in
+          let acts : ActsIn decl a h place.0 =
+          actors_take_and_post_by_turns decl script h open_inputs run a place.0 place.1 in
           acts_uncut decl a site (deeds a [] h) place.0 acts.above acts.acts
-          (calm_deeds decl script accepted (asks_declared decl script accepted sound) h open_inputs run a)
+          (calm_deeds decl script accepted (scripts_ask_what_is_declared decl script accepted sound) h open_inputs run a)
 
   client_uncut : (a : ℕ) → decl.sites ≤ a → a < administrator decl → AreNoCuts (deeds a [] h)
   client_uncut a high low =
       let place : client_actor decl (a - decl.sites) ≡ a = omega arith in
       let within : a - decl.sites < decl.clients = omega arith in
       let due : AreRepliesDue decl (a - decl.sites) (deeds (client_actor decl (a - decl.sites)) [] h) =
-      (all_is_due decl script h open_inputs run accepted (asks_declared decl script accepted sound)).replies
+      (runs_are_due decl script h open_inputs run accepted (scripts_ask_what_is_declared decl script accepted sound)).replies
       (a - decl.sites) within in
       due_uncut decl (new_account (a - decl.sites)) (deeds a [] h)
       (run_up (IsLawful decl) decl script h open_inputs run a)

@@ -11,13 +11,12 @@ use Rattle.qc_decl.specs.Vocabulary.{IsAccepted, is_client}
 use Rattle.qc_decl.specs.declared.declaration.Declaration.{Declaration}
 use Rattle.qc_lock.proofs.Entries.{same_self}
 use Rattle.qc_msg.specs.declared.message.Answer.{Answer}
-use Rattle.qc_msg.specs.declared.message.Answer.TheVariants as answers
 use Rattle.qc_msg.specs.declared.message.Envelope.{Envelope}
 use Rattle.qc_msg.specs.declared.message.Message.{Message}
 use Rattle.qc_msg.specs.declared.message.Message.TheVariants as messages
 use Rattle.qc_msg.specs.declared.message.Want.{Want}
 use Rattle.qc_msg.specs.declared.message.Want.TheVariants.{Append, Prepare, Read}
-use Rattle.qc_msg.specs.Vocabulary.{Entry, by, deeds, mail}
+use Rattle.qc_msg.specs.Vocabulary.{Entry, by, deeds, mail, Clashing, Granting, clash_in, granted_in}
 use Rattle.qc_script.specs.Vocabulary.{Runs}
 use Rattle.qc_script.specs.declared.script.Script.{Script}
 use Rattle.laws_turns.specs.Vocabulary.{AsksDeclared}
@@ -32,6 +31,8 @@ use Rattle.laws_guarantees.proofs.Clear.{IsElsewhere, run_clear}
 use Rattle.laws_guarantees.proofs.RequestGrounds.{has_grounds}
 use Rattle.laws_guarantees.proofs.Mailed.{sent_as, sent_mail, taken_mail}
 use Rattle.laws_guarantees.proofs.NoLosses.{lost_from, run_no_loss}
+use Rattle.std.specs.Prelude.{MatchOption}
+use Rattle.laws_guarantees.specs.Open.{is_open}
 
 -- one message has one number
 
@@ -62,17 +63,8 @@ fits_moved ms answer tx u e f l k w v same fit =
 -- what counts for a request
 
 abbrev pub GoodHold : Declaration → ℕ → List Entry → Answer → Type 0
-GoodHold decl a h (answers.Granted life clock log) = Unit {0}
-GoodHold decl a h (answers.Clash holder inv event) = IsElsewhere decl a h holder
-GoodHold decl a h (answers.Closed epoch) = ⊥
-GoodHold decl a h (answers.Behind epoch) = ⊥
-GoodHold decl a h (answers.Restarted life) = ⊥
-GoodHold decl a h answers.Stale = ⊥
-GoodHold decl a h answers.Fault = ⊥
-GoodHold decl a h (answers.Yes clock) = ⊥
-GoodHold decl a h (answers.Shut clock log prepared) = ⊥
-GoodHold decl a h answers.Installed = ⊥
-GoodHold decl a h (answers.Answered verdict) = ⊥
+GoodHold decl a h answer = MatchOption (granted_in answer)
+    (MatchOption (clash_in answer) ⊥ (λ (c : Clashing). IsElsewhere decl a h c.holder)) (λ (g : Granting). Unit {0})
 
 abbrev pub GoodAnswer : Declaration → ℕ → List Entry → Want → Answer → Type 0
 GoodAnswer decl a h (Read object inv) answer = GoodHold decl a h answer
@@ -121,26 +113,25 @@ module _ (decl : Declaration) (script : Script) (accepted : IsAccepted decl) (as
 
   hold_good : (answer : Answer) → FitsHold (sent_before q.site q.number (mail h)) sent.0.tx answer
       → GoodHold decl a h answer
-  hold_good (answers.Granted life clock log) fit = tt
-  hold_good (answers.Clash holder inv event) fit =
-      run_clear decl script accepted asks calm h open_inputs run a named q among holder fit.0 (λ name.
-      let mine : begun_by decl a h ≡ Some sent.0.tx =
-      ap (λ (o : Option Current). option_map (λ (t : Current). t.tx) o) sent.1 in
-      let both : Some sent.0.tx ≡ Some holder = sym mine ∙ name in
-      let same : sent.0.tx ≡ holder = cc in
-      let yes_same : same_tx holder sent.0.tx ≡ true =
-      subst (λ (x : TxId). same_tx holder x ≡ true) (sym same) (same_self holder) in
-      let apart : same_tx holder sent.0.tx ≡ false = fit.1 in
-      let never : ⊥ = cc in never)
-  hold_good (answers.Closed epoch) never = never
-  hold_good (answers.Behind epoch) never = never
-  hold_good (answers.Restarted life) never = never
-  hold_good answers.Stale never = never
-  hold_good answers.Fault never = never
-  hold_good (answers.Yes clock) never = never
-  hold_good (answers.Shut clock log prepared) never = never
-  hold_good answers.Installed never = never
-  hold_good (answers.Answered verdict) never = never
+  hold_good answer = by (granted_in answer) (clash_in answer)
+    where
+      by : (g : Option Granting) (c : Option Clashing) → MatchOption g (MatchOption c ⊥ (λ (c : Clashing).
+          (is_open c.holder (sent_before q.site q.number (mail h)) ≡ true) × (same_tx c.holder sent.0.tx ≡ false)))
+          (λ (g : Granting). Unit {0})
+          → MatchOption g (MatchOption c ⊥ (λ (c : Clashing). IsElsewhere decl a h c.holder))
+          (λ (g : Granting). Unit {0})
+      by (Some g) c fit = tt
+      by None None never = never
+      by None (Some c) fit =
+          run_clear decl script accepted asks calm h open_inputs run a named q among c.holder fit.0 (λ name.
+          let mine : begun_by decl a h ≡ Some sent.0.tx =
+          ap (λ (o : Option Current). option_map (λ (t : Current). t.tx) o) sent.1 in
+          let both : Some sent.0.tx ≡ Some c.holder = sym mine ∙ name in
+          let same : sent.0.tx ≡ c.holder = cc in
+          let yes_same : same_tx c.holder sent.0.tx ≡ true =
+          subst (λ (x : TxId). same_tx c.holder x ≡ true) (sym same) (same_self c.holder) in
+          let apart : same_tx c.holder sent.0.tx ≡ false = fit.1 in
+          let never : ⊥ = cc in never)
 
   want_good : (want : Want) (answer : Answer) → Fits (sent_before q.site q.number (mail h)) sent.0.tx want answer
       → GoodAnswer decl a h want answer

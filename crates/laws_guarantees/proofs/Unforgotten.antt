@@ -28,7 +28,7 @@ use Rattle.qc_script.specs.Runs.{begins, takes, posts, phase, control}
 use Rattle.qc_script.specs.declared.script.Script.{Script}
 use Rattle.qc_client.specs.Vocabulary.{ClientMove, client_after, client_takes}
 use Rattle.qc_site.specs.Vocabulary.{SiteMove, site_after}
-use Rattle.laws_turns.proofs.Acted.{run_acts}
+use Rattle.laws_turns.proofs.Acted.{actors_take_and_post_by_turns}
 use Rattle.laws_turns.proofs.Arrivals.{what_is_ready_was_sent}
 use Rattle.laws_turns.proofs.Numbered.{control_silent, mail-silent, phase_silent}
 use Rattle.laws_turns.proofs.Proper.{run_proper}
@@ -38,7 +38,7 @@ use Rattle.laws_turns.proofs.Served.{lawful_site}
 use Rattle.laws_turns.specs.Vocabulary.{ActsIn}
 use Rattle.laws_due.proofs.Commands.{lawful_turn}
 use Rattle.laws_due.proofs.Courses.{IsAtInput, client_acts}
-use Rattle.laws_due.proofs.AccountDeclared.{asks_declared}
+use Rattle.laws_due.proofs.AccountDeclared.{scripts_ask_what_is_declared}
 use Rattle.laws_refinement.proofs.Posts.{Place, placed}
 use Rattle.laws_atomic.proofs.Stood.{OpenSite}
 use Rattle.laws_guarantees.specs.Vocabulary.{IsOpenVote}
@@ -136,7 +136,7 @@ module _ (decl : Declaration) (script : Script) (accepted : IsAccepted decl) (so
     -- a client answers nothing
     client_posts : is_client decl b ≡ true → (n : ℕ) (x : Answer) → IsPosted n x → ⊥
     client_posts client n x k =
-        let acts : ActsIn decl b h true = run_acts decl script h open_inputs run b true taken in
+        let acts : ActsIn decl b h true = actors_take_and_post_by_turns decl script h open_inputs run b true taken in
         by (client_acts decl b client (deeds b [] h) true acts.above acts.acts)
       where
         asked_nothing : (before : List Deed) (g : Input) → deeds b [] h ≡ before ++ Takes g ∷ []
@@ -148,7 +148,7 @@ module _ (decl : Declaration) (script : Script) (accepted : IsAccepted decl) (so
             (In-last (Takes (inputs.Got r.0)) before)) in
             let proper : IsProperFrom decl r.0.from r.0.to r.0.message =
             every-In (λ (y : Envelope). IsProperFrom decl y.from y.to y.message) r.0 (mail h)
-            (run_proper decl script accepted (asks_declared decl script accepted sound) h open_inputs run)
+            (run_proper decl script accepted (scripts_ask_what_is_declared decl script accepted sound) h open_inputs run)
             (taken_mail b [] h r.0 takes_it) in
             subst (IsProperFrom decl r.0.from r.0.to) r.2.1 proper
 

@@ -34,13 +34,13 @@ use Rattle.qc_front.specs.declared.transaction.Transaction.{Transaction}
 use Rattle.qc_client.specs.Vocabulary.{client_after}
 use Rattle.qc_client.specs.declared.client.Client.{Client}
 use Rattle.qc_site.specs.Vocabulary.{is_final, prepare_length, promise_of}
-use Rattle.laws_turns.proofs.Acted.{run_acts}
+use Rattle.laws_turns.proofs.Acted.{actors_take_and_post_by_turns}
 use Rattle.laws_turns.proofs.Proper.{run_proper}
 use Rattle.laws_turns.proofs.SiteReplies.{IsProperFrom}
 use Rattle.laws_turns.specs.Vocabulary.{ActsIn}
 use Rattle.laws_due.specs.Vocabulary.{IsOpenIn, Ties, Votes, appends, ballot_of, calls_in, reads, rests, votes}
-use Rattle.laws_due.proofs.Courses.{clients_tied}
-use Rattle.laws_due.proofs.AccountDeclared.{asks_declared}
+use Rattle.laws_due.proofs.Courses.{accounts_are_their_clients}
+use Rattle.laws_due.proofs.AccountDeclared.{scripts_ask_what_is_declared}
 use Rattle.laws_refinement.specs.Vocabulary.{Backed, IsGrantTo, IsRequest, IsVerdictBacked, Refines}
 use Rattle.laws_atomic.proofs.CalmGrants.{is_of_first_epoch}
 use Rattle.laws_atomic.proofs.RunsStand.{runs_stand}
@@ -155,18 +155,18 @@ module _ (decl : Declaration) (script : Script) (accepted : IsAccepted decl) (so
       let p : IsProperFrom decl a to (messages.Request tx epoch life want) =
       every-In (λ (x : Envelope). IsProperFrom decl x.from x.to x.message)
       (sent_as a n to (messages.Request tx epoch life want)) (mail h)
-      (run_proper decl script accepted (asks_declared decl script accepted sound) h open_inputs run)
+      (run_proper decl script accepted (scripts_ask_what_is_declared decl script accepted sound) h open_inputs run)
       (sent_mail a [] h n to (messages.Request tx epoch life want) among) in
       lt-ltb to decl.sites p.1.0
 
   module _ (a : ℕ) (client : is_client decl a ≡ true) (free : slice_get open_inputs a ≡ Some false) (q : ClientRequest)
       (k : IsOpenVote (account decl a h) q) where
     acts : ActsIn decl a h false
-    acts = run_acts decl script h open_inputs run a false free
+    acts = actors_take_and_post_by_turns decl script h open_inputs run a false free
 
     pub tie : Votes decl (account decl a h) (client_after decl (a - decl.sites) (deeds a [] h)).client
     tie = voting_tie decl (account decl a h) (client_after decl (a - decl.sites) (deeds a [] h)).client q k
-        (clients_tied decl a client (deeds a [] h) acts.above acts.acts)
+        (accounts_are_their_clients decl a client (deeds a [] h) acts.above acts.acts)
 
     here : stood.net.clients a ≡ (client_after decl (a - decl.sites) (deeds a [] h)).client
     here = (stood.clients_are a client).closed free

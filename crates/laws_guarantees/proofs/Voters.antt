@@ -1,6 +1,6 @@
 -- The requests of a half went to the first sites of the client's order, in that order.
 use Rattle.std.proofs.Common.{[], ◌≡◌, ℕ, suc, ◌+◌, ◌==◌, ◌&&◌, Bool, true, false, cond, List, ◌∷◌, ◌++◌, map, fold}
-use Rattle.std.proofs.Common.{length, Option, Some, None, option_map, refl, sym, ap, ◌∙◌, subst, arith, length-append}
+use Rattle.std.proofs.Common.{length, Option, Some, None, option_map, refl, sym, ap, ◌∙◌, arith, length-append}
 use Rattle.std.specs.Prelude.{drop, filter, take}
 use Rattle.std.specs.Option.{option_map_or}
 use Rattle.std.proofs.lemmas.List.{append-nil, length-map, map-append}
@@ -9,9 +9,7 @@ use Rattle.qc_stamp.specs.declared.stamp.TxId.{TxId}
 use Rattle.qc_decl.specs.Vocabulary.{read_need_of}
 use Rattle.qc_decl.specs.declared.declaration.Declaration.{Declaration}
 use Rattle.qc_plan.specs.Vocabulary.{first, may_ask}
-use Rattle.qc_msg.specs.declared.message.Answer.{Answer}
 use Rattle.qc_msg.specs.declared.message.Message.{Message}
-use Rattle.qc_msg.specs.declared.message.Message.TheVariants as messages
 use Rattle.qc_msg.specs.declared.message.Want.{Want}
 use Rattle.qc_msg.specs.declared.message.Want.TheVariants.{Append, Prepare, Read}
 use Rattle.qc_msg.specs.declared.step.Command.{Command}
@@ -24,6 +22,7 @@ use Rattle.qc_promise.specs.Vocabulary.{is_of, is_read, is_this, new_account, re
 use Rattle.laws_due.specs.Vocabulary.{AreByRows, IsSendDue}
 use Rattle.laws_guarantees.proofs.AskingOrder.{order, sites_in, count_in, IsInOrder, first_drop, first_of_two, of_reads}
 use Rattle.laws_guarantees.proofs.AskingOrder.{of_appends, second_of_two, IsHalf, taken_order, written_order}
+use Rattle.laws_guarantees.proofs.AccountCases.{sent_cases}
 
 -- the first of the sites that a half hasn't asked
 abbrev is_left_first : Declaration → Account → Current → (Want → Bool) → ℕ → Bool
@@ -149,21 +148,9 @@ module _ (decl : Declaration) where
 
   sent_order : (half : Want → Bool) → IsHalf half → (d : Account) (n to : ℕ) (m : Message) → IsSendDue decl d to m
       → IsInOrder decl half d → IsInOrder decl half (account_sent decl d n to m)
-  sent_order half is_half d n to (messages.Request tx epoch life want) due old =
-      subst (λ (t : Bool).
-      IsInOrder decl half
-      (cond t
-      (record d {
-        requests =
-            d.requests ++ record { number = n; site = to; life = life; want = want; taken = None } ∷ [];
-      }) d)) (sym due)
-      (asked_order half is_half d n to tx epoch life want due old)
-  sent_order half is_half d n to (messages.Answer request answer) due old = old
-  sent_order half is_half d n to (messages.Decision tx verdict) due old = old
-  sent_order half is_half d n to (messages.Inquiry tx) due old = old
-  sent_order half is_half d n to (messages.Ask tx) due old = old
-  sent_order half is_half d n to (messages.Close epoch) due old = old
-  sent_order half is_half d n to (messages.Install epoch clock log) due old = old
+  sent_order half is_half d n to m due old = sent_cases decl d n to
+      (λ m e. IsSendDue decl d to m → IsInOrder decl half e) (λ m due. old)
+      (λ tx epoch life want is due. asked_order half is_half d n to tx epoch life want due old) m due
 
   pub order_from : (half : Want → Bool) → IsHalf half → (d : Account) (ds : List Deed) → AreByRows decl d ds
       → IsInOrder decl half d → IsInOrder decl half (fold (account_at decl) d ds)

@@ -1,6 +1,6 @@
 -- A client that waits for a promise still, after an input, tells and writes nothing in its turn, and waits after it.
 use Rattle.std.proofs.Common.{◌≡◌, ◌≤◌, ◌+◌, ◌-◌, ◌==◌, ◌&&◌, ℕ, Bool, true, false, cond, List, [], ◌∷◌, ◌++◌, inl, inr}
-use Rattle.std.proofs.Common.{length, Option, Some, None, is_some, refl, sym, ap, ◌∙◌, subst}
+use Rattle.std.proofs.Common.{length, Option, Some, None, is_some, refl, sym, ap, ◌∙◌, subst, option_to_list}
 use Rattle.std.specs.Prelude.{fold, option_and_then}
 use Rattle.std.specs.List.{find, list_all}
 use Rattle.std.proofs.lemmas.List.Sums.{fold-append}
@@ -10,9 +10,7 @@ use Rattle.qc_core.specs.Vocabulary.{Acts, IsLawful, posts}
 use Rattle.qc_decl.specs.declared.declaration.Declaration.{Declaration}
 use Rattle.qc_decl.specs.Vocabulary.{is_client}
 use Rattle.qc_msg.specs.declared.message.Answer.{Answer}
-use Rattle.qc_msg.specs.declared.message.Answer.TheVariants as answers
 use Rattle.qc_msg.specs.declared.message.Message.{Message}
-use Rattle.qc_msg.specs.declared.message.Message.TheVariants as messages
 use Rattle.qc_msg.specs.declared.message.Want.{Want}
 use Rattle.qc_msg.specs.declared.message.Want.TheVariants.{Prepare}
 use Rattle.qc_msg.specs.declared.record.Record.{Record}
@@ -27,13 +25,13 @@ use Rattle.qc_msg.specs.declared.turn.Posting.{Posting}
 use Rattle.qc_msg.specs.declared.turn.Turn.{Turn}
 use Rattle.qc_msg.specs.Vocabulary.{Deed, Takes, Writes, sends_of, tells_of, turn_deeds, writes_of}
 use Rattle.qc_promise.specs.Vocabulary.{Account, ClientRequest, Current, account_at, account_heard, account_sent}
-use Rattle.qc_promise.specs.Vocabulary.{account_taken, account_written, are_votes_in, commit_row, counted, counted_for}
-use Rattle.qc_promise.specs.Vocabulary.{first_against, granted, is_asked_for, is_open, is_prepare, new_account}
-use Rattle.qc_promise.specs.Vocabulary.{participants, promised, requests_for, row_of, running_row, taken_for, told_by}
-use Rattle.qc_promise.specs.Vocabulary.{vote_row}
+use Rattle.qc_promise.specs.Vocabulary.{account_taken, account_written, are_votes_in, counted, counted_for}
+use Rattle.qc_promise.specs.Vocabulary.{first_against, granted, is_open, is_prepare, new_account, participants}
+use Rattle.qc_promise.specs.Vocabulary.{promised, requests_for, row_of, running_row, taken_for, told_by, vote_row}
 use Rattle.qc_promise.specs.Rows as rows
 use Rattle.laws_due.specs.Vocabulary.{AreByRows, IsPrepare, Votes}
-use Rattle.laws_due.proofs.Courses.{IsAtInput, account_of, client_acts, clients_due, turns_tell}
+use Rattle.laws_due.proofs.Courses.{IsAtInput, account_of, client_acts, deeds_of_clients_are_by_rows}
+use Rattle.laws_due.proofs.Courses.{turns_tell_their_rows}
 use Rattle.qc_client.specs.Vocabulary.{client_after}
 use Rattle.laws_refinement.specs.Vocabulary.{commits_in}
 use Rattle.laws_guarantees.proofs.Accounts.{found_in, told_requests}
@@ -41,25 +39,17 @@ use Rattle.laws_guarantees.proofs.Grounds.{open_before}
 use Rattle.laws_guarantees.proofs.Requests.{due_at}
 use Rattle.laws_guarantees.specs.Vocabulary.{IsOpenVote}
 use Rattle.laws_guarantees.proofs.Voted.{voting_tie}
+use Rattle.laws_guarantees.proofs.AccountCases.{heard_cases, sent_cases, told_cases, written_cases}
+use Rattle.laws_guarantees.proofs.MessageCases.{commit_cases}
 
 module _ (decl : Declaration) where
   -- what is told for a Prepare leaves command and transaction
 
   told_current : (d : Account) (p : ClientRequest) (answer : Option Answer) → p.want ≡ Prepare
       → (told_by d p answer).current ≡ d.current
-  told_current d p None is = refl
-  told_current d p (Some (answers.Granted life clock log)) is =
-      ap (λ (w : Want). (granted d p.site life clock log w).current) is
-  told_current d p (Some (answers.Clash holder inv event)) is = refl
-  told_current d p (Some (answers.Closed epoch)) is = refl
-  told_current d p (Some (answers.Behind epoch)) is = refl
-  told_current d p (Some (answers.Restarted life)) is = refl
-  told_current d p (Some answers.Stale) is = refl
-  told_current d p (Some answers.Fault) is = refl
-  told_current d p (Some (answers.Yes clock)) is = ap (λ (w : Want). (promised d clock w).current) is
-  told_current d p (Some (answers.Shut clock log prepared)) is = refl
-  told_current d p (Some answers.Installed) is = refl
-  told_current d p (Some (answers.Answered verdict)) is = refl
+  told_current d p answer is = told_cases d p (λ a e. e.current ≡ d.current) (λ a. refl)
+      (λ life clock log. ap (λ (w : Want). (granted d p.site life clock log w).current) is) (λ epoch. refl)
+      (λ clock. ap (λ (w : Want). (promised d clock w).current) is) answer
 
   abbrev IsAsBefore : Account → Account → Type 0
   IsAsBefore d e = (e.command ≡ d.command) × (e.current ≡ d.current)
@@ -78,13 +68,8 @@ module _ (decl : Declaration) where
 
   heard_same : (d : Account) (m : Message) → ((q : ClientRequest) → In q d.requests → q.want ≡ Prepare)
       → IsAsBefore d (account_heard d m)
-  heard_same d (messages.Request tx epoch life want) prepares = (refl, refl)
-  heard_same d (messages.Answer to answer) prepares = counted_same d to (Some answer) prepares
-  heard_same d (messages.Decision tx verdict) prepares = (refl, refl)
-  heard_same d (messages.Inquiry tx) prepares = (refl, refl)
-  heard_same d (messages.Ask tx) prepares = (refl, refl)
-  heard_same d (messages.Close epoch) prepares = (refl, refl)
-  heard_same d (messages.Install epoch clock log) prepares = (refl, refl)
+  heard_same d m prepares = heard_cases d (λ m e. IsAsBefore d e) (λ m. (refl, refl))
+      (λ to answer. counted_same d to (Some answer) prepares) m
 
   taken_same : (d : Account) (g : Input) (q : ClientRequest) → In q (account_taken d g).requests
       → ((p : ClientRequest) → In p d.requests → p.want ≡ Prepare) → IsAsBefore d (account_taken d g)
@@ -136,30 +121,14 @@ module _ (decl : Declaration) where
   -- a request stays where a turn tells nothing
 
   written_stays : (d : Account) (w : Record) (q : ClientRequest) → In q d.requests → In q (account_written d w).requests
-  written_stays d records.Life q among = among
-  written_stays d (records.Prepare prepared) q among = among
-  written_stays d (records.Done tx clock) q among = among
-  written_stays d (records.Close epoch) q among = among
-  written_stays d (records.Install epoch clock lines) q among = among
-  written_stays d (records.Commit commit) q among = among
-  written_stays d (records.Decide epoch clock lines) q among = among
+  written_stays d w q among =
+      written_cases d (λ e. In q e.requests) among among (λ commit. among) w
 
   sent_stays : (d : Account) (n to : ℕ) (m : Message) (q : ClientRequest) → In q d.requests
       → In q (account_sent decl d n to m).requests
-  sent_stays d n to (messages.Request tx epoch life want) q among = by (is_asked_for decl d to tx epoch life want)
-    where
-      by : (b : Bool) → In q (cond b (record d
-          { requests = d.requests ++ record { number = n; site = to; life = life; want = want; taken = None } ∷ [] })
-          d).requests
-      by true = In-first q d.requests (record { number = n; site = to; life = life; want = want; taken = None } ∷ [])
-          among
-      by false = among
-  sent_stays d n to (messages.Answer request answer) q among = among
-  sent_stays d n to (messages.Decision tx verdict) q among = among
-  sent_stays d n to (messages.Inquiry tx) q among = among
-  sent_stays d n to (messages.Ask tx) q among = among
-  sent_stays d n to (messages.Close epoch) q among = among
-  sent_stays d n to (messages.Install epoch clock log) q among = among
+  sent_stays d n to m q among = sent_cases decl d n to (λ m e. In q e.requests) (λ m. among)
+      (λ tx epoch life want is. In-first q d.requests
+      (record { number = n; site = to; life = life; want = want; taken = None } ∷ []) among) m
 
   sends_stay : (d : Account) (n : ℕ) (ps : List Posting) (q : ClientRequest) → In q d.requests
       → In q (fold (account_at decl) d (sends_of n ps ++ [])).requests
@@ -214,27 +183,25 @@ module _ (decl : Declaration) where
 
     module _ (turn : Turn) (first : ℕ) (low : n ≤ first) (law : IsLawful decl a ds turn) where
       tells_nothing : turn.told ≡ None
-      tells_nothing = turns_tell decl a client ds n turn acts law ∙ nothing_due
+      tells_nothing = turns_tell_their_rows decl a client ds n turn acts law ∙ nothing_due
 
       pub writes_no_commit : commits_in turn.write ≡ []
-      writes_no_commit = by turn.write (clients_due decl a client (ds ++ turn_deeds first turn) false
+      writes_no_commit = by turn.write (deeds_of_clients_are_by_rows decl a client (ds ++ turn_deeds first turn) false
           (first + length turn.sends) (posts ds turn n first acts low law))
         where
           by : (w : Option Record) → AreByRows decl (new_account (a - decl.sites))
               (ds ++ (writes_of w ++ (sends_of first turn.sends ++ tells_of turn.told))) → commits_in w ≡ []
           by None due = refl
-          by (Some records.Life) due = refl
-          by (Some (records.Prepare prepared)) due = refl
-          by (Some (records.Done tx clock)) due = refl
-          by (Some (records.Close epoch)) due = refl
-          by (Some (records.Install epoch clock lines)) due = refl
-          by (Some (records.Commit commit)) due = absurd (
+          by (Some w) due = commit_cases
+              (λ w o. AreByRows decl (new_account (a - decl.sites))
+              (ds ++ (Writes w ∷ (sends_of first turn.sends ++ tells_of turn.told))) → option_to_list o ≡ [])
+              (λ w due. refl)
+              (λ commit due. absurd (
               let some : rows.running_row decl (account_of decl a client ds) false ≡ Some
               (replies.Committed commit.stamp) = (due_at decl ds (Writes (records.Commit commit))
               (sends_of first turn.sends ++ tells_of turn.told) (new_account (a - decl.sites)) due).0 in
               let none : rows.running_row decl (account_of decl a client ds) false ≡ None = nothing_due in
-              let never : ⊥ = cc in never)
-          by (Some (records.Decide epoch clock lines)) due = refl
+              let never : ⊥ = cc in never)) w due
 
       pub still_open : IsOpenVote (account_of decl a client (ds ++ turn_deeds first turn)) q
       still_open = record {

@@ -50,5 +50,5 @@ refuses_own p = let e : IsOpenElsewhere two_clients 1 _ mine = p.1.1.1.1.1.0 ref
 pub refuses_short : DosSucceed two_clients short → ⊥
 refuses_short p = p.1.1.1.1.0 refl (omega arith)
 
-pub refuses_aborted : CommitsSucceed two_clients aborted → ⊥
-refuses_aborted p = p.1.1.1.1.0 refl
+pub wrong_endings_are_refused : CommitsSucceed two_clients aborted → ⊥
+wrong_endings_are_refused p = p.1.1.1.1.0 refl

@@ -1,5 +1,5 @@
 -- Which answers fit a request, by what the site was sent before it.
-use Rattle.std.specs.Prelude.{◌≡◌, ℕ, true, false, List, take}
+use Rattle.std.specs.Prelude.{MatchOption, ◌≡◌, ℕ, true, false, List, take}
 use Rattle.std.specs.List.{AllByRecursion as Every}
 use Rattle.qc_list.specs.Vocabulary.{In}
 use Rattle.qc_msg.specs.declared.message.Answer.{Answer}
@@ -13,20 +13,14 @@ use Rattle.qc_stamp.specs.Vocabulary.{same_tx}
 use Rattle.qc_stamp.specs.declared.stamp.TxId.{TxId}
 use Rattle.laws_guarantees.specs.Arrives.{sent_to}
 use Rattle.laws_guarantees.specs.Open.{is_open}
+use Rattle.qc_msg.specs.Vocabulary.{Answered, Clashing, Granting, answer_in, clash_in, granted_in}
 
 -- a Read or an Append is granted, or another transaction is in the way that these messages left open
 abbrev pub FitsHold : List Envelope → TxId → Answer → Type 0
-FitsHold ms tx (answers.Granted life clock log) = Unit {0}
-FitsHold ms tx (answers.Clash holder inv event) = (is_open holder ms ≡ true) × (same_tx holder tx ≡ false)
-FitsHold ms tx (answers.Closed epoch) = ⊥
-FitsHold ms tx (answers.Behind epoch) = ⊥
-FitsHold ms tx (answers.Restarted life) = ⊥
-FitsHold ms tx answers.Stale = ⊥
-FitsHold ms tx answers.Fault = ⊥
-FitsHold ms tx (answers.Yes clock) = ⊥
-FitsHold ms tx (answers.Shut clock log prepared) = ⊥
-FitsHold ms tx answers.Installed = ⊥
-FitsHold ms tx (answers.Answered verdict) = ⊥
+FitsHold ms tx answer =
+    MatchOption (granted_in answer)
+    (MatchOption (clash_in answer) ⊥ (λ (c : Clashing). (is_open c.holder ms ≡ true) × (same_tx c.holder tx ≡ false)))
+    (λ (x : Granting). Unit {0})
 
 -- a Prepare is answered by a promise, or nothing can be promised
 abbrev pub FitsPromise : Answer → Type 0
@@ -65,13 +59,8 @@ pub record IsAnswered (ms : List Envelope) (site number : ℕ) (answer : Answer)
   pub fits : Fits (sent_before site number ms) tx want answer
 
 abbrev pub IfAnswered : List Envelope → ℕ → Message → Type 0
-IfAnswered ms from (messages.Request tx epoch life want) = Unit {0}
-IfAnswered ms from (messages.Answer to answer) = IsAnswered ms from to answer
-IfAnswered ms from (messages.Decision tx verdict) = Unit {0}
-IfAnswered ms from (messages.Inquiry tx) = Unit {0}
-IfAnswered ms from (messages.Ask tx) = Unit {0}
-IfAnswered ms from (messages.Close epoch) = Unit {0}
-IfAnswered ms from (messages.Install epoch clock log) = Unit {0}
+IfAnswered ms from message =
+    MatchOption (answer_in message) (Unit {0}) (λ (a : Answered). IsAnswered ms from a.to a.answer)
 
 -- each answer in the mail fits its request
 abbrev pub AnswersFit : List Envelope → Type 0

@@ -1,15 +1,14 @@
 -- Which clocks a client has counted: those of the grants and promises that were the first thing it took for a request.
-use Rattle.std.specs.Prelude.{◌≡◌, ℕ, List, ◌∷◌, ◌++◌, fold, Some}
+use Rattle.std.specs.Prelude.{MatchOption, ◌≡◌, ℕ, List, ◌∷◌, ◌++◌, fold, Some}
 use Rattle.std.specs.List.{find}
 use Rattle.qc_decl.specs.declared.declaration.Declaration.{Declaration}
 use Rattle.qc_msg.specs.declared.message.Answer.{Answer as AnswerKind}
-use Rattle.qc_msg.specs.declared.message.Answer.TheVariants as answers
 use Rattle.qc_msg.specs.declared.message.Envelope.{Envelope}
 use Rattle.qc_msg.specs.declared.message.Message.TheVariants.{Answer}
 use Rattle.qc_msg.specs.declared.message.Want.{Want}
 use Rattle.qc_msg.specs.declared.message.Want.TheVariants.{Read, Append, Prepare}
 use Rattle.qc_msg.specs.declared.step.Input.TheVariants.{Got}
-use Rattle.qc_msg.specs.Vocabulary.{Deed, Takes}
+use Rattle.qc_msg.specs.Vocabulary.{Deed, Takes, Granting, granted_in, promised_in}
 use Rattle.qc_promise.specs.Vocabulary.{ClientRequest, account_at, is_open, new_account}
 
 -- a grant of a Read or an Append, or a promise, tells this clock
@@ -25,17 +24,9 @@ PromiseTells clock told (Append object view own) = ⊥
 PromiseTells clock told Prepare = told ≡ clock
 
 abbrev pub Tells : ℕ → Want → AnswerKind → Type 0
-Tells clock want (answers.Granted life told log) = GrantTells clock told want
-Tells clock want (answers.Clash holder inv event) = ⊥
-Tells clock want (answers.Closed epoch) = ⊥
-Tells clock want (answers.Behind epoch) = ⊥
-Tells clock want (answers.Restarted life) = ⊥
-Tells clock want answers.Stale = ⊥
-Tells clock want answers.Fault = ⊥
-Tells clock want (answers.Yes told) = PromiseTells clock told want
-Tells clock want (answers.Shut told log prepared) = ⊥
-Tells clock want answers.Installed = ⊥
-Tells clock want (answers.Answered verdict) = ⊥
+Tells clock want answer =
+    MatchOption (granted_in answer) (MatchOption (promised_in answer) ⊥ (λ (told : ℕ). PromiseTells clock told want))
+    (λ (g : Granting). GrantTells clock g.clock want)
 
 -- among the deeds of this client it took an answer with this clock, for a request that was open then
 pub record IsCounted (decl : Declaration) (client : ℕ) (ds : List Deed) (clock : ℕ) : Type 0 where

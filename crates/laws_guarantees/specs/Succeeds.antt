@@ -1,6 +1,6 @@
 -- What a reply is in a run that nothing disturbs: a `do` is answered, or refused for a transaction that is open
 -- elsewhere; a commit commits.
-use Rattle.std.specs.Prelude.{◌≡◌, ℕ, ◌<◌, false, List, [], ◌∷◌, ◌++◌, length, Option, Some, None}
+use Rattle.std.specs.Prelude.{[], MatchOption, ◌≡◌, ℕ, ◌<◌, false, List, ◌∷◌, ◌++◌, length, Option, Some, None}
 use Rattle.qc_decl.specs.Vocabulary.{most_transaction_operations}
 use Rattle.qc_decl.specs.declared.declaration.Declaration.{Declaration}
 use Rattle.qc_msg.specs.declared.reply.Reply.{Reply}
@@ -8,27 +8,16 @@ use Rattle.qc_msg.specs.declared.reply.Reply.TheVariants as replies
 use Rattle.qc_msg.specs.declared.step.Command.{Command}
 use Rattle.qc_msg.specs.declared.step.Command.TheVariants as commands
 use Rattle.qc_msg.specs.declared.step.Step.{Step}
-use Rattle.qc_msg.specs.declared.step.Step.TheVariants as steps
-use Rattle.qc_msg.specs.Vocabulary.{Entry}
+use Rattle.qc_msg.specs.Vocabulary.{Entry, Invocation, committed_in, do_in, replied_in}
 use Rattle.qc_promise.specs.Vocabulary.{Current, account}
 use Rattle.laws_guarantees.specs.Elsewhere.{IsOpenElsewhere}
+use Rattle.qc_stamp.specs.declared.stamp.Stamp.{Stamp}
+use Rattle.qc_entry.specs.declared.record.Commit.{Commit}
 
 -- each reply of a history has this property, of what stands before it and its actor
 
 abbrev pub IfTold : (List Entry → ℕ → Reply → Type 0) → List Entry → ℕ → Step → Type 0
-IfTold P before a (steps.Phase k) = Unit {0}
-IfTold P before a (steps.Cut x y) = Unit {0}
-IfTold P before a (steps.Heal x y) = Unit {0}
-IfTold P before a (steps.Armed actor kind at) = Unit {0}
-IfTold P before a (steps.Called command) = Unit {0}
-IfTold P before a (steps.Got n) = Unit {0}
-IfTold P before a (steps.Lost n) = Unit {0}
-IfTold P before a (steps.Wrote written) = Unit {0}
-IfTold P before a (steps.Sent n to message) = Unit {0}
-IfTold P before a (steps.Told reply) = P before a reply
-IfTold P before a (steps.Fell cause pending) = Unit {0}
-IfTold P before a (steps.Rose records) = Unit {0}
-IfTold P before a (steps.Damaged offset) = Unit {0}
+IfTold P before a step = MatchOption (replied_in step) (Unit {0}) (λ (reply : Reply). P before a reply)
 
 abbrev pub EachReply : (List Entry → ℕ → Reply → Type 0) → List Entry → List Entry → Type 0
 EachReply P before [] = Unit {0}
@@ -58,35 +47,14 @@ IsDone decl before a (replies.Moved closed installed) = ⊥
 
 -- a commit commits
 abbrev pub IsCommitted : Reply → Type 0
-IsCommitted replies.Down = ⊥
-IsCommitted (replies.Already tx) = ⊥
-IsCommitted (replies.Began tx) = ⊥
-IsCommitted replies.NoTransaction = ⊥
-IsCommitted replies.Doomed = ⊥
-IsCommitted replies.TooLong = ⊥
-IsCommitted (replies.Closed epoch site) = ⊥
-IsCommitted (replies.Conflict tx site) = ⊥
-IsCommitted (replies.Quorum half got need) = ⊥
-IsCommitted replies.Absent = ⊥
-IsCommitted (replies.Response resp) = ⊥
-IsCommitted (replies.Aborted why) = ⊥
-IsCommitted replies.Unknown = ⊥
-IsCommitted (replies.Committed stamp) = Unit {0}
-IsCommitted replies.Dropped = ⊥
-IsCommitted (replies.Order current) = ⊥
-IsCommitted (replies.InDoubt tx site) = ⊥
-IsCommitted replies.Fault = ⊥
-IsCommitted (replies.Moved closed installed) = ⊥
+IsCommitted reply = MatchOption (committed_in reply) ⊥ (λ (x : Stamp). Unit {0})
 
 -- so is the reply to a `do`, of a begun transaction that isn't doomed and has room
 
 abbrev pub DoOf : Declaration → List Entry → ℕ → Reply → Current → Command → Type 0
-DoOf decl before a reply t commands.Begin = Unit {0}
-DoOf decl before a reply t (commands.Do object inv) =
-    t.doomed ≡ false → length t.ops < most_transaction_operations → IsDone decl before a reply
-DoOf decl before a reply t commands.Commit = Unit {0}
-DoOf decl before a reply t commands.Abort = Unit {0}
-DoOf decl before a reply t (commands.Epoch number) = Unit {0}
+DoOf decl before a reply t command =
+    MatchOption (do_in command) (Unit {0})
+    (λ (x : Invocation). t.doomed ≡ false → length t.ops < most_transaction_operations → IsDone decl before a reply)
 
 -- and the one to a commit, of one that isn't doomed
 

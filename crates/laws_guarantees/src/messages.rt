@@ -21,7 +21,7 @@ pub fn no_request_is_lost()
 
 /// In every run, disturbed or not, no message names another life or epoch than
 /// the first, and no request is refused for them.
-#[tactic(auto, using(crate::proofs::FirstRuns::run_first))]
+#[tactic(auto, using(crate::proofs::FirstRuns::lives_and_epochs_are_the_first))]
 pub fn lives_and_epochs_are_the_first()
     ensures { (decl : Declaration) (script : Script) (h : List Entry) (open_inputs : List Bool)
         → Runs (IsLawful decl) decl script h open_inputs → AreFirst (mail h) }
@@ -30,7 +30,7 @@ pub fn lives_and_epochs_are_the_first()
 /// Each answer was sent for a request that the site took, and fits it, by what
 /// the site was sent before it: a Read or an Append is granted, or a transaction
 /// is in the way that is open there; a Prepare is promised, or Stale.
-#[tactic(auto, using(crate::proofs::AnswerRuns::answers_fit))]
+#[tactic(auto, using(crate::proofs::AnswerRuns::answers_fit_their_requests))]
 pub fn answers_fit_their_requests()
     ensures { (decl : Declaration) (script : Script) → IsUndisturbed script → (h : List Entry)
         (open_inputs : List Bool) → Runs (IsLawful decl) decl script h open_inputs → AnswersFit (mail h) }

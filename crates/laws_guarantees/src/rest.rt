@@ -21,7 +21,7 @@ ghost use Rattle.laws_guarantees.specs.Undisturbed.{IsUndisturbed};
 
 /// Where a site has taken all that was sent to it, as where a phase begins,
 /// what it holds is of transactions that are begun and haven't ended.
-#[tactic(auto, using(crate::proofs::AtRest::held_begun))]
+#[tactic(auto, using(crate::proofs::AtRest::what_is_held_at_rest_is_begun))]
 pub fn what_is_held_at_rest_is_begun()
     ensures { (decl : Declaration) (script : Script) → IsAccepted decl → AsksDeclared decl script
         → IsUndisturbed script → (h : List Entry) (open_inputs : List Bool)
@@ -33,7 +33,7 @@ pub fn what_is_held_at_rest_is_begun()
 /// At most one client acts at a time. Of any two clients, one runs nothing, has
 /// called all that the phases so far ask it, and has begun what it had before
 /// this phase.
-#[tactic(auto, using(crate::proofs::Still::one_acts))]
+#[tactic(auto, using(crate::proofs::Still::one_client_acts_at_a_time))]
 pub fn one_client_acts_at_a_time()
     ensures { (decl : Declaration) (script : Script) → IsAccepted decl → AsksDeclared decl script
         → IsUndisturbed script → (h : List Entry) (open_inputs : List Bool)

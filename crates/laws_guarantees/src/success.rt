@@ -19,7 +19,7 @@ ghost use Rattle.laws_guarantees.specs.Undisturbed.{IsUndisturbed};
 /// response, or that none is legal, or a transaction that is in its way: one of
 /// another client, which that one began in an earlier phase and which hasn't
 /// ended. So no `do` is short of a quorum, and none finds an epoch closed.
-#[tactic(auto, using(crate::proofs::Dos::dos_succeed))]
+#[tactic(auto, using(crate::proofs::Dos::undisturbed_dos_succeed))]
 pub fn undisturbed_dos_succeed()
     ensures { (decl : Declaration) (script : Script) → IsAccepted decl → AsksDeclared decl script
         → IsUndisturbed script → (h : List Entry) (open_inputs : List Bool)
@@ -28,7 +28,7 @@ pub fn undisturbed_dos_succeed()
 
 /// Each commit of a begun transaction that isn't doomed commits, in a run that
 /// has committed at most twice as many operations as the limit.
-#[tactic(auto, using(crate::proofs::Commits::commits_succeed))]
+#[tactic(auto, using(crate::proofs::Commits::undisturbed_commits_succeed))]
 pub fn undisturbed_commits_succeed()
     ensures { (decl : Declaration) (script : Script) → IsAccepted decl → IsScriptFor decl script
         → IsUndisturbed script → (h : List Entry) (open_inputs : List Bool)

@@ -17,7 +17,7 @@ pub fn wrong_refusals_are_refused()
 {}
 
 /// A commit of a transaction that isn't doomed isn't told that it aborted.
-#[tactic(auto, using(crate::proofs::WrongOnes::refuses_aborted))]
+#[tactic(auto, using(crate::proofs::WrongOnes::wrong_endings_are_refused))]
 pub fn wrong_endings_are_refused()
     ensures { CommitsSucceed two_clients aborted → ⊥ }
 {}

@@ -59,7 +59,11 @@ module _ (decl : Declaration) (script : Script) (named : AreNamed decl script) (
   sent i e are = of_either (e.from == a) _ (boxes.comes script.links a i e) goes came
     where
       came : AskedNamed (boxes.comes script.links a i e)
-      came = of_either (e.to == a) _ i (answered _ e.message _ are) are
+      came = of_either (e.to == a) _ i
+          (answered (boxes.with_copies (boxes.is_up i.up a) i e its_fate) e.message its_fate are) are
+        where
+          its_fate : Fate
+          its_fate = fate script.links i.cuts e.from e.to (boxes.count_of i.from_each e.from + 1)
 
       goes : AskedNamed (boxes.goes_with (boxes.comes script.links a i e) e
           (fate script.links (boxes.comes script.links a i e).cuts e.from e.to

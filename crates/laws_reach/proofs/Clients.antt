@@ -3,7 +3,7 @@ use Rattle.std.proofs.Common.{◌≡◌, ◌<◌, ◌≤◌, ℕ, ◌+◌, ◌-�
 use Rattle.std.proofs.Common.{refl, sym, subst, le-leb, lt-ltb, arith}
 use Rattle.laws_due.specs.Vocabulary.{Declares}
 use Rattle.laws_due.proofs.Commands.{no_site}
-use Rattle.laws_due.proofs.AccountDeclared.{asks_declared}
+use Rattle.laws_due.proofs.AccountDeclared.{scripts_ask_what_is_declared}
 use Rattle.qc_core.specs.Vocabulary.{AreGivenBack, IsLawfulWithFalls}
 use Rattle.laws_reach.specs.Vocabulary.{AreCommitsTold}
 use Rattle.qc_decl.specs.Vocabulary.{IsAccepted, actors, administrator, client_actor, is_client}
@@ -56,7 +56,7 @@ module _ (fits : ℕ → List Record → Type 0) (decl : Declaration) (script : 
   few = let s = accepted.sites in let c = accepted.clients in omega arith
 
   asks : AsksDeclared decl script
-  asks = asks_declared decl script accepted sound
+  asks = scripts_ask_what_is_declared decl script accepted sound
 
   due : Due decl h
   due = kept_due decl script fits accepted asks few h open_inputs run kept

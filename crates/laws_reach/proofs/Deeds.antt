@@ -77,7 +77,7 @@ module _ (decl : Declaration) (c : CommitRecord) where
       nothing (inr (inl at)) = none_some (Commit c) None refl at
       nothing (inr (inr at)) = let never : false ≡ true = at.0 in cc
 
-  pub deeds_deal : (client : ℕ) (ds : List Deed) → AreByTurns false ds → AreRepliesDue decl client ds
+  pub records_have_what_deeds_told : (client : ℕ) (ds : List Deed) → AreByTurns false ds → AreRepliesDue decl client ds
       → AreGivenBack no_journal ds → In (Commit c) (journal_after ds).records → c.ops ≡ (dealing_in ds c.tx).ops
-  deeds_deal client ds turns its back among =
+  records_have_what_deeds_told client ds turns its back among =
       all Idle (new_account client) no_dealing no_journal ds turns its back (new client ds) among

@@ -6,8 +6,9 @@ use Rattle.qc_msg.specs.Vocabulary.{Entry, deeds}
 use Rattle.qc_promise.specs.Vocabulary.{AreRight, Kept, Unborn, no_journal}
 use Rattle.qc_stamp.specs.declared.stamp.TxId.{TxId}
 use Rattle.laws_reach.specs.Vocabulary.{AreRightButWritten}
-use Rattle.laws_reach.proofs.Rises.{written_right}
+use Rattle.laws_reach.proofs.Rises.{what_was_written_rises_rightly}
 
-pub kept_right : (h : List Entry) → Kept h → (a : ℕ) (tx : TxId)
+pub what_was_written_rises_rightly_where_records_are_kept : (h : List Entry) → Kept h → (a : ℕ) (tx : TxId)
     → AreRightButWritten tx Unborn no_journal (deeds a [] h) → AreRight tx (deeds a [] h)
-kept_right h kept a tx right = written_right tx (deeds a [] h) (kept_given_back h kept a) right
+what_was_written_rises_rightly_where_records_are_kept h kept a tx right =
+    what_was_written_rises_rightly tx (deeds a [] h) (kept_given_back h kept a) right

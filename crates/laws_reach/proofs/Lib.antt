@@ -41,6 +41,7 @@ pub mod Founding
 pub mod Turning
 pub mod Lifelong
 pub mod SightLaw
+pub mod AtomicLaw
 pub mod WrongSight
 pub mod Rises
 pub mod KeptBack

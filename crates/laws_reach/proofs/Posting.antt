@@ -1,4 +1,4 @@
--- A site or a client posts its turn: the net takes and posts in one step, or falls in it. One that is down only tells a
+-- A site or a client posts its turn: the net takes and posts in one step, or falls in it. One that is down only who_is_down_only_tells a
 -- reply, which is nothing to the net.
 use Rattle.std.proofs.Common.{[], ◌≡◌, ℕ, not, Bool, true, false, List, ◌++◌, length, Option, Some, None}
 use Rattle.std.proofs.Common.{option_to_list, slice_get, inl, inr, refl, sym, ap, ◌∙◌, subst}
@@ -12,7 +12,7 @@ use Rattle.qc_decl.specs.declared.declaration.Declaration.{Declaration}
 use Rattle.qc_decl.specs.Vocabulary.{is_client, is_site}
 use Rattle.qc_client.specs.Vocabulary.{ClientMove, client_takes}
 use Rattle.qc_mailbox.specs.Vocabulary.{is_down}
-use Rattle.laws_turns.proofs.Downs.{due, tells, up_is}
+use Rattle.laws_turns.proofs.Downs.{due, who_is_down_only_tells, up_is}
 use Rattle.qc_msg.specs.declared.message.Envelope.{Envelope}
 use Rattle.qc_msg.specs.declared.record.Record.{Record}
 use Rattle.qc_msg.specs.declared.turn.Appended.{Appended}
@@ -231,17 +231,19 @@ module _ (decl : Declaration) (h : List Entry) (inputs : List Bool) (old : Stood
     reached = old.reached;
     sent =
         sym (ap (λ (ps : List Posting). old.net.mail ++ envelopes a (length old.net.mail) ps)
-        ((tells decl).sends_none a ds turn law (fallen down)) ∙ append-nil old.net.mail);
+        ((who_is_down_only_tells decl).sends_none a ds turn law (fallen down)) ∙ append-nil old.net.mail);
     leaves = λ b other. itself decl old.net b;
     up = s.up;
     records =
         s.records
         ∙ sym
         (ap (λ (o : Option Record). (journal_after ds).records ++ option_to_list o)
-        ((tells decl).writes_none a ds turn law (fallen down)) ∙ append-nil (journal_after ds).records);
+        ((who_is_down_only_tells decl).writes_none a ds turn law (fallen down)) ∙ append-nil (journal_after ds).records);
     pending = s.pending;
     clear = s.clear;
     state = λ is. absurd (never_up (is_up ds) down is);
   })
-  down_posts s down Failed may = absurd (subst HasRecord ((tells decl).writes_none a ds turn law (fallen down)) may)
-  down_posts s down Stopped may = absurd (subst HasRecord ((tells decl).writes_none a ds turn law (fallen down)) may)
+  down_posts s down Failed may =
+      absurd (subst HasRecord ((who_is_down_only_tells decl).writes_none a ds turn law (fallen down)) may)
+  down_posts s down Stopped may =
+      absurd (subst HasRecord ((who_is_down_only_tells decl).writes_none a ds turn law (fallen down)) may)

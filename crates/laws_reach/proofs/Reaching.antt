@@ -19,8 +19,8 @@ module _ (fits : ℕ → List Record → Type 0) (decl : Declaration) (script : 
   stood : Stood decl h open_inputs
   stood = runs_stand decl script fits accepted sound h open_inputs run kept
 
-  pub net_of : IsReachedWithFalls decl h open_inputs
-  net_of = record {
+  pub runs_with_falls_reach_nets : IsReachedWithFalls decl h open_inputs
+  runs_with_falls_reach_nets = record {
     net = stood.net;
     reached = stood.reached;
     mail_is = stood.mail_is;

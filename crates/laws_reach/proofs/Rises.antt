@@ -145,6 +145,6 @@ module _ (tx : TxId) where
       all_right (status_at tx s d) (journal_at j d) ds one.1 back.1 right.1 in
       ((one.0, rest.0), rest.1)
 
-pub written_right : (tx : TxId) (ds : List Deed) → AreGivenBack no_journal ds
+pub what_was_written_rises_rightly : (tx : TxId) (ds : List Deed) → AreGivenBack no_journal ds
     → AreRightButWritten tx Unborn no_journal ds → AreRight tx ds
-written_right tx ds back right = (all_right tx Unborn no_journal ds tt back right).0
+what_was_written_rises_rightly tx ds back right = (all_right tx Unborn no_journal ds tt back right).0

@@ -33,7 +33,7 @@ use Rattle.qc_stamp.specs.declared.stamp.TxId.{TxId}
 use Rattle.laws_atomic.proofs.Closed as closed_logs
 use Rattle.laws_reach.specs.Vocabulary.{AreStanding, IsOfClient, IsPromiseRecorded, IsReachedWithFalls, records_of}
 use Rattle.laws_reach.proofs.Committing.{committed_records_stand}
-use Rattle.laws_reach.proofs.Reaching.{net_of}
+use Rattle.laws_reach.proofs.Reaching.{runs_with_falls_reach_nets}
 use Rattle.laws_reach.proofs.Sorted.{apart_too, sorted_alike}
 use Rattle.laws_reach.proofs.Stood.{in_site}
 use Rattle.laws_reach.proofs.Written.{Agree, written_are}
@@ -45,7 +45,7 @@ module _ (fits : ℕ → List Record → Type 0) (decl : Declaration) (script : 
     (open_inputs : List Bool) (accepted : IsAccepted decl) (sound : IsScriptFor decl script)
     (run : RunsWithFalls (IsLawfulWithFalls decl) fits decl script h open_inputs) (kept : Kept h) where
   r : IsReachedWithFalls decl h open_inputs
-  r = net_of fits decl script h open_inputs accepted sound run kept
+  r = runs_with_falls_reach_nets fits decl script h open_inputs accepted sound run kept
 
   agree : Agree decl r.net.records r.net.written
   agree = written_are decl accepted r.net r.reached
@@ -124,7 +124,7 @@ module _ (fits : ℕ → List Record → Type 0) (decl : Declaration) (script : 
 
     pub one_copy : OneCopy decl (sorted commits)
     one_copy = subst (OneCopy decl) (sorted_alike r.net.written commits net_apart to_them of_net)
-        (nets.one_copy decl accepted r.net r.reached)
+        (nets.nets_are_one_copy decl accepted r.net r.reached)
 
     -- lines
 
@@ -199,8 +199,8 @@ module _ (fits : ℕ → List Record → Type 0) (decl : Declaration) (script : 
       there : AreApart (written_in decl h)
       there = apart (written_in decl h) (committed_records_stand decl h kept)
 
-  pub committed_one_copy : OneCopy decl (committed decl h)
-  committed_one_copy = one_copy (written_in decl h) (committed_records_stand decl h kept)
+  pub committed_records_are_one_copy_through_falls : OneCopy decl (committed decl h)
+  committed_records_are_one_copy_through_falls = one_copy (written_in decl h) (committed_records_stand decl h kept)
 
   -- a Decision agrees with the committed transactions
   agrees : (m : Message) → ((tx : TxId) (verdict : Outcome) → m ≡ Decision tx verdict

@@ -23,7 +23,7 @@ use Rattle.laws_turns.proofs.Places.{replicate_at}
 use Rattle.qc_link.specs.Vocabulary.{most_actors}
 use Rattle.laws_turns.specs.Vocabulary.{LivesIn}
 use Rattle.laws_turns.proofs.Commands.{may_take}
-use Rattle.laws_turns.proofs.Downs.{tells, up_is}
+use Rattle.laws_turns.proofs.Downs.{who_is_down_only_tells, up_is}
 use Rattle.laws_turns.proofs.LivedMoves.{deeds-fall, line_silent}
 use Rattle.laws_turns.proofs.Lived.{run_lives}
 use Rattle.qc_msg.specs.declared.message.Envelope.{Envelope}
@@ -176,7 +176,7 @@ module _ (decl : Declaration) (script : Script) (fits : ℕ → List Record → 
     up_in : (a : ℕ) → TakesInputs decl a → boxes.is_up (inbox script 0 h).up a ≡ is_up (deeds a [] h)
     up_in a is =
         let low : a < actors decl = within decl a is in
-        up_by_deeds (IsLawfulWithFalls decl) fits decl script h inputs few (tells decl) run a 0
+        up_by_deeds (IsLawfulWithFalls decl) fits decl script h inputs few (who_is_down_only_tells decl) run a 0
         (let f = few in omega arith) (omega arith) ∙ sym (up_is (deeds a [] h))
 
     fell_up : (a : ℕ) (cause : Fall) → is_up (deeds a [] (fallen a cause)) ≡ false

@@ -33,12 +33,12 @@ use Rattle.theory_machine.specs.Vocabulary.{state}
 use Rattle.qc_script.specs.Vocabulary.{IsScriptFor, RunsWithFalls}
 use Rattle.qc_script.specs.declared.script.Script.{Script}
 use Rattle.laws_due.specs.Vocabulary.{Declares}
-use Rattle.laws_due.proofs.AccountDeclared.{asks_declared}
+use Rattle.laws_due.proofs.AccountDeclared.{scripts_ask_what_is_declared}
 use Rattle.laws_due.proofs.Declared.{run_declares}
 use Rattle.laws_due.proofs.KeptPlanned.{kept_planned}
 use Rattle.laws_reach.specs.Vocabulary.{AreStanding, IsOfClient, IsReachedWithFalls, records_of}
 use Rattle.laws_reach.proofs.Committing.{committed_records_stand}
-use Rattle.laws_reach.proofs.Reaching.{net_of}
+use Rattle.laws_reach.proofs.Reaching.{runs_with_falls_reach_nets}
 use Rattle.laws_reach.proofs.RunLaws as reached
 use Rattle.laws_atomic.proofs.Grants.{granted, lines_passed, no_promise}
 use Rattle.laws_atomic.proofs.Heard.{sent_mailed, took_sent}
@@ -66,7 +66,7 @@ module _ (fits : ℕ → List Record → Type 0) (decl : Declaration) (script : 
     (open_inputs : List Bool) (accepted : IsAccepted decl) (sound : IsScriptFor decl script)
     (run : RunsWithFalls (IsLawfulWithFalls decl) fits decl script h open_inputs) (kept : Kept h) where
   net : IsReachedWithFalls decl h open_inputs
-  net = net_of fits decl script h open_inputs accepted sound run kept
+  net = runs_with_falls_reach_nets fits decl script h open_inputs accepted sound run kept
 
   few : actors decl ≤ most_actors
   few = let s = accepted.sites in let c = accepted.clients in omega arith
@@ -143,8 +143,10 @@ module _ (fits : ℕ → List Record → Type 0) (decl : Declaration) (script : 
   }
 
   declares : (a : ℕ) → Declares decl (deeds a [] h)
-  declares a = run_declares decl script fits accepted (asks_declared decl script accepted sound) h open_inputs run
-      (kept_planned decl script fits accepted (asks_declared decl script accepted sound) h open_inputs run kept) a
+  declares a =
+      run_declares decl script fits accepted (scripts_ask_what_is_declared decl script accepted sound) h open_inputs run
+      (kept_planned decl script fits accepted (scripts_ask_what_is_declared decl script accepted sound) h open_inputs
+      run kept) a
 
   stands : (a : ℕ) (client : is_client decl a ≡ true) (tx : TxId)
       → StandsNow decl a client (declares a).first (committed decl h) tx (deeds a [] h)

@@ -20,7 +20,7 @@ use Rattle.qc_promise.specs.Vocabulary.{account_taken, answered, is_asked_for, i
 use Rattle.qc_promise.specs.Vocabulary.{sight_sent, sight_taken, waits}
 use Rattle.qc_promise.specs.Seen.{granted}
 use Rattle.qc_promise.specs.Status as statuses
-use Rattle.laws_due.proofs.Anew.{begins_anew}
+use Rattle.laws_due.proofs.Anew.{accounts_begin_anew}
 use Rattle.laws_atomic.proofs.Counted.{counts}
 use Rattle.laws_atomic.proofs.Seeing.{HasCommitted, Sees}
 use Rattle.laws_reach.proofs.Making.{IsHad}
@@ -53,7 +53,7 @@ pub client_is : (decl : Declaration) (client : ℕ) (d : Account) → IsAccount 
 client_is decl client d is =
     ap (λ (e : Account). e.client) (sym is.1)
     ∙ sym (ap (λ (e : Account). e.client) (fold-append (account_at decl) (new_account client) is.0 (Rises [] ∷ [])))
-    ∙ ap (λ (e : Account). e.client) (begins_anew decl client is.0 [])
+    ∙ ap (λ (e : Account). e.client) (accounts_begin_anew decl client is.0 [])
 
 -- what ties the records that a client made, and its journal, to its account and its sight; while it isn't up, nor has
 -- written the record of its rise, nothing goes on

@@ -3,7 +3,7 @@ use Rattle.std.proofs.Common.{◌≡◌, ◌≢◌, ◌↔◌, ◌⊎◌, ◌<�
 use Rattle.qc_core.specs.Vocabulary.{IsLawfulWithFalls, journal_after}
 use Rattle.qc_core.proofs.LivesLaws.{journal}
 use Rattle.laws_reach.specs.Vocabulary.{AreCommitsTold, AreStanding, HasRecord, IsOfClient, records_of}
-use Rattle.laws_reach.proofs.Deeds.{deeds_deal}
+use Rattle.laws_reach.proofs.Deeds.{records_have_what_deeds_told}
 use Rattle.laws_reach.proofs.EndLaws.{ends_aborted, ends_committed, ends_dropped, ends_own, records_own, records_told}
 use Rattle.qc_decl.specs.Vocabulary.{IsAccepted, client_actor}
 use Rattle.qc_decl.specs.declared.declaration.Declaration.{Declaration}
@@ -86,7 +86,8 @@ module _ (fits : ℕ → List Record → Type 0) (decl : Declaration) (script : 
   dealt c listed =
       let o : IsOwn c = owned c listed in
       let d : AreDone decl c.tx.client (deeds (client_actor decl c.tx.client) [] h) = done c.tx.client o.low in
-      deeds_deal decl c c.tx.client (deeds (client_actor decl c.tx.client) [] h) d.turns d.replies d.back o.among
+      records_have_what_deeds_told decl c c.tx.client (deeds (client_actor decl c.tx.client) [] h) d.turns d.replies
+      d.back o.among
 
   module _ (n : ℕ) (low : n < decl.clients) (tx : TxId) where
     abbrev its : List Deed

@@ -47,11 +47,11 @@ use Rattle.qc_stamp.specs.declared.stamp.Stamp.{Stamp}
 use Rattle.qc_stamp.specs.declared.stamp.TxId.{TxId}
 use Rattle.qc_stamp.proofs.Orders.{same_tx_is, same_tx_itself}
 use Rattle.laws_due.specs.Vocabulary.{Declares}
-use Rattle.laws_due.proofs.AccountDeclared.{asks_declared}
+use Rattle.laws_due.proofs.AccountDeclared.{scripts_ask_what_is_declared}
 use Rattle.laws_due.proofs.Declared.{run_declares}
 use Rattle.laws_due.proofs.KeptPlanned.{kept_planned}
 use Rattle.laws_reach.specs.Vocabulary.{IsReachedWithFalls, IsRecorded}
-use Rattle.laws_reach.proofs.Reaching.{net_of}
+use Rattle.laws_reach.proofs.Reaching.{runs_with_falls_reach_nets}
 use Rattle.laws_reach.proofs.Rightly.{Shows, course_shows}
 use Rattle.qc_core.proofs.KeptBack.{kept_given_back}
 use Rattle.laws_reach.proofs.Putting.{part_kept}
@@ -74,8 +74,8 @@ module _ (decl : Declaration) (script : Script) (fits : ℕ → List Record → 
 
   declares : (h : List Entry) (open_inputs : List Bool) → IsRun h open_inputs → Kept h → (a : ℕ) → Declares decl (deeds a [] h)
   declares h open_inputs run kept a =
-      run_declares decl script fits accepted (asks_declared decl script accepted sound) h open_inputs run
-      (kept_planned decl script fits accepted (asks_declared decl script accepted sound) h open_inputs run kept) a
+      run_declares decl script fits accepted (scripts_ask_what_is_declared decl script accepted sound) h open_inputs run
+      (kept_planned decl script fits accepted (scripts_ask_what_is_declared decl script accepted sound) h open_inputs run kept) a
 
   record Lived (h : List Entry) (open_inputs : List Bool) (a : ℕ) : Type 0 where
     is_open : Bool
@@ -106,7 +106,7 @@ module _ (decl : Declaration) (script : Script) (fits : ℕ → List Record → 
         → IsRequested (mail h) tx → status (deeds a [] h) tx ≢ Unborn
     asked_born a client tx its r =
         let net : IsReachedWithFalls decl h open_inputs =
-        net_of fits decl script h open_inputs accepted sound run kept in
+        runs_with_falls_reach_nets fits decl script h open_inputs accepted sound run kept in
         let m : Refines decl net.net = nets_refine decl accepted net.net net.reached in
         let backed : Backed decl (state m.acts) net.net.mail r.request.from r.request.to (messages.Request tx r.epoch r.life r.want) =
         subst (Backed decl (state m.acts) net.net.mail r.request.from r.request.to) r.is

@@ -1,10 +1,10 @@
 -- What a client was told that its transactions ended with, beside the commit records of its journal.
-use Rattle.std.specs.Prelude.{◌≡◌, ◌⊎◌, List, [], ◌∷◌}
+use Rattle.std.specs.Prelude.{[], MatchOption, ◌≡◌, ◌⊎◌, List, ◌∷◌}
 use Rattle.qc_entry.specs.declared.record.Commit.{Commit as CommitRecord}
 use Rattle.qc_list.specs.Vocabulary.{In}
-use Rattle.qc_msg.specs.Vocabulary.{Deed, Falls, Rises, Sends, Takes, Tells, Writes}
+use Rattle.qc_msg.specs.Vocabulary.{Deed, Falls, Rises, Sends, Takes, Tells, Writes, commit_of}
 use Rattle.qc_msg.specs.declared.record.Record.{Record}
-use Rattle.qc_msg.specs.declared.record.Record.TheVariants.{Life, Prepare, Done, Close, Install, Commit, Decide}
+use Rattle.qc_msg.specs.declared.record.Record.TheVariants.{Commit}
 use Rattle.qc_msg.specs.declared.reply.Reply.{Reply}
 use Rattle.qc_msg.specs.declared.reply.Reply.TheVariants.{Committed, Unknown}
 use Rattle.qc_stamp.specs.declared.stamp.Stamp.{Stamp}
@@ -32,13 +32,7 @@ TellsNext (Falls cause pending ∷ after) = ⊥
 TellsNext (Rises kept ∷ after) = ⊥
 
 abbrev pub IsRecordTold : Record → List Deed → Type 0
-IsRecordTold Life after = Unit {0}
-IsRecordTold (Prepare prepared) after = Unit {0}
-IsRecordTold (Done tx clock) after = Unit {0}
-IsRecordTold (Close epoch) after = Unit {0}
-IsRecordTold (Install epoch clock lines) after = Unit {0}
-IsRecordTold (Commit commit) after = TellsNext after
-IsRecordTold (Decide epoch clock lines) after = Unit {0}
+IsRecordTold written after = MatchOption (commit_of written) (Unit {0}) (λ (x : CommitRecord). TellsNext after)
 
 abbrev pub IsDeedTold : Deed → List Deed → Type 0
 IsDeedTold (Takes given) after = Unit {0}

@@ -22,7 +22,7 @@ ghost use Rattle.std.specs.Prelude.{◌≡◌, ◌≢◌, ℕ, false, List};
 /// Where a client's deeds are by turns and due, and each rise gives back what its
 /// journal has, each commit record of the journal has just the operations that
 /// the client was told for its transaction, through all falls and rises.
-#[tactic(auto, using(crate::proofs::Deeds::deeds_deal))]
+#[tactic(auto, using(crate::proofs::Deeds::records_have_what_deeds_told))]
 pub fn records_have_what_deeds_told()
     ensures { (decl : Declaration) (c : CommitRecord) (client : ℕ) (ds : List Deed)
         → AreByTurns false ds → AreRepliesDue decl client ds → AreGivenBack no_journal ds

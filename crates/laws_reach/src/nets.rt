@@ -43,7 +43,7 @@ use qc_script::ConductWithFalls;
 /// with the same mail, and each site and client is up or down, has on its disk
 /// and is what its own deeds give. With an open input it is as it was before.
 /// And so the run is one of the machine.
-#[tactic(auto, using(crate::proofs::Reaching::net_of))]
+#[tactic(auto, using(crate::proofs::Reaching::runs_with_falls_reach_nets))]
 pub fn runs_with_falls_reach_nets<C: ConductWithFalls>()
     ensures reaches { OfEachKeptRun C.fits (λ decl script h open_inputs. IsReachedWithFalls decl h open_inputs) }
     ensures refines { OfEachKeptRun C.fits (λ decl script h open_inputs. (r : IsReachedWithFalls decl h open_inputs)

@@ -13,7 +13,7 @@ ghost use Rattle.laws_reach.specs.Pending.{AreRightButWritten};
 /// Where each rise gives back what its actor's journal holds, the deeds of the
 /// actor are right for a transaction, if they are but for its written records
 /// that rise: of a rise only the record that was being written is left to show.
-#[tactic(auto, using(crate::proofs::Rises::written_right))]
+#[tactic(auto, using(crate::proofs::Rises::what_was_written_rises_rightly))]
 pub fn what_was_written_rises_rightly()
     ensures { (tx : TxId) (ds : List Deed) → AreGivenBack no_journal ds
         → AreRightButWritten tx Unborn no_journal ds → AreRight tx ds }
@@ -21,7 +21,7 @@ pub fn what_was_written_rises_rightly()
 
 /// So in a history whose records are kept an actor's deeds are right for a
 /// transaction, if they are but for its written records that rise.
-#[tactic(auto, using(crate::proofs::KeptBack::kept_right))]
+#[tactic(auto, using(crate::proofs::KeptBack::what_was_written_rises_rightly_where_records_are_kept))]
 pub fn what_was_written_rises_rightly_where_records_are_kept()
     ensures { (h : List Entry) → Kept h → (a : ℕ) (tx : TxId)
         → AreRightButWritten tx Unborn no_journal (deeds a [] h) → AreRight tx (deeds a [] h) }

@@ -1,4 +1,4 @@
--- A commit begins: promises are asked for, or it ends at once.
+-- A commit begins: promises are asked for, or it ends at once (that it ends by its votes: ClientVotes).
 use Rattle.std.proofs.Common.{◌≡◌, ◌≤◌, ℕ, suc, ◌==◌, Bool, true, false, cond, inl, inr, List, [], ◌∷◌, map, length}
 use Rattle.std.proofs.Common.{Option, Some, None, refl, sym, ap, ◌∙◌, subst, eqb-true, arith}
 use Rattle.qc_list.specs.Vocabulary.{In}

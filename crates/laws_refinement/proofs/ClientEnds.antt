@@ -185,6 +185,7 @@ module _ (decl : Declaration) where
       may : MayCommit (state acts) (commit_of (next_stamp c.desk) t.begun)
       may = record {
         voting = voting;
+        -- AllHaveVoted
         votes = votes;
         client = e.own.desk ∙ sym (ends_mine decl (state acts) a c t e);
         above =
@@ -245,6 +246,7 @@ module _ (decl : Declaration) where
       own = e.own;
       may = record {
         voting = voting;
+        -- AllHaveVoted
         votes = votes;
         client = e.own.desk ∙ sym (ends_mine decl (state acts) a c t e);
         above =

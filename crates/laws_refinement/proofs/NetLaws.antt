@@ -58,8 +58,8 @@ module _ (decl : Declaration) (accepted : IsAccepted decl) (net : Net) (reached 
     (λ among. (in_order.1 c).1 ((same_records c).1 among)),
   )
 
-  pub one_copy : OneCopy decl (sorted net.written)
-  one_copy = records_in_order_are_one_copy decl accepted mirrored.acts mirrored.run
+  pub nets_are_one_copy : OneCopy decl (sorted net.written)
+  nets_are_one_copy = records_in_order_are_one_copy decl accepted mirrored.acts mirrored.run
       (sorted net.written) in_order.0 listed
 
   pub apart : AreApart net.written

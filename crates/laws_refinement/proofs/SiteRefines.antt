@@ -7,10 +7,10 @@ use Rattle.qc_site.specs.Vocabulary.{site_takes}
 use Rattle.laws_refinement.specs.Vocabulary.{Continues, MayCome, Net, Refines, after_site}
 use Rattle.laws_refinement.proofs.SiteCases.{serve_case}
 
-pub site_refines : (decl : Declaration) (net : Net) (a : ℕ) (given : Input) → IsAccepted decl → Refines decl net
+pub sites_refine : (decl : Declaration) (net : Net) (a : ℕ) (given : Input) → IsAccepted decl → Refines decl net
     → is_site decl a ≡ true → net.up a ≡ true → MayCome net a given
     → Refines decl (after_site net a (site_takes decl (net.sites a) given))
-site_refines decl net a given accepted r site up came =
+sites_refine decl net a given accepted r site up came =
     let c : Continues decl r.acts (after_site net a (site_takes decl (net.sites a) given)) =
     serve_case decl accepted r.acts net a r.run r.agrees site up given came in
     record { acts = c.more ++ r.acts; run = c.refines.run; agrees = c.refines.agrees }

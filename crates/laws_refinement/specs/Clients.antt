@@ -1,5 +1,6 @@
 -- A client agrees with what the machine says of its transactions, and so do its records.
-use Rattle.std.specs.Prelude.{◌≡◌, ◌≢◌, ◌⊎◌, ℕ, ◌+◌, ◌<◌, ◌≤◌, false, List, Option, Some, None, length, map}
+use Rattle.std.specs.Prelude.{MatchOption, option_and_then, ◌≡◌, ◌≢◌, ◌⊎◌, ℕ, ◌+◌, ◌<◌, ◌≤◌, false, List, Option, Some}
+use Rattle.std.specs.Prelude.{None, length, map}
 use Rattle.qc_stamp.specs.declared.stamp.TxId.{TxId}
 use Rattle.qc_list.specs.Vocabulary.{In}
 use Rattle.qc_entry.specs.declared.line.Line.{Line}
@@ -13,7 +14,7 @@ use Rattle.qc_msg.specs.declared.call.Call.{Call}
 use Rattle.qc_msg.specs.declared.message.Envelope.{Envelope}
 use Rattle.qc_msg.specs.declared.message.Want.{Want}
 use Rattle.qc_msg.specs.declared.message.Want.TheVariants.{Prepare}
-use Rattle.qc_msg.specs.Vocabulary.{life_of}
+use Rattle.qc_msg.specs.Vocabulary.{life_of, commit_of}
 use Rattle.qc_msg.specs.declared.message.Message.TheVariants as messages
 use Rattle.laws_refinement.specs.Lives.{LivesMirror}
 use Rattle.laws_refinement.specs.Sites.{IsPlanned}
@@ -187,14 +188,7 @@ pub record IsClientKeptBy (c : Client) (k : Kept) : Type 0 where
 -- a commit record that may stand or not: were it written, its transaction would commit by it
 
 abbrev pub IsPendingOf : TxId → Option Record → Type 0
-IsPendingOf t None = ⊥
-IsPendingOf t (Some records.Life) = ⊥
-IsPendingOf t (Some (records.Prepare p)) = ⊥
-IsPendingOf t (Some (records.Done tx clock)) = ⊥
-IsPendingOf t (Some (records.Close epoch)) = ⊥
-IsPendingOf t (Some (records.Install epoch clock lines)) = ⊥
-IsPendingOf t (Some (records.Commit r)) = t ≡ r.tx
-IsPendingOf t (Some (records.Decide epoch clock lines)) = ⊥
+IsPendingOf t written = MatchOption (option_and_then commit_of written) ⊥ (λ (r : CommitRecord). t ≡ r.tx)
 
 abbrev pub IsPendingBy : State → ℕ → Option Record → Type 0
 IsPendingBy now client None = Unit {0}

@@ -1,17 +1,18 @@
 -- The lines of logs that a message carries, and what a Decision says of the records.
-use Rattle.std.specs.Prelude.{List, [], ◌++◌, Some, None, flat_map}
+use Rattle.std.specs.Prelude.{[], List, ◌++◌, Some, None, flat_map}
+use Rattle.std.specs.Option.{option_map_or}
 use Rattle.qc_stamp.specs.declared.stamp.TxId.{TxId}
 use Rattle.qc_entry.specs.declared.line.Line.{Line}
 use Rattle.qc_entry.specs.declared.record.Commit.{Commit as CommitRecord}
 use Rattle.qc_entry.specs.declared.record.Prepared.{Prepared}
 use Rattle.qc_msg.specs.declared.message.Answer.{Answer}
-use Rattle.qc_msg.specs.declared.message.Answer.TheVariants as answers
 use Rattle.qc_msg.specs.declared.message.Message.{Message}
-use Rattle.qc_msg.specs.declared.message.Message.TheVariants as messages
 use Rattle.qc_msg.specs.declared.message.Outcome.{Outcome}
 use Rattle.qc_msg.specs.declared.message.Outcome.TheVariants as outcomes
 use Rattle.theory_machine.specs.Vocabulary.{IsVerdictOf}
 use Rattle.qc_site.specs.Vocabulary.{view_in}
+use Rattle.qc_msg.specs.Vocabulary.{Answered, Granting, Installing, Requested, Shutting, answer_in, granted_in}
+use Rattle.qc_msg.specs.Vocabulary.{installing_in, request_in, shut_in}
 
 -- the lines of a grant's log, and of a snapshot's log and promises
 
@@ -19,26 +20,15 @@ abbrev pub lines_promised : List Prepared → List Line
 lines_promised prepared = flat_map (λ (p : Prepared). p.lines) prepared
 
 abbrev pub lines_answered : Answer → List Line
-lines_answered (answers.Granted life clock log) = log
-lines_answered (answers.Clash holder inv event) = []
-lines_answered (answers.Closed epoch) = []
-lines_answered (answers.Behind epoch) = []
-lines_answered (answers.Restarted life) = []
-lines_answered answers.Stale = []
-lines_answered answers.Fault = []
-lines_answered (answers.Yes clock) = []
-lines_answered (answers.Shut clock log prepared) = log ++ lines_promised prepared
-lines_answered answers.Installed = []
-lines_answered (answers.Answered verdict) = []
+lines_answered answer =
+    option_map_or (λ (g : Granting). g.log) (granted_in answer)
+    (option_map_or (λ (z : Shutting). z.log ++ lines_promised z.prepared) (shut_in answer) [])
 
 abbrev pub lines_in : Message → List Line
-lines_in (messages.Request tx epoch life want) = view_in want
-lines_in (messages.Answer number answer) = lines_answered answer
-lines_in (messages.Decision tx verdict) = []
-lines_in (messages.Inquiry tx) = []
-lines_in (messages.Ask tx) = []
-lines_in (messages.Close epoch) = []
-lines_in (messages.Install epoch clock log) = log
+lines_in message =
+    option_map_or (λ (q : Requested). view_in q.want) (request_in message)
+    (option_map_or (λ (a : Answered). lines_answered a.answer) (answer_in message)
+    (option_map_or (λ (i : Installing). i.lines) (installing_in message) []))
 
 -- a final verdict is the records': one with this stamp, or none
 

@@ -2,16 +2,15 @@
 -- and late, and any request may be taken for lost. An actor takes an input and posts its turn in one step. Any actor
 -- may fall, at any time or as it writes a record, and rises with the records that it wrote, and maybe the one that it
 -- was writing.
-use Rattle.std.specs.Prelude.{◌≡◌, ℕ, ◌+◌, true, List, [], ◌∷◌, ◌++◌, length, Some, ◌-◌, ◌<◌, ◌⊎◌, Bool, false, Option}
-use Rattle.std.specs.Prelude.{None, option_to_list}
+use Rattle.std.specs.Prelude.{[], MatchOption, ◌≡◌, ℕ, ◌+◌, true, List, ◌∷◌, ◌++◌, length, Some, ◌-◌, ◌<◌, ◌⊎◌, Bool}
+use Rattle.std.specs.Prelude.{false, Option, None, option_to_list}
 use Rattle.qc_entry.specs.declared.record.Commit.{Commit as CommitRecord}
 use Rattle.qc_table.specs.declared.kind.Kind.{Kind}
 use Rattle.qc_decl.specs.Vocabulary.{administrator, is_client, is_site, kind_at}
 use Rattle.qc_msg.specs.declared.record.Record.{Record}
 use Rattle.qc_msg.specs.declared.record.Record.TheVariants.{Life}
 use Rattle.qc_msg.specs.declared.step.Command.{Command}
-use Rattle.qc_msg.specs.declared.step.Command.TheVariants.{Begin, Do, Commit, Abort, Epoch}
-use Rattle.qc_msg.specs.Vocabulary.{commit_of, envelopes}
+use Rattle.qc_msg.specs.Vocabulary.{commit_of, envelopes, Invocation, do_in, epoch_in}
 use Rattle.qc_epoch.specs.Vocabulary.{Admin, AdminMove, admin_takes, new_admin, sent_one}
 use Rattle.qc_client.specs.Vocabulary.{ClientMove, IsFree, client_takes, new_client, sent_one as client_sent_one}
 use Rattle.qc_client.specs.declared.client.Client.{Client}
@@ -121,11 +120,9 @@ abbrev pub IsNamedAt : Declaration → ℕ → ℕ → Type 0
 IsNamedAt decl object inv = (kind : Kind) × (kind_at decl object ≡ Some kind) × (inv < kind.table.invs)
 
 abbrev pub IsNamed : Declaration → Command → Type 0
-IsNamed decl Begin = Unit {0}
-IsNamed decl (Do object inv) = IsNamedAt decl object inv
-IsNamed decl Commit = Unit {0}
-IsNamed decl Abort = Unit {0}
-IsNamed decl (Epoch number) = IsPlanned decl number
+IsNamed decl command =
+    MatchOption (do_in command) (MatchOption (epoch_in command) (Unit {0}) (λ (number : ℕ). IsPlanned decl number))
+    (λ (i : Invocation). IsNamedAt decl i.object i.inv)
 
 -- what may come to an actor: a message that was sent to it; anything may be taken for lost
 abbrev pub MayCome : Net → ℕ → Input → Type 0

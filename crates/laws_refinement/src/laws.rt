@@ -33,7 +33,7 @@ pub fn nets_refine()
 
 /// Whatever a site that is up takes, also a Close or an Install, the net after it
 /// is still what a run of the machine may look like.
-#[tactic(auto, using(crate::proofs::SiteRefines::site_refines))]
+#[tactic(auto, using(crate::proofs::SiteRefines::sites_refine))]
 pub fn sites_refine()
     ensures { (decl : Declaration) (net : Net) (a : ℕ) (given : Input) → IsAccepted decl → Refines decl net
         → is_site decl a ≡ true → net.up a ≡ true → MayCome net a given

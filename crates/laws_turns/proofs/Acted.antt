@@ -101,12 +101,14 @@ module _ (decl : Declaration) (script : Script) where
 
   -- each actor
 
-  pub run_acts : (h : List Entry) (open_inputs : List Bool) → Runs (IsLawful decl) decl script h open_inputs
+  pub actors_take_and_post_by_turns : (h : List Entry) (open_inputs : List Bool)
+      → Runs (IsLawful decl) decl script h open_inputs
       → (a : ℕ) (t : Bool) → slice_get open_inputs a ≡ Some t → ActsIn decl a h t
-  run_acts h open_inputs begins a t is =
+  actors_take_and_post_by_turns h open_inputs begins a t is =
       subst (λ (v : Bool). ActsIn decl a [] v) (sym (replicate_at (actors decl) a false t is))
       (record { above = 0; acts = acts.starts; within = zero-le })
-  run_acts h open_inputs (takes c given before older run free rdy) a t is = at (c == a) refl (run_acts older before run)
+  actors_take_and_post_by_turns h open_inputs (takes c given before older run free rdy) a t is =
+      at (c == a) refl (actors_take_and_post_by_turns older before run)
     where
       at : (same : Bool) → (c == a) ≡ same → ((a : ℕ) (t : Bool) → slice_get before a ≡ Some t → ActsIn decl a older t)
           → ActsIn decl a (older ++ marked c (step_of given) ∷ []) t
@@ -121,7 +123,8 @@ module _ (decl : Declaration) (script : Script) where
           acts_on a t older (older ++ marked c (step_of given) ∷ [])
           (deeds-other c a [] older (step_of given ∷ []) other) (mail_grows older (marked c (step_of given) ∷ []))
           (old a t (open_elsewhere before a c true t other is))
-  run_acts h open_inputs (posts c turn before older run taken law) a t is = at (c == a) refl (run_acts older before run)
+  actors_take_and_post_by_turns h open_inputs (posts c turn before older run taken law) a t is =
+      at (c == a) refl (actors_take_and_post_by_turns older before run)
     where
       at : (same : Bool) → (c == a) ≡ same → ((a : ℕ) (t : Bool) → slice_get before a ≡ Some t → ActsIn decl a older t)
           → ActsIn decl a (older ++ by c (posted (length (mail older)) turn)) t
@@ -136,16 +139,16 @@ module _ (decl : Declaration) (script : Script) where
           (deeds-other c a [] older (posted (length (mail older)) turn) other)
           (mail_grows older (by c (posted (length (mail older)) turn)))
           (old a t (open_elsewhere before a c false t other is))
-  run_acts h open_inputs (phase before older run none done quiet more) a t is =
+  actors_take_and_post_by_turns h open_inputs (phase before older run none done quiet more) a t is =
       acts_on a t older (older ++ marked (controller decl) (steps.Phase (phase_of older + 1)) ∷ [])
       (deeds-silent a (controller decl) older (steps.Phase (phase_of older + 1))
       (phase_silent (phase_of older + 1)))
       (mail_grows older (marked (controller decl) (steps.Phase (phase_of older + 1)) ∷ []))
-      (run_acts older before run a t is)
-  run_acts h open_inputs (control line lines step before older run left is_step) a t is =
+      (actors_take_and_post_by_turns older before run a t is)
+  actors_take_and_post_by_turns h open_inputs (control line lines step before older run left is_step) a t is =
       acts_on a t older (older ++ marked (controller decl) step ∷ [])
       (deeds-silent a (controller decl) older step (control_silent line step is_step))
-      (mail_grows older (marked (controller decl) step ∷ [])) (run_acts older before run a t is)
+      (mail_grows older (marked (controller decl) step ∷ [])) (actors_take_and_post_by_turns older before run a t is)
 
 -- who has a place is an actor, over any conduct; so nobody else does anything
 

@@ -12,6 +12,7 @@ use Rattle.qc_msg.specs.declared.message.Envelope.{Envelope}
 use Rattle.qc_msg.specs.declared.message.Message.{Message}
 use Rattle.qc_msg.specs.declared.message.Message.TheVariants as messages
 use Rattle.qc_msg.specs.declared.step.Control.{Control}
+use Rattle.qc_msg.specs.Vocabulary.{Answered, answer_in}
 use Rattle.qc_script.specs.declared.script.PhaseLines.{PhaseLines}
 use Rattle.qc_script.specs.declared.script.Script.{Script}
 use Rattle.qc_script.specs.Vocabulary.{Inbox, acting, answers_by, comes, comes_at_once, comes_with, commands_for}
@@ -21,6 +22,7 @@ use Rattle.qc_script.specs.Vocabulary.{request_numbers, request_sent, with_copie
 use Rattle.qc_script.proofs.AllUp.{is_up-everybody}
 use Rattle.qc_script.proofs.Requests.{added-number, has-numbers, without-numbers}
 use Rattle.laws_turns.proofs.AwaitedCopies.{at_once}
+use Rattle.laws_turns.proofs.ReadingCases.{mapped}
 
 which : {A : Type 0} (P : A → Type 0) (t : Bool) (x y : A) → P x → P y → P (if t then x else y)
 which P true x y here there = here
@@ -43,13 +45,10 @@ answered_fewer i to f n = at (has_request i.unanswered to)
 
 message_fewer : (i : Inbox) (m : Message) (f : Fate) (n : ℕ) → In n (request_numbers (answers_by i m f).unanswered)
     → In n (request_numbers i.unanswered)
-message_fewer i (messages.Request tx epoch life want) f n member = member
-message_fewer i (messages.Answer to answer) f n member = answered_fewer i to f n member
-message_fewer i (messages.Decision tx verdict) f n member = member
-message_fewer i (messages.Inquiry tx) f n member = member
-message_fewer i (messages.Ask tx) f n member = member
-message_fewer i (messages.Close epoch) f n member = member
-message_fewer i (messages.Install epoch clock log) f n member = member
+message_fewer i m f n member =
+    mapped (λ (j : Inbox). In n (request_numbers j.unanswered) → In n (request_numbers i.unanswered))
+    (λ (a : Answered). request_answered i a.to f) i (answer_in m) (λ a is. answered_fewer i a.to f n is) (λ is. is)
+    member
 
 module _ (script : Script) (a : ℕ) (i : Inbox) (e : Envelope) where
   comes_fewer : (n : ℕ) → In n (request_numbers (comes script.links a i e).unanswered)
@@ -187,26 +186,16 @@ module _ (script : Script) (a : ℕ) (i : Inbox) (e : Envelope) where
       ready = In-second e i.copies (copies_at_once f e) (at_once f e once)
 
       kept : (m : Message) → In e (answers_by j m f).copies
-      kept (messages.Request tx epoch life want) = ready
-      kept (messages.Answer to answer) = which (λ (k : Inbox). In e k.copies)
-          (has_request j.unanswered to) _ j ready ready
-      kept (messages.Decision tx verdict) = ready
-      kept (messages.Inquiry tx) = ready
-      kept (messages.Ask tx) = ready
-      kept (messages.Close epoch) = ready
-      kept (messages.Install epoch clock log) = ready
+      kept m =
+          mapped (λ (k : Inbox). In e k.copies) (λ (a : Answered). request_answered j a.to f) j (answer_in m)
+          (λ a. which (λ (k : Inbox). In e k.copies) (has_request j.unanswered a.to) _ j ready ready) ready
 
   -- copies stay, as any message comes and goes
 
   answers_copies : (j : Inbox) (m : Message) (f : Fate) (x : Envelope) → In x j.copies → In x (answers_by j m f).copies
-  answers_copies j (messages.Request tx epoch life want) f x member = member
-  answers_copies j (messages.Answer to answer) f x member =
-      which (λ (k : Inbox). In x k.copies) (has_request j.unanswered to) _ j member member
-  answers_copies j (messages.Decision tx verdict) f x member = member
-  answers_copies j (messages.Inquiry tx) f x member = member
-  answers_copies j (messages.Ask tx) f x member = member
-  answers_copies j (messages.Close epoch) f x member = member
-  answers_copies j (messages.Install epoch clock log) f x member = member
+  answers_copies j m f x member =
+      mapped (λ (k : Inbox). In x k.copies) (λ (a : Answered). request_answered j a.to f) j (answer_in m)
+      (λ a. which (λ (k : Inbox). In x k.copies) (has_request j.unanswered a.to) _ j member member) member
 
   goes_copies : (j : Inbox) (f : Fate) (x : Envelope) → In x j.copies → In x (goes_with j e f).copies
   goes_copies j f x member = which (λ (k : Inbox). In x k.copies) (is_request e.message) _ _

@@ -2,7 +2,7 @@
 -- actor was sent to it.
 use Rattle.std.proofs.Common.{[], ◌≡◌, ℕ, ◌+◌, ◌-◌, ◌==◌, ◌&&◌, not, Bool, true, false, cond, if◌then◌else◌, List, ◌∷◌}
 use Rattle.std.proofs.Common.{◌++◌, length, Option, Some, None, slice_get, sym, ap, ◌∙◌, subst, arith, append_assoc}
-use Rattle.std.specs.Prelude.{option_to_list, set}
+use Rattle.std.specs.Prelude.{option_to_list, set, MatchOption, option_and_then}
 use Rattle.std.specs.List.{cons_option, fold}
 use Rattle.std.proofs.lemmas.List.{append-nil}
 use Rattle.qc_decl.specs.declared.declaration.Declaration.{Declaration}
@@ -15,7 +15,7 @@ use Rattle.qc_msg.specs.declared.step.Input.TheVariants as inputs
 use Rattle.qc_msg.specs.declared.step.Step.{Step}
 use Rattle.qc_msg.specs.declared.step.Step.TheVariants as steps
 use Rattle.qc_msg.specs.declared.turn.Turn.{Turn}
-use Rattle.qc_msg.specs.Vocabulary.{Deed, Entry, WasSentTo, envelope_of, mail, marked}
+use Rattle.qc_msg.specs.Vocabulary.{Deed, Entry, WasSentTo, envelope_of, mail, marked, Mailed, mailed_in}
 use Rattle.qc_script.specs.declared.script.Script.{Script}
 use Rattle.qc_msg.specs.declared.step.Fall.{Fall}
 use Rattle.qc_script.specs.Vocabulary.{Inbox, Runs, actor_fell, after_controls, comes, command_called, command_in}
@@ -59,19 +59,7 @@ arrived_wrote a ms i b r =
 -- the next message has the next number
 
 abbrev IsNext : List Envelope → Step → Type 0
-IsNext ms (steps.Phase k) = Unit {0}
-IsNext ms (steps.Cut x y) = Unit {0}
-IsNext ms (steps.Heal x y) = Unit {0}
-IsNext ms (steps.Armed actor kind at) = Unit {0}
-IsNext ms (steps.Called command) = Unit {0}
-IsNext ms (steps.Got n) = Unit {0}
-IsNext ms (steps.Lost n) = Unit {0}
-IsNext ms (steps.Wrote written) = Unit {0}
-IsNext ms (steps.Sent n to message) = n ≡ length ms
-IsNext ms (steps.Told reply) = Unit {0}
-IsNext ms (steps.Fell cause pending) = Unit {0}
-IsNext ms (steps.Rose records) = Unit {0}
-IsNext ms (steps.Damaged offset) = Unit {0}
+IsNext ms step = MatchOption (mailed_in step) (Unit {0}) (λ (m : Mailed). m.number ≡ length ms)
 
 arrived_step : (script : Script) (a : ℕ) (ms : List Envelope) (i : Inbox) (b : ℕ) (step : Step) → Arrived a ms i
     → IsNext ms step → Arrived a (ms ++ option_to_list (envelope_of (marked b step))) (inbox_at script a i b step)
@@ -115,19 +103,15 @@ arrived_step script a ms i b (steps.Damaged offset) r next =
 
 next_of : (ms : List Envelope) (b : ℕ) (step : Step) (more : List Envelope)
     → AreNumbered (length ms) (cons_option (envelope_of (marked b step)) more) → IsNext ms step
-next_of ms b (steps.Phase k) more are = tt
-next_of ms b (steps.Cut x y) more are = tt
-next_of ms b (steps.Heal x y) more are = tt
-next_of ms b (steps.Armed actor kind at) more are = tt
-next_of ms b (steps.Called command) more are = tt
-next_of ms b (steps.Got n) more are = tt
-next_of ms b (steps.Lost n) more are = tt
-next_of ms b (steps.Wrote written) more are = tt
-next_of ms b (steps.Sent n to message) more are = are.0
-next_of ms b (steps.Told reply) more are = tt
-next_of ms b (steps.Fell cause pending) more are = tt
-next_of ms b (steps.Rose records) more are = tt
-next_of ms b (steps.Damaged offset) more are = tt
+next_of ms b step more are =
+    by (mailed_in step) are
+  where
+    by : (o : Option Mailed)
+        → AreNumbered (length ms) (cons_option (option_and_then (λ (m : Mailed).
+        Some (record { number = m.number; from = b; to = m.to; message = m.message })) o) more)
+        → MatchOption o (Unit {0}) (λ (m : Mailed). m.number ≡ length ms)
+    by None are = tt
+    by (Some m) are = are.0
 
 -- over a history, from any inbox
 

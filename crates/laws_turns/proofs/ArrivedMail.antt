@@ -8,10 +8,9 @@ use Rattle.qc_link.specs.declared.rule.Fate.{Fate}
 use Rattle.qc_link.specs.declared.rule.Fate.TheVariants.{Pass, Drop, Twice, Late, Again}
 use Rattle.qc_msg.specs.declared.message.Envelope.{Envelope}
 use Rattle.qc_msg.specs.declared.message.Message.{Message}
-use Rattle.qc_msg.specs.declared.message.Message.TheVariants as messages
 use Rattle.qc_msg.specs.declared.step.Control.{Control}
 use Rattle.qc_msg.specs.declared.step.Input.TheVariants as inputs
-use Rattle.qc_msg.specs.Vocabulary.{WasSentTo}
+use Rattle.qc_msg.specs.Vocabulary.{WasSentTo, Answered, answer_in}
 use Rattle.qc_script.specs.declared.script.PhaseLines.{PhaseLines}
 use Rattle.qc_script.specs.declared.script.Script.{Script}
 use Rattle.qc_script.specs.Vocabulary.{Inbox, acting, answers_by, comes, comes_at_once, comes_with, commands_for}
@@ -19,6 +18,7 @@ use Rattle.qc_script.specs.Vocabulary.{control_acted, copies_at_once, count_of, 
 use Rattle.qc_script.specs.Vocabulary.{is_request, is_up, late_copies, one_more, opened, opened_by, phase_begun}
 use Rattle.qc_script.specs.Vocabulary.{request_answered, request_sent, with_copies}
 use Rattle.laws_turns.proofs.Places.{slice_get-more}
+use Rattle.laws_turns.proofs.ReadingCases.{mapped}
 
 -- messages that were sent to an actor
 
@@ -97,13 +97,9 @@ arrived_answered a ms i number f r =
 
 arrived_answers : (a : ℕ) (ms : List Envelope) (i : Inbox) (m : Message) (f : Fate) → Arrived a ms i
     → Arrived a ms (answers_by i m f)
-arrived_answers a ms i (messages.Request tx epoch life want) f r = r
-arrived_answers a ms i (messages.Answer to answer) f r = arrived_answered a ms i to f r
-arrived_answers a ms i (messages.Decision tx verdict) f r = r
-arrived_answers a ms i (messages.Inquiry tx) f r = r
-arrived_answers a ms i (messages.Ask tx) f r = r
-arrived_answers a ms i (messages.Close epoch) f r = r
-arrived_answers a ms i (messages.Install epoch clock log) f r = r
+arrived_answers a ms i m f r =
+    mapped (Arrived a ms) (λ (x : Answered). request_answered i x.to f) i (answer_in m)
+    (λ x. arrived_answered a ms i x.to f r) r
 
 pub arrived_comes : (script : Script) (a : ℕ) (ms : List Envelope) (i : Inbox) (e : Envelope) → Arrived a ms i
     → slice_get ms e.number ≡ Some e → Arrived a ms (comes script.links a i e)

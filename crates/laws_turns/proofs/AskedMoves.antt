@@ -1,7 +1,6 @@
 -- What a front end's move asks and sends: so its turns are short.
 use Rattle.std.proofs.Common.{[], ◌≡◌, ℕ, ◌<◌, ◌≤◌, ◌⊎◌, inl, inr, nat_le, Bool, true, false, cond, length, Option}
-use Rattle.std.proofs.Common.{Some, None, option_map, refl, ap, subst, arith}
-use Rattle.std.specs.Prelude.{slice_get}
+use Rattle.std.proofs.Common.{Some, None, refl, ap, subst, arith}
 use Rattle.std.proofs.lemmas.List.{length-map}
 use Rattle.qc_list.specs.Vocabulary.{In}
 use Rattle.qc_list.proofs.Members.{every-In, every-from_In}
@@ -10,32 +9,30 @@ use Rattle.qc_decl.specs.Vocabulary.{IsAccepted, most_transaction_operations, re
 use Rattle.qc_plan.specs.Vocabulary.{note, verdict}
 use Rattle.qc_msg.specs.declared.begun.Begun.{Begun}
 use Rattle.qc_msg.specs.declared.message.Answer.{Answer}
-use Rattle.qc_msg.specs.declared.message.Answer.TheVariants as answers
 use Rattle.qc_msg.specs.declared.message.Message.TheVariants as messages
 use Rattle.qc_msg.specs.declared.message.Outcome.TheVariants.{Aborted}
 use Rattle.qc_msg.specs.declared.reply.Reply.{Reply}
 use Rattle.qc_msg.specs.declared.reply.Reply.TheVariants as replies
 use Rattle.qc_msg.specs.declared.reply.AbortCause.TheVariants as causes
 use Rattle.qc_msg.specs.declared.step.Command.{Command}
-use Rattle.qc_msg.specs.declared.step.Command.TheVariants as commands
 use Rattle.qc_msg.specs.declared.turn.Turn.{Turn}
 use Rattle.qc_msg.specs.Vocabulary.{quiet, site_called, telling, without_call}
-use Rattle.qc_view.specs.declared.view.View.{View}
-use Rattle.qc_view.specs.Vocabulary.{with_log}
 use Rattle.qc_front.specs.declared.doing.Doing.{Doing}
 use Rattle.qc_front.specs.declared.doing.Doing.TheVariants.{Idle, Reading, Appending}
 use Rattle.qc_front.specs.declared.front.Front.{Front}
 use Rattle.qc_front.specs.declared.transaction.Transaction.{Transaction}
 use Rattle.qc_front.specs.Vocabulary.{AsksFew, FrontFits, FrontHolds, FrontMove, aborts, appended_with, appending_takes}
-use Rattle.qc_front.specs.Vocabulary.{begins, called, commits, fresh, gives_up, learns, lived, moved, next_tx, performs}
+use Rattle.qc_front.specs.Vocabulary.{begins, called, commits, fresh, gives_up, learns, moved, next_tx, performs}
 use Rattle.qc_front.specs.Vocabulary.{read_with, reading_takes, reads, round_for, standing_of, takes, takes_in}
 use Rattle.qc_front.proofs.Fitting.{fits}
-use Rattle.qc_front.proofs.CommandsKeep.{called_holds, view_keeps}
+use Rattle.qc_front.proofs.CommandsKeep.{called_holds}
 use Rattle.qc_front.proofs.Keeping.{appended_is, takes_holds}
 use Rattle.laws_turns.specs.Vocabulary.{AreSites, AskedSites}
 use Rattle.laws_turns.proofs.Asked.{InRound, doing_below, few_sites}
 use Rattle.laws_turns.proofs.AskedSites.{Grows, count_in, AsksOn, same_asked, asked_by, still_grows, append_by-asks}
 use Rattle.laws_turns.proofs.AskedSites.{read_by-asks}
+use Rattle.laws_turns.proofs.ClientCases.{front_cases}
+use Rattle.laws_turns.proofs.AnswerCases.{read_cases}
 
 -- nothing is asked
 still : (front : Front) (turn : Turn) → turn.sends ≡ [] → AsksOn (asked_by front.transaction) (moved front turn)
@@ -106,28 +103,15 @@ module _ (decl : Declaration) (front : Front) where
   aborts-asks (Some t) is = gives-asks front t replies.Dropped
 
   called-asks : (command : Command) → AsksOn (asked_by front.transaction) (called decl front command)
-  called-asks commands.Begin = begins-asks front.transaction refl
-  called-asks (commands.Do object inv) = performs-asks front.transaction object inv refl
-  called-asks commands.Commit = commits-asks front.transaction refl
-  called-asks commands.Abort = aborts-asks front.transaction refl
-  called-asks (commands.Epoch number) = still front quiet refl
+  called-asks command =
+      front_cases decl front (λ command m. AsksOn (asked_by front.transaction) m) (begins-asks front.transaction refl)
+      (λ object inv. performs-asks front.transaction object inv refl) (commits-asks front.transaction refl)
+      (aborts-asks front.transaction refl) (λ number. still front quiet refl) command
 
   read_asked : (t : Transaction) (site object : ℕ) (answer : Option Answer)
       → (read_with t site object answer).begun.asked ≡ t.begun.asked
-  read_asked t site object None = refl
-  read_asked t site object (Some (answers.Granted life clock log)) =
-      ap (λ (b : Begun). b.asked)
-      (view_keeps (lived t site life) object (option_map (λ (v : View). with_log v log) (slice_get t.views object)))
-  read_asked t site object (Some (answers.Clash holder inv event)) = refl
-  read_asked t site object (Some (answers.Closed epoch)) = refl
-  read_asked t site object (Some (answers.Behind epoch)) = refl
-  read_asked t site object (Some (answers.Restarted life)) = refl
-  read_asked t site object (Some answers.Stale) = refl
-  read_asked t site object (Some answers.Fault) = refl
-  read_asked t site object (Some (answers.Yes clock)) = refl
-  read_asked t site object (Some (answers.Shut clock log prepared)) = refl
-  read_asked t site object (Some answers.Installed) = refl
-  read_asked t site object (Some (answers.Answered verdict)) = refl
+  read_asked t site object answer =
+      read_cases t site object (λ (b : Begun). b.asked ≡ t.begun.asked) (λ lives. refl) answer
 
   takes_in-asks : (doing : Doing) (o : Option Transaction) (number : ℕ) (answer : Option Answer) → front.transaction ≡ o
       → AsksOn (asked_by o) (takes_in decl front doing o number answer)

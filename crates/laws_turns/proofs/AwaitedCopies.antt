@@ -1,6 +1,7 @@
 -- A request that is awaited stays so as messages come and go.
 use Rattle.std.proofs.Common.{[], ◌≡◌, ℕ, ◌+◌, ◌-◌, ◌==◌, ◌&&◌, nat_lt, not, Bool, true, false, if◌then◌else◌, inl, inr}
 use Rattle.std.proofs.Common.{List, ◌∷◌, ◌++◌, refl, sym, ap, subst, eqb-true}
+use Rattle.std.specs.Option.{option_map_or}
 use Rattle.qc_list.specs.Vocabulary.{In}
 use Rattle.qc_list.proofs.Members.{In-filter, In-first, In-last, In-second}
 use Rattle.qc_link.specs.Vocabulary.{fate}
@@ -10,6 +11,7 @@ use Rattle.qc_msg.specs.declared.message.Answer.{Answer}
 use Rattle.qc_msg.specs.declared.message.Envelope.{Envelope}
 use Rattle.qc_msg.specs.declared.message.Message.{Message}
 use Rattle.qc_msg.specs.declared.message.Message.TheVariants as messages
+use Rattle.qc_msg.specs.Vocabulary.{Answered}
 use Rattle.qc_script.specs.declared.script.Script.{Script}
 use Rattle.qc_script.specs.Vocabulary.{Inbox, SentRequest, answers_by, comes, comes_at_once, comes_with, copies_at_once}
 use Rattle.qc_script.specs.Vocabulary.{count_of, everybody, goes, goes_with, has_request, is_request, is_up, one_more}
@@ -18,6 +20,7 @@ use Rattle.qc_script.specs.Vocabulary.{without_number, without_request}
 use Rattle.qc_script.proofs.AllUp.{is_up-everybody}
 use Rattle.qc_script.proofs.Requests.{added-number, without-numbers}
 use Rattle.laws_turns.specs.Vocabulary.{HasAnswer, IsAnswerTo, IsAwaited}
+use Rattle.laws_turns.proofs.MessageCases.{message_cases}
 
 -- numbers
 
@@ -119,15 +122,15 @@ awaited_comes_with : (n : ℕ) (i : Inbox) (e : Envelope) (f : Fate) → IsAwait
 awaited_comes_with n i e f is = at e.message refl
   where
     at : (m : Message) → e.message ≡ m → IsAwaited n (answers_by (with_copies true i e f) m f)
-    at (messages.Request tx epoch life want) same = awaited_copies n i e f is
-    at (messages.Answer to answer) same =
-        awaited_answered n to (with_copies true i e f) f (comes_answer n i e f to answer same)
-        (awaited_copies n i e f is)
-    at (messages.Decision tx verdict) same = awaited_copies n i e f is
-    at (messages.Inquiry tx) same = awaited_copies n i e f is
-    at (messages.Ask tx) same = awaited_copies n i e f is
-    at (messages.Close epoch) same = awaited_copies n i e f is
-    at (messages.Install epoch clock log) same = awaited_copies n i e f is
+    at m same =
+        message_cases
+        (λ m r a d x. e.message ≡ m → IsAwaited n
+        (option_map_or (λ (x : Answered). request_answered (with_copies true i e f) x.to f) a (with_copies true i e f)))
+        (λ q same. awaited_copies n i e f is)
+        (λ a same. awaited_answered n a.to (with_copies true i e f) f (comes_answer n i e f a.to a.answer same)
+        (awaited_copies n i e f is))
+        (λ v same. awaited_copies n i e f is) (λ tx same. awaited_copies n i e f is)
+        (λ m same. awaited_copies n i e f is) m same
 
 -- a message goes
 

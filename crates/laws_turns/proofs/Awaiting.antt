@@ -2,6 +2,7 @@
 use Rattle.std.proofs.Common.{[], ◌≡◌, ℕ, ◌+◌, ◌-◌, ◌==◌, Bool, true, false, if◌then◌else◌, inl, inr, List, ◌∷◌, ◌++◌}
 use Rattle.std.proofs.Common.{drop, Option, Some, None, slice_get, refl, sym, subst}
 use Rattle.std.specs.Option.{option_map_or}
+use Rattle.std.specs.Prelude.{MatchOption}
 use Rattle.qc_list.specs.Vocabulary.{In}
 use Rattle.qc_link.specs.Vocabulary.{fate, with_cut, without_cut}
 use Rattle.qc_link.specs.declared.rule.Fate.{Fate}
@@ -9,6 +10,7 @@ use Rattle.qc_msg.specs.declared.message.Envelope.{Envelope}
 use Rattle.qc_msg.specs.declared.step.Control.{Control}
 use Rattle.qc_msg.specs.declared.step.Step.{Step}
 use Rattle.qc_msg.specs.declared.step.Step.TheVariants as steps
+use Rattle.qc_msg.specs.Vocabulary.{Fallen, fell_in, lost_in, received_in}
 use Rattle.qc_script.specs.declared.script.PhaseLines.{PhaseLines}
 use Rattle.qc_script.specs.declared.script.Script.{Script}
 use Rattle.qc_script.specs.Vocabulary.{Inbox, acting, comes, command_called, commands_for, copy_taken, count_of}
@@ -68,19 +70,11 @@ module _ (script : Script) (a : ℕ) where
   -- any step, but that the actor takes a message or that a request is lost, or that one falls
 
   abbrev pub Spares : ℕ → Step → Type 0
-  Spares b (steps.Phase k) = Unit {0}
-  Spares b (steps.Cut x y) = Unit {0}
-  Spares b (steps.Heal x y) = Unit {0}
-  Spares b (steps.Armed actor kind at) = Unit {0}
-  Spares b (steps.Called command) = Unit {0}
-  Spares b (steps.Got n) = (b == a) ≡ false
-  Spares b (steps.Lost n) = (b == a) ≡ false
-  Spares b (steps.Wrote written) = Unit {0}
-  Spares b (steps.Sent n to message) = Unit {0}
-  Spares b (steps.Told reply) = Unit {0}
-  Spares b (steps.Fell cause pending) = ⊥
-  Spares b (steps.Rose records) = Unit {0}
-  Spares b (steps.Damaged offset) = Unit {0}
+  Spares b step =
+      MatchOption (received_in step)
+      (MatchOption (lost_in step) (MatchOption (fell_in step) (Unit {0}) (λ (f : Fallen). ⊥))
+      (λ (n : ℕ). (b == a) ≡ false))
+      (λ (n : ℕ). (b == a) ≡ false)
 
   pub awaited_step : (n : ℕ) (i : Inbox) (b : ℕ) (step : Step) → Spares b step → i.up ≡ everybody → IsAwaited n i
       → IsAwaited n (inbox_at script a i b step)

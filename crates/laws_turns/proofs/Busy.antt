@@ -1,15 +1,14 @@
 -- In each run whose script asks clients to move no epoch, a client without an open input waits just while a command
 -- runs.
-use Rattle.std.proofs.Common.{◌≡◌, ℕ, ◌-◌, ◌&&◌, not, nat_le, nat_lt, Bool, true, false, List, [], ◌∷◌, ◌++◌, Some}
+use Rattle.std.proofs.Common.{◌≡◌, ℕ, ◌-◌, ◌&&◌, not, Bool, true, false, List, [], ◌∷◌, ◌++◌, Some}
 use Rattle.std.proofs.Common.{is_some, slice_get, refl, sym, ap, ◌∙◌, subst}
 use Rattle.std.specs.List.{AllByRecursion as Every}
-use Rattle.std.proofs.lemmas.Bool.{le-ltb, leb-true}
+use Rattle.std.proofs.lemmas.Bool.{le-ltb}
 use Rattle.qc_decl.proofs.Clients.{client_past}
 use Rattle.qc_core.specs.Vocabulary.{Acts, IsLawful, MayTake, is_running, posts, runs_given, starts, takes}
 use Rattle.qc_decl.specs.declared.declaration.Declaration.{Declaration}
-use Rattle.qc_decl.specs.Vocabulary.{actors, is_client, is_site}
+use Rattle.qc_decl.specs.Vocabulary.{is_client, is_site}
 use Rattle.qc_msg.specs.declared.step.Command.{Command}
-use Rattle.qc_msg.specs.declared.step.Command.TheVariants as commands
 use Rattle.qc_msg.specs.declared.step.Input.{Input}
 use Rattle.qc_msg.specs.declared.step.Input.TheVariants as inputs
 use Rattle.qc_msg.specs.declared.turn.Turn.{Turn}
@@ -18,12 +17,14 @@ use Rattle.qc_client.specs.Vocabulary.{ClientMove, client_after, client_takes}
 use Rattle.qc_script.specs.Vocabulary.{Runs}
 use Rattle.qc_script.specs.declared.script.Script.{Script}
 use Rattle.laws_turns.specs.Vocabulary.{ActsIn, AsksDeclared, IsAskable, is_waiting}
-use Rattle.laws_turns.proofs.Acted.{run_acts}
+use Rattle.laws_turns.proofs.Acted.{actors_take_and_post_by_turns}
 use Rattle.laws_turns.proofs.SoundClients.{IsAskableDeed, IsAskableGiven, front_part, run_askable}
 use Rattle.laws_turns.proofs.TurnReplies.{after_posted, after_taken, running_more, running_turn}
 use Rattle.laws_turns.proofs.Replying.{lawful_client}
 use Rattle.laws_turns.proofs.Served.{second_part}
 use Rattle.laws_turns.proofs.Waiting.{Ends, IsClients, IsNoCall, Rests, called_ends, takes_ends, takes_rests}
+use Rattle.laws_turns.proofs.Waiting.{are_clients}
+use Rattle.laws_turns.proofs.ClientCases.{command_cases}
 
 -- a move leaves a client waiting just where the command runs on
 abbrev IsBusyAs : Bool → ClientMove → Type 0
@@ -49,12 +50,10 @@ no_call_busy decl m g false none still =
 
 clients_command : (decl : Declaration) (a : ℕ) (command : Command) → is_client decl a ≡ true → IsAskable decl a command
     → IsClients command
-clients_command decl a commands.Begin client is = tt
-clients_command decl a (commands.Do object inv) client is = tt
-clients_command decl a commands.Commit client is = tt
-clients_command decl a commands.Abort client is = tt
-clients_command decl a (commands.Epoch number) client is = let other : is_client decl a ≡ false = is.0 in
-    let never : ⊥ = cc in never
+clients_command decl a command client is =
+    command_cases (λ (command : Command). IsAskable decl a command → IsClients command)
+    (λ command none its. are_clients command none)
+    (λ number its. absurd (let other : is_client decl a ≡ false = its.0 in let never : ⊥ = cc in never)) command is
 
 module _ (decl : Declaration) (a : ℕ) (client : is_client decl a ≡ true) where
   both : (x y : Bool) → (x && y) ≡ true → x ≡ true
@@ -100,10 +99,10 @@ module _ (decl : Declaration) (a : ℕ) (client : is_client decl a ≡ true) whe
       post_busy older turn first (lawful_client decl a no_site client older turn law)
       (acts_busy older true m acts (front_part (IsAskableDeed decl a) older (turn_deeds first turn) are))
 
-pub run_waits : (decl : Declaration) (script : Script) → AsksDeclared decl script
+pub clients_wait_while_commands_run : (decl : Declaration) (script : Script) → AsksDeclared decl script
     → (h : List Entry) (open_inputs : List Bool) → Runs (IsLawful decl) decl script h open_inputs
     → (a : ℕ) → is_client decl a ≡ true → slice_get open_inputs a ≡ Some false
     → is_waiting (client_after decl (a - decl.sites) (deeds a [] h)).client ≡ is_running (deeds a [] h)
-run_waits decl script asks h open_inputs run a client free =
-    let r : ActsIn decl a h false = run_acts decl script h open_inputs run a false free in
+clients_wait_while_commands_run decl script asks h open_inputs run a client free =
+    let r : ActsIn decl a h false = actors_take_and_post_by_turns decl script h open_inputs run a false free in
     acts_busy decl a client (deeds a [] h) false r.above r.acts (run_askable decl script a h open_inputs asks run)

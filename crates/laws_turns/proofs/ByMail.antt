@@ -23,13 +23,14 @@ use Rattle.qc_promise.specs.Vocabulary.{AreByTurns, IsMailed}
 use Rattle.qc_script.specs.Vocabulary.{Runs, phase_of, ready, step_of_control}
 use Rattle.qc_script.specs.Runs.{begins, takes, posts, phase, control}
 use Rattle.qc_script.specs.declared.script.Script.{Script}
-use Rattle.laws_turns.proofs.Acted.{has_entry, run_acts}
+use Rattle.laws_turns.proofs.Acted.{has_entry, actors_take_and_post_by_turns}
 use Rattle.laws_turns.proofs.Arrivals.{what_is_ready_was_sent}
 use Rattle.laws_turns.proofs.Commanded.{ready_called, uncommanded}
 use Rattle.laws_turns.proofs.MailedSteps.{Delivered, IsOwnLoss, step_delivered, takes_delivered}
 use Rattle.laws_turns.proofs.Delivered.{posts_delivered}
-use Rattle.laws_turns.proofs.Numbered.{control_silent, mail-silent, numbers_are_places, phase_silent}
+use Rattle.laws_turns.proofs.Numbered.{control_silent, mail-silent, messages_are_numbered_in_order, phase_silent}
 use Rattle.laws_turns.specs.Vocabulary.{ActsIn}
+use Rattle.laws_turns.proofs.StepCases.{control_cases}
 
 -- what is ready as lost is the actor's own request
 pub ready_lost : (decl : Declaration) (script : Script) (a : ℕ) (h : List Entry) (g : Input)
@@ -72,29 +73,24 @@ module _ (decl : Declaration) (script : Script) where
 
   silent_calls : (a : ℕ) (line : Control) (step : Step) → step_of_control line ≡ Some step → (h : List Entry)
       → mail (h ++ marked a step ∷ []) ≡ mail h → Delivered decl h → Delivered decl (h ++ marked a step ∷ [])
-  silent_calls a (controls.Phase k) step is h same d = absurd (let never : ⊥ = cc in never)
-  silent_calls a (controls.Cut x y) step is h same d = let e : steps.Cut x y ≡ step = cc in
-      subst (λ (s : Step). Delivered decl (h ++ marked a s ∷ [])) e
-      (step_delivered decl h a (steps.Cut x y)
+  silent_calls a line step is h same d =
+      control_cases (λ (s : Step). Delivered decl (h ++ marked a s ∷ []))
+      (λ x y. step_delivered decl h a (steps.Cut x y)
       (mail-silent h a (steps.Cut x y) (control_silent (controls.Cut x y) (steps.Cut x y) refl)) tt tt d)
-  silent_calls a (controls.Heal x y) step is h same d = let e : steps.Heal x y ≡ step = cc in
-      subst (λ (s : Step). Delivered decl (h ++ marked a s ∷ [])) e
-      (step_delivered decl h a (steps.Heal x y)
-      (mail-silent h a (steps.Heal x y) (control_silent (controls.Heal x y) (steps.Heal x y) refl)) tt tt d)
-  silent_calls a (controls.Armed actor kind at) step is h same d = absurd (let never : ⊥ = cc in never)
-  silent_calls a (controls.Crash x) step is h same d = absurd (let never : ⊥ = cc in never)
-  silent_calls a (controls.Restart x) step is h same d = absurd (let never : ⊥ = cc in never)
+      (λ x y. step_delivered decl h a (steps.Heal x y)
+      (mail-silent h a (steps.Heal x y) (control_silent (controls.Heal x y) (steps.Heal x y) refl)) tt tt d) line
+      step is
 
   pub run_delivered : (h : List Entry) (open_inputs : List Bool) → Runs (IsLawful decl) decl script h open_inputs
       → Delivered decl h
   run_delivered h open_inputs begins = record { mailed = tt; asked = tt; called = tt }
   run_delivered h open_inputs (takes a g before older run free rdy) =
-      takes_delivered decl older a g (numbers_are_places (IsLawful decl) decl script older before run)
+      takes_delivered decl older a g (messages_are_numbered_in_order (IsLawful decl) decl script older before run)
       (what_is_ready_was_sent (IsLawful decl) decl script older before run a g rdy)
       (ready_lost decl script a older g rdy) (ready_called decl script a older g rdy) (run_delivered older before run)
   run_delivered h open_inputs (posts a turn before older run taken law) =
-      post_of_run older a turn (run_acts decl script older before run a true taken) law
-      (numbers_are_places (IsLawful decl) decl script older before run) (run_delivered older before run)
+      post_of_run older a turn (actors_take_and_post_by_turns decl script older before run a true taken) law
+      (messages_are_numbered_in_order (IsLawful decl) decl script older before run) (run_delivered older before run)
   run_delivered h open_inputs (phase before older run none done quiet more) =
       step_delivered decl older (controller decl) (steps.Phase (phase_of older + 1))
       (mail-silent older (controller decl) (steps.Phase (phase_of older + 1)) (phase_silent (phase_of older + 1)))
@@ -105,16 +101,18 @@ module _ (decl : Declaration) (script : Script) where
 
   -- so it is mailed, and by turns
 
-  pub run_mailed : (h : List Entry) (open_inputs : List Bool) → Runs (IsLawful decl) decl script h open_inputs
+  pub messages_reach_their_receivers : (h : List Entry) (open_inputs : List Bool)
+      → Runs (IsLawful decl) decl script h open_inputs
       → IsMailed [] h
-  run_mailed h open_inputs run = (run_delivered h open_inputs run).mailed
+  messages_reach_their_receivers h open_inputs run = (run_delivered h open_inputs run).mailed
 
-  pub run_by_turns : (h : List Entry) (open_inputs : List Bool) → Runs (IsLawful decl) decl script h open_inputs
+  pub actors_go_by_turns : (h : List Entry) (open_inputs : List Bool) → Runs (IsLawful decl) decl script h open_inputs
       → (a : ℕ) → a < actors decl → AreByTurns (is_site decl a) (deeds a [] h)
-  run_by_turns h open_inputs run a within =
+  actors_go_by_turns h open_inputs run a within =
       let place : (t : Bool) × (slice_get open_inputs a ≡ Some t) =
       has_entry (IsLawful decl) decl script h open_inputs run a within in
-      let acted : ActsIn decl a h place.0 = run_acts decl script h open_inputs run a place.0 place.1 in
+      let acted : ActsIn decl a h place.0 =
+      actors_take_and_post_by_turns decl script h open_inputs run a place.0 place.1 in
       by_turns decl a (deeds a [] h) place.0 acted.above
       (act_lives decl a (deeds a [] h) place.0 acted.above acted.acts)
       (λ site. uncommanded decl a [] h site (run_delivered h open_inputs run).called)

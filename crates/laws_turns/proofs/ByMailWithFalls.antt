@@ -18,7 +18,6 @@ use Rattle.laws_turns.proofs.Places.{slice_get-within}
 use Rattle.qc_link.specs.Vocabulary.{most_actors}
 use Rattle.qc_msg.specs.declared.record.Record.{Record}
 use Rattle.qc_msg.specs.declared.step.Control.{Control}
-use Rattle.qc_msg.specs.declared.step.Control.TheVariants as controls
 use Rattle.qc_msg.specs.declared.step.Fall.TheVariants as causes
 use Rattle.qc_msg.specs.declared.step.Step.{Step}
 use Rattle.qc_msg.specs.declared.step.Step.TheVariants as steps
@@ -31,6 +30,7 @@ use Rattle.qc_script.specs.declared.script.Script.{Script}
 use Rattle.laws_turns.specs.Vocabulary.{LivesIn}
 use Rattle.laws_turns.proofs.LivedMoves.{deeds-rise}
 use Rattle.laws_turns.proofs.Lived.{run_lives, run_long}
+use Rattle.laws_turns.proofs.StepCases.{controller_cases}
 
 module _ (decl : Declaration) (script : Script) (fits : ℕ → List Record → Type 0)
     (few : actors decl ≤ most_actors) where
@@ -39,19 +39,12 @@ module _ (decl : Declaration) (script : Script) (fits : ℕ → List Record → 
 
   line_delivered : (a : ℕ) (line : Control) (step : Step) → controller_step line ≡ Some step → (h : List Entry)
       → Delivered decl h → Delivered decl (h ++ marked a step ∷ [])
-  line_delivered a (controls.Phase k) step is h d = absurd (let never : ⊥ = cc in never)
-  line_delivered a (controls.Cut x y) step is h d = let e : steps.Cut x y ≡ step = cc in
-      subst (λ (s : Step). Delivered decl (h ++ marked a s ∷ [])) e
-      (step_delivered decl h a (steps.Cut x y) (same_mail h (marked a (steps.Cut x y)) refl) tt tt d)
-  line_delivered a (controls.Heal x y) step is h d = let e : steps.Heal x y ≡ step = cc in
-      subst (λ (s : Step). Delivered decl (h ++ marked a s ∷ [])) e
-      (step_delivered decl h a (steps.Heal x y) (same_mail h (marked a (steps.Heal x y)) refl) tt tt d)
-  line_delivered a (controls.Armed actor kind at) step is h d = let e : steps.Armed actor kind at ≡ step = cc in
-      subst (λ (s : Step). Delivered decl (h ++ marked a s ∷ [])) e
-      (step_delivered decl h a (steps.Armed actor kind at)
-      (same_mail h (marked a (steps.Armed actor kind at)) refl) tt tt d)
-  line_delivered a (controls.Crash x) step is h d = absurd (let never : ⊥ = cc in never)
-  line_delivered a (controls.Restart x) step is h d = absurd (let never : ⊥ = cc in never)
+  line_delivered a line step is h d =
+      controller_cases (λ (s : Step). Delivered decl (h ++ marked a s ∷ []))
+      (λ x y. step_delivered decl h a (steps.Cut x y) (same_mail h (marked a (steps.Cut x y)) refl) tt tt d)
+      (λ x y. step_delivered decl h a (steps.Heal x y) (same_mail h (marked a (steps.Heal x y)) refl) tt tt d)
+      (λ x. step_delivered decl h a (steps.Armed x.actor x.kind x.at)
+      (same_mail h (marked a (steps.Armed x.actor x.kind x.at)) refl) tt tt d) line step is
 
   post_of_run : (older : List Entry) (a : ℕ) (turn : Turn) → LivesIn decl a older true
       → IsLawfulWithFalls decl a (deeds a [] older) turn → AreNumbered (mail older) → Delivered decl older

@@ -149,10 +149,11 @@ module _ (decl : Declaration) (script : Script) (a : ℕ) where
           ∙ ap (λ (v : List Command). calls_of b h ++ v) (calls_turn n turn) ∙ append-nil (calls_of b h))
       at false other = ap (filter_map call_in) (deeds-other b a [] h (posted n turn) other)
 
-  pub run_asked : (h : List Entry) (open_inputs : List Bool) → Runs (IsLawful decl) decl script h open_inputs
+  pub calls_are_asked : (h : List Entry) (open_inputs : List Bool) → Runs (IsLawful decl) decl script h open_inputs
       → Asked script a h
-  run_asked h open_inputs begins = refl
-  run_asked h open_inputs (takes b taken before older run free rdy) = at (b == a) refl (run_asked older before run)
+  calls_are_asked h open_inputs begins = refl
+  calls_are_asked h open_inputs (takes b taken before older run free rdy) =
+      at (b == a) refl (calls_are_asked older before run)
     where
       at : (t : Bool) → (b == a) ≡ t → Asked script a older → Asked script a (older ++ marked b (step_of taken) ∷ [])
       at true same asked =
@@ -166,11 +167,11 @@ module _ (decl : Declaration) (script : Script) (a : ℕ) where
           (subst (λ (k : ℕ). deeds k [] (older ++ marked k (step_of taken) ∷ []) ≡ deeds k [] older ++ Takes taken ∷ [])
           is sent) asked)
       at false other asked = taken_elsewhere older b taken other asked
-  run_asked h open_inputs (posts b turn before older run taken law) =
+  calls_are_asked h open_inputs (posts b turn before older run taken law) =
       asked_same older (older ++ by b (posted (length (mail older)) turn))
       (calls_posted older b (length (mail older)) turn) (left_posted script a older b (length (mail older)) turn)
-      (phase_posted older b (length (mail older)) turn) (run_asked older before run)
-  run_asked h open_inputs (phase before older run none done quiet more) =
+      (phase_posted older b (length (mail older)) turn) (calls_are_asked older before run)
+  calls_are_asked h open_inputs (phase before older run none done quiet more) =
       (λ i.
       ap (filter_map call_in)
       (deeds-silent a (controller decl) older (steps.Phase (phase_of older + 1))
@@ -181,33 +182,34 @@ module _ (decl : Declaration) (script : Script) (a : ℕ) where
       (append_assoc (calls_of a older) (inbox script a older).commands
       (asked_in a (slice_get script.phases ((phase_of older + 1) - 1))))
       ∙ ap (λ (v : List Command). v ++ asked_in a (slice_get script.phases ((phase_of older + 1) - 1)))
-      (run_asked older before run)
+      (calls_are_asked older before run)
       ∙ asked_next a script (phase_of older)
       ∙ ap (asked_until a script)
       (sym (phase_more older (marked (controller decl) (steps.Phase (phase_of older + 1)) ∷ [])))
-  run_asked h open_inputs (control line lines step before older run at is) =
+  calls_are_asked h open_inputs (control line lines step before older run at is) =
       asked_same older (older ++ marked (controller decl) step ∷ [])
       (ap (filter_map call_in) (deeds-silent a (controller decl) older step (control_silent line step is)))
       (left_control script a line step older (controller decl) is) (phase_control line step older (controller decl) is)
-      (run_asked older before run)
+      (calls_are_asked older before run)
 
 -- no more phases begin than the script has
-pub run_phases : (lawful : ℕ → List Deed → Turn → Type 0) (decl : Declaration) (script : Script) (h : List Entry)
+pub phases_are_the_scripts : (lawful : ℕ → List Deed → Turn → Type 0) (decl : Declaration) (script : Script)
+    (h : List Entry)
     (open_inputs : List Bool) → Runs lawful decl script h open_inputs → phase_of h ≤ length script.phases
-run_phases lawful decl script h open_inputs begins = omega arith
-run_phases lawful decl script h open_inputs (takes b taken before older run free rdy) =
-    let p : phase_of older ≤ length script.phases = run_phases lawful decl script older before run in
+phases_are_the_scripts lawful decl script h open_inputs begins = omega arith
+phases_are_the_scripts lawful decl script h open_inputs (takes b taken before older run free rdy) =
+    let p : phase_of older ≤ length script.phases = phases_are_the_scripts lawful decl script older before run in
     let same : phase_of (older ++ marked b (step_of taken) ∷ []) ≡ phase_of older = phase_taken older b taken in
     omega arith
-run_phases lawful decl script h open_inputs (posts b turn before older run taken law) =
-    let p : phase_of older ≤ length script.phases = run_phases lawful decl script older before run in
+phases_are_the_scripts lawful decl script h open_inputs (posts b turn before older run taken law) =
+    let p : phase_of older ≤ length script.phases = phases_are_the_scripts lawful decl script older before run in
     let same : phase_of (older ++ by b (posted (length (mail older)) turn)) ≡ phase_of older =
     phase_posted older b (length (mail older)) turn in
     omega arith
-run_phases lawful decl script h open_inputs (phase before older run none done quiet more) =
+phases_are_the_scripts lawful decl script h open_inputs (phase before older run none done quiet more) =
     let p : phase_of older < length script.phases = more in let same : phase_of (older ++ marked (controller decl) (steps.Phase (phase_of older + 1)) ∷ []) ≡ phase_of older + 1 = phase_more older (marked (controller decl) (steps.Phase (phase_of older + 1)) ∷ []) in omega arith
-run_phases lawful decl script h open_inputs (control line lines step before older run at is) =
-    let p : phase_of older ≤ length script.phases = run_phases lawful decl script older before run in
+phases_are_the_scripts lawful decl script h open_inputs (control line lines step before older run at is) =
+    let p : phase_of older ≤ length script.phases = phases_are_the_scripts lawful decl script older before run in
     let same : phase_of (older ++ marked (controller decl) step ∷ []) ≡ phase_of older =
     phase_control line step older (controller decl) is in
     omega arith

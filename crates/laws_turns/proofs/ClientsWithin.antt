@@ -6,14 +6,13 @@ use Rattle.qc_stamp.specs.declared.stamp.TxId.{TxId}
 use Rattle.qc_decl.specs.declared.declaration.Declaration.{Declaration}
 use Rattle.qc_msg.specs.declared.message.Answer.{Answer}
 use Rattle.qc_msg.specs.declared.message.Message.{Message}
-use Rattle.qc_msg.specs.declared.message.Message.TheVariants as messages
 use Rattle.qc_msg.specs.declared.message.Want.{Want}
 use Rattle.qc_msg.specs.declared.message.Want.TheVariants.{Append, Prepare, Read}
 use Rattle.qc_msg.specs.declared.step.Command.{Command}
 use Rattle.qc_msg.specs.declared.step.Command.TheVariants as commands
 use Rattle.qc_msg.specs.declared.step.Input.{Input}
 use Rattle.qc_msg.specs.declared.step.Input.TheVariants as inputs
-use Rattle.qc_msg.specs.Vocabulary.{Deed, Falls, Rises, Sends, Takes, Tells, Writes, quiet}
+use Rattle.qc_msg.specs.Vocabulary.{Deed, Falls, Rises, Sends, Takes, Tells, Writes, quiet, Requested, request_in}
 use Rattle.qc_commit.specs.declared.desk.Known.{Known}
 use Rattle.qc_commit.specs.declared.desk.Known.TheVariants as knowns
 use Rattle.qc_commit.specs.declared.desk.Voting.{Voting}
@@ -32,6 +31,8 @@ use Rattle.laws_turns.proofs.DesksWithin.{CameWithin, DeskGoes, desk-le, known-w
 use Rattle.laws_turns.proofs.FrontBounds.{front-le}
 use Rattle.laws_turns.proofs.FrontsWithin.{FrontGoes, called-goes, ended_within, takes-goes}
 use Rattle.laws_turns.proofs.Greater.{answer-le, sends-le}
+use Rattle.laws_turns.proofs.ClientCases.{called_cases, heard_cases}
+use Rattle.laws_turns.proofs.ReadingCases.{mapped}
 
 pub client-le : (low high : ℕ) (c : Client) → low ≤ high → ClientWithin low c → ClientWithin high c
 client-le low high c le w = record {
@@ -89,11 +90,9 @@ module _ (bound : ℕ) (decl : Declaration) (c : Client) (w : ClientWithin bound
         (prepare-within bound decl c.desk t.begun c.front.clock.value w.desk w.front.clock)
 
   called-within : (command : Command) → ClientMoveWithin (bound + 1) (called decl c command)
-  called-within commands.Begin = fronted commands.Begin
-  called-within (commands.Do object inv) = fronted (commands.Do object inv)
-  called-within commands.Commit = commits-within c.front.transaction
-  called-within commands.Abort = fronted commands.Abort
-  called-within (commands.Epoch number) = fronted (commands.Epoch number)
+  called-within command =
+      called_cases decl c (λ command m. ClientMoveWithin (bound + 1) m) fronted
+      (commits-within c.front.transaction) command
 
   -- how a transaction stands
   told-within : (tx : TxId) → OutcomeWithin (bound + 1) (outcome_of c tx)
@@ -106,13 +105,11 @@ module _ (bound : ℕ) (decl : Declaration) (c : Client) (w : ClientWithin bound
 
   heard-within : (from number : ℕ) (message : Message) → MessageWithin bound message
       → ClientMoveWithin (bound + 1) (heard decl c from number message)
-  heard-within from number (messages.Request tx epoch life want) here = silent (bound + 1) c more
-  heard-within from number (messages.Answer to answer) here = answered-within to (Some answer) here
-  heard-within from number (messages.Decision tx verdict) here = silent (bound + 1) c more
-  heard-within from number (messages.Inquiry tx) here = record { client = more; sends = (told-within tx, tt) }
-  heard-within from number (messages.Ask tx) here = record { client = more; sends = (told-within tx, tt) }
-  heard-within from number (messages.Close epoch) here = silent (bound + 1) c more
-  heard-within from number (messages.Install epoch clock log) here = silent (bound + 1) c more
+  heard-within from number message here =
+      heard_cases decl c from number (λ m move. MessageWithin bound m → ClientMoveWithin (bound + 1) move)
+      (λ m none within. silent (bound + 1) c more) (λ to answer within. answered-within to (Some answer) within)
+      (λ tx within. record { client = more; sends = (told-within tx, tt) })
+      (λ tx within. record { client = more; sends = (told-within tx, tt) }) message here
 
   -- one input
   pub client_takes_within : (g : Input) → GivenWithin bound g → ClientMoveWithin (bound + 1) (client_takes decl c g)
@@ -135,13 +132,9 @@ requested-within bound c number to Prepare w = record { front = w.front; desk = 
 
 sent_one-within : (bound : ℕ) (c : Client) (number to : ℕ) (message : Message) → ClientWithin bound c
     → ClientWithin bound (sent_one c number to message)
-sent_one-within bound c number to (messages.Request tx epoch life want) w = requested-within bound c number to want w
-sent_one-within bound c number to (messages.Answer asked answer) w = w
-sent_one-within bound c number to (messages.Decision tx verdict) w = w
-sent_one-within bound c number to (messages.Inquiry tx) w = w
-sent_one-within bound c number to (messages.Ask tx) w = w
-sent_one-within bound c number to (messages.Close epoch) w = w
-sent_one-within bound c number to (messages.Install epoch clock log) w = w
+sent_one-within bound c number to message w =
+    mapped (ClientWithin bound) (λ (q : Requested). requested c number to q.want) c (request_in message)
+    (λ q. requested-within bound c number to q.want w) w
 
 -- a deed that is no input
 abbrev pub IsPost : Deed → Type 0

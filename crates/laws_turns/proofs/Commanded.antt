@@ -3,6 +3,7 @@ use Rattle.std.proofs.Common.{◌≡◌, ℕ, ◌+◌, ◌<◌, ◌≤◌, ◌==
 use Rattle.std.proofs.Common.{◌∷◌, ◌++◌, Option, Some, None, option_to_list, slice_get, refl, sym, ◌∙◌, subst, arith}
 use Rattle.std.proofs.Common.{eqb-true}
 use Rattle.std.specs.List.{AllByRecursion as Every}
+use Rattle.std.specs.Prelude.{MatchOption}
 use Rattle.std.proofs.lemmas.Bool.{leb-true, ltb-true}
 use Rattle.qc_core.specs.Vocabulary.{AreUncommanded, IsUncommanded}
 use Rattle.qc_decl.specs.declared.declaration.Declaration.{Declaration}
@@ -16,32 +17,20 @@ use Rattle.qc_msg.specs.declared.step.Control.{Control}
 use Rattle.qc_msg.specs.declared.step.Input.{Input}
 use Rattle.qc_msg.specs.declared.step.Input.TheVariants as inputs
 use Rattle.qc_msg.specs.declared.step.Step.{Step}
-use Rattle.qc_msg.specs.declared.step.Step.TheVariants as steps
 use Rattle.qc_msg.specs.declared.turn.Appended.{Appended}
 use Rattle.qc_msg.specs.declared.turn.Appended.TheVariants.{Done, Failed, Stopped}
 use Rattle.qc_msg.specs.declared.turn.Posting.{Posting}
 use Rattle.qc_msg.specs.declared.turn.Turn.{Turn}
 use Rattle.qc_msg.specs.Vocabulary.{Entry, by, deed_at, deeds, envelope_of, fell, heard, posted_as, sents, step_of}
-use Rattle.qc_msg.specs.Vocabulary.{told, wrote}
+use Rattle.qc_msg.specs.Vocabulary.{told, wrote, commanded_in}
 use Rattle.qc_script.specs.Vocabulary.{Inbox, inbox, ready_in, takes_commands}
 use Rattle.qc_script.specs.Ready as ready
+use Rattle.laws_turns.proofs.StepCases.{deed_cases}
 
 -- who calls commands
 
 abbrev pub CallsAt : Declaration → ℕ → Step → Type 0
-CallsAt decl a (steps.Phase k) = Unit {0}
-CallsAt decl a (steps.Cut x y) = Unit {0}
-CallsAt decl a (steps.Heal x y) = Unit {0}
-CallsAt decl a (steps.Armed actor kind at) = Unit {0}
-CallsAt decl a (steps.Called command) = is_site decl a ≡ false
-CallsAt decl a (steps.Got n) = Unit {0}
-CallsAt decl a (steps.Lost n) = Unit {0}
-CallsAt decl a (steps.Wrote written) = Unit {0}
-CallsAt decl a (steps.Sent n to message) = Unit {0}
-CallsAt decl a (steps.Told reply) = Unit {0}
-CallsAt decl a (steps.Fell cause pending) = Unit {0}
-CallsAt decl a (steps.Rose records) = Unit {0}
-CallsAt decl a (steps.Damaged offset) = Unit {0}
+CallsAt decl a step = MatchOption (commanded_in step) (Unit {0}) (λ (command : Command). is_site decl a ≡ false)
 
 abbrev pub IsCalled : Declaration → Entry → Type 0
 IsCalled decl e = CallsAt decl e.actor e.step
@@ -85,24 +74,16 @@ post_called decl a n Stopped t = told_called decl a t.failed_told (fell _ t.writ
 
 step_uncommanded : (decl : Declaration) (a : ℕ) (ms : List Envelope) (step : Step) → is_site decl a ≡ true
     → CallsAt decl a step → AreUncommanded (deed_at ms step)
-step_uncommanded decl a ms (steps.Phase k) site calls = tt
-step_uncommanded decl a ms (steps.Cut x y) site calls = tt
-step_uncommanded decl a ms (steps.Heal x y) site calls = tt
-step_uncommanded decl a ms (steps.Armed actor kind at) site calls = tt
-step_uncommanded decl a ms (steps.Called command) site calls =
-    absurd (let fails : true ≡ false = sym site ∙ calls in let never : ⊥ = cc in never)
-step_uncommanded decl a ms (steps.Got n) site calls = by (slice_get ms n)
+step_uncommanded decl a ms step site calls =
+    deed_cases ms (λ step ds. CallsAt decl a step → AreUncommanded ds) (λ step w m r calls. tt)
+    (λ command calls. absurd (let fails : true ≡ false = sym site ∙ calls in let never : ⊥ = cc in never))
+    (λ n calls. by (slice_get ms n)) (λ n calls. (refl, tt)) (λ written calls. (tt, tt))
+    (λ n to message calls. (tt, tt)) (λ reply calls. (tt, tt)) (λ cause pending calls. (tt, tt))
+    (λ records calls. (tt, tt)) step calls
   where
     by : (o : Option Envelope) → AreUncommanded (heard o)
     by None = tt
     by (Some e) = (refl, tt)
-step_uncommanded decl a ms (steps.Lost n) site calls = (refl, tt)
-step_uncommanded decl a ms (steps.Wrote written) site calls = (tt, tt)
-step_uncommanded decl a ms (steps.Sent n to message) site calls = (tt, tt)
-step_uncommanded decl a ms (steps.Told reply) site calls = (tt, tt)
-step_uncommanded decl a ms (steps.Fell cause pending) site calls = (tt, tt)
-step_uncommanded decl a ms (steps.Rose records) site calls = (tt, tt)
-step_uncommanded decl a ms (steps.Damaged offset) site calls = tt
 
 pub uncommanded : (decl : Declaration) (a : ℕ) (ms : List Envelope) (h : List Entry) → is_site decl a ≡ true
     → Every (IsCalled decl) h → AreUncommanded (deeds a ms h)

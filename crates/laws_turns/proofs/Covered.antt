@@ -13,7 +13,6 @@ use Rattle.qc_msg.specs.declared.call.Call.{Call}
 use Rattle.qc_msg.specs.declared.record.Record.{Record}
 use Rattle.qc_msg.specs.declared.reply.Reply.{Reply}
 use Rattle.qc_msg.specs.declared.step.Control.{Control}
-use Rattle.qc_msg.specs.declared.step.Control.TheVariants as controls
 use Rattle.qc_msg.specs.declared.step.Input.{Input}
 use Rattle.qc_msg.specs.declared.step.Input.TheVariants as inputs
 use Rattle.qc_msg.specs.declared.step.Step.{Step}
@@ -37,6 +36,7 @@ use Rattle.laws_turns.proofs.Fewer.{IsNewCall, IsNotFor, Keeps, sent_calls, take
 use Rattle.laws_turns.proofs.FrontAsks.{IsBound}
 use Rattle.laws_turns.proofs.Numbered.{control_silent, phase_silent}
 use Rattle.laws_turns.proofs.ReadyFirst.{ready_copy, ready_loss}
+use Rattle.laws_turns.proofs.StepCases.{control_cases}
 
 -- each open request of a client is awaited
 pub record AreAwaited (c : Client) (i : Inbox) : Type 0 where
@@ -162,16 +162,9 @@ module _ (decl : Declaration) (script : Script) (a : ℕ) where
 
   control_step : (line : Control) (step : Step) (c : Client) (i : Inbox) (b : ℕ) → step_of_control line ≡ Some step
       → AreAwaited c i → AreAwaited c (inbox_at script a i b step)
-  control_step (controls.Phase k) step c i b is are = absurd (let never : ⊥ = cc in never)
-  control_step (controls.Cut x y) step c i b is are =
-      subst (λ (s : Step). AreAwaited c (inbox_at script a i b s)) (let same : steps.Cut x y ≡ step = cc in same)
-      (one_step c i b (steps.Cut x y) tt tt are)
-  control_step (controls.Heal x y) step c i b is are =
-      subst (λ (s : Step). AreAwaited c (inbox_at script a i b s)) (let same : steps.Heal x y ≡ step = cc in same)
-      (one_step c i b (steps.Heal x y) tt tt are)
-  control_step (controls.Armed actor kind at) step c i b is are = absurd (let never : ⊥ = cc in never)
-  control_step (controls.Crash x) step c i b is are = absurd (let never : ⊥ = cc in never)
-  control_step (controls.Restart x) step c i b is are = absurd (let never : ⊥ = cc in never)
+  control_step line step c i b is are =
+      control_cases (λ (s : Step). AreAwaited c (inbox_at script a i b s))
+      (λ x y. one_step c i b (steps.Cut x y) tt tt are) (λ x y. one_step c i b (steps.Heal x y) tt tt are) line step is
 
   -- in each run
 
@@ -254,9 +247,10 @@ module _ (decl : Declaration) (script : Script) (a : ℕ) where
       (run_awaited older before run))
 
 -- so each open request of a client is awaited
-pub open_requests_awaited : (decl : Declaration) (script : Script) (a : ℕ) (h : List Entry) (open_inputs : List Bool)
+pub open_requests_are_awaited : (decl : Declaration) (script : Script) (a : ℕ) (h : List Entry)
+    (open_inputs : List Bool)
     → Runs (IsLawful decl) decl script h open_inputs
     → (q : Call) → In q (open_calls (client_after decl (a - decl.sites) (deeds a [] h)).client)
     → IsAwaited q.number (inbox script a h)
-open_requests_awaited decl script a h open_inputs run q member =
+open_requests_are_awaited decl script a h open_inputs run q member =
     (run_awaited decl script a h open_inputs run).calls q member

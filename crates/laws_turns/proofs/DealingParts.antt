@@ -2,6 +2,7 @@
 use Rattle.std.proofs.Common.{[], ◌≡◌, ◌≤◌, ◌<◌, ℕ, zero, suc, get_or, length, inl, inr, List, ◌∷◌, Option, Some, None}
 use Rattle.std.proofs.Common.{option_map, refl, sym, ap, ◌∙◌, subst, arith}
 use Rattle.std.specs.List.{AllPairs}
+use Rattle.std.specs.Bool.{MatchBool}
 use Rattle.qc_list.specs.Vocabulary.{In}
 use Rattle.qc_stamp.specs.declared.stamp.Stamp.{Stamp}
 use Rattle.qc_stamp.specs.declared.stamp.TxId.{TxId}
@@ -10,6 +11,7 @@ use Rattle.qc_msg.specs.declared.begun.Begun.{Begun}
 use Rattle.qc_msg.specs.declared.reply.Reply.{Reply}
 use Rattle.qc_msg.specs.declared.reply.Reply.TheVariants as replies
 use Rattle.qc_msg.specs.declared.step.Command.{Command}
+use Rattle.qc_msg.specs.Vocabulary.{is_given_up}
 use Rattle.laws_turns.specs.Vocabulary.{Book}
 use Rattle.qc_promise.specs.Vocabulary.{Dealing}
 
@@ -42,25 +44,7 @@ IfOps tx d None = Unit {0}
 IfOps tx d (Some b) = b.tx ≡ tx → (d.ops ≡ b.ops) × (d.ends ≡ [])
 
 abbrev pub IsAbort : Reply → Type 0
-IsAbort replies.Down = ⊥
-IsAbort (replies.Already other) = ⊥
-IsAbort (replies.Began other) = ⊥
-IsAbort replies.NoTransaction = ⊥
-IsAbort replies.Doomed = ⊥
-IsAbort replies.TooLong = ⊥
-IsAbort (replies.Closed epoch site) = ⊥
-IsAbort (replies.Conflict holder site) = ⊥
-IsAbort (replies.Quorum half got need) = ⊥
-IsAbort replies.Absent = ⊥
-IsAbort (replies.Response resp) = ⊥
-IsAbort (replies.Aborted why) = Unit {0}
-IsAbort replies.Unknown = ⊥
-IsAbort (replies.Committed stamp) = ⊥
-IsAbort replies.Dropped = Unit {0}
-IsAbort (replies.Order current) = ⊥
-IsAbort (replies.InDoubt holder site) = ⊥
-IsAbort replies.Fault = ⊥
-IsAbort (replies.Moved closed installed) = ⊥
+IsAbort reply = MatchBool (is_given_up reply) (Unit {0}) ⊥
 
 -- a record of the transaction, with this stamp, among these
 pub record HasRecord (commits : List Commit) (tx : TxId) (stamp : Stamp) : Type 0 where

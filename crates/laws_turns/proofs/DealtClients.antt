@@ -1,22 +1,20 @@
 -- A client's inputs, and what it was told of a transaction then.
 use Rattle.std.proofs.Common.{[], ◌≡◌, ℕ, ◌+◌, List, ◌∷◌, ◌++◌, fold, Option, Some, None, refl, sym, subst}
+use Rattle.std.proofs.Common.{Bool, true, false, cond}
 use Rattle.std.specs.List.{AllByRecursion as Every}
+use Rattle.std.specs.Option.{option_map_or}
 use Rattle.qc_stamp.specs.declared.stamp.TxId.{TxId}
 use Rattle.qc_decl.specs.declared.declaration.Declaration.{Declaration}
-use Rattle.qc_msg.specs.declared.message.Answer.{Answer}
 use Rattle.qc_msg.specs.declared.message.Message.{Message}
-use Rattle.qc_msg.specs.declared.message.Message.TheVariants as messages
-use Rattle.qc_msg.specs.declared.message.Want.TheVariants.{Append, Prepare, Read}
 use Rattle.qc_msg.specs.declared.record.Record.{Record}
 use Rattle.qc_msg.specs.declared.reply.Reply.{Reply}
-use Rattle.qc_msg.specs.declared.reply.Reply.TheVariants as replies
 use Rattle.qc_msg.specs.declared.step.Command.{Command}
 use Rattle.qc_msg.specs.declared.step.Input.{Input}
 use Rattle.qc_msg.specs.declared.step.Input.TheVariants as inputs
 use Rattle.qc_msg.specs.declared.turn.Posting.{Posting}
 use Rattle.qc_msg.specs.declared.turn.Turn.{Turn}
 use Rattle.qc_msg.specs.Vocabulary.{Deed, Falls, Rises, Sends, Takes, Tells, Writes, sends_of, tells_of, turn_deeds}
-use Rattle.qc_msg.specs.Vocabulary.{writes_of}
+use Rattle.qc_msg.specs.Vocabulary.{writes_of, began_in, is_end, response_in}
 use Rattle.qc_commit.specs.declared.desk.Voting.{Voting}
 use Rattle.qc_commit.specs.Conduct as desks
 use Rattle.qc_front.specs.declared.doing.Doing.{Doing}
@@ -25,11 +23,13 @@ use Rattle.qc_front.specs.Conduct as fronts
 use Rattle.qc_client.specs.declared.client.Client.{Client}
 use Rattle.qc_client.specs.Vocabulary.{ClientMove, IsReady, client_does, client_takes, sent_one}
 use Rattle.laws_turns.specs.Vocabulary.{book_of}
-use Rattle.qc_promise.specs.Vocabulary.{Dealing, deal, deal_taken, deal_told}
+use Rattle.qc_promise.specs.Vocabulary.{Dealing, deal, deal_taken, deal_told, dealt, ended}
 use Rattle.laws_turns.proofs.ClientsWithin.{IsPost}
 use Rattle.laws_turns.proofs.DealingParts.{as_asked}
 use Rattle.laws_turns.proofs.DealtOperations.{AskedFor, told_deal}
 use Rattle.laws_turns.proofs.DealtCommands.{IsInHand, Keeps, IsAfter, calls-keep, comes-keep, hears-keep}
+use Rattle.laws_turns.proofs.ReadingCases.{mapped}
+use Rattle.laws_turns.proofs.ClientCases.{sent_cases}
 
 -- one input
 pub taken-keeps : (k : ℕ) (tx : TxId) (d : Dealing) (c : Client) (g : Input) → Keeps k tx d d c → IsReady c g
@@ -63,36 +63,23 @@ asked_with asked (Appending object inv event calls round) number site h = h
 
 sent-keeps : (k : ℕ) (tx : TxId) (told asked : Dealing) (c : Client) (number to : ℕ) (message : Message)
     → Keeps k tx told asked c → Keeps k tx told asked (sent_one c number to message)
-sent-keeps k tx told asked c number to (messages.Request other epoch life (Read object inv)) w =
-    record {
+sent-keeps k tx told asked c number to message w =
+    sent_cases c number to (Keeps k tx told asked)
+    (record {
       own = w.own;
       desk = w.desk;
       dealing = w.dealing;
       book = w.book;
       asked_for = asked_with asked.asked c.front.doing number to w.asked_for;
       hand = w.hand;
-    }
-sent-keeps k tx told asked c number to (messages.Request other epoch life (Append object view own)) w =
-    record {
-      own = w.own;
-      desk = w.desk;
-      dealing = w.dealing;
-      book = w.book;
-      asked_for = asked_with asked.asked c.front.doing number to w.asked_for;
-      hand = w.hand;
-    }
-sent-keeps k tx told asked c number to (messages.Request other epoch life Prepare) w = by c.desk.voting w.hand where
-  by : (o : Option Voting) → IsInHand o c.front.transaction
-      → Keeps k tx told asked (record c { desk = desks.prepared_in c.desk o number to })
-  by None hand = w
-  by (Some v) hand =
-      record { own = w.own; desk = w.desk; dealing = w.dealing; book = w.book; asked_for = w.asked_for; hand = hand }
-sent-keeps k tx told asked c number to (messages.Answer other answer) w = w
-sent-keeps k tx told asked c number to (messages.Decision other verdict) w = w
-sent-keeps k tx told asked c number to (messages.Inquiry other) w = w
-sent-keeps k tx told asked c number to (messages.Ask other) w = w
-sent-keeps k tx told asked c number to (messages.Close epoch) w = w
-sent-keeps k tx told asked c number to (messages.Install epoch clock log) w = w
+    })
+    (by c.desk.voting w.hand) w message
+  where
+    by : (o : Option Voting) → IsInHand o c.front.transaction
+        → Keeps k tx told asked (record c { desk = desks.prepared_in c.desk o number to })
+    by None hand = w
+    by (Some v) hand =
+        record { own = w.own; desk = w.desk; dealing = w.dealing; book = w.book; asked_for = w.asked_for; hand = hand }
 
 pub posts-keep : (decl : Declaration) (k : ℕ) (tx : TxId) (told asked : Dealing) (m : ClientMove) (ds : List Deed)
     → Every IsPost ds → Keeps k tx told asked m.client → Keeps k tx told asked (fold (client_does decl) m ds).client
@@ -125,25 +112,16 @@ turn_told tx d n turn = by turn.write where
 -- no reply changes what was asked
 
 pub told_asked : (tx : TxId) (d : Dealing) (reply : Reply) → (deal_told tx d reply).asked ≡ d.asked
-told_asked tx d replies.Down = refl
-told_asked tx d (replies.Already other) = refl
-told_asked tx d (replies.Began other) = refl
-told_asked tx d replies.NoTransaction = refl
-told_asked tx d replies.Doomed = refl
-told_asked tx d replies.TooLong = refl
-told_asked tx d (replies.Closed epoch site) = refl
-told_asked tx d (replies.Conflict holder site) = refl
-told_asked tx d (replies.Quorum half got need) = refl
-told_asked tx d replies.Absent = refl
-told_asked tx d (replies.Response resp) = refl
-told_asked tx d (replies.Aborted why) = refl
-told_asked tx d replies.Unknown = refl
-told_asked tx d (replies.Committed stamp) = refl
-told_asked tx d replies.Dropped = refl
-told_asked tx d (replies.Order current) = refl
-told_asked tx d (replies.InDoubt holder site) = refl
-told_asked tx d replies.Fault = refl
-told_asked tx d (replies.Moved closed installed) = refl
+told_asked tx d reply =
+    mapped (λ (x : Dealing). x.asked ≡ d.asked) (λ (other : TxId). record d { begun = Some other })
+    (option_map_or (dealt tx d) (response_in reply) (cond (is_end reply) (ended tx d reply) d)) (began_in reply)
+    (λ other. refl)
+    (mapped (λ (x : Dealing). x.asked ≡ d.asked) (dealt tx d) (cond (is_end reply) (ended tx d reply) d)
+    (response_in reply) (λ resp. refl) (by (is_end reply)))
+  where
+    by : (t : Bool) → (cond t (ended tx d reply) d).asked ≡ d.asked
+    by true = refl
+    by false = refl
 
 told_same : (tx : TxId) (d : Dealing) (o : Option Reply) → (told_deal tx d o).asked ≡ d.asked
 told_same tx d None = refl

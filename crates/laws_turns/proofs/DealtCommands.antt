@@ -33,6 +33,7 @@ use Rattle.laws_turns.proofs.Dealing.{committed_one, gave_up}
 use Rattle.laws_turns.proofs.DealtOperations.{AskedFor, FrontAfter, told_deal, called-after}
 use Rattle.laws_turns.proofs.DealtFronts.{takes-after}
 use Rattle.laws_turns.proofs.HandMoves.{Holds, IsHandMove, prepare-it, vote-it}
+use Rattle.laws_turns.proofs.ClientCases.{called_cases, heard_cases}
 
 -- the commit record that a turn writes
 abbrev pub commits_of : Option Record → List Commit
@@ -180,11 +181,9 @@ module _ (decl : Declaration) (k : ℕ) (tx : TxId) (d : Dealing) (c : Client) (
         (prepare-it decl c.desk t.begun c.front.clock.value)
 
   pub calls-keep : (command : Command) → IsFree c → d.asked ≡ Some command → After (called decl c command)
-  calls-keep commands.Begin free asked = fronted commands.Begin free asked
-  calls-keep (commands.Do object inv) free asked = fronted (commands.Do object inv) free asked
-  calls-keep commands.Commit free asked = committed c.front.transaction refl free asked
-  calls-keep commands.Abort free asked = fronted commands.Abort free asked
-  calls-keep (commands.Epoch number) free asked = fronted (commands.Epoch number) free asked
+  calls-keep command free asked =
+      called_cases decl c (λ command m. d.asked ≡ Some command → After m) (λ command is. fronted command free is)
+      (λ is. committed c.front.transaction refl free is) command asked
 
   pub comes-keep : (number : ℕ) (answer : Option Answer) → After (answered decl c number answer)
   comes-keep number answer = by c.desk.voting refl w.hand where
@@ -204,15 +203,8 @@ module _ (decl : Declaration) (k : ℕ) (tx : TxId) (d : Dealing) (c : Client) (
       }
 
   pub hears-keep : (from number : ℕ) (message : Message) → After (heard decl c from number message)
-  hears-keep from number (messages.Request other epoch life want) =
-      silent (heard decl c from number (messages.Request other epoch life want)).turn refl refl
-  hears-keep from number (messages.Answer to answer) = comes-keep to (Some answer)
-  hears-keep from number (messages.Decision other verdict) =
-      silent (heard decl c from number (messages.Decision other verdict)).turn refl refl
-  hears-keep from number (messages.Inquiry other) =
-      silent (heard decl c from number (messages.Inquiry other)).turn refl refl
-  hears-keep from number (messages.Ask other) = silent (heard decl c from number (messages.Ask other)).turn refl refl
-  hears-keep from number (messages.Close epoch) =
-      silent (heard decl c from number (messages.Close epoch)).turn refl refl
-  hears-keep from number (messages.Install epoch clock log) =
-      silent (heard decl c from number (messages.Install epoch clock log)).turn refl refl
+  hears-keep from number message =
+      heard_cases decl c from number (λ m move. After move) (λ m none. silent quiet refl refl)
+      (λ to answer. comes-keep to (Some answer))
+      (λ other. silent (heard decl c from number (messages.Inquiry other)).turn refl refl)
+      (λ other. silent (heard decl c from number (messages.Ask other)).turn refl refl) message

@@ -1,51 +1,37 @@
 -- A front end's moves, and what a client was told of a transaction then.
-use Rattle.std.proofs.Common.{◌≡◌, ℕ, List, Option, Some, None, option_map, refl, sym, ap, ◌∙◌, subst}
-use Rattle.std.specs.Prelude.{slice_get}
+use Rattle.std.proofs.Common.{◌≡◌, ℕ, List, Option, Some, None, refl, sym, ap, ◌∙◌, subst}
 use Rattle.qc_stamp.specs.declared.stamp.TxId.{TxId}
 use Rattle.qc_entry.specs.declared.record.Commit.{Commit}
 use Rattle.qc_decl.specs.declared.declaration.Declaration.{Declaration}
 use Rattle.qc_msg.specs.declared.begun.Begun.{Begun}
 use Rattle.qc_msg.specs.declared.message.Answer.{Answer}
-use Rattle.qc_msg.specs.declared.message.Answer.TheVariants as answers
 use Rattle.qc_msg.specs.Vocabulary.{quiet, site_called, without_call}
 use Rattle.qc_plan.specs.Vocabulary.{note, verdict}
-use Rattle.qc_view.specs.declared.view.View.{View}
-use Rattle.qc_view.specs.Vocabulary.{with_log}
 use Rattle.qc_front.specs.declared.doing.Doing.{Doing}
 use Rattle.qc_front.specs.declared.doing.Doing.TheVariants.{Idle, Reading, Appending}
 use Rattle.qc_front.specs.declared.front.Front.{Front}
 use Rattle.qc_front.specs.declared.transaction.Transaction.{Transaction}
-use Rattle.qc_front.specs.Vocabulary.{appended_with, appending_takes, learns, lived, read_with, reading_takes}
+use Rattle.qc_front.specs.Vocabulary.{appended_with, appending_takes, learns, read_with, reading_takes}
 use Rattle.qc_front.specs.Vocabulary.{standing_of, takes, takes_in}
-use Rattle.qc_front.proofs.CommandsKeep.{view_keeps}
 use Rattle.qc_front.proofs.Keeping.{appended_is}
 use Rattle.laws_turns.specs.Vocabulary.{Book, book_with}
 use Rattle.qc_promise.specs.Vocabulary.{Dealing}
 use Rattle.laws_turns.proofs.DealingParts.{IsBook, IsDealing}
 use Rattle.laws_turns.proofs.DealtOperations.{AskedFor, FrontAfter, IsLike, Stands, append_by-after, read_by-after}
 use Rattle.laws_turns.proofs.DealtOperations.{stands, still}
+use Rattle.laws_turns.proofs.AnswerCases.{learned_cases, read_cases}
 
 module _ (k : ℕ) (tx : TxId) (clock : ℕ) (records : List Commit) (d : Dealing) where
   -- what comes of a request
 
   read_like : (t : Transaction) (site object : ℕ) (answer : Option Answer)
       → IsLike (read_with t site object answer) t.begun
-  read_like t site object None = record { tx = refl; ops = refl }
-  read_like t site object (Some (answers.Granted life clock log)) =
-      let same : (read_with t site object (Some (answers.Granted life clock log))).begun ≡ (lived t site life).begun =
-      view_keeps (lived t site life) object
-      (option_map (λ (v : View). with_log v log) (slice_get t.views object)) in
-      record { tx = ap (λ (x : Begun). x.tx) same; ops = ap (λ (x : Begun). x.ops) same }
-  read_like t site object (Some (answers.Clash holder inv event)) = record { tx = refl; ops = refl }
-  read_like t site object (Some (answers.Closed epoch)) = record { tx = refl; ops = refl }
-  read_like t site object (Some (answers.Behind epoch)) = record { tx = refl; ops = refl }
-  read_like t site object (Some (answers.Restarted life)) = record { tx = refl; ops = refl }
-  read_like t site object (Some answers.Stale) = record { tx = refl; ops = refl }
-  read_like t site object (Some answers.Fault) = record { tx = refl; ops = refl }
-  read_like t site object (Some (answers.Yes clock)) = record { tx = refl; ops = refl }
-  read_like t site object (Some (answers.Shut clock log prepared)) = record { tx = refl; ops = refl }
-  read_like t site object (Some answers.Installed) = record { tx = refl; ops = refl }
-  read_like t site object (Some (answers.Answered verdict)) = record { tx = refl; ops = refl }
+  read_like t site object answer =
+      let same : ((read_with t site object answer).begun.tx ≡ t.begun.tx)
+      × ((read_with t site object answer).begun.ops ≡ t.begun.ops) =
+      read_cases t site object (λ (b : Begun). (b.tx ≡ t.begun.tx) × (b.ops ≡ t.begun.ops)) (λ lives. (refl, refl))
+      answer in
+      record { tx = same.0; ops = same.1 }
 
   appended_like : (t : Transaction) (site : ℕ) (answer : Option Answer) → IsLike (appended_with t site answer) t.begun
   appended_like t site answer =
@@ -54,18 +40,9 @@ module _ (k : ℕ) (tx : TxId) (clock : ℕ) (records : List Commit) (d : Dealin
 
   learns_book : (front : Front) (answer : Option Answer)
       → book_with (learns front answer) records ≡ book_with front records
-  learns_book front None = refl
-  learns_book front (Some (answers.Granted life clock log)) = refl
-  learns_book front (Some (answers.Clash holder inv event)) = refl
-  learns_book front (Some (answers.Closed epoch)) = refl
-  learns_book front (Some (answers.Behind epoch)) = refl
-  learns_book front (Some (answers.Restarted life)) = refl
-  learns_book front (Some answers.Stale) = refl
-  learns_book front (Some answers.Fault) = refl
-  learns_book front (Some (answers.Yes clock)) = refl
-  learns_book front (Some (answers.Shut clock log prepared)) = refl
-  learns_book front (Some answers.Installed) = refl
-  learns_book front (Some (answers.Answered verdict)) = refl
+  learns_book front answer =
+      learned_cases front (λ (f : Front). book_with f records ≡ book_with front records) (λ clock. refl)
+      (λ epoch. refl) refl answer
 
   learned : (front : Front) (answer : Option Answer) (b : Begun) → Stands k tx clock records d front b
       → Stands k tx clock records d (learns front answer) b

@@ -36,6 +36,7 @@ use Rattle.qc_promise.specs.Vocabulary.{Dealing, deal_told, dealt, ended}
 use Rattle.laws_turns.proofs.BooksKept.{began_book, free_book}
 use Rattle.laws_turns.proofs.DealingParts.{IsBook, IsDealing, as_begun, begun_book}
 use Rattle.laws_turns.proofs.Dealing.{began_one, gave_up, told_op}
+use Rattle.laws_turns.proofs.ClientCases.{front_cases}
 
 -- a running `do` is the command that was called last
 abbrev pub AskedFor : Option Command → Doing → Type 0
@@ -231,8 +232,9 @@ module _ (k : ℕ) (tx : TxId) (clock : ℕ) (records : List Commit) (d : Dealin
     -- a command, which is now the last one, where nothing is waited for
     pub called-after : (command : Command) → AskedFor d.asked front.doing → d.asked ≡ Some command
         → FrontAfter k tx clock records d (called decl front command)
-    called-after commands.Begin rests asked = begins-after front.transaction refl rests
-    called-after (commands.Do object inv) rests asked = performs-after front.transaction object inv refl rests asked
-    called-after commands.Commit rests asked = commits-after front.transaction refl rests
-    called-after commands.Abort rests asked = aborts-after front.transaction refl rests
-    called-after (commands.Epoch number) rests asked = still quiet refl refl rests
+    called-after command rests asked =
+        front_cases decl front (λ command m. d.asked ≡ Some command → FrontAfter k tx clock records d m)
+        (λ is. begins-after front.transaction refl rests)
+        (λ object inv is. performs-after front.transaction object inv refl rests is)
+        (λ is. commits-after front.transaction refl rests) (λ is. aborts-after front.transaction refl rests)
+        (λ number is. still quiet refl refl rests) command asked

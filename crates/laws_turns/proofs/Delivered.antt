@@ -22,6 +22,7 @@ use Rattle.qc_msg.proofs.GrownMail.{mail-append}
 use Rattle.qc_promise.specs.Vocabulary.{IsAnswerOf, IsMailStep, IsMailed, IsReceived, IsRequestOf, IsRequestTo}
 use Rattle.laws_turns.proofs.Places.{slice_get-more}
 use Rattle.laws_turns.proofs.MailedSteps.{Delivered, mail_cons, step_delivered, AreAnswersAt, post_delivered}
+use Rattle.laws_turns.proofs.StepCases.{deed_cases}
 
 -- what is posted answers what was taken, or nothing
 
@@ -64,19 +65,11 @@ heard_taken a n ms more (Some e) numbered is got =
 
 step_taken : (a : ℕ) (ms more : List Envelope) (step : Step) → AreNumbered (ms ++ more) → IsMailStep ms a step
     → Every (IsTaken a (ms ++ more)) (deed_at ms step)
-step_taken a ms more (steps.Phase k) numbered is = tt
-step_taken a ms more (steps.Cut x y) numbered is = tt
-step_taken a ms more (steps.Heal x y) numbered is = tt
-step_taken a ms more (steps.Armed actor kind at) numbered is = tt
-step_taken a ms more (steps.Called command) numbered is = (tt, tt)
-step_taken a ms more (steps.Got n) numbered is = heard_taken a n ms more (slice_get ms n) numbered refl is
-step_taken a ms more (steps.Lost n) numbered is = (tt, tt)
-step_taken a ms more (steps.Wrote written) numbered is = (tt, tt)
-step_taken a ms more (steps.Sent n to message) numbered is = (tt, tt)
-step_taken a ms more (steps.Told reply) numbered is = (tt, tt)
-step_taken a ms more (steps.Fell cause pending) numbered is = (tt, tt)
-step_taken a ms more (steps.Rose records) numbered is = (tt, tt)
-step_taken a ms more (steps.Damaged offset) numbered is = tt
+step_taken a ms more step numbered is =
+    deed_cases ms (λ step ds. IsMailStep ms a step → Every (IsTaken a (ms ++ more)) ds) (λ step w m r came. tt)
+    (λ command came. (tt, tt)) (λ n came. heard_taken a n ms more (slice_get ms n) numbered refl came)
+    (λ n came. (tt, tt)) (λ written came. (tt, tt)) (λ n to message came. (tt, tt)) (λ reply came. (tt, tt))
+    (λ cause pending came. (tt, tt)) (λ records came. (tt, tt)) step is
 
 all_taken : (a : ℕ) (ms : List Envelope) (h : List Entry) → AreNumbered (ms ++ mail h) → IsMailed ms h
     → Every (IsTaken a (ms ++ mail h)) (deeds a ms h)

@@ -2,6 +2,7 @@
 use Rattle.std.proofs.Common.{◌≡◌, ℕ, ◌+◌, ◌≤◌, ◌==◌, max, Bool, true, false, cond, List, [], ◌∷◌, map, length, Option}
 use Rattle.std.proofs.Common.{Some, None, sym, subst, arith}
 use Rattle.std.specs.List.{AllByRecursion as Every}
+use Rattle.std.specs.Prelude.{MatchOption, option_and_then}
 use Rattle.qc_list.proofs.Members.{every-append, every-weaker}
 use Rattle.qc_stamp.specs.declared.stamp.Stamp.{Stamp}
 use Rattle.qc_stamp.specs.declared.stamp.TxId.{TxId}
@@ -16,7 +17,7 @@ use Rattle.qc_msg.specs.declared.message.Message.TheVariants as messages
 use Rattle.qc_msg.specs.declared.message.Outcome.{Outcome}
 use Rattle.qc_msg.specs.declared.message.Outcome.TheVariants.{Aborted, Committed}
 use Rattle.qc_msg.specs.declared.reply.AbortCause.{AbortCause}
-use Rattle.qc_msg.specs.Vocabulary.{quiet, sending, site_called, without_call}
+use Rattle.qc_msg.specs.Vocabulary.{quiet, sending, site_called, without_call, Granting, granted_in}
 use Rattle.qc_commit.specs.declared.ballot.Ballot.{Ballot}
 use Rattle.qc_commit.specs.declared.desk.Desk.{Desk}
 use Rattle.qc_commit.specs.declared.desk.Known.{Known}
@@ -26,7 +27,7 @@ use Rattle.qc_commit.specs.Vocabulary.{DeskMove, are_cast, blank, cast, commit_o
 use Rattle.qc_commit.specs.Vocabulary.{first_against, known_by, learns, moved, next_stamp, participants, passed}
 use Rattle.qc_commit.specs.Vocabulary.{prepare, prepares, promised, record_of, vote, vote_of, votes_at, votes_in}
 use Rattle.qc_commit.proofs.Learned.{learned-clock, learned-commits}
-use Rattle.laws_turns.specs.Vocabulary.{AnswerWithin, DeskWithin, OutcomeWithin, SendsWithin}
+use Rattle.laws_turns.specs.Vocabulary.{AnswerWithin, DeskWithin, OutcomeWithin, SendsWithin, LinesWithin}
 
 pub desk-le : (low high : ℕ) (desk : Desk) → low ≤ high → DeskWithin low desk → DeskWithin high desk
 desk-le low high desk le w = record {
@@ -45,19 +46,28 @@ abbrev pub CameWithin : ℕ → Option Answer → Type 0
 CameWithin bound None = Unit {0}
 CameWithin bound (Some answer) = AnswerWithin bound answer
 
+-- what is read of it: the clock and the lines of a grant, the clock of a promise
+pub record ReadWithin (bound : ℕ) (answer : Option Answer) : Type 0 where
+  pub grant : MatchOption (option_and_then granted_in answer) (Unit {0})
+      (λ (g : Granting). (g.clock ≤ bound) × LinesWithin bound g.log)
+  pub promise : promised answer ≤ bound
+
+pub answer_read : (bound : ℕ) (answer : Option Answer) → CameWithin bound answer → ReadWithin bound answer
+answer_read bound None here = record { grant = tt; promise = omega arith }
+answer_read bound (Some (answers.Granted life clock log)) here = record { grant = here; promise = omega arith }
+answer_read bound (Some (answers.Clash holder inv event)) here = record { grant = tt; promise = omega arith }
+answer_read bound (Some (answers.Closed epoch)) here = record { grant = tt; promise = omega arith }
+answer_read bound (Some (answers.Behind epoch)) here = record { grant = tt; promise = omega arith }
+answer_read bound (Some (answers.Restarted life)) here = record { grant = tt; promise = omega arith }
+answer_read bound (Some answers.Stale) here = record { grant = tt; promise = omega arith }
+answer_read bound (Some answers.Fault) here = record { grant = tt; promise = omega arith }
+answer_read bound (Some (answers.Yes clock)) here = record { grant = tt; promise = here }
+answer_read bound (Some (answers.Shut clock log prepared)) here = record { grant = tt; promise = omega arith }
+answer_read bound (Some answers.Installed) here = record { grant = tt; promise = omega arith }
+answer_read bound (Some (answers.Answered verdict)) here = record { grant = tt; promise = omega arith }
+
 pub promised-within : (bound : ℕ) (answer : Option Answer) → CameWithin bound answer → promised answer ≤ bound
-promised-within bound None here = omega arith
-promised-within bound (Some (answers.Granted life clock log)) here = omega arith
-promised-within bound (Some (answers.Clash holder inv event)) here = omega arith
-promised-within bound (Some (answers.Closed epoch)) here = omega arith
-promised-within bound (Some (answers.Behind epoch)) here = omega arith
-promised-within bound (Some (answers.Restarted life)) here = omega arith
-promised-within bound (Some answers.Stale) here = omega arith
-promised-within bound (Some answers.Fault) here = omega arith
-promised-within bound (Some (answers.Yes clock)) here = here
-promised-within bound (Some (answers.Shut clock log prepared)) here = omega arith
-promised-within bound (Some answers.Installed) here = omega arith
-promised-within bound (Some (answers.Answered verdict)) here = omega arith
+promised-within bound answer here = (answer_read bound answer here).promise
 
 pub verdicts-within : (bound : ℕ) (tx : TxId) (verdict : Outcome) (sites : List ℕ) → OutcomeWithin bound verdict
     → SendsWithin bound (map (λ site. record { to = site; message = messages.Decision tx verdict }) sites)

@@ -1,4 +1,4 @@
--- By the conduct of the system an actor that is down only tells replies.
+-- By the conduct of the system an actor that is down only who_is_down_only_tells replies.
 use Rattle.std.proofs.Common.{◌≡◌, ℕ, not, Bool, true, false, cond, List, [], ◌∷◌, fold, Some, None, refl, sym, ap, ◌∙◌}
 use Rattle.std.proofs.Common.{subst}
 use Rattle.qc_core.specs.declared.actor.Actor.{Actor}
@@ -90,8 +90,8 @@ due decl a ds turn lawful = by (is_site decl a) (is_client decl a) (is_administr
     by false false true is = here is
     by false false false is = absurd (let no : ⊥ = cc in no)
 
-pub tells : (decl : Declaration) → TellsWhereDown (IsLawfulWithFalls decl)
-tells decl = record {
+pub who_is_down_only_tells : (decl : Declaration) → TellsWhereDown (IsLawfulWithFalls decl)
+who_is_down_only_tells decl = record {
   ends = λ a ds turn lawful. lawful.may_end;
   writes_none = λ a ds turn lawful down. sym (ap (λ (t : Turn). t.write) (due decl a ds turn lawful))
       ∙ (silent_down decl a ds down).write;

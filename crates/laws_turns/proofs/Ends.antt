@@ -18,9 +18,9 @@ use Rattle.qc_script.specs.Vocabulary.{after_controls, command_in, controls_left
 use Rattle.qc_script.proofs.InboxesSend.{InCommon}
 use Rattle.qc_script.proofs.Inboxes.{inboxes_have_in_common}
 use Rattle.laws_turns.specs.Vocabulary.{AsksDeclared, IsAtReceiver, IsAwaited, IsClosed, IsQuiet, IsTaken, open_calls}
-use Rattle.laws_turns.proofs.Covered.{open_requests_awaited}
+use Rattle.laws_turns.proofs.Covered.{open_requests_are_awaited}
 use Rattle.laws_turns.proofs.Places.{replicate_at}
-use Rattle.laws_turns.proofs.Reached.{receiver_is_site, unanswered_at_site}
+use Rattle.laws_turns.proofs.Reached.{receiver_is_site, unanswered_requests_are_at_their_sites}
 use Rattle.qc_link.specs.Vocabulary.{most_actors}
 
 no_copies : (es : List Envelope) (other : Option Input) → first_copy es other ≡ None → es ≡ []
@@ -87,7 +87,7 @@ module _ (decl : Declaration) (script : Script) (accepted : IsAccepted decl) (as
   not_awaited : (a n : ℕ) → a < actors decl → IsAwaited n (inbox script a h) → ⊥
   not_awaited a n within (inl lost) = subst (In n) (losts_none a within) lost
   not_awaited a n within (inr (inl open_still)) =
-      nowhere a n (unanswered_at_site decl script accepted asks a (low a within) h
+      nowhere a n (unanswered_requests_are_at_their_sites decl script accepted asks a (low a within) h
       (replicate (actors decl) false) closed n open_still)
   not_awaited a n within (inr (inr has)) = subst (In has.envelope) (copies_none a within) has.member
 
@@ -95,15 +95,16 @@ module _ (decl : Declaration) (script : Script) (accepted : IsAccepted decl) (as
       → In q (open_calls (client_after decl (a - decl.sites) (deeds a [] h)).client) → ⊥
   no_open_requests a client q member =
       not_awaited a q.number (client_within decl a client)
-      (open_requests_awaited decl script a h (replicate (actors decl) false) closed q member)
+      (open_requests_are_awaited decl script a h (replicate (actors decl) false) closed q member)
 
 no_members : {X : Type 0} (xs : List X) → ((x : X) → In x xs → ⊥) → xs ≡ []
 no_members [] none = refl
 no_members (x ∷ xs) none = absurd (none x (inl refl))
 
-pub none_open : (decl : Declaration) (script : Script) → IsAccepted decl → AsksDeclared decl script → (h : List Entry)
+pub no_request_is_open_at_the_end : (decl : Declaration) (script : Script) → IsAccepted decl → AsksDeclared decl script
+    → (h : List Entry)
     → IsClosed decl script h → IsQuiet decl script h → controls_left script h ≡ []
     → (a : ℕ) → is_client decl a ≡ true → open_calls (client_after decl (a - decl.sites) (deeds a [] h)).client ≡ []
-none_open decl script accepted asks h closed quiet done a client =
+no_request_is_open_at_the_end decl script accepted asks h closed quiet done a client =
     no_members (open_calls (client_after decl (a - decl.sites) (deeds a [] h)).client)
     (no_open_requests decl script accepted asks h closed quiet done a client)

@@ -1,27 +1,28 @@
 -- Each Decision Committed names a stamp of its transaction's own client, through falls too, where clients rise with
 -- records that do.
 use Rattle.std.proofs.Common.{◌≡◌, ℕ, ◌-◌, Bool, true, false, if◌then◌else◌, List, [], ◌∷◌, ◌++◌, fold, map, take}
-use Rattle.std.proofs.Common.{Option, Some, None, refl, sym, subst}
+use Rattle.std.proofs.Common.{Option, None, refl, sym, subst, cond, ◌+◌}
 use Rattle.std.specs.List.{AllByRecursion as Every}
+use Rattle.std.specs.Prelude.{MatchOption, max}
+use Rattle.std.specs.Option.{option_map_or}
 use Rattle.qc_list.proofs.Members.{every-append, every-filter}
 use Rattle.qc_core.specs.declared.actor.Actor.{Actor}
 use Rattle.qc_core.specs.declared.actor.Actor.TheVariants as actor
 use Rattle.qc_core.specs.Vocabulary.{ActorMove, IsLawfulWithFalls, IsStamped, actor_after, actor_does, actor_rises}
 use Rattle.qc_core.specs.Vocabulary.{actor_sends, actor_takes, by_admin, by_client, by_site, down_takes, moved}
-use Rattle.qc_core.specs.Vocabulary.{new_actor, with_record}
-use Rattle.qc_core.proofs.AdminTurns.{IsAdminTurn, IsDecision, IsOfAdmin, IsSentByAdmin, WritesDecision}
+use Rattle.qc_core.specs.Vocabulary.{new_actor, with_record, IsOwnStamp}
+use Rattle.qc_core.proofs.AdminTurns.{IsAdminTurn, IsOfAdmin, IsSentByAdmin, WritesDecision}
 use Rattle.qc_core.proofs.AdminWrites.{admin_written}
 use Rattle.qc_core.proofs.Written.{client_written}
 use Rattle.qc_epoch.specs.Vocabulary.{new_admin}
 use Rattle.laws_turns.proofs.Downs.{due}
 use Rattle.qc_recover.specs.Vocabulary.{admin_rises, client_of, client_rises, inquiry, kept_by as site_kept}
-use Rattle.qc_recover.specs.Vocabulary.{most_inquiries, site_rises}
+use Rattle.qc_recover.specs.Vocabulary.{most_inquiries, site_rises, with_commit}
 use Rattle.qc_decl.specs.declared.declaration.Declaration.{Declaration}
 use Rattle.qc_decl.specs.Vocabulary.{is_client, is_site}
 use Rattle.qc_client.specs.Vocabulary.{new_client}
 use Rattle.qc_stamp.specs.declared.stamp.TxId.{TxId}
 use Rattle.qc_msg.specs.declared.message.Message.{Message}
-use Rattle.qc_msg.specs.declared.message.Message.TheVariants as messages
 use Rattle.qc_msg.specs.declared.record.Record.{Record}
 use Rattle.qc_msg.specs.declared.record.Record.TheVariants as records
 use Rattle.qc_msg.specs.declared.step.Input.{Input}
@@ -30,27 +31,39 @@ use Rattle.qc_msg.specs.declared.turn.Appended.{Appended}
 use Rattle.qc_msg.specs.declared.turn.Appended.TheVariants.{Done, Failed, Stopped}
 use Rattle.qc_msg.specs.declared.turn.Posting.{Posting}
 use Rattle.qc_msg.specs.declared.turn.Turn.{Turn}
-use Rattle.qc_msg.specs.Vocabulary.{Deed, Falls, Rises, Sends, Takes, Tells, Writes, quiet, sends_as}
+use Rattle.qc_msg.specs.Vocabulary.{Deed, Falls, Rises, Sends, Takes, Tells, Writes, quiet, sends_as, Decided}
+use Rattle.qc_msg.specs.Vocabulary.{commit_of, is_life}
 use Rattle.qc_recover.specs.Clients.{Kept, keeps, nothing_kept}
 use Rattle.qc_site.specs.Vocabulary.{in_order, new_site}
 use Rattle.qc_entry.specs.declared.record.Prepared.{Prepared}
+use Rattle.qc_entry.specs.declared.record.Commit.{Commit}
 use Rattle.laws_turns.proofs.StampsOwn.{AreStamped, IsOwnCommit, IsOwnWrite, Own, OwnMove, unwritten}
 use Rattle.laws_turns.proofs.OwnStamps.{sent_own, takes_own}
 use Rattle.laws_turns.proofs.Stamped.{IsAnswering, takes_answer}
 use Rattle.laws_turns.specs.Vocabulary.{GivesOwn, IsOwnRecord}
+use Rattle.laws_turns.proofs.MessageCases.{message_cases}
+use Rattle.laws_turns.proofs.ReadingCases.{mapped_by}
 
 -- what a client is by its records
 
 keeps_own : (k : Kept) (r : Record) → Every IsOwnCommit k.commits → IsOwnRecord r
     → Every IsOwnCommit (keeps k r).commits
-keeps_own k records.Life own is = own
-keeps_own k (records.Prepare p) own is = own
-keeps_own k (records.Done tx clock) own is = own
-keeps_own k (records.Close epoch) own is = own
-keeps_own k (records.Install epoch clock lines) own is = own
-keeps_own k (records.Commit commit) own is =
-    every-append IsOwnCommit _ (commit ∷ []) (every-filter IsOwnCommit _ k.commits own) (is, tt)
-keeps_own k (records.Decide epoch clock lines) own is = own
+keeps_own k r own is =
+    by (is_life r)
+  where
+    by : (t : Bool)
+        → Every IsOwnCommit
+        (cond t (record k { life = k.life + 1 }) (option_map_or (λ (c : Commit). record k {
+          commits = with_commit k.commits c;
+          clock = max k.clock c.stamp.clock;
+        }) (commit_of r) k)).commits
+    by true = own
+    by false =
+        mapped_by (λ (j : Kept). Every IsOwnCommit j.commits)
+        (λ (c : Commit). record k { commits = with_commit k.commits c; clock = max k.clock c.stamp.clock }) k (Unit {0})
+        IsOwnCommit (commit_of r)
+        (λ c its. every-append IsOwnCommit _ (c ∷ []) (every-filter IsOwnCommit _ k.commits own) (its, tt))
+        (λ none. own) is
 
 kept_own : (k : Kept) (rs : List Record) → Every IsOwnCommit k.commits → Every IsOwnRecord rs
     → Every IsOwnCommit (fold keeps k rs).commits
@@ -90,27 +103,17 @@ down_stamped k (inputs.Lost number) = record { own = tt; sends = tt; failed = tt
 -- the administrator's messages have no stamps of verdicts, and his records aren't commit records
 
 message_stamped : (m : Message) → IsOfAdmin m → IsStamped m
-message_stamped (messages.Request tx epoch life want) is = absurd is
-message_stamped (messages.Answer to answer) is = absurd is
-message_stamped (messages.Decision tx verdict) is = absurd is
-message_stamped (messages.Inquiry tx) is = absurd is
-message_stamped (messages.Ask tx) is = tt
-message_stamped (messages.Close epoch) is = tt
-message_stamped (messages.Install epoch clock log) is = tt
+message_stamped m is =
+    message_cases
+    (λ m r a d i. IsOfAdmin m → MatchOption d (Unit {0}) (λ (v : Decided). IsOwnStamp v.tx v.verdict))
+    (λ q is. tt) (λ a is. tt) (λ v is. absurd is) (λ tx is. tt) (λ m is. tt) m is
 
 admin_stamped : (ps : List Posting) → Every IsSentByAdmin ps → AreStamped ps
 admin_stamped [] are = tt
 admin_stamped (p ∷ ps) are = (message_stamped p.message are.0, admin_stamped ps are.1)
 
 decision_own : (w : Option Record) → WritesDecision w → IsOwnWrite w
-decision_own None is c same = absurd (let never : ⊥ = cc in never)
-decision_own (Some records.Life) is c same = absurd is
-decision_own (Some (records.Prepare p)) is c same = absurd is
-decision_own (Some (records.Done tx clock)) is c same = absurd is
-decision_own (Some (records.Close epoch)) is c same = absurd is
-decision_own (Some (records.Install epoch clock lines)) is c same = absurd is
-decision_own (Some (records.Commit commit)) is c same = absurd is
-decision_own (Some (records.Decide epoch clock lines)) is c same = absurd (let never : ⊥ = cc in never)
+decision_own w is c same = absurd (subst WritesDecision same is)
 
 takes_stamped : (decl : Declaration) (k : ℕ) (v : Actor) (g : Input) → OwnActor k v
     → StampedMove k (actor_takes decl v g)

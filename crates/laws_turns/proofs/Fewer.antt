@@ -1,10 +1,10 @@
 -- The open requests of a client after an input are ones that were open before, but not the one that the input answers.
 use Rattle.std.proofs.Common.{◌≡◌, ℕ, ◌==◌, ◌⊎◌, Bool, true, if◌then◌else◌, inl, inr, List, [], ◌∷◌, ◌++◌, length}
-use Rattle.std.proofs.Common.{Option, Some, None, is_some, refl, sym, ap, ◌∙◌, subst}
+use Rattle.std.proofs.Common.{Option, Some, None, is_some, refl, sym, ap, ◌∙◌, subst, MatchOption}
+use Rattle.std.specs.Option.{option_map_or}
 use Rattle.qc_list.specs.Vocabulary.{In}
 use Rattle.qc_list.proofs.Members.{In-more}
 use Rattle.qc_decl.specs.declared.declaration.Declaration.{Declaration}
-use Rattle.qc_plan.specs.Vocabulary.{verdict}
 use Rattle.qc_msg.specs.declared.begun.Begun.{Begun}
 use Rattle.qc_msg.specs.declared.call.Call.{Call}
 use Rattle.qc_msg.specs.declared.message.Answer.{Answer}
@@ -17,7 +17,7 @@ use Rattle.qc_msg.specs.declared.step.Command.{Command}
 use Rattle.qc_msg.specs.declared.step.Command.TheVariants as commands
 use Rattle.qc_msg.specs.declared.step.Input.{Input}
 use Rattle.qc_msg.specs.declared.step.Input.TheVariants as inputs
-use Rattle.qc_msg.specs.Vocabulary.{site_called, without_call}
+use Rattle.qc_msg.specs.Vocabulary.{site_called, without_call, Answered, quiet, Requested}
 use Rattle.qc_commit.specs.declared.desk.Desk.{Desk}
 use Rattle.qc_commit.specs.declared.desk.Voting.{Voting}
 use Rattle.qc_commit.specs.Conduct as desks
@@ -29,11 +29,13 @@ use Rattle.qc_front.specs.Conduct as fronts
 use Rattle.qc_front.specs.Vocabulary.{calls_in, ended}
 use Rattle.qc_client.specs.declared.client.Client.{Client}
 use Rattle.qc_client.specs.Vocabulary.{ClientMove, answered, answered_by, by_desk, by_front, called, client_takes}
-use Rattle.qc_client.specs.Vocabulary.{commits, heard, requested, sent_one}
+use Rattle.qc_client.specs.Vocabulary.{commits, heard, requested, sent_one, moved}
 use Rattle.qc_script.specs.Vocabulary.{is_request}
 use Rattle.laws_turns.specs.Vocabulary.{IsAnswerTo, calls_by, open_calls}
 use Rattle.laws_turns.proofs.FrontAsks.{Asks, IsBound, front_called, if_two}
 use Rattle.laws_turns.proofs.RequestsGone.{Leaves, Takes, front_takes, leaves_none, of_rest, unasked}
+use Rattle.laws_turns.proofs.ClientCases.{called_cases, heard_cases}
+use Rattle.laws_turns.proofs.MessageCases.{message_cases}
 
 -- an input that doesn't answer a request, nor tells that it is lost
 abbrev pub IsNotFor : ℕ → Input → Type 0
@@ -96,11 +98,9 @@ module _ (decl : Declaration) (c : Client) (bound : IsBound c.front) where
       })
 
   called_keeps : (command : Command) → Keeps c (λ n. Unit {0}) (called decl c command)
-  called_keeps commands.Begin = called_by_front commands.Begin
-  called_keeps (commands.Do object inv) = called_by_front (commands.Do object inv)
-  called_keeps commands.Commit = commits_keeps c.front.transaction
-  called_keeps commands.Abort = called_by_front commands.Abort
-  called_keeps (commands.Epoch number) = called_by_front (commands.Epoch number)
+  called_keeps command =
+      called_cases decl c (λ command m. Keeps c (λ n. Unit {0}) m) called_by_front (commits_keeps c.front.transaction)
+      command
 
   votes_leave : (v : Voting) → c.desk.voting ≡ Some v → (number : ℕ) (answer : Option Answer) (o : Option ℕ)
       → site_called v.calls number ≡ o → Leaves v.calls number
@@ -154,24 +154,19 @@ module _ (decl : Declaration) (c : Client) (bound : IsBound c.front) where
   }
 
   heard_keeps : (from number : ℕ) (m : Message) → Keeps c (λ n. IsAnswerTo n m → ⊥) (heard decl c from number m)
-  heard_keeps from number (messages.Request tx epoch life want) =
-      quiet_keeps (heard decl c from number (messages.Request tx epoch life want)) (λ n. ⊥ → ⊥) refl (λ n never. never)
-  heard_keeps from number (messages.Answer to answer) =
-      let kept : Keeps c (λ n. n ≡ to → ⊥) (answered decl c to (Some answer)) = answered_keeps to (Some answer) in
+  heard_keeps from number m =
+      heard_cases decl c from number (λ m move. Keeps c (λ n. IsAnswerTo n m → ⊥) move)
+      (λ m none. quiet_keeps (moved c quiet) (λ n. IsAnswerTo n m → ⊥) refl
+      (λ n. subst (λ (o : Option Answered). MatchOption o ⊥ (λ (a : Answered). a.to ≡ n) → ⊥) (sym none)
+      (λ never. never)))
+      (λ to answer. let kept : Keeps c (λ n. n ≡ to → ⊥) (answered decl c to (Some answer)) =
+      answered_keeps to (Some answer) in
       record {
         calls = λ q member. ((kept.calls q member).0, λ is. (kept.calls q member).1 (sym is));
         bound = kept.bound;
-      }
-  heard_keeps from number (messages.Decision tx verdict) =
-      quiet_keeps (heard decl c from number (messages.Decision tx verdict)) (λ n. ⊥ → ⊥) refl (λ n never. never)
-  heard_keeps from number (messages.Inquiry tx) =
-      quiet_keeps (heard decl c from number (messages.Inquiry tx)) (λ n. ⊥ → ⊥) refl (λ n never. never)
-  heard_keeps from number (messages.Ask tx) =
-      quiet_keeps (heard decl c from number (messages.Ask tx)) (λ n. ⊥ → ⊥) refl (λ n never. never)
-  heard_keeps from number (messages.Close epoch) =
-      quiet_keeps (heard decl c from number (messages.Close epoch)) (λ n. ⊥ → ⊥) refl (λ n never. never)
-  heard_keeps from number (messages.Install epoch clock log) =
-      quiet_keeps (heard decl c from number (messages.Install epoch clock log)) (λ n. ⊥ → ⊥) refl (λ n never. never)
+      })
+      (λ tx. quiet_keeps (heard decl c from number (messages.Inquiry tx)) (λ n. ⊥ → ⊥) refl (λ n never. never))
+      (λ tx. quiet_keeps (heard decl c from number (messages.Ask tx)) (λ n. ⊥ → ⊥) refl (λ n never. never)) m
 
   pub takes_keeps : (g : Input) → Keeps c (λ n. IsNotFor n g) (client_takes decl c g)
   takes_keeps (inputs.Called command) = called_keeps command
@@ -243,13 +238,11 @@ wanted c number to m w request bound = by w
     }
 
 pub sent_calls : (c : Client) (number to : ℕ) (m : Message) → IsBound c.front → Sent c number m (sent_one c number to m)
-sent_calls c number to (messages.Request tx epoch life want) bound =
-    wanted c number to (messages.Request tx epoch life want) want refl bound
-sent_calls c number to (messages.Answer number_asked answer) bound =
-    record { calls = λ q member. inl member; bound = bound }
-sent_calls c number to (messages.Decision tx verdict) bound = record { calls = λ q member. inl member; bound = bound }
-sent_calls c number to (messages.Inquiry tx) bound = record { calls = λ q member. inl member; bound = bound }
-sent_calls c number to (messages.Ask tx) bound = record { calls = λ q member. inl member; bound = bound }
-sent_calls c number to (messages.Close epoch) bound = record { calls = λ q member. inl member; bound = bound }
-sent_calls c number to (messages.Install epoch clock log) bound =
-    record { calls = λ q member. inl member; bound = bound }
+sent_calls c number to m bound =
+    message_cases
+    (λ m r a d i. Sent c number m (option_map_or (λ (q : Requested). requested c number to q.want) r c))
+    (λ q. wanted c number to (messages.Request q.tx q.epoch q.life q.want) q.want refl bound)
+    (λ a. record { calls = λ q member. inl member; bound = bound })
+    (λ d. record { calls = λ q member. inl member; bound = bound })
+    (λ tx. record { calls = λ q member. inl member; bound = bound })
+    (λ m. record { calls = λ q member. inl member; bound = bound }) m

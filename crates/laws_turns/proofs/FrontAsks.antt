@@ -12,7 +12,6 @@ use Rattle.qc_msg.specs.declared.reply.Reply.{Reply}
 use Rattle.qc_msg.specs.declared.reply.Reply.TheVariants as replies
 use Rattle.qc_msg.specs.declared.reply.AbortCause.TheVariants as causes
 use Rattle.qc_msg.specs.declared.step.Command.{Command}
-use Rattle.qc_msg.specs.declared.step.Command.TheVariants as commands
 use Rattle.qc_msg.specs.Vocabulary.{quiet, telling}
 use Rattle.qc_front.specs.declared.doing.Doing.TheVariants.{Idle}
 use Rattle.qc_front.specs.declared.front.Front.{Front}
@@ -20,6 +19,7 @@ use Rattle.qc_front.specs.declared.transaction.Transaction.{Transaction}
 use Rattle.qc_front.specs.Vocabulary.{FrontMove, aborts, answer_of, answered as front_answered, append_by, begins}
 use Rattle.qc_front.specs.Vocabulary.{calls_in, gives_up, moved as front_moved, performs, read_by, reads, round_for}
 use Rattle.qc_front.specs.Conduct as fronts
+use Rattle.laws_turns.proofs.ClientCases.{front_cases}
 
 pub if_two : {A : Type 0} (P : A → Type 0) (t : Bool) (x y : A) → P x → P y → P (if t then x else y)
 if_two P true x y here there = here
@@ -123,8 +123,8 @@ module _ (decl : Declaration) where
 
   pub front_called : (front : Front) (command : Command) → IsBound front
       → Asks (calls_in front.doing) (fronts.called decl front command)
-  front_called front commands.Begin bound = begins_asks front front.transaction bound
-  front_called front (commands.Do object inv) bound = performs_asks front front.transaction object inv bound
-  front_called front commands.Commit bound = commits_asks front front.transaction bound
-  front_called front commands.Abort bound = aborts_asks front front.transaction bound
-  front_called front (commands.Epoch number) bound = stays front (front_moved front quiet) refl bound
+  front_called front command bound =
+      front_cases decl front (λ command m. Asks (calls_in front.doing) m) (begins_asks front front.transaction bound)
+      (λ object inv. performs_asks front front.transaction object inv bound)
+      (commits_asks front front.transaction bound) (aborts_asks front front.transaction bound)
+      (λ number. stays front (front_moved front quiet) refl bound) command

@@ -1,8 +1,9 @@
 -- What a front end becomes stays within a bound that what it takes keeps to.
 use Rattle.std.proofs.Common.{[], ◌≡◌, ℕ, zero, suc, ◌+◌, ◌≤◌, max, Bool, true, false, cond, nat_le, List, ◌∷◌, ◌++◌}
 use Rattle.std.proofs.Common.{length, replicate, Option, Some, None, option_map, refl, arith}
-use Rattle.std.specs.Prelude.{slice_get, slice_set}
+use Rattle.std.specs.Prelude.{slice_get, slice_set, max, option_and_then}
 use Rattle.std.specs.List.{AllByRecursion as Every}
+use Rattle.std.specs.Option.{option_map_or}
 use Rattle.qc_list.proofs.Members.{every-at, every-weaker}
 use Rattle.qc_entry.specs.declared.line.Line.{Line}
 use Rattle.qc_entry.proofs.Union.{every-union}
@@ -10,10 +11,9 @@ use Rattle.qc_decl.specs.declared.declaration.Declaration.{Declaration}
 use Rattle.qc_decl.specs.Vocabulary.{append_need_of, most_transaction_operations, read_need_of}
 use Rattle.qc_msg.specs.declared.call.Call.{Call}
 use Rattle.qc_msg.specs.declared.message.Answer.{Answer}
-use Rattle.qc_msg.specs.declared.message.Answer.TheVariants as answers
 use Rattle.qc_msg.specs.declared.reply.Reply.TheVariants as replies
 use Rattle.qc_msg.specs.declared.reply.AbortCause.TheVariants as causes
-use Rattle.qc_msg.specs.Vocabulary.{quiet, site_called, telling, without_call}
+use Rattle.qc_msg.specs.Vocabulary.{quiet, site_called, telling, without_call, Granting, closed_in, granted_in}
 use Rattle.qc_plan.specs.Vocabulary.{RoundState, note, verdict}
 use Rattle.qc_plan.specs.declared.standing.Verdict.{Verdict}
 use Rattle.qc_plan.specs.declared.standing.Verdict.TheVariants as verdicts
@@ -26,10 +26,12 @@ use Rattle.qc_front.specs.declared.transaction.Transaction.{Transaction}
 use Rattle.qc_front.specs.Vocabulary.{aborts, answer_of, answered, append_by, appended_with, appending_takes, commits}
 use Rattle.qc_front.specs.Vocabulary.{gives_up, learns, lived, moved, next_own, performs, read_by, read_with}
 use Rattle.qc_front.specs.Vocabulary.{reading_takes, reads, resp_of, round_for, standing_of, takes_in, with_event}
-use Rattle.qc_front.specs.Vocabulary.{with_view}
+use Rattle.qc_front.specs.Vocabulary.{with_view, with_granted}
 use Rattle.laws_turns.specs.Vocabulary.{FrontWithin, LinesWithin, TransactionWithin, ViewsWithin}
-use Rattle.laws_turns.proofs.DesksWithin.{CameWithin}
+use Rattle.laws_turns.proofs.DesksWithin.{CameWithin, answer_read}
 use Rattle.laws_turns.proofs.Greater.{lines-le}
+use Rattle.laws_turns.proofs.AnswerCases.{appended_cases}
+use Rattle.laws_turns.proofs.ReadingCases.{mapped, mapped_by}
 
 -- a greater bound
 
@@ -97,35 +99,19 @@ module _ (bound : ℕ) where
 
   read-within : (t : Transaction) (site object : ℕ) (answer : Option Answer) → ViewsWithin bound t.views
       → CameWithin bound answer → ViewsWithin bound (read_with t site object answer).views
-  read-within t site object None w here = w
-  read-within t site object (Some (answers.Granted life clock log)) w here =
-      view-within (lived t site life) object (option_map (λ (v : View). with_log v log) (slice_get t.views object)) w
-      (logged (slice_get t.views object) log (old-within t.views object (slice_get t.views object) refl w) here.1)
-  read-within t site object (Some (answers.Clash holder inv event)) w here = w
-  read-within t site object (Some (answers.Closed epoch)) w here = w
-  read-within t site object (Some (answers.Behind epoch)) w here = w
-  read-within t site object (Some (answers.Restarted life)) w here = w
-  read-within t site object (Some answers.Stale) w here = w
-  read-within t site object (Some answers.Fault) w here = w
-  read-within t site object (Some (answers.Yes clock)) w here = w
-  read-within t site object (Some (answers.Shut clock log prepared)) w here = w
-  read-within t site object (Some answers.Installed) w here = w
-  read-within t site object (Some (answers.Answered verdict)) w here = w
+  read-within t site object answer w here =
+      mapped_by (λ (u : Transaction). ViewsWithin bound u.views)
+      (λ (g : Granting). with_granted (lived t site g.life) object g.log) t (Unit {0})
+      (λ (g : Granting). (g.clock ≤ bound) × LinesWithin bound g.log) (option_and_then granted_in answer)
+      (λ g within. view-within (lived t site g.life) object
+      (option_map (λ (v : View). with_log v g.log) (slice_get t.views object)) w
+      (logged (slice_get t.views object) g.log (old-within t.views object (slice_get t.views object) refl w) within.1))
+      (λ none. w) (answer_read bound answer here).grant
 
   appended_within : (t : Transaction) (site : ℕ) (answer : Option Answer) → ViewsWithin bound t.views
       → ViewsWithin bound (appended_with t site answer).views
-  appended_within t site None w = w
-  appended_within t site (Some (answers.Granted life clock log)) w = w
-  appended_within t site (Some (answers.Clash holder inv event)) w = w
-  appended_within t site (Some (answers.Closed epoch)) w = w
-  appended_within t site (Some (answers.Behind epoch)) w = w
-  appended_within t site (Some (answers.Restarted life)) w = w
-  appended_within t site (Some answers.Stale) w = w
-  appended_within t site (Some answers.Fault) w = w
-  appended_within t site (Some (answers.Yes clock)) w = w
-  appended_within t site (Some (answers.Shut clock log prepared)) w = w
-  appended_within t site (Some answers.Installed) w = w
-  appended_within t site (Some (answers.Answered verdict)) w = w
+  appended_within t site answer w =
+      appended_cases t site (λ (u : Transaction). ViewsWithin bound u.views) (λ lives. w) answer
 
   -- the clock as an answer counts
 
@@ -135,20 +121,16 @@ module _ (bound : ℕ) where
 
   learned-within : (front : Front) (answer : Option Answer) → FrontWithin bound front → CameWithin bound answer
       → FrontWithin bound (learns front answer)
-  learned-within front None w here = w
-  learned-within front (Some (answers.Granted life clock log)) w here =
-      record { clock = granted-clock front clock w.clock here.0; count = w.count; views = w.views }
-  learned-within front (Some (answers.Clash holder inv event)) w here = w
-  learned-within front (Some (answers.Closed epoch)) w here =
-      record { clock = w.clock; count = w.count; views = w.views }
-  learned-within front (Some (answers.Behind epoch)) w here = w
-  learned-within front (Some (answers.Restarted life)) w here = w
-  learned-within front (Some answers.Stale) w here = w
-  learned-within front (Some answers.Fault) w here = w
-  learned-within front (Some (answers.Yes clock)) w here = w
-  learned-within front (Some (answers.Shut clock log prepared)) w here = w
-  learned-within front (Some answers.Installed) w here = w
-  learned-within front (Some (answers.Answered verdict)) w here = w
+  learned-within front answer w here =
+      mapped_by (FrontWithin bound)
+      (λ (g : Granting). record front { clock = record { value = max front.clock.value g.clock } })
+      (option_map_or (λ (epoch : ℕ). record front { epoch = max front.epoch epoch }) (option_and_then closed_in answer)
+      front) (Unit {0}) (λ (g : Granting). (g.clock ≤ bound) × LinesWithin bound g.log)
+      (option_and_then granted_in answer)
+      (λ g within. record { clock = granted-clock front g.clock w.clock within.0; count = w.count; views = w.views })
+      (λ none. mapped (FrontWithin bound) (λ (epoch : ℕ). record front { epoch = max front.epoch epoch }) front
+      (option_and_then closed_in answer)
+      (λ epoch. record { clock = w.clock; count = w.count; views = w.views }) w) (answer_read bound answer here).grant
 
   module _ (decl : Declaration) (front : Front) (w : FrontWithin bound front) where
     append_by-within : (t : Transaction) (object inv event : ℕ) (calls : List Call) (r : RoundState) (v : Verdict)

@@ -1,16 +1,14 @@
 -- A front end's move by which a transaction goes on under its name.
 use Rattle.std.proofs.Common.{[], ◌≡◌, ℕ, ◌+◌, ◌⊎◌, inl, List, ◌∷◌, ◌++◌, map, Option, Some, None, option_map, refl}
 use Rattle.std.proofs.Common.{sym, ap, ◌∙◌}
-use Rattle.std.specs.Prelude.{slice_get}
+use Rattle.std.specs.Prelude.{slice_get, MatchOption}
 use Rattle.std.specs.List.{AllByRecursion as Every}
 use Rattle.qc_stamp.specs.declared.stamp.TxId.{TxId}
 use Rattle.qc_decl.specs.declared.declaration.Declaration.{Declaration}
 use Rattle.qc_decl.specs.Vocabulary.{append_need_of}
 use Rattle.qc_msg.specs.declared.begun.Begun.{Begun}
 use Rattle.qc_msg.specs.declared.call.Call.{Call}
-use Rattle.qc_msg.specs.declared.message.Answer.{Answer}
 use Rattle.qc_msg.specs.declared.message.Message.{Message}
-use Rattle.qc_msg.specs.declared.message.Message.TheVariants as messages
 use Rattle.qc_msg.specs.declared.message.Outcome.TheVariants.{Aborted}
 use Rattle.qc_msg.specs.declared.message.Want.{Want}
 use Rattle.qc_msg.specs.declared.reply.Half.TheVariants as halves
@@ -18,7 +16,7 @@ use Rattle.qc_msg.specs.declared.reply.Reply.{Reply}
 use Rattle.qc_msg.specs.declared.reply.Reply.TheVariants as replies
 use Rattle.qc_msg.specs.declared.turn.Posting.{Posting}
 use Rattle.qc_msg.specs.declared.turn.Turn.{Turn}
-use Rattle.qc_msg.specs.Vocabulary.{decisions, sending, telling}
+use Rattle.qc_msg.specs.Vocabulary.{decisions, sending, telling, Requested, request_in}
 use Rattle.qc_plan.specs.Vocabulary.{RoundState, asking_all, verdict, wanted}
 use Rattle.qc_plan.specs.declared.standing.Verdict.{Verdict}
 use Rattle.qc_plan.specs.declared.standing.Verdict.TheVariants as verdicts
@@ -64,13 +62,7 @@ ToldNeutral name (Some reply) = IsNeutral name reply
 
 -- a request for a transaction of this name
 abbrev pub IsRequestFor : Option TxId → Message → Type 0
-IsRequestFor name (messages.Request tx epoch life want) = name ≡ Some tx
-IsRequestFor name (messages.Answer to answer) = ⊥
-IsRequestFor name (messages.Decision tx verdict) = ⊥
-IsRequestFor name (messages.Inquiry tx) = ⊥
-IsRequestFor name (messages.Ask tx) = ⊥
-IsRequestFor name (messages.Close epoch) = ⊥
-IsRequestFor name (messages.Install epoch clock log) = ⊥
+IsRequestFor name m = MatchOption (request_in m) ⊥ (λ (q : Requested). name ≡ Some q.tx)
 
 abbrev pub name_in : Front → Option TxId
 name_in front = begun_tx (begun_in front.transaction)

@@ -1,39 +1,35 @@
 -- What a front end's move does with its transaction: that goes on under its name, one begins, or it is given up.
 use Rattle.std.proofs.Common.{[], ◌≡◌, ℕ, nat_le, Bool, true, false, cond, inl, inr, List, length, Option, Some, None}
-use Rattle.std.proofs.Common.{option_map, refl, sym, ap, ◌∙◌, subst}
-use Rattle.std.specs.Prelude.{slice_get}
+use Rattle.std.proofs.Common.{refl, sym, ap, ◌∙◌, subst}
 use Rattle.std.specs.List.{AllByRecursion as Every}
 use Rattle.qc_stamp.specs.declared.stamp.TxId.{TxId}
 use Rattle.qc_decl.specs.declared.declaration.Declaration.{Declaration}
 use Rattle.qc_decl.specs.Vocabulary.{most_transaction_operations, read_need_of}
 use Rattle.qc_msg.specs.declared.begun.Begun.{Begun}
 use Rattle.qc_msg.specs.declared.message.Answer.{Answer}
-use Rattle.qc_msg.specs.declared.message.Answer.TheVariants as answers
 use Rattle.qc_msg.specs.declared.message.Outcome.TheVariants.{Aborted}
 use Rattle.qc_msg.specs.declared.reply.Reply.{Reply}
 use Rattle.qc_msg.specs.declared.reply.Reply.TheVariants as replies
 use Rattle.qc_msg.specs.declared.reply.AbortCause.TheVariants as causes
 use Rattle.qc_msg.specs.declared.step.Command.{Command}
-use Rattle.qc_msg.specs.declared.step.Command.TheVariants as commands
 use Rattle.qc_msg.specs.declared.turn.Posting.{Posting}
 use Rattle.qc_msg.specs.declared.turn.Turn.{Turn}
 use Rattle.qc_msg.specs.Vocabulary.{quiet, site_called, telling, without_call}
 use Rattle.qc_plan.specs.Vocabulary.{note, verdict}
-use Rattle.qc_view.specs.declared.view.View.{View}
-use Rattle.qc_view.specs.Vocabulary.{with_log}
 use Rattle.qc_front.specs.declared.doing.Doing.{Doing}
 use Rattle.qc_front.specs.declared.doing.Doing.TheVariants.{Idle, Reading, Appending}
 use Rattle.qc_front.specs.declared.front.Front.{Front}
 use Rattle.qc_front.specs.declared.transaction.Transaction.{Transaction}
 use Rattle.qc_front.specs.Vocabulary.{aborts, appended_with, appending_takes, begins, called, commits, doomed, gives_up}
-use Rattle.qc_front.specs.Vocabulary.{learns, lived, moved, performs, read_with, reading_takes, reads, round_for}
+use Rattle.qc_front.specs.Vocabulary.{learns, moved, performs, read_with, reading_takes, reads, round_for}
 use Rattle.qc_front.specs.Vocabulary.{standing_of, takes, takes_in}
-use Rattle.qc_front.proofs.CommandsKeep.{view_keeps}
 use Rattle.qc_front.proofs.Keeping.{appended_is}
 use Rattle.laws_turns.specs.Vocabulary.{begun_in}
 use Rattle.laws_turns.proofs.DealingParts.{IsAbort, begun_tx}
 use Rattle.laws_turns.proofs.FrontGoesOn.{ToldNeutral, IsRequestFor, name_in, HasSameCounts, FrontKind, append_by-kind}
 use Rattle.laws_turns.proofs.FrontGoesOn.{read_by-kind}
+use Rattle.laws_turns.proofs.ClientCases.{front_cases}
+use Rattle.laws_turns.proofs.AnswerCases.{learned_cases, read_cases}
 
 same_counts : (front : Front) → HasSameCounts front front
 same_counts front = record { client = refl; life = refl; count = refl }
@@ -111,42 +107,20 @@ module _ (decl : Declaration) (front : Front) where
   aborts-kind (Some t) is = gives t replies.Dropped is tt
 
   pub called-kind : (command : Command) → FrontKind front (called decl front command)
-  called-kind commands.Begin = begins-kind front.transaction refl
-  called-kind (commands.Do object inv) = performs-kind front.transaction object inv refl
-  called-kind commands.Commit = commits-kind front.transaction refl
-  called-kind commands.Abort = aborts-kind front.transaction refl
-  called-kind (commands.Epoch number) = still quiet refl refl tt
+  called-kind command =
+      front_cases decl front (λ command m. FrontKind front m) (begins-kind front.transaction refl)
+      (λ object inv. performs-kind front.transaction object inv refl) (commits-kind front.transaction refl)
+      (aborts-kind front.transaction refl) (λ number. still quiet refl refl tt) command
 
   read_named : (t : Transaction) (site object : ℕ) (answer : Option Answer)
       → (read_with t site object answer).begun.tx ≡ t.begun.tx
-  read_named t site object None = refl
-  read_named t site object (Some (answers.Granted life clock log)) =
-      ap (λ (b : Begun). b.tx)
-      (view_keeps (lived t site life) object (option_map (λ (v : View). with_log v log) (slice_get t.views object)))
-  read_named t site object (Some (answers.Clash holder inv event)) = refl
-  read_named t site object (Some (answers.Closed epoch)) = refl
-  read_named t site object (Some (answers.Behind epoch)) = refl
-  read_named t site object (Some (answers.Restarted life)) = refl
-  read_named t site object (Some answers.Stale) = refl
-  read_named t site object (Some answers.Fault) = refl
-  read_named t site object (Some (answers.Yes clock)) = refl
-  read_named t site object (Some (answers.Shut clock log prepared)) = refl
-  read_named t site object (Some answers.Installed) = refl
-  read_named t site object (Some (answers.Answered verdict)) = refl
+  read_named t site object answer =
+      read_cases t site object (λ (b : Begun). b.tx ≡ t.begun.tx) (λ lives. refl) answer
 
   learned : (answer : Option Answer) → HasSameCounts front (learns front answer)
-  learned None = same_counts front
-  learned (Some (answers.Granted life clock log)) = record { client = refl; life = refl; count = refl }
-  learned (Some (answers.Clash holder inv event)) = same_counts front
-  learned (Some (answers.Closed epoch)) = record { client = refl; life = refl; count = refl }
-  learned (Some (answers.Behind epoch)) = same_counts front
-  learned (Some (answers.Restarted life)) = same_counts front
-  learned (Some answers.Stale) = same_counts front
-  learned (Some answers.Fault) = same_counts front
-  learned (Some (answers.Yes clock)) = same_counts front
-  learned (Some (answers.Shut clock log prepared)) = same_counts front
-  learned (Some answers.Installed) = same_counts front
-  learned (Some (answers.Answered verdict)) = same_counts front
+  learned answer =
+      learned_cases front (HasSameCounts front) (λ clock. record { client = refl; life = refl; count = refl })
+      (λ epoch. record { client = refl; life = refl; count = refl }) (same_counts front) answer
 
   takes_in-kind : (doing : Doing) (o : Option Transaction) (number : ℕ) (answer : Option Answer) → front.transaction ≡ o
       → FrontKind front (takes_in decl front doing o number answer)

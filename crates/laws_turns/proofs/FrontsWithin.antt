@@ -1,16 +1,15 @@
 -- What a front end becomes and sends stays within a bound that what it takes keeps to, and one more where it begins.
 use Rattle.std.proofs.Common.{[], ◌≡◌, ℕ, ◌+◌, ◌≤◌, length, Option, Some, None, refl, sym, subst, arith}
-use Rattle.std.specs.Prelude.{slice_get}
+use Rattle.std.specs.Prelude.{slice_get, MatchOption}
 use Rattle.std.specs.Option.{option_map_or}
 use Rattle.qc_list.proofs.Members.{every-from_In}
 use Rattle.qc_decl.specs.declared.declaration.Declaration.{Declaration}
 use Rattle.qc_msg.specs.declared.message.Answer.{Answer}
 use Rattle.qc_msg.specs.declared.message.Message.{Message}
-use Rattle.qc_msg.specs.declared.message.Message.TheVariants as messages
 use Rattle.qc_msg.specs.declared.message.Want.{Want}
 use Rattle.qc_msg.specs.declared.step.Command.{Command}
-use Rattle.qc_msg.specs.declared.step.Command.TheVariants as commands
 use Rattle.qc_msg.specs.declared.turn.Posting.{Posting}
+use Rattle.qc_msg.specs.Vocabulary.{Decided, Requested}
 use Rattle.qc_plan.specs.Vocabulary.{verdict}
 use Rattle.qc_view.specs.declared.view.View.{View}
 use Rattle.qc_front.specs.declared.doing.Doing.{Doing}
@@ -18,12 +17,16 @@ use Rattle.qc_front.specs.declared.doing.Doing.TheVariants.{Idle, Reading, Appen
 use Rattle.qc_front.specs.declared.front.Front.{Front}
 use Rattle.qc_front.specs.declared.transaction.Transaction.{Transaction}
 use Rattle.qc_front.specs.Vocabulary.{AreSent, FrontMove, IsFor, IsSent, begins, called, ended, takes, view_log}
+use Rattle.qc_front.specs.Vocabulary.{IsRequestOf}
 use Rattle.qc_front.proofs.Sending.{called_sent, takes_sent}
+use Rattle.qc_front.specs.Requests.{IsVerdictOf}
 use Rattle.laws_turns.specs.Vocabulary.{FrontWithin, LinesWithin, MessageWithin, OutcomeWithin, SendsWithin}
 use Rattle.laws_turns.specs.Vocabulary.{TransactionWithin, ViewsWithin, WantWithin}
 use Rattle.laws_turns.proofs.DesksWithin.{CameWithin}
 use Rattle.laws_turns.proofs.FrontBounds.{front-le, no_lines, old-within, granted-clock, takes_in-within, aborts-within}
 use Rattle.laws_turns.proofs.FrontBounds.{commits-within, performs-within}
+use Rattle.laws_turns.proofs.ClientCases.{front_cases}
+use Rattle.laws_turns.proofs.MessageCases.{message_cases}
 
 module _ (bound : ℕ) where
   -- another view of an object
@@ -57,13 +60,14 @@ module _ (bound : ℕ) where
         asks to want t begun is = for-within decl t move.front.doing want (subst (TransactionWithin bound) begun w) is
 
         one : (to : ℕ) (message : Message) → IsSent decl before move.front to message → MessageWithin bound message
-        one to (messages.Request tx epoch life want) is = asks to want is.t is.begun is.wants
-        one to (messages.Answer number answer) never = absurd never
-        one to (messages.Decision tx verdict) is = subst (OutcomeWithin bound) (sym is.aborted) tt
-        one to (messages.Inquiry tx) never = absurd never
-        one to (messages.Ask tx) never = absurd never
-        one to (messages.Close epoch) never = absurd never
-        one to (messages.Install epoch clock log) never = absurd never
+        one to message is =
+            message_cases
+            (λ m r a d i. MatchOption r
+            (MatchOption d ⊥ (λ (v : Decided). IsVerdictOf before to v.tx v.verdict))
+            (λ (q : Requested). IsRequestOf decl move.front to q.tx q.epoch q.life q.want) → MessageWithin bound m)
+            (λ q is. asks to q.want is.t is.begun is.wants) (λ a never. absurd never)
+            (λ v is. subst (OutcomeWithin bound) (sym is.aborted) tt) (λ tx never. absurd never)
+            (λ m never. absurd never) message is
 
 -- a move
 
@@ -84,15 +88,13 @@ begins-within bound decl front None w =
 
 called-within : (bound : ℕ) (decl : Declaration) (front : Front) (command : Command) → FrontWithin bound front
     → FrontWithin (bound + 1) (called decl front command).front
-called-within bound decl front commands.Begin w = begins-within bound decl front front.transaction w
-called-within bound decl front (commands.Do object inv) w =
+called-within bound decl front command w =
     let more : FrontWithin (bound + 1) front = front-le bound (bound + 1) front (omega arith) w in
-    performs-within (bound + 1) decl front more front.transaction object inv more.views
-called-within bound decl front commands.Commit w =
-    commits-within (bound + 1) decl front (front-le bound (bound + 1) front (omega arith) w) front.transaction
-called-within bound decl front commands.Abort w =
-    aborts-within (bound + 1) decl front (front-le bound (bound + 1) front (omega arith) w) front.transaction
-called-within bound decl front (commands.Epoch number) w = front-le bound (bound + 1) front (omega arith) w
+    front_cases decl front (λ command m. FrontWithin (bound + 1) m.front)
+    (begins-within bound decl front front.transaction w)
+    (λ object inv. performs-within (bound + 1) decl front more front.transaction object inv more.views)
+    (commits-within (bound + 1) decl front more front.transaction)
+    (aborts-within (bound + 1) decl front more front.transaction) (λ number. more) command
 
 pub called-goes : (bound : ℕ) (decl : Declaration) (front : Front) (command : Command) → FrontWithin bound front
     → FrontGoes (bound + 1) (called decl front command)

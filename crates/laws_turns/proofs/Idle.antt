@@ -17,7 +17,7 @@ use Rattle.qc_script.specs.Vocabulary.{Runs}
 use Rattle.qc_script.specs.declared.script.Script.{Script}
 use Rattle.qc_site.specs.Vocabulary.{site_after}
 use Rattle.laws_turns.specs.Vocabulary.{ActsIn}
-use Rattle.laws_turns.proofs.Acted.{has_entry, others_do_nothing, run_acts}
+use Rattle.laws_turns.proofs.Acted.{has_entry, others_do_nothing, actors_take_and_post_by_turns}
 
 abbrev pub IsInput : Deed → Type 0
 IsInput (Takes given) = Unit {0}
@@ -50,7 +50,9 @@ module _ (decl : Declaration) (a : ℕ) (past : administrator decl ≤ a) where
   idle script h open_inputs run = by (nat_lt a (actors decl)) refl
     where
       at : (t : Bool) × (slice_get open_inputs a ≡ Some t) → Every IsInput (deeds a [] h)
-      at place = let r : ActsIn decl a h place.0 = run_acts decl script h open_inputs run a place.0 place.1 in
+      at place =
+          let r : ActsIn decl a h place.0 =
+          actors_take_and_post_by_turns decl script h open_inputs run a place.0 place.1 in
           acts_idle (deeds a [] h) place.0 r.above r.acts
 
       by : (t : Bool) → nat_lt a (actors decl) ≡ t → Every IsInput (deeds a [] h)

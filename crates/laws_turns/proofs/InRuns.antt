@@ -26,7 +26,7 @@ use Rattle.qc_core.specs.Acts as acts
 use Rattle.qc_core.proofs.ActorSent.{known}
 use Rattle.qc_core.proofs.ClientStands.{Stands}
 use Rattle.laws_turns.specs.Vocabulary.{ActsIn, written_in}
-use Rattle.laws_turns.proofs.Acted.{run_acts}
+use Rattle.laws_turns.proofs.Acted.{actors_take_and_post_by_turns}
 use Rattle.laws_turns.proofs.Arrivals.{what_is_ready_was_sent}
 use Rattle.laws_turns.proofs.Numbered.{IsSilent, control_silent, phase_silent}
 use Rattle.laws_turns.proofs.Places.{slice_get-set_other, slice_get-set_same}
@@ -237,5 +237,6 @@ pub run_kept : (decl : Declaration) (script : Script) (h : List Entry) (open_inp
     → (a : ℕ) → is_client decl a ≡ true → (tx : TxId) → IsKept (a - decl.sites) tx (deeds a [] h)
 run_kept decl script h open_inputs accepted run a named tx =
     let place : HasPlace open_inputs a = run_place decl script h open_inputs run a (client_low decl a named) in
-    let turns : ActsIn decl a h place.is_open = run_acts decl script h open_inputs run a place.is_open place.at in
+    let turns : ActsIn decl a h place.is_open =
+    actors_take_and_post_by_turns decl script h open_inputs run a place.is_open place.at in
     kept_acts decl accepted a (client_no_site decl a named) named tx (deeds a [] h) place.is_open turns.above turns.acts

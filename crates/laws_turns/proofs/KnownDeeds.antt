@@ -1,26 +1,21 @@
 -- Questions about a transaction come only once that has begun; deeds one after another.
 use Rattle.std.proofs.Common.{◌≡◌, ◌≢◌, true, List, [], ◌∷◌, ◌++◌, fold}
 use Rattle.std.specs.List.{AllByRecursion as Every}
+use Rattle.std.specs.Prelude.{MatchOption}
 use Rattle.qc_stamp.specs.declared.stamp.TxId.{TxId}
 use Rattle.qc_stamp.specs.Vocabulary.{same_tx}
 use Rattle.qc_msg.specs.declared.message.Message.{Message}
-use Rattle.qc_msg.specs.declared.message.Message.TheVariants as messages
 use Rattle.qc_msg.specs.declared.step.Input.{Input}
 use Rattle.qc_msg.specs.declared.step.Input.TheVariants as inputs
-use Rattle.qc_msg.specs.Vocabulary.{Deed, Falls, Rises, Sends, Takes, Tells, Writes}
+use Rattle.qc_msg.specs.Vocabulary.{Deed, Falls, Rises, Sends, Takes, Tells, Writes, inquiry_in}
 use Rattle.qc_promise.specs.Vocabulary.{AreRightFrom, Status, Unborn, status_at}
 use Rattle.laws_turns.proofs.ClientsWithin.{IsPost}
 
 -- a question about a transaction comes only once that has begun
 
 abbrev pub IsKnownIn : TxId → Status → Message → Type 0
-IsKnownIn tx s (messages.Request other epoch life want) = Unit {0}
-IsKnownIn tx s (messages.Answer to answer) = Unit {0}
-IsKnownIn tx s (messages.Decision other verdict) = Unit {0}
-IsKnownIn tx s (messages.Inquiry other) = same_tx other tx ≡ true → s ≢ Unborn
-IsKnownIn tx s (messages.Ask other) = Unit {0}
-IsKnownIn tx s (messages.Close epoch) = Unit {0}
-IsKnownIn tx s (messages.Install epoch clock log) = Unit {0}
+IsKnownIn tx s m =
+    MatchOption (inquiry_in m) (Unit {0}) (λ (other : TxId). same_tx other tx ≡ true → s ≢ Unborn)
 
 abbrev pub IsKnown : TxId → Status → Input → Type 0
 IsKnown tx s (inputs.Called command) = Unit {0}

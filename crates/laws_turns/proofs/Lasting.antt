@@ -1,6 +1,8 @@
 -- What a status, once reached, stays; and what was sent and written shows of it.
 use Rattle.std.proofs.Common.{◌≡◌, ◌≢◌, ℕ, ◌⊎◌, inl, inr, Bool, true, false, cond, List, [], ◌∷◌, fold, refl, sym, ap}
 use Rattle.std.proofs.Common.{◌∙◌, subst}
+use Rattle.std.specs.Prelude.{MatchOption}
+use Rattle.std.specs.Option.{option_map_or}
 use Rattle.qc_list.specs.Vocabulary.{In}
 use Rattle.qc_stamp.specs.declared.stamp.TxId.{TxId}
 use Rattle.qc_stamp.specs.Vocabulary.{same_tx}
@@ -11,13 +13,15 @@ use Rattle.qc_msg.specs.declared.message.Outcome.{Outcome}
 use Rattle.qc_msg.specs.declared.message.Outcome.TheVariants as outcomes
 use Rattle.qc_msg.specs.declared.message.Want.{Want}
 use Rattle.qc_msg.specs.declared.record.Record.{Record}
-use Rattle.qc_msg.specs.declared.record.Record.TheVariants as records
 use Rattle.qc_msg.specs.declared.reply.Reply.{Reply}
-use Rattle.qc_msg.specs.declared.reply.Reply.TheVariants as replies
 use Rattle.qc_msg.specs.Vocabulary.{Deed, Falls, Rises, Sends, Takes, Tells, Writes}
+use Rattle.qc_msg.specs.Vocabulary.{Decided, began_in, commit_of, decision_in, is_given_up}
 use Rattle.qc_promise.specs.Vocabulary.{AreRightFrom, AreRightKept, Begun, Committed, Dead, IsRight, IsRightKept}
 use Rattle.qc_promise.specs.Vocabulary.{IsRightVerdict, Status, Unborn, given_up, status_at, status_risen}
 use Rattle.qc_promise.specs.Vocabulary.{status_written}
+use Rattle.qc_entry.specs.declared.record.Commit.{Commit}
+use Rattle.laws_turns.proofs.ReadingCases.{mapped, mapped_by}
+use Rattle.laws_turns.proofs.ReplyCases.{reply_cases}
 
 -- a transaction that was begun is never unborn again
 
@@ -33,48 +37,32 @@ chosen P false u v first second = second
 
 module _ (tx : TxId) where
   born_written : (s : Status) (w : Record) → s ≢ Unborn → status_at tx s (Writes w) ≢ Unborn
-  born_written s records.Life born = born
-  born_written s (records.Prepare prepared) born = born
-  born_written s (records.Done other clock) born = born
-  born_written s (records.Close epoch) born = born
-  born_written s (records.Install epoch clock lines) born = born
-  born_written s (records.Commit c) born =
-      chosen (λ (v : Status). v ≢ Unborn) (same_tx c.tx tx) (Committed c.stamp) s (λ is. let no : ⊥ = cc in no) born
-  born_written s (records.Decide epoch clock lines) born = born
+  born_written s w born =
+      mapped (λ (v : Status). v ≢ Unborn) (λ (c : Commit). cond (same_tx c.tx tx) (Committed c.stamp) s) s
+      (commit_of w)
+      (λ c. chosen (λ (v : Status). v ≢ Unborn) (same_tx c.tx tx) (Committed c.stamp) s (λ is. let no : ⊥ = cc in no)
+      born) born
 
   born_sent : (s : Status) (n to : ℕ) (m : Message) → s ≢ Unborn → status_at tx s (Sends n to m) ≢ Unborn
-  born_sent s n to (messages.Request other epoch life want) born = born
-  born_sent s n to (messages.Answer asked answer) born = born
-  born_sent s n to (messages.Decision other (outcomes.Committed stamp)) born = born
-  born_sent s n to (messages.Decision other outcomes.Aborted) born =
-      chosen (λ (v : Status). v ≢ Unborn) (same_tx other tx) (given_up s) s (still_born s born) born
-  born_sent s n to (messages.Decision other outcomes.Active) born = born
-  born_sent s n to (messages.Inquiry other) born = born
-  born_sent s n to (messages.Ask other) born = born
-  born_sent s n to (messages.Close epoch) born = born
-  born_sent s n to (messages.Install epoch clock log) born = born
+  born_sent s n to m born =
+      mapped (λ (v : Status). v ≢ Unborn)
+      (λ (d : Decided). status_at tx s (Sends n to (messages.Decision d.tx d.verdict)))
+      s (decision_in m)
+      (λ d. decided d.tx d.verdict) born
+    where
+      decided : (other : TxId) (verdict : Outcome)
+          → status_at tx s (Sends n to (messages.Decision other verdict)) ≢ Unborn
+      decided other (outcomes.Committed stamp) = born
+      decided other outcomes.Aborted =
+          chosen (λ (v : Status). v ≢ Unborn) (same_tx other tx) (given_up s) s (still_born s born) born
+      decided other outcomes.Active = born
 
   born_told : (s : Status) (r : Reply) → s ≢ Unborn → status_at tx s (Tells r) ≢ Unborn
-  born_told s replies.Down born = born
-  born_told s (replies.Already other) born = born
-  born_told s (replies.Began other) born =
-      chosen (λ (v : Status). v ≢ Unborn) (same_tx other tx) Begun s (λ is. let no : ⊥ = cc in no) born
-  born_told s replies.NoTransaction born = born
-  born_told s replies.Doomed born = born
-  born_told s replies.TooLong born = born
-  born_told s (replies.Closed epoch site) born = born
-  born_told s (replies.Conflict holder site) born = born
-  born_told s (replies.Quorum half got need) born = born
-  born_told s replies.Absent born = born
-  born_told s (replies.Response resp) born = born
-  born_told s (replies.Aborted why) born = still_born s born
-  born_told s replies.Unknown born = born
-  born_told s (replies.Committed stamp) born = born
-  born_told s replies.Dropped born = still_born s born
-  born_told s (replies.Order current) born = born
-  born_told s (replies.InDoubt holder site) born = born
-  born_told s replies.Fault born = born
-  born_told s (replies.Moved closed installed) born = born
+  born_told s r born =
+      mapped (λ (v : Status). v ≢ Unborn) (λ (other : TxId). cond (same_tx other tx) Begun s)
+      (cond (is_given_up r) (given_up s) s) (began_in r)
+      (λ other. chosen (λ (v : Status). v ≢ Unborn) (same_tx other tx) Begun s (λ is. let no : ⊥ = cc in no) born)
+      (chosen (λ (v : Status). v ≢ Unborn) (is_given_up r) (given_up s) s (still_born s born) born)
 
   born_kept : (s : Status) (kept : List Record) → s ≢ Unborn → fold (status_written tx) s kept ≢ Unborn
   born_kept s [] born = born
@@ -115,60 +103,41 @@ module _ (tx : TxId) where
   by_test s v false same = refl
 
   ended_written : (s : Status) (w : Record) → HasEnd s → IsRight tx s (Writes w) → status_at tx s (Writes w) ≡ s
-  ended_written s records.Life ends right = refl
-  ended_written s (records.Prepare prepared) ends right = refl
-  ended_written s (records.Done other clock) ends right = refl
-  ended_written s (records.Close epoch) ends right = refl
-  ended_written s (records.Install epoch clock lines) ends right = refl
-  ended_written s (records.Commit c) ends right =
-      by_test s (Committed c.stamp) (same_tx c.tx tx) (λ same. absurd (not_live s ends (right same)))
-  ended_written s (records.Decide epoch clock lines) ends right = refl
+  ended_written s w ends right =
+      mapped_by (λ (v : Status). v ≡ s) (λ (c : Commit). cond (same_tx c.tx tx) (Committed c.stamp) s) s (Unit {0})
+      (λ (c : Commit). same_tx c.tx tx ≡ true → s ≡ Begun) (commit_of w)
+      (λ c its. by_test s (Committed c.stamp) (same_tx c.tx tx) (λ same. absurd (not_live s ends (its same))))
+      (λ none. refl) right
 
   ended_sent : (s : Status) (n to : ℕ) (m : Message) → HasEnd s → status_at tx s (Sends n to m) ≡ s
-  ended_sent s n to (messages.Request other epoch life want) ends = refl
-  ended_sent s n to (messages.Answer asked answer) ends = refl
-  ended_sent s n to (messages.Decision other (outcomes.Committed stamp)) ends = refl
-  ended_sent s n to (messages.Decision other outcomes.Aborted) ends =
-      by_test s (given_up s) (same_tx other tx) (λ same. stays_ended s ends)
-  ended_sent s n to (messages.Decision other outcomes.Active) ends = refl
-  ended_sent s n to (messages.Inquiry other) ends = refl
-  ended_sent s n to (messages.Ask other) ends = refl
-  ended_sent s n to (messages.Close epoch) ends = refl
-  ended_sent s n to (messages.Install epoch clock log) ends = refl
+  ended_sent s n to m ends =
+      mapped (λ (v : Status). v ≡ s)
+      (λ (d : Decided). status_at tx s (Sends n to (messages.Decision d.tx d.verdict)))
+      s (decision_in m)
+      (λ d. decided d.tx d.verdict) refl
+    where
+      decided : (other : TxId) (verdict : Outcome) → status_at tx s (Sends n to (messages.Decision other verdict)) ≡ s
+      decided other (outcomes.Committed stamp) = refl
+      decided other outcomes.Aborted = by_test s (given_up s) (same_tx other tx) (λ same. stays_ended s ends)
+      decided other outcomes.Active = refl
 
   ended_told : (s : Status) (r : Reply) → HasEnd s → IsRight tx s (Tells r) → status_at tx s (Tells r) ≡ s
-  ended_told s replies.Down ends right = refl
-  ended_told s (replies.Already other) ends right = refl
-  ended_told s (replies.Began other) ends right =
-      by_test s Begun (same_tx other tx) (λ same. absurd (not_new s ends (right same)))
-  ended_told s replies.NoTransaction ends right = refl
-  ended_told s replies.Doomed ends right = refl
-  ended_told s replies.TooLong ends right = refl
-  ended_told s (replies.Closed epoch site) ends right = refl
-  ended_told s (replies.Conflict holder site) ends right = refl
-  ended_told s (replies.Quorum half got need) ends right = refl
-  ended_told s replies.Absent ends right = refl
-  ended_told s (replies.Response resp) ends right = refl
-  ended_told s (replies.Aborted why) ends right = stays_ended s ends
-  ended_told s replies.Unknown ends right = refl
-  ended_told s (replies.Committed stamp) ends right = refl
-  ended_told s replies.Dropped ends right = stays_ended s ends
-  ended_told s (replies.Order current) ends right = refl
-  ended_told s (replies.InDoubt holder site) ends right = refl
-  ended_told s replies.Fault ends right = refl
-  ended_told s (replies.Moved closed installed) ends right = refl
+  ended_told s r ends right =
+      reply_cases (λ reply began already gone. MatchOption already
+      (MatchOption began (Unit {0}) (λ (other : TxId). same_tx other tx ≡ true → s ≡ Unborn))
+      (λ (other : TxId). same_tx other tx ≡ true → s ≡ Begun)
+      → option_map_or (λ (other : TxId). cond (same_tx other tx) Begun s) began (cond gone (given_up s) s) ≡ s)
+      (λ other its. by_test s Begun (same_tx other tx) (λ same. absurd (not_new s ends (its same))))
+      (λ other its. refl) (λ why its. stays_ended s ends) (λ its. stays_ended s ends) (λ reply its. refl) r right
 
   -- a record that rises, of one that has ended, is the record of it
   ended_risen : (s : Status) (w : Record) → HasEnd s → IsRightKept tx s w → status_written tx s w ≡ s
-  ended_risen s records.Life ends right = refl
-  ended_risen s (records.Prepare prepared) ends right = refl
-  ended_risen s (records.Done other clock) ends right = refl
-  ended_risen s (records.Close epoch) ends right = refl
-  ended_risen s (records.Install epoch clock lines) ends right = refl
-  ended_risen s (records.Commit c) ends right =
-      by_test s (Committed c.stamp) (same_tx c.tx tx)
-      (λ same. elim (right same) [ inl live ↦ absurd (not_live s ends live) | inr is ↦ sym is ])
-  ended_risen s (records.Decide epoch clock lines) ends right = refl
+  ended_risen s w ends right =
+      mapped_by (λ (v : Status). v ≡ s) (λ (c : Commit). cond (same_tx c.tx tx) (Committed c.stamp) s) s (Unit {0})
+      (λ (c : Commit). same_tx c.tx tx ≡ true → (s ≡ Begun) ⊎ (s ≡ Committed c.stamp)) (commit_of w)
+      (λ c its. by_test s (Committed c.stamp) (same_tx c.tx tx)
+      (λ same. elim (its same) [ inl live ↦ absurd (not_live s ends live) | inr is ↦ sym is ]))
+      (λ none. refl) right
 
   ended_kept : (s : Status) (kept : List Record) → HasEnd s → AreRightKept tx s kept
       → fold (status_written tx) s kept ≡ s

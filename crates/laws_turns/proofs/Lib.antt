@@ -1,3 +1,10 @@
+pub mod ReadingCases
+pub mod ClientCases
+pub mod AnswerCases
+pub mod StepCases
+pub mod ReplyCases
+pub mod MessageCases
+pub mod SiteCases
 pub mod Places
 pub mod Numbered
 pub mod ArrivedMail

@@ -27,7 +27,7 @@ use Rattle.qc_script.specs.Vocabulary.{phase_of, posts, ready, rises, takes, uno
 use Rattle.qc_script.specs.Inbox as boxes
 use Rattle.qc_script.specs.declared.script.Script.{Script}
 use Rattle.laws_turns.specs.Vocabulary.{LivesIn}
-use Rattle.laws_turns.proofs.Downs.{tells, up_is}
+use Rattle.laws_turns.proofs.Downs.{who_is_down_only_tells, up_is}
 use Rattle.laws_turns.proofs.LivedMoves.{line_silent, damage_silent, place_within, up_of, lives_on, mail_grows}
 use Rattle.laws_turns.proofs.LivedMoves.{lives_takes, lives_posts, lives_falls, lives_rises}
 
@@ -60,7 +60,8 @@ module _ (decl : Declaration) (script : Script) where
     up_in : (h : List Entry) (open_inputs : List Bool) → IsRun h open_inputs → (a : ℕ) → a < most_actors
         → boxes.is_up (inbox script 0 h).up a ≡ not (is_down (deeds a [] h))
     up_in h open_inputs run a within =
-        up_by_deeds (IsLawfulWithFalls decl) fits decl script h open_inputs few (tells decl) run a 0 within
+        up_by_deeds (IsLawfulWithFalls decl) fits decl script h open_inputs few (who_is_down_only_tells decl) run a 0
+        within
         (omega arith)
 
     reaches : (h : List Entry) (open_inputs : List Bool) → IsRun h open_inputs → (a : ℕ) → a < most_actors → (g : Input)
@@ -80,7 +81,8 @@ module _ (decl : Declaration) (script : Script) where
         by : (down : Bool) → is_down (deeds a [] h) ≡ down → MayReach (is_up (deeds a [] h)) g
         by true down =
             commanded (is_up (deeds a [] h)) g
-            (down_commanded (IsLawfulWithFalls decl) fits decl script h open_inputs few (tells decl) run a within down g
+            (down_commanded (IsLawfulWithFalls decl) fits decl script h open_inputs few (who_is_down_only_tells decl)
+            run a within down g
             rdy)
         by false down = whole (is_up (deeds a [] h)) g (up_is (deeds a [] h) ∙ ap not down)
 

@@ -9,7 +9,6 @@ use Rattle.qc_mailbox.specs.Vocabulary.{is_down}
 use Rattle.laws_turns.proofs.Numbered.{IsSilent}
 use Rattle.qc_msg.specs.declared.record.Record.{Record}
 use Rattle.qc_msg.specs.declared.step.Control.{Control}
-use Rattle.qc_msg.specs.declared.step.Control.TheVariants as controls
 use Rattle.qc_msg.specs.declared.step.Fall.{Fall}
 use Rattle.qc_msg.specs.declared.step.Input.{Input}
 use Rattle.qc_msg.specs.declared.step.Step.{Step}
@@ -25,20 +24,15 @@ use Rattle.qc_script.specs.declared.script.Script.{Script}
 use Rattle.laws_turns.specs.Vocabulary.{LivesIn}
 use Rattle.laws_turns.proofs.Commands.{may_take}
 use Rattle.laws_turns.proofs.Downs.{up_is}
+use Rattle.laws_turns.proofs.StepCases.{controller_cases}
 
 -- steps that are nobody's deeds
 
 pub line_silent : (line : Control) (step : Step) → controller_step line ≡ Some step → IsSilent step
-line_silent (controls.Phase k) step is = absurd (let never : ⊥ = cc in never)
-line_silent (controls.Cut a b) step is =
-    subst IsSilent (let same : steps.Cut a b ≡ step = cc in same) (record { sends = λ a. refl; deeds = λ ms. refl })
-line_silent (controls.Heal a b) step is =
-    subst IsSilent (let same : steps.Heal a b ≡ step = cc in same) (record { sends = λ a. refl; deeds = λ ms. refl })
-line_silent (controls.Armed actor kind at) step is =
-    subst IsSilent (let same : steps.Armed actor kind at ≡ step = cc in same)
-    (record { sends = λ a. refl; deeds = λ ms. refl })
-line_silent (controls.Crash a) step is = absurd (let never : ⊥ = cc in never)
-line_silent (controls.Restart a) step is = absurd (let never : ⊥ = cc in never)
+line_silent line step is =
+    controller_cases IsSilent (λ a b. record { sends = λ c. refl; deeds = λ ms. refl })
+    (λ a b. record { sends = λ c. refl; deeds = λ ms. refl })
+    (λ x. record { sends = λ c. refl; deeds = λ ms. refl }) line step is
 
 pub damage_silent : (offset : ℕ) → IsSilent (steps.Damaged offset)
 damage_silent offset = record { sends = λ a. refl; deeds = λ ms. refl }

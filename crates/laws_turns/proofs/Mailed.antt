@@ -19,6 +19,7 @@ use Rattle.qc_script.specs.declared.script.Script.{Script}
 use Rattle.laws_turns.proofs.Numbered.{control_silent, mail-silent, phase_silent}
 use Rattle.laws_turns.proofs.StampsOwn.{AreStamped}
 use Rattle.laws_turns.proofs.Stamped.{lawful_stamped}
+use Rattle.laws_turns.proofs.StepCases.{deed_cases}
 
 abbrev pub IsMailStamped : List Envelope → Type 0
 IsMailStamped ms = Every (λ (e : Envelope). IsStamped e.message) ms
@@ -36,23 +37,25 @@ envelopes_stamped : (a n : ℕ) (ps : List Posting) → AreStamped ps → IsMail
 envelopes_stamped a n [] are = tt
 envelopes_stamped a n (p ∷ ps) are = (are.0, envelopes_stamped a (n + 1) ps are.1)
 
-pub run_stamped : (decl : Declaration) (script : Script) (h : List Entry) (open_inputs : List Bool)
+pub decisions_name_stamps_of_their_clients : (decl : Declaration) (script : Script) (h : List Entry)
+    (open_inputs : List Bool)
     → Runs (IsLawful decl) decl script h open_inputs → IsMailStamped (mail h)
-run_stamped decl script h open_inputs begins = tt
-run_stamped decl script h open_inputs (takes a taken before older run free ready) =
-    subst IsMailStamped (sym (mail-taken older a taken)) (run_stamped decl script older before run)
-run_stamped decl script h open_inputs (posts a turn before older run taken law) =
+decisions_name_stamps_of_their_clients decl script h open_inputs begins = tt
+decisions_name_stamps_of_their_clients decl script h open_inputs (takes a taken before older run free ready) =
+    subst IsMailStamped (sym (mail-taken older a taken))
+    (decisions_name_stamps_of_their_clients decl script older before run)
+decisions_name_stamps_of_their_clients decl script h open_inputs (posts a turn before older run taken law) =
     subst IsMailStamped (sym (mail-append older (by a (posted (length (mail older)) turn))
     ∙ ap (λ (v : List Envelope). mail older ++ v) (mail-posted a (length (mail older)) turn)))
     (both_all (λ (e : Envelope). IsStamped e.message) (mail older) (envelopes a (length (mail older)) turn.sends)
-    (run_stamped decl script older before run)
+    (decisions_name_stamps_of_their_clients decl script older before run)
     (envelopes_stamped a (length (mail older)) turn.sends (lawful_stamped decl a (deeds a [] older) turn law)))
-run_stamped decl script h open_inputs (phase before older run none done quiet more) =
+decisions_name_stamps_of_their_clients decl script h open_inputs (phase before older run none done quiet more) =
     subst IsMailStamped (sym (mail-silent older (controller decl) (steps.Phase (phase_of older + 1))
-    (phase_silent (phase_of older + 1)))) (run_stamped decl script older before run)
-run_stamped decl script h open_inputs (control line lines step before older run left is) =
+    (phase_silent (phase_of older + 1)))) (decisions_name_stamps_of_their_clients decl script older before run)
+decisions_name_stamps_of_their_clients decl script h open_inputs (control line lines step before older run left is) =
     subst IsMailStamped (sym (mail-silent older (controller decl) step (control_silent line step is)))
-    (run_stamped decl script older before run)
+    (decisions_name_stamps_of_their_clients decl script older before run)
 
 -- what is taken is of the mail
 
@@ -73,19 +76,10 @@ heard_input ms n None stamped is = tt
 heard_input ms n (Some e) stamped is = (all_at (λ (x : Envelope). IsStamped x.message) ms n e stamped is, tt)
 
 step_inputs : (ms : List Envelope) (step : Step) → IsMailStamped ms → AreInputs (deed_at ms step)
-step_inputs ms (steps.Phase k) stamped = tt
-step_inputs ms (steps.Cut x y) stamped = tt
-step_inputs ms (steps.Heal x y) stamped = tt
-step_inputs ms (steps.Armed actor kind at) stamped = tt
-step_inputs ms (steps.Called command) stamped = (tt, tt)
-step_inputs ms (steps.Got n) stamped = heard_input ms n (slice_get ms n) stamped refl
-step_inputs ms (steps.Lost n) stamped = (tt, tt)
-step_inputs ms (steps.Wrote written) stamped = (tt, tt)
-step_inputs ms (steps.Sent n to message) stamped = (tt, tt)
-step_inputs ms (steps.Told reply) stamped = (tt, tt)
-step_inputs ms (steps.Fell cause pending) stamped = (tt, tt)
-step_inputs ms (steps.Rose records) stamped = (tt, tt)
-step_inputs ms (steps.Damaged offset) stamped = tt
+step_inputs ms step stamped =
+    deed_cases ms (λ step ds. AreInputs ds) (λ step w m r. tt) (λ command. (tt, tt))
+    (λ n. heard_input ms n (slice_get ms n) stamped refl) (λ n. (tt, tt)) (λ written. (tt, tt))
+    (λ n to message. (tt, tt)) (λ reply. (tt, tt)) (λ cause pending. (tt, tt)) (λ records. (tt, tt)) step
 
 mine_inputs : (mine : Bool) (ms : List Envelope) (step : Step) → IsMailStamped ms
     → AreInputs (cond mine (deed_at ms step) [])

@@ -9,7 +9,6 @@ use Rattle.qc_list.specs.Vocabulary.{In}
 use Rattle.qc_list.proofs.Members.{every-append, every-at, every-weaker}
 use Rattle.qc_msg.specs.declared.message.Envelope.{Envelope}
 use Rattle.qc_msg.specs.declared.message.Message.{Message}
-use Rattle.qc_msg.specs.declared.message.Message.TheVariants as messages
 use Rattle.qc_msg.specs.declared.record.Record.{Record}
 use Rattle.qc_msg.specs.declared.reply.Reply.{Reply}
 use Rattle.qc_msg.specs.declared.step.Input.{Input}
@@ -94,13 +93,7 @@ IsOwnLoss ms a (inputs.Got e) = Unit {0}
 IsOwnLoss ms a (inputs.Lost n) = IsOwnRequest ms a n
 
 asks_is : (m : Message) → is_request m ≡ true → asks_answer m ≡ true
-asks_is (messages.Request tx epoch life want) is = refl
-asks_is (messages.Answer to answer) is = is
-asks_is (messages.Decision tx verdict) is = is
-asks_is (messages.Inquiry tx) is = is
-asks_is (messages.Ask tx) is = refl
-asks_is (messages.Close epoch) is = refl
-asks_is (messages.Install epoch clock log) is = refl
+asks_is m is = is
 
 place_of : (e : Envelope) (ms : List Envelope) → In e ms → (n : ℕ) × (slice_get ms n ≡ Some e)
 place_of e [] member = absurd member

@@ -3,17 +3,18 @@
 use Rattle.std.proofs.Common.{◌≡◌, ◌≢◌, ℕ, ◌+◌, ◌==◌, Bool, true, false, List, [], ◌∷◌, ◌++◌, fold, length, refl, sym}
 use Rattle.std.proofs.Common.{ap, ◌∙◌, subst, eqb-true}
 use Rattle.std.specs.List.{AllByRecursion as Every}
+use Rattle.std.specs.Prelude.{MatchOption}
 use Rattle.std.proofs.lemmas.List.Sums.{fold-append}
 use Rattle.qc_list.proofs.Members.{every-append, every-at, every-weaker}
 use Rattle.qc_stamp.specs.declared.stamp.TxId.{TxId}
 use Rattle.qc_stamp.proofs.Orders.{same_tx_is}
+use Rattle.qc_stamp.specs.Vocabulary.{same_tx}
 use Rattle.qc_decl.specs.Vocabulary.{client_actor, is_client, is_site}
 use Rattle.qc_decl.specs.declared.declaration.Declaration.{Declaration}
 use Rattle.qc_entry.specs.declared.record.Prepared.{Prepared}
 use Rattle.qc_lock.specs.declared.held.Held.{Held}
 use Rattle.qc_msg.specs.declared.message.Envelope.{Envelope}
 use Rattle.qc_msg.specs.declared.message.Message.{Message}
-use Rattle.qc_msg.specs.declared.message.Message.TheVariants as messages
 use Rattle.qc_msg.specs.declared.step.Input.{Input}
 use Rattle.qc_msg.specs.declared.step.Input.TheVariants as inputs
 use Rattle.qc_msg.specs.declared.step.Step.{Step}
@@ -21,6 +22,7 @@ use Rattle.qc_msg.specs.declared.turn.Posting.{Posting}
 use Rattle.qc_msg.specs.declared.turn.Turn.{Turn}
 use Rattle.qc_msg.specs.Vocabulary.{Deed, Entry, Takes, WasSentTo, by, deeds, envelopes, mail, marked, posted, quiet}
 use Rattle.qc_msg.specs.Vocabulary.{step_of, turn_deeds}
+use Rattle.qc_msg.specs.Vocabulary.{Answered, Decided, Requested, answer_in, decision_in, inquiry_in, request_in}
 use Rattle.qc_msg.proofs.GrownMail.{mail-append, mail-posted, mail-taken}
 use Rattle.qc_msg.proofs.DeedsGrow.{deeds-append, deeds-other}
 use Rattle.qc_msg.proofs.Growth.{deeds-posted, deeds-taken}
@@ -31,6 +33,8 @@ use Rattle.laws_turns.proofs.Events.{IsControl}
 use Rattle.laws_turns.proofs.Lasting.{born_on}
 use Rattle.laws_turns.proofs.SitesAsk.{Asks, GivenTells, SiteTells, Tells, site_asks}
 use Rattle.laws_turns.proofs.KnownDeeds.{IsKnown, IsKnownIn, KnownFrom, known-append, known-posts}
+use Rattle.laws_turns.proofs.MessageCases.{message_cases}
+use Rattle.laws_turns.proofs.ReadingCases.{matched, matched_by}
 
 -- the transaction was begun, as its client's deeds show
 abbrev pub Born : Declaration → List Entry → TxId → Type 0
@@ -47,45 +51,37 @@ born_later decl h k tx born =
 
 -- a Decision comes from a client
 abbrev pub IsFromClient : Declaration → ℕ → Message → Type 0
-IsFromClient decl from (messages.Request tx epoch life want) = Unit {0}
-IsFromClient decl from (messages.Answer asked answer) = Unit {0}
-IsFromClient decl from (messages.Decision tx verdict) = is_client decl from ≡ true
-IsFromClient decl from (messages.Inquiry tx) = Unit {0}
-IsFromClient decl from (messages.Ask tx) = Unit {0}
-IsFromClient decl from (messages.Close epoch) = Unit {0}
-IsFromClient decl from (messages.Install epoch clock log) = Unit {0}
+IsFromClient decl from m =
+    MatchOption (decision_in m) (Unit {0}) (λ (v : Decided). is_client decl from ≡ true)
 
 pub from_client : (decl : Declaration) (from : ℕ) (m : Message) → is_client decl from ≡ true → IsFromClient decl from m
-from_client decl from (messages.Request tx epoch life want) is = tt
-from_client decl from (messages.Answer asked answer) is = tt
-from_client decl from (messages.Decision tx verdict) is = is
-from_client decl from (messages.Inquiry tx) is = tt
-from_client decl from (messages.Ask tx) is = tt
-from_client decl from (messages.Close epoch) is = tt
-from_client decl from (messages.Install epoch clock log) is = tt
+from_client decl from m is =
+    matched (Unit {0}) (λ (v : Decided). is_client decl from ≡ true) (decision_in m) (λ v. is) tt
 
 module _ (decl : Declaration) where
   -- where more transactions are begun
 
   tells_later : (h k : List Entry) (to : ℕ) (m : Message) → Tells decl (Born decl h) to m
       → Tells decl (Born decl (h ++ k)) to m
-  tells_later h k to (messages.Request tx epoch life want) here = born_later decl h k tx here
-  tells_later h k to (messages.Answer asked answer) here = tt
-  tells_later h k to (messages.Decision tx verdict) here = tt
-  tells_later h k to (messages.Inquiry tx) here = (here.0, born_later decl h k tx here.1)
-  tells_later h k to (messages.Ask tx) here = tt
-  tells_later h k to (messages.Close epoch) here = tt
-  tells_later h k to (messages.Install epoch clock log) here = tt
+  tells_later h k to m here =
+      matched_by (MatchOption (request_in m) (Unit {0}) (λ (q : Requested). Born decl h q.tx))
+      (MatchOption (request_in m) (Unit {0}) (λ (q : Requested). Born decl (h ++ k) q.tx))
+      (λ (tx : TxId). (to ≡ client_actor decl tx.client) × Born decl h tx)
+      (λ (tx : TxId). (to ≡ client_actor decl tx.client) × Born decl (h ++ k) tx) (inquiry_in m)
+      (λ tx its. (its.0, born_later decl h k tx its.1))
+      (matched_by (Unit {0}) (Unit {0}) (λ (q : Requested). Born decl h q.tx)
+      (λ (q : Requested). Born decl (h ++ k) q.tx) (request_in m)
+      (λ q its. born_later decl h k q.tx its) (λ none. none))
+      here
 
   site_tells_later : (h k : List Entry) (to : ℕ) (m : Message) → SiteTells decl (Born decl h) to m
       → SiteTells decl (Born decl (h ++ k)) to m
-  site_tells_later h k to (messages.Request tx epoch life want) never = never
-  site_tells_later h k to (messages.Answer asked answer) here = tt
-  site_tells_later h k to (messages.Decision tx verdict) never = never
-  site_tells_later h k to (messages.Inquiry tx) here = (here.0, born_later decl h k tx here.1)
-  site_tells_later h k to (messages.Ask tx) never = never
-  site_tells_later h k to (messages.Close epoch) never = never
-  site_tells_later h k to (messages.Install epoch clock log) never = never
+  site_tells_later h k to m here =
+      matched_by (MatchOption (answer_in m) ⊥ (λ (a : Answered). Unit {0}))
+      (MatchOption (answer_in m) ⊥ (λ (a : Answered). Unit {0}))
+      (λ (tx : TxId). (to ≡ client_actor decl tx.client) × Born decl h tx)
+      (λ (tx : TxId). (to ≡ client_actor decl tx.client) × Born decl (h ++ k) tx) (inquiry_in m)
+      (λ tx its. (its.0, born_later decl h k tx its.1)) (λ none. none) here
 
   pub asks_later : (h k : List Entry) (m : SiteMove) → Asks decl (Born decl h) m → Asks decl (Born decl (h ++ k)) m
   asks_later h k m a = record {
@@ -99,23 +95,22 @@ module _ (decl : Declaration) where
   }
 
   pub site_tells : (B : TxId → Type 0) (to : ℕ) (m : Message) → SiteTells decl B to m → Tells decl B to m
-  site_tells B to (messages.Request tx epoch life want) never = absurd never
-  site_tells B to (messages.Answer asked answer) here = tt
-  site_tells B to (messages.Decision tx verdict) never = absurd never
-  site_tells B to (messages.Inquiry tx) here = here
-  site_tells B to (messages.Ask tx) never = absurd never
-  site_tells B to (messages.Close epoch) never = absurd never
-  site_tells B to (messages.Install epoch clock log) never = absurd never
+  site_tells B to m here =
+      message_cases
+      (λ m r a d i. MatchOption i (MatchOption a ⊥ (λ (x : Answered). Unit {0}))
+      (λ (tx : TxId). (to ≡ client_actor decl tx.client) × B tx)
+      → MatchOption i (MatchOption r (Unit {0}) (λ (q : Requested). B q.tx))
+      (λ (tx : TxId). (to ≡ client_actor decl tx.client) × B tx))
+      (λ q never. absurd never) (λ a its. tt) (λ v its. tt) (λ tx its. its) (λ m its. tt) m here
 
   pub site_decides_not : (B : TxId → Type 0) (from to : ℕ) (m : Message) → SiteTells decl B to m
       → IsFromClient decl from m
-  site_decides_not B from to (messages.Request tx epoch life want) never = absurd never
-  site_decides_not B from to (messages.Answer asked answer) here = tt
-  site_decides_not B from to (messages.Decision tx verdict) never = absurd never
-  site_decides_not B from to (messages.Inquiry tx) here = tt
-  site_decides_not B from to (messages.Ask tx) never = absurd never
-  site_decides_not B from to (messages.Close epoch) never = absurd never
-  site_decides_not B from to (messages.Install epoch clock log) never = absurd never
+  site_decides_not B from to m here =
+      message_cases
+      (λ m r a d i. MatchOption i (MatchOption a ⊥ (λ (x : Answered). Unit {0}))
+      (λ (tx : TxId). (to ≡ client_actor decl tx.client) × B tx)
+      → MatchOption d (Unit {0}) (λ (v : Decided). is_client decl from ≡ true))
+      (λ q its. tt) (λ a its. tt) (λ v never. absurd never) (λ tx its. tt) (λ m its. tt) m here
 
   -- what is in the mail: as its sender may say
   pub record IsMail (h : List Entry) (e : Envelope) : Type 0 where
@@ -154,17 +149,16 @@ module _ (decl : Declaration) where
 
     known_in : (tx : TxId) (to : ℕ) (m : Message) → to ≡ b → Tells decl (Born decl h) to m
         → IsKnownIn tx (status (deeds b [] h) tx) m
-    known_in tx to (messages.Request other epoch life want) at tells = tt
-    known_in tx to (messages.Answer asked answer) at tells = tt
-    known_in tx to (messages.Decision other verdict) at tells = tt
-    known_in tx to (messages.Inquiry other) at tells = λ same. (let is : other ≡ tx = same_tx_is other tx same in
-        let its : Born decl h tx = subst (Born decl h) is tells.1 in
+    known_in tx to m at tells =
+        matched_by (MatchOption (request_in m) (Unit {0}) (λ (q : Requested). Born decl h q.tx)) (Unit {0})
+        (λ (other : TxId). (to ≡ client_actor decl other.client) × Born decl h other)
+        (λ (other : TxId). same_tx other tx ≡ true → status (deeds b [] h) tx ≢ Unborn) (inquiry_in m)
+        (λ other its same. (let is : other ≡ tx = same_tx_is other tx same in
+        let born : Born decl h tx = subst (Born decl h) is its.1 in
         let actor : client_actor decl tx.client ≡ b = ap (λ (t : TxId). client_actor decl t.client) (sym is)
-        ∙ sym tells.0 ∙ at in
-        subst (λ (a : ℕ). status (deeds a [] h) tx ≢ Unborn) actor its)
-    known_in tx to (messages.Ask other) at tells = tt
-    known_in tx to (messages.Close epoch) at tells = tt
-    known_in tx to (messages.Install epoch clock log) at tells = tt
+        ∙ sym its.0 ∙ at in
+        subst (λ (a : ℕ). status (deeds a [] h) tx ≢ Unborn) actor born))
+        (λ none. tt) tells
 
     known_given : (tx : TxId) (g : Input) → WasSentTo b (mail h) g → IsKnown tx (status (deeds b [] h) tx) g
     known_given tx (inputs.Called command) was = tt

@@ -6,7 +6,6 @@ use Rattle.qc_decl.specs.declared.declaration.Declaration.{Declaration}
 use Rattle.qc_decl.specs.Vocabulary.{controller}
 use Rattle.qc_msg.specs.declared.message.Envelope.{Envelope}
 use Rattle.qc_msg.specs.declared.step.Control.{Control}
-use Rattle.qc_msg.specs.declared.step.Control.TheVariants as controls
 use Rattle.qc_msg.specs.declared.step.Step.{Step}
 use Rattle.qc_msg.specs.declared.step.Step.TheVariants as steps
 use Rattle.qc_msg.specs.declared.turn.Posting.{Posting}
@@ -16,6 +15,7 @@ use Rattle.qc_msg.proofs.GrownMail.{mail-append, mail-posted, mail-taken}
 use Rattle.qc_script.specs.Vocabulary.{Runs, phase_of, step_of_control}
 use Rattle.qc_script.specs.Runs.{begins, takes, posts, phase, control}
 use Rattle.qc_script.specs.declared.script.Script.{Script}
+use Rattle.laws_turns.proofs.StepCases.{control_cases}
 
 abbrev pub AreNumbered : ℕ → List Envelope → Type 0
 AreNumbered n [] = Unit {0}
@@ -55,14 +55,9 @@ pub record IsSilent (step : Step) : Type 0 where
   pub deeds : (ms : List Envelope) → deed_at ms step ≡ []
 
 pub control_silent : (line : Control) (step : Step) → step_of_control line ≡ Some step → IsSilent step
-control_silent (controls.Phase k) step is = absurd (let never : ⊥ = cc in never)
-control_silent (controls.Cut a b) step is =
-    subst IsSilent (let same : steps.Cut a b ≡ step = cc in same) (record { sends = λ a. refl; deeds = λ ms. refl })
-control_silent (controls.Heal a b) step is =
-    subst IsSilent (let same : steps.Heal a b ≡ step = cc in same) (record { sends = λ a. refl; deeds = λ ms. refl })
-control_silent (controls.Armed actor kind at) step is = absurd (let never : ⊥ = cc in never)
-control_silent (controls.Crash a) step is = absurd (let never : ⊥ = cc in never)
-control_silent (controls.Restart a) step is = absurd (let never : ⊥ = cc in never)
+control_silent line step is =
+    control_cases IsSilent (λ a b. record { sends = λ c. refl; deeds = λ ms. refl })
+    (λ a b. record { sends = λ c. refl; deeds = λ ms. refl }) line step is
 
 pub phase_silent : (k : ℕ) → IsSilent (steps.Phase k)
 phase_silent k = record { sends = λ a. refl; deeds = λ ms. refl }
@@ -102,7 +97,8 @@ module _ (lawful : ℕ → List Deed → Turn → Type 0) (decl : Declaration) (
       (run_numbered older before run)
 
   -- the number of a message is its place
-  pub numbers_are_places : (h : List Entry) (open_inputs : List Bool) → Runs lawful decl script h open_inputs
+  pub messages_are_numbered_in_order : (h : List Entry) (open_inputs : List Bool)
+      → Runs lawful decl script h open_inputs
       → (n : ℕ) (e : Envelope) → slice_get (mail h) n ≡ Some e → e.number ≡ n
-  numbers_are_places h open_inputs run n e is = let at : e.number ≡ 0 + n =
+  messages_are_numbered_in_order h open_inputs run n e is = let at : e.number ≡ 0 + n =
       numbered_at 0 (mail h) n e (run_numbered h open_inputs run) is in omega arith

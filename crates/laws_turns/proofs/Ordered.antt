@@ -10,17 +10,19 @@ use Rattle.qc_msg.specs.Vocabulary.{Deed, Entry, deeds}
 use Rattle.qc_script.specs.Vocabulary.{Runs}
 use Rattle.qc_script.specs.declared.script.Script.{Script}
 use Rattle.laws_turns.specs.Vocabulary.{ActsIn, AreInOrder, calls_of, replies_of}
-use Rattle.laws_turns.proofs.Acted.{has_entry, others_do_nothing, run_acts}
+use Rattle.laws_turns.proofs.Acted.{has_entry, others_do_nothing, actors_take_and_post_by_turns}
 use Rattle.laws_turns.proofs.Replying.{acts_ordered, all_counted, open_commands}
 use Rattle.laws_turns.proofs.Up.{run_up}
 
 module _ (decl : Declaration) (script : Script) (h : List Entry) (open_inputs : List Bool)
     (run : Runs (IsLawful decl) decl script h open_inputs) (a : ℕ) where
-  pub run_ordered : AreInOrder [] (deeds a [] h)
-  run_ordered = by (nat_lt a (actors decl)) refl
+  pub replies_answer_commands : AreInOrder [] (deeds a [] h)
+  replies_answer_commands = by (nat_lt a (actors decl)) refl
     where
       at : (t : Bool) × (slice_get open_inputs a ≡ Some t) → AreInOrder [] (deeds a [] h)
-      at place = let r : ActsIn decl a h place.0 = run_acts decl script h open_inputs run a place.0 place.1 in
+      at place =
+          let r : ActsIn decl a h place.0 =
+          actors_take_and_post_by_turns decl script h open_inputs run a place.0 place.1 in
           acts_ordered decl a (deeds a [] h) place.0 r.above r.acts
 
       by : (t : Bool) → nat_lt a (actors decl) ≡ t → AreInOrder [] (deeds a [] h)
@@ -28,5 +30,6 @@ module _ (decl : Declaration) (script : Script) (h : List Entry) (open_inputs : 
       by false is = subst (λ (ds : List Deed). AreInOrder [] ds)
           (sym (others_do_nothing (IsLawful decl) decl script h open_inputs run a (ltb-false a (actors decl) is))) tt
 
-  pub run_replied : length (calls_of a h) ≡ length (replies_of a h) + open_commands (is_running (deeds a [] h))
-  run_replied = all_counted (deeds a [] h) run_ordered (run_up (IsLawful decl) decl script h open_inputs run a)
+  pub calls_are_replied : length (calls_of a h) ≡ length (replies_of a h) + open_commands (is_running (deeds a [] h))
+  calls_are_replied =
+      all_counted (deeds a [] h) replies_answer_commands (run_up (IsLawful decl) decl script h open_inputs run a)

@@ -2,6 +2,7 @@
 use Rattle.std.proofs.Common.{◌≡◌, ℕ, nat_le, Bool, true, false, if◌then◌else◌, List, [], ◌∷◌, ◌++◌, length, Option}
 use Rattle.std.proofs.Common.{Some, None, option_map, inl, inr, refl, sym, ap, ◌∙◌, slice_get, subst}
 use Rattle.std.specs.List.{AllByRecursion as Every}
+use Rattle.std.specs.Prelude.{MatchOption}
 use Rattle.qc_core.specs.Vocabulary.{IsOwnStamp, IsStamped}
 use Rattle.qc_list.specs.Vocabulary.{In}
 use Rattle.qc_decl.specs.declared.declaration.Declaration.{Declaration}
@@ -11,30 +12,30 @@ use Rattle.qc_plan.specs.declared.standing.Verdict.{Verdict}
 use Rattle.qc_plan.specs.declared.standing.Verdict.TheVariants as verdicts
 use Rattle.qc_stamp.specs.declared.stamp.TxId.{TxId}
 use Rattle.qc_view.specs.declared.view.View.{View}
-use Rattle.qc_view.specs.Vocabulary.{with_log, with_own}
+use Rattle.qc_view.specs.Vocabulary.{with_own}
 use Rattle.qc_msg.specs.declared.begun.Begun.{Begun}
 use Rattle.qc_msg.specs.declared.call.Call.{Call}
 use Rattle.qc_msg.specs.declared.message.Answer.{Answer}
-use Rattle.qc_msg.specs.declared.message.Answer.TheVariants as answers
 use Rattle.qc_msg.specs.declared.message.Message.{Message}
-use Rattle.qc_msg.specs.declared.message.Message.TheVariants as messages
 use Rattle.qc_msg.specs.declared.message.Outcome.{Outcome}
 use Rattle.qc_msg.specs.declared.reply.Reply.TheVariants as replies
 use Rattle.qc_msg.specs.declared.reply.AbortCause.TheVariants as causes
 use Rattle.qc_msg.specs.declared.step.Command.{Command}
-use Rattle.qc_msg.specs.declared.step.Command.TheVariants as commands
 use Rattle.qc_msg.specs.declared.turn.Posting.{Posting}
-use Rattle.qc_msg.specs.Vocabulary.{quiet, site_called, telling, without_call}
+use Rattle.qc_msg.specs.Vocabulary.{quiet, site_called, telling, without_call, Decided}
 use Rattle.qc_front.specs.declared.doing.Doing.{Doing}
 use Rattle.qc_front.specs.declared.doing.Doing.TheVariants.{Idle, Reading, Appending}
 use Rattle.qc_front.specs.declared.front.Front.{Front}
 use Rattle.qc_front.specs.declared.transaction.Transaction.{Transaction}
 use Rattle.qc_front.specs.Vocabulary.{AreSent, FrontMove, IsSent, aborts, answer_of, answered, append_by, appended_with}
-use Rattle.qc_front.specs.Vocabulary.{appending_takes, begins, called, commits, gives_up, learns, lived, moved}
+use Rattle.qc_front.specs.Vocabulary.{appending_takes, begins, called, commits, gives_up, learns, moved}
 use Rattle.qc_front.specs.Vocabulary.{next_own, performs, read_by, read_with, reading_takes, reads, resp_of, round_for}
 use Rattle.qc_front.specs.Vocabulary.{standing_of, takes, takes_in, with_event}
 use Rattle.qc_front.proofs.CommandsKeep.{view_keeps}
 use Rattle.qc_front.proofs.Sending.{called_sent, takes_sent}
+use Rattle.laws_turns.proofs.ClientCases.{front_cases}
+use Rattle.laws_turns.proofs.AnswerCases.{appended_cases, learned_cases, read_cases}
+use Rattle.laws_turns.proofs.MessageCases.{message_cases}
 
 abbrev pub IsOwnTransaction : ℕ → Option Transaction → Type 0
 IsOwnTransaction k None = Unit {0}
@@ -52,35 +53,13 @@ of_two P false x y here there = there
 
 pub read_name : (t : Transaction) (site object : ℕ) (answer : Option Answer)
     → (read_with t site object answer).begun.tx ≡ t.begun.tx
-read_name t site object None = refl
-read_name t site object (Some (answers.Granted life clock log)) =
-    ap (λ (b : Begun). b.tx) (view_keeps (lived t site life) object
-    (option_map (λ (v : View). with_log v log) (slice_get t.views object)))
-read_name t site object (Some (answers.Clash holder inv event)) = refl
-read_name t site object (Some (answers.Closed epoch)) = refl
-read_name t site object (Some (answers.Behind epoch)) = refl
-read_name t site object (Some (answers.Restarted life)) = refl
-read_name t site object (Some answers.Stale) = refl
-read_name t site object (Some answers.Fault) = refl
-read_name t site object (Some (answers.Yes clock)) = refl
-read_name t site object (Some (answers.Shut clock log prepared)) = refl
-read_name t site object (Some answers.Installed) = refl
-read_name t site object (Some (answers.Answered verdict)) = refl
+read_name t site object answer =
+    read_cases t site object (λ (b : Begun). b.tx ≡ t.begun.tx) (λ lives. refl) answer
 
 pub appended_name : (t : Transaction) (site : ℕ) (answer : Option Answer)
     → (appended_with t site answer).begun.tx ≡ t.begun.tx
-appended_name t site None = refl
-appended_name t site (Some (answers.Granted life clock log)) = refl
-appended_name t site (Some (answers.Clash holder inv event)) = refl
-appended_name t site (Some (answers.Closed epoch)) = refl
-appended_name t site (Some (answers.Behind epoch)) = refl
-appended_name t site (Some (answers.Restarted life)) = refl
-appended_name t site (Some answers.Stale) = refl
-appended_name t site (Some answers.Fault) = refl
-appended_name t site (Some (answers.Yes clock)) = refl
-appended_name t site (Some (answers.Shut clock log prepared)) = refl
-appended_name t site (Some answers.Installed) = refl
-appended_name t site (Some (answers.Answered verdict)) = refl
+appended_name t site answer =
+    appended_cases t site (λ (u : Transaction). u.begun.tx ≡ t.begun.tx) (λ lives. refl) answer
 
 event_name : (t : Transaction) (object inv event resp : ℕ) → (with_event t object inv event resp).begun.tx ≡ t.begun.tx
 event_name t object inv event resp =
@@ -88,18 +67,8 @@ event_name t object inv event resp =
     (option_map (λ (v : View). with_own v event) (slice_get t.views object)))
 
 learns_client : (front : Front) (answer : Option Answer) → (learns front answer).client ≡ front.client
-learns_client front None = refl
-learns_client front (Some (answers.Granted life clock log)) = refl
-learns_client front (Some (answers.Clash holder inv event)) = refl
-learns_client front (Some (answers.Closed epoch)) = refl
-learns_client front (Some (answers.Behind epoch)) = refl
-learns_client front (Some (answers.Restarted life)) = refl
-learns_client front (Some answers.Stale) = refl
-learns_client front (Some answers.Fault) = refl
-learns_client front (Some (answers.Yes clock)) = refl
-learns_client front (Some (answers.Shut clock log prepared)) = refl
-learns_client front (Some answers.Installed) = refl
-learns_client front (Some (answers.Answered verdict)) = refl
+learns_client front answer =
+    learned_cases front (λ (f : Front). f.client ≡ front.client) (λ clock. refl) (λ epoch. refl) refl answer
 
 -- rounds
 
@@ -169,12 +138,10 @@ module _ (decl : Declaration) (k : ℕ) where
   aborts_own front (Some t) own = record { client = own.client; begun = tt }
 
   pub called_own : (front : Front) (command : Command) → OwnFront k front → OwnFront k (called decl front command).front
-  called_own front commands.Begin own = begins_own front front.transaction own
-  called_own front (commands.Do object inv) own =
-      performs_own front front.transaction object inv own.client own.begun own.begun
-  called_own front commands.Commit own = commits_own front front.transaction own
-  called_own front commands.Abort own = aborts_own front front.transaction own
-  called_own front (commands.Epoch number) own = own
+  called_own front command own =
+      front_cases decl front (λ command m. OwnFront k m.front) (begins_own front front.transaction own)
+      (λ object inv. performs_own front front.transaction object inv own.client own.begun own.begun)
+      (commits_own front front.transaction own) (aborts_own front front.transaction own) (λ number. own) command
 
   -- answers, and requests that are lost
 
@@ -219,14 +186,11 @@ every_of P (x ∷ xs) all = (all x (inl refl), every_of P xs (λ y member. all y
 
 sent_stamped : (decl : Declaration) (front next : Front) (to : ℕ) (m : Message) → IsSent decl front next to m
     → IsStamped m
-sent_stamped decl front next to (messages.Request tx epoch life want) is = tt
-sent_stamped decl front next to (messages.Answer number answer) is = tt
-sent_stamped decl front next to (messages.Decision tx v) is =
-    subst (λ (o : Outcome). IsOwnStamp tx o) (sym is.aborted) tt
-sent_stamped decl front next to (messages.Inquiry tx) is = tt
-sent_stamped decl front next to (messages.Ask tx) is = tt
-sent_stamped decl front next to (messages.Close epoch) is = tt
-sent_stamped decl front next to (messages.Install epoch clock log) is = tt
+sent_stamped decl front next to m is =
+    message_cases
+    (λ m r a d i. IsSent decl front next to m → MatchOption d (Unit {0}) (λ (v : Decided). IsOwnStamp v.tx v.verdict))
+    (λ q is. tt) (λ a is. tt) (λ v is. subst (λ (o : Outcome). IsOwnStamp v.tx o) (sym is.aborted) tt) (λ tx is. tt)
+    (λ m is. tt) m is
 
 sends_stamped : (decl : Declaration) (front : Front) (m : FrontMove) → AreSent decl front m
     → Every (λ (p : Posting). IsStamped p.message) m.turn.sends

@@ -6,10 +6,6 @@ use Rattle.qc_stamp.specs.declared.stamp.TxId.{TxId}
 use Rattle.qc_entry.specs.declared.record.Commit.{Commit}
 use Rattle.qc_msg.specs.declared.message.Answer.{Answer}
 use Rattle.qc_msg.specs.declared.message.Message.{Message}
-use Rattle.qc_msg.specs.declared.message.Message.TheVariants as messages
-use Rattle.qc_msg.specs.declared.message.Want.{Want}
-use Rattle.qc_msg.specs.declared.message.Want.TheVariants.{Read, Append, Prepare}
-use Rattle.qc_msg.specs.declared.record.Record.TheVariants as records
 use Rattle.qc_msg.specs.declared.step.Command.{Command}
 use Rattle.qc_msg.specs.declared.step.Command.TheVariants as commands
 use Rattle.qc_msg.specs.declared.step.Input.{Input}
@@ -22,11 +18,12 @@ use Rattle.qc_front.specs.declared.transaction.Transaction.{Transaction}
 use Rattle.qc_front.specs.Conduct as fronts
 use Rattle.qc_client.specs.declared.client.Client.{Client}
 use Rattle.qc_client.specs.Vocabulary.{ClientMove, answered, answered_by, by_desk, by_front, called, client_after}
-use Rattle.qc_client.specs.Vocabulary.{client_does, client_takes, commits, heard, moved, new_client, requested}
+use Rattle.qc_client.specs.Vocabulary.{client_does, client_takes, commits, heard, moved, new_client}
 use Rattle.qc_client.specs.Vocabulary.{sent_one}
 use Rattle.laws_turns.proofs.OwnFronts.{IsOwnTransaction}
 use Rattle.laws_turns.proofs.StampsOwn.{AreStamped, unwritten, Own, OwnMove, by_two, front_called, front_takes}
 use Rattle.laws_turns.proofs.StampsOwn.{desk_own, outcome_own}
+use Rattle.laws_turns.proofs.ClientCases.{called_cases, heard_cases, sent_cases}
 
 -- each input of a client
 
@@ -42,11 +39,9 @@ commits_own decl k c (Some t) is own =
     ∙ subst (IsOwnTransaction k) is own.front.begun) (prepare-moves decl c.desk t.begun c.front.clock.value))
 
 called_own : (decl : Declaration) (k : ℕ) (c : Client) (command : Command) → Own k c → OwnMove k (called decl c command)
-called_own decl k c commands.Begin own = front_called decl k c commands.Begin own
-called_own decl k c (commands.Do object inv) own = front_called decl k c (commands.Do object inv) own
-called_own decl k c commands.Commit own = commits_own decl k c c.front.transaction refl own
-called_own decl k c commands.Abort own = front_called decl k c commands.Abort own
-called_own decl k c (commands.Epoch number) own = front_called decl k c (commands.Epoch number) own
+called_own decl k c command own =
+    called_cases decl c (λ command m. OwnMove k m) (λ command. front_called decl k c command own)
+    (commits_own decl k c c.front.transaction refl own) command
 
 answered_own : (decl : Declaration) (k : ℕ) (c : Client) (number : ℕ) (answer : Option Answer) → Own k c
     → OwnMove k (answered decl c number answer)
@@ -60,19 +55,12 @@ answered_own decl k c number answer own = by c.desk.voting
 
 heard_own : (decl : Declaration) (k : ℕ) (c : Client) (from number : ℕ) (m : Message) → Own k c
     → OwnMove k (heard decl c from number m)
-heard_own decl k c from number (messages.Request tx epoch life want) own =
-    record { own = own; sends = tt; writes = unwritten None refl }
-heard_own decl k c from number (messages.Answer to answer) own = answered_own decl k c to (Some answer) own
-heard_own decl k c from number (messages.Decision tx verdict) own =
-    record { own = own; sends = tt; writes = unwritten None refl }
-heard_own decl k c from number (messages.Inquiry tx) own =
-    record { own = own; sends = (outcome_own k c tx own, tt); writes = unwritten None refl }
-heard_own decl k c from number (messages.Ask tx) own =
-    record { own = own; sends = (tt, tt); writes = unwritten None refl }
-heard_own decl k c from number (messages.Close epoch) own =
-    record { own = own; sends = tt; writes = unwritten None refl }
-heard_own decl k c from number (messages.Install epoch clock log) own =
-    record { own = own; sends = tt; writes = unwritten None refl }
+heard_own decl k c from number m own =
+    heard_cases decl c from number (λ m move. OwnMove k move)
+    (λ m none. record { own = own; sends = tt; writes = unwritten None refl })
+    (λ to answer. answered_own decl k c to (Some answer) own)
+    (λ tx. record { own = own; sends = (outcome_own k c tx own, tt); writes = unwritten None refl })
+    (λ tx. record { own = own; sends = (tt, tt); writes = unwritten None refl }) m
 
 pub takes_own : (decl : Declaration) (k : ℕ) (c : Client) (g : Input) → Own k c → OwnMove k (client_takes decl c g)
 takes_own decl k c (inputs.Called command) own = called_own decl k c command own
@@ -96,30 +84,15 @@ prepared_own k c number site own = by c.desk.voting refl
         }
 
 pub sent_own : (k : ℕ) (c : Client) (number to : ℕ) (m : Message) → Own k c → Own k (sent_one c number to m)
-sent_own k c number to (messages.Request tx epoch life want) own = by want
-  where
-    by : (w : Want) → Own k (requested c number to w)
-    by (Read object inv) =
-        record {
-          front = record { client = own.front.client; begun = own.front.begun };
-          desk = own.desk;
-          commits = own.commits;
-          hand = own.hand;
-        }
-    by (Append object view lines) =
-        record {
-          front = record { client = own.front.client; begun = own.front.begun };
-          desk = own.desk;
-          commits = own.commits;
-          hand = own.hand;
-        }
-    by Prepare = prepared_own k c number to own
-sent_own k c number to (messages.Answer number_asked answer) own = own
-sent_own k c number to (messages.Decision tx verdict) own = own
-sent_own k c number to (messages.Inquiry tx) own = own
-sent_own k c number to (messages.Ask tx) own = own
-sent_own k c number to (messages.Close epoch) own = own
-sent_own k c number to (messages.Install epoch clock log) own = own
+sent_own k c number to m own =
+    sent_cases c number to (Own k)
+    (record {
+      front = record { client = own.front.client; begun = own.front.begun };
+      desk = own.desk;
+      commits = own.commits;
+      hand = own.hand;
+    })
+    (prepared_own k c number to own) own m
 
 does_own : (decl : Declaration) (k : ℕ) (m : ClientMove) (d : Deed) → OwnMove k m → OwnMove k (client_does decl m d)
 does_own decl k m (Takes g) own = takes_own decl k m.client g own.own

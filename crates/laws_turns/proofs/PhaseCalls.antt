@@ -1,6 +1,6 @@
 -- What a phase asks of an actor, and what is left of it, step by step.
 use Rattle.std.proofs.Common.{[], ◌≡◌, ℕ, ◌+◌, ◌-◌, ◌==◌, ◌&&◌, Bool, true, false, if◌then◌else◌, List, ◌∷◌, ◌++◌, drop}
-use Rattle.std.proofs.Common.{Option, Some, None, refl, sym, ap, ◌∙◌, subst}
+use Rattle.std.proofs.Common.{Option, Some, None, refl, sym, ap, ◌∙◌}
 use Rattle.std.specs.List.{filter_map, fold}
 use Rattle.std.specs.Option.{option_map_or}
 use Rattle.std.proofs.lemmas.List.{append-nil}
@@ -9,12 +9,10 @@ use Rattle.qc_link.specs.Vocabulary.{fate, with_cut, without_cut}
 use Rattle.qc_link.specs.declared.rule.Fate.{Fate}
 use Rattle.qc_msg.specs.declared.message.Envelope.{Envelope}
 use Rattle.qc_msg.specs.declared.message.Message.{Message}
-use Rattle.qc_msg.specs.declared.message.Message.TheVariants as messages
 use Rattle.qc_msg.specs.declared.record.Record.{Record}
 use Rattle.qc_msg.specs.declared.reply.Reply.{Reply}
 use Rattle.qc_msg.specs.declared.step.Command.{Command}
 use Rattle.qc_msg.specs.declared.step.Control.{Control}
-use Rattle.qc_msg.specs.declared.step.Control.TheVariants as controls
 use Rattle.qc_msg.specs.declared.step.Input.{Input}
 use Rattle.qc_msg.specs.declared.step.Input.TheVariants as inputs
 use Rattle.qc_msg.specs.declared.step.Step.{Step}
@@ -22,15 +20,17 @@ use Rattle.qc_msg.specs.declared.step.Step.TheVariants as steps
 use Rattle.qc_msg.specs.declared.turn.Posting.{Posting}
 use Rattle.qc_msg.specs.declared.turn.Turn.{Turn}
 use Rattle.qc_msg.specs.Vocabulary.{Entry, by, marked, posted, sends_of, sents, step_of, tells_of, told, turn_deeds}
-use Rattle.qc_msg.specs.Vocabulary.{writes_of, wrote}
+use Rattle.qc_msg.specs.Vocabulary.{writes_of, wrote, Answered, answer_in}
 use Rattle.qc_script.specs.declared.script.PhaseLines.{PhaseLines}
 use Rattle.qc_script.specs.declared.script.Script.{Script}
 use Rattle.std.specs.Prelude.{set}
 use Rattle.qc_script.specs.Vocabulary.{Inbox, acting, answers_by, comes, comes_at_once, commands_for, count_of}
 use Rattle.qc_script.specs.Vocabulary.{empty_inbox, goes, goes_with, has_request, inbox, inbox_at, is_request, is_up}
 use Rattle.qc_script.specs.Vocabulary.{opened, opened_by, phase_at, phase_begun, phase_of, reply_told, step_of_control}
-use Rattle.qc_script.specs.Vocabulary.{with_copies, wrote_record}
+use Rattle.qc_script.specs.Vocabulary.{with_copies, wrote_record, request_answered}
 use Rattle.laws_turns.specs.Vocabulary.{call_in}
+use Rattle.laws_turns.proofs.ReadingCases.{mapped}
+use Rattle.laws_turns.proofs.StepCases.{control_cases}
 
 -- the commands that are left, step by step
 
@@ -52,13 +52,9 @@ left_wrote a i r =
     (left_opened a (record i { up = set i.up r true; controls = drop 1 i.controls }))
 
 left_answers : (i : Inbox) (m : Message) (f : Fate) → (answers_by i m f).commands ≡ i.commands
-left_answers i (messages.Request tx epoch life want) f = refl
-left_answers i (messages.Answer to answer) f = left_if (has_request i.unanswered to) _ i i.commands refl refl
-left_answers i (messages.Decision tx verdict) f = refl
-left_answers i (messages.Inquiry tx) f = refl
-left_answers i (messages.Ask tx) f = refl
-left_answers i (messages.Close epoch) f = refl
-left_answers i (messages.Install epoch clock log) f = refl
+left_answers i m f =
+    mapped (λ (j : Inbox). j.commands ≡ i.commands) (λ (a : Answered). request_answered i a.to f) i (answer_in m)
+    (λ a. left_if (has_request i.unanswered a.to) _ i i.commands refl refl) refl
 
 left_goes : (i : Inbox) (e : Envelope) (f : Fate) → (goes_with i e f).commands ≡ i.commands
 left_goes i e f =
@@ -139,22 +135,16 @@ module _ (script : Script) (a : ℕ) where
 
   pub left_control : (line : Control) (step : Step) (h : List Entry) (b : ℕ) → step_of_control line ≡ Some step
       → left (h ++ marked b step ∷ []) ≡ left h
-  left_control (controls.Phase k) step h b is = absurd (let never : ⊥ = cc in never)
-  left_control (controls.Cut x y) step h b is =
-      subst (λ (s : Step). left (h ++ marked b s ∷ []) ≡ left h) (let same : steps.Cut x y ≡ step = cc in same)
-      (left_more h b (steps.Cut x y)
+  left_control line step h b is =
+      control_cases (λ (s : Step). left (h ++ marked b s ∷ []) ≡ left h)
+      (λ x y. left_more h b (steps.Cut x y)
       ∙ left_opened a
       (record (inbox script a h)
       { cuts = with_cut (inbox script a h).cuts x y; controls = drop 1 (inbox script a h).controls }))
-  left_control (controls.Heal x y) step h b is =
-      subst (λ (s : Step). left (h ++ marked b s ∷ []) ≡ left h) (let same : steps.Heal x y ≡ step = cc in same)
-      (left_more h b (steps.Heal x y)
+      (λ x y. left_more h b (steps.Heal x y)
       ∙ left_opened a
       (record (inbox script a h)
-      { cuts = without_cut (inbox script a h).cuts x y; controls = drop 1 (inbox script a h).controls }))
-  left_control (controls.Armed actor kind at) step h b is = absurd (let never : ⊥ = cc in never)
-  left_control (controls.Crash x) step h b is = absurd (let never : ⊥ = cc in never)
-  left_control (controls.Restart x) step h b is = absurd (let never : ⊥ = cc in never)
+      { cuts = without_cut (inbox script a h).cuts x y; controls = drop 1 (inbox script a h).controls })) line step is
 
 -- the last phase, step by step
 
@@ -186,16 +176,10 @@ phase_posted h a n turn = phase_more h (by a (posted n turn)) ∙ phase_turn (ph
 
 pub phase_control : (line : Control) (step : Step) (h : List Entry) (b : ℕ) → step_of_control line ≡ Some step
     → phase_of (h ++ marked b step ∷ []) ≡ phase_of h
-phase_control (controls.Phase k) step h b is = absurd (let never : ⊥ = cc in never)
-phase_control (controls.Cut x y) step h b is =
-    subst (λ (s : Step). phase_of (h ++ marked b s ∷ []) ≡ phase_of h) (let same : steps.Cut x y ≡ step = cc in same)
-    (phase_more h (marked b (steps.Cut x y) ∷ []))
-phase_control (controls.Heal x y) step h b is =
-    subst (λ (s : Step). phase_of (h ++ marked b s ∷ []) ≡ phase_of h) (let same : steps.Heal x y ≡ step = cc in same)
-    (phase_more h (marked b (steps.Heal x y) ∷ []))
-phase_control (controls.Armed actor kind at) step h b is = absurd (let never : ⊥ = cc in never)
-phase_control (controls.Crash x) step h b is = absurd (let never : ⊥ = cc in never)
-phase_control (controls.Restart x) step h b is = absurd (let never : ⊥ = cc in never)
+phase_control line step h b is =
+    control_cases (λ (s : Step). phase_of (h ++ marked b s ∷ []) ≡ phase_of h)
+    (λ x y. phase_more h (marked b (steps.Cut x y) ∷ [])) (λ x y. phase_more h (marked b (steps.Heal x y) ∷ []))
+    line step is
 
 -- the calls, deed by deed
 

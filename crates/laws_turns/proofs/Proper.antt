@@ -3,11 +3,11 @@
 use Rattle.std.proofs.Common.{[], ◌≡◌, ℕ, ◌+◌, ◌-◌, ◌<◌, ◌≤◌, Bool, true, false, if◌then◌else◌, List, ◌∷◌, ◌++◌, length}
 use Rattle.std.proofs.Common.{Some, None, refl, sym, ap, ◌∙◌, subst, arith}
 use Rattle.std.specs.List.{AllByRecursion as Every}
+use Rattle.std.specs.Bool.{MatchBool}
 use Rattle.qc_core.specs.Vocabulary.{IsLawful}
 use Rattle.qc_decl.specs.declared.declaration.Declaration.{Declaration}
 use Rattle.qc_decl.specs.Vocabulary.{IsAccepted, administrator, controller, is_client, is_site}
 use Rattle.qc_decl.proofs.Clients.{client_below, client_past}
-use Rattle.qc_msg.specs.declared.message.Answer.{Answer}
 use Rattle.qc_msg.specs.declared.message.Envelope.{Envelope}
 use Rattle.qc_msg.specs.declared.message.Message.{Message}
 use Rattle.qc_msg.specs.declared.message.Message.TheVariants as messages
@@ -15,30 +15,30 @@ use Rattle.qc_msg.specs.declared.step.Step.TheVariants as steps
 use Rattle.qc_msg.specs.declared.turn.Posting.{Posting}
 use Rattle.qc_msg.specs.declared.turn.Turn.{Turn}
 use Rattle.qc_msg.specs.Vocabulary.{Deed, Entry, by, deeds, envelopes, mail, posted}
+use Rattle.qc_msg.specs.Vocabulary.{Requested, request_in, wants_answer}
 use Rattle.qc_msg.proofs.GrownMail.{mail-append, mail-posted, mail-taken}
 use Rattle.qc_client.specs.Vocabulary.{client_after}
 use Rattle.qc_script.specs.Vocabulary.{Runs, phase_of}
 use Rattle.qc_script.specs.Runs.{begins, takes, posts, phase, control}
 use Rattle.qc_script.specs.declared.script.Script.{Script}
-use Rattle.qc_site.specs.Vocabulary.{site_after}
+use Rattle.qc_site.specs.Vocabulary.{site_after, names_declared}
 use Rattle.laws_turns.specs.Vocabulary.{AsksDeclared}
 use Rattle.laws_turns.proofs.Mailed.{both_all}
 use Rattle.laws_turns.proofs.Numbered.{control_silent, mail-silent, phase_silent}
 use Rattle.laws_turns.proofs.Rounds.{AreProper, IsProper}
 use Rattle.laws_turns.proofs.SiteReplies.{IsMailProper, IsProperFrom, asks_nothing}
 use Rattle.laws_turns.proofs.SoundClients.{IsAskableDeed, run_askable, client_proper}
+use Rattle.laws_turns.proofs.ReadingCases.{matched_by}
 
 -- what an actor's turn sends: a site asks nothing, a client asks sites
 
 from_client : (decl : Declaration) (from to : ℕ) (m : Message) → decl.sites ≤ from → IsProper decl to m
     → IsProperFrom decl from to m
-from_client decl from to (messages.Request tx epoch life want) past is = (past, is)
-from_client decl from to (messages.Answer number answer) past is = tt
-from_client decl from to (messages.Decision tx verdict) past is = tt
-from_client decl from to (messages.Inquiry tx) past is = tt
-from_client decl from to (messages.Ask tx) past is = is
-from_client decl from to (messages.Close epoch) past is = is
-from_client decl from to (messages.Install epoch clock log) past is = is
+from_client decl from to m past is =
+    matched_by (MatchBool (wants_answer m) ⊥ (Unit {0})) (MatchBool (wants_answer m) ⊥ (Unit {0}))
+    (λ (q : Requested). (to < decl.sites) × (names_declared decl q.tx q.want ≡ true))
+    (λ (q : Requested). (decl.sites ≤ from) × IsProper decl to (messages.Request q.tx q.epoch q.life q.want))
+    (request_in m) (λ q its. (past, its)) (λ none. none) is
 
 client_mail : (decl : Declaration) (a n : ℕ) (ps : List Posting) → decl.sites ≤ a → AreProper decl ps
     → IsMailProper decl (envelopes a n ps)

@@ -12,7 +12,6 @@ use Rattle.qc_link.specs.Vocabulary.{most_actors, with_cut, without_cut}
 use Rattle.qc_msg.specs.declared.message.Envelope.{Envelope}
 use Rattle.qc_msg.specs.declared.message.Message.TheVariants as messages
 use Rattle.qc_msg.specs.declared.step.Control.{Control}
-use Rattle.qc_msg.specs.declared.step.Control.TheVariants as controls
 use Rattle.qc_msg.specs.declared.step.Input.{Input}
 use Rattle.qc_msg.specs.declared.step.Input.TheVariants as inputs
 use Rattle.qc_msg.specs.declared.step.Step.{Step}
@@ -41,6 +40,7 @@ use Rattle.laws_turns.proofs.Served.{lawful_site}
 use Rattle.laws_turns.proofs.SiteReplies.{IsMailProper, IsProperFrom, IsReply}
 use Rattle.laws_turns.proofs.TakenRequests.{IsDeclared, declared_request, site_turn, second_all, moved_to, taken_stays}
 use Rattle.laws_turns.proofs.TakenRequests.{flip, take_kept}
+use Rattle.laws_turns.proofs.StepCases.{control_cases}
 
 module _ (decl : Declaration) (script : Script) (accepted : IsAccepted decl) (asks : AsksDeclared decl script) (a : ℕ)
     (a_low : a < most_actors) where
@@ -167,31 +167,26 @@ module _ (decl : Declaration) (script : Script) (accepted : IsAccepted decl) (as
     where
       acts : (line : Control) → step_of_control line ≡ Some step → IsKept older before
           → AreSomewhere script (IsTaken older before) (older ++ marked (controller decl) step ∷ []) a
-      acts (controls.Phase k) s are = absurd (let never : ⊥ = cc in never)
-      acts (controls.Cut x y) s are =
-          subst (λ (v : Step). AreSomewhere script (IsTaken older before) (older ++ marked (controller decl) v ∷ []) a)
-          (let same : steps.Cut x y ≡ step = cc in same)
-          (somewhere_still script (IsTaken older before) a older (controller decl) (steps.Cut x y)
+      acts line s are =
+          control_cases
+          (λ (v : Step). AreSomewhere script (IsTaken older before) (older ++ marked (controller decl) v ∷ []) a)
+          (λ x y. somewhere_still script (IsTaken older before) a older (controller decl) (steps.Cut x y)
           (cuts_unanswered a (inbox script a older) (with_cut (inbox script a older).cuts x y))
           (λ s x2 member. cuts_copies s (inbox script s older) (with_cut (inbox script s older).cuts x y) x2 member)
           (λ x2 member. mail_first script (IsTaken older before) a older
           (marked (controller decl) (steps.Cut x y) ∷ []) x2 member) are)
-      acts (controls.Heal x y) s are =
-          subst (λ (v : Step). AreSomewhere script (IsTaken older before) (older ++ marked (controller decl) v ∷ []) a)
-          (let same : steps.Heal x y ≡ step = cc in same)
-          (somewhere_still script (IsTaken older before) a older (controller decl) (steps.Heal x y)
+          (λ x y. somewhere_still script (IsTaken older before) a older (controller decl) (steps.Heal x y)
           (cuts_unanswered a (inbox script a older) (without_cut (inbox script a older).cuts x y))
           (λ s x2 member. cuts_copies s (inbox script s older) (without_cut (inbox script s older).cuts x y) x2 member)
           (λ x2 member. mail_first script (IsTaken older before) a older
           (marked (controller decl) (steps.Heal x y) ∷ []) x2 member) are)
-      acts (controls.Armed actor kind at) s are = absurd (let never : ⊥ = cc in never)
-      acts (controls.Crash x) s are = absurd (let never : ⊥ = cc in never)
-      acts (controls.Restart x) s are = absurd (let never : ⊥ = cc in never)
+          line step s
 
   -- an unanswered request is at its site
-  pub unanswered_at_site : (h : List Entry) (open_inputs : List Bool) → Runs (IsLawful decl) decl script h open_inputs
+  pub unanswered_requests_are_at_their_sites : (h : List Entry) (open_inputs : List Bool)
+      → Runs (IsLawful decl) decl script h open_inputs
       → (n : ℕ) → In n (request_numbers (inbox script a h).unanswered) → IsAtReceiver script h open_inputs a n
-  unanswered_at_site h open_inputs run n member = at (run_kept h open_inputs run n member)
+  unanswered_requests_are_at_their_sites h open_inputs run n member = at (run_kept h open_inputs run n member)
     where
       at : IsSomewhere script (IsTaken h open_inputs) h a n → IsAtReceiver script h open_inputs a n
       at r =

@@ -1,4 +1,4 @@
--- In every run records are apart, and just what their clients were told.
+-- In every run records are apart, and just what their clients were clients_are_told.
 use Rattle.std.proofs.Common.{◌≡◌, ◌≢◌, ℕ, ◌+◌, ◌-◌, ◌<◌, ◌↔◌, inl, nat_le, nat_lt, Bool, true, List, [], refl, sym, ap}
 use Rattle.std.proofs.Common.{◌∙◌, subst, arith}
 use Rattle.std.specs.List.{AllPairs}
@@ -137,13 +137,13 @@ module _ (decl : Declaration) (script : Script) (h : List Entry) (open_inputs : 
   pub ordered : IsOrdered IsStampedBefore (committed decl h)
   ordered = in_order.0
 
-  pub dealt : AreDealt decl (committed decl h) h
-  dealt c among =
+  pub records_are_what_was_told : AreDealt decl (committed decl h) h
+  records_are_what_was_told c among =
       let listed : In c (records decl h) = listed_in c among in
       sym ((kept (client_actor decl c.tx.client) (its_client c listed) c.tx).keeps.dealing.done c
       (its_record c listed c.tx) refl).0
 
-  -- what a client was told that its transaction ended with
+  -- what a client was clients_are_told that its transaction ended with
   ends_in : (n : ℕ) (low : n < decl.clients) (tx : TxId) (stamp : Stamp)
       → In (replies.Committed stamp) (endings decl h n tx) → HasCommit (committed decl h) tx stamp
   ends_in n low tx stamp among =
@@ -176,8 +176,8 @@ module _ (decl : Declaration) (script : Script) (h : List Entry) (open_inputs : 
       subst (λ (x : ℕ). In c (written_in (deeds (client_actor decl x) [] h))) here wrote in
       k.keeps.dealing.others r among abort c (subst (In c) (sym k.written) there) same
 
-  pub told : AreTold decl (committed decl h) h
-  told = record {
+  pub clients_are_told : AreTold decl (committed decl h) h
+  clients_are_told = record {
     committed = λ n tx stamp low among. ends_in n low tx stamp among;
     aborted = λ n tx why c low among listed_c. no_abort n tx (replies.Aborted why) c low among tt listed_c;
     dropped = λ n tx c low among listed_c. no_abort n tx replies.Dropped c low among tt listed_c;

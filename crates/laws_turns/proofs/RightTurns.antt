@@ -1,6 +1,9 @@
 -- A client's turn: its deeds are right for each transaction, and leave its status so.
 use Rattle.std.proofs.Common.{[], ◌≡◌, ℕ, ◌+◌, ◌⊎◌, inl, inr, Bool, true, false, cond, List, ◌∷◌, ◌++◌, fold, map, Some}
 use Rattle.std.proofs.Common.{None, refl, sym, ap, ◌∙◌, subst, arith}
+use Rattle.std.specs.Bool.{MatchBool}
+use Rattle.std.specs.Prelude.{MatchOption}
+use Rattle.std.specs.Option.{option_map_or}
 use Rattle.qc_stamp.specs.declared.stamp.Stamp.{Stamp}
 use Rattle.qc_stamp.specs.declared.stamp.TxId.{TxId}
 use Rattle.qc_stamp.specs.Vocabulary.{same_tx}
@@ -21,6 +24,7 @@ use Rattle.qc_promise.specs.Vocabulary.{status_at, status_told}
 use Rattle.laws_turns.proofs.DealingParts.{IsAbort}
 use Rattle.laws_turns.proofs.Statuses.{IsStatus, Page, began, commits_one, gave_up}
 use Rattle.laws_turns.proofs.TurnsGoOn.{verdicts_ask, NoInquiries, TurnRight, turn_is}
+use Rattle.laws_turns.proofs.ReplyCases.{reply_cases}
 
 -- it is given up: that is told to sites and to the caller
 
@@ -31,46 +35,21 @@ given_twice (Committed stamp) = refl
 given_twice Dead = refl
 
 abort_told : (tx : TxId) (s : Status) (reply : Reply) → IsAbort reply → status_told tx s reply ≡ given_up s
-abort_told tx s replies.Down never = absurd never
-abort_told tx s (replies.Already other) never = absurd never
-abort_told tx s (replies.Began other) never = absurd never
-abort_told tx s replies.NoTransaction never = absurd never
-abort_told tx s replies.Doomed never = absurd never
-abort_told tx s replies.TooLong never = absurd never
-abort_told tx s (replies.Closed epoch site) never = absurd never
-abort_told tx s (replies.Conflict holder site) never = absurd never
-abort_told tx s (replies.Quorum half got need) never = absurd never
-abort_told tx s replies.Absent never = absurd never
-abort_told tx s (replies.Response resp) never = absurd never
-abort_told tx s (replies.Aborted why) is = refl
-abort_told tx s replies.Unknown never = absurd never
-abort_told tx s (replies.Committed stamp) never = absurd never
-abort_told tx s replies.Dropped is = refl
-abort_told tx s (replies.Order current) never = absurd never
-abort_told tx s (replies.InDoubt holder site) never = absurd never
-abort_told tx s replies.Fault never = absurd never
-abort_told tx s (replies.Moved closed installed) never = absurd never
+abort_told tx s reply is =
+    reply_cases
+    (λ r began already gone. MatchBool gone (Unit {0}) ⊥
+    → option_map_or (λ (other : TxId). cond (same_tx other tx) Begun s) began (cond gone (given_up s) s) ≡ given_up s)
+    (λ other never. absurd never) (λ other never. absurd never) (λ why its. refl) (λ its. refl)
+    (λ r never. absurd never) reply is
 
 abort_right : (tx : TxId) (s : Status) (reply : Reply) → IsAbort reply → AreRightFrom tx s (Tells reply ∷ [])
-abort_right tx s replies.Down never = absurd never
-abort_right tx s (replies.Already other) never = absurd never
-abort_right tx s (replies.Began other) never = absurd never
-abort_right tx s replies.NoTransaction never = absurd never
-abort_right tx s replies.Doomed never = absurd never
-abort_right tx s replies.TooLong never = absurd never
-abort_right tx s (replies.Closed epoch site) never = absurd never
-abort_right tx s (replies.Conflict holder site) never = absurd never
-abort_right tx s (replies.Quorum half got need) never = absurd never
-abort_right tx s replies.Absent never = absurd never
-abort_right tx s (replies.Response resp) never = absurd never
-abort_right tx s (replies.Aborted why) is = (tt, tt)
-abort_right tx s replies.Unknown never = absurd never
-abort_right tx s (replies.Committed stamp) never = absurd never
-abort_right tx s replies.Dropped is = (tt, tt)
-abort_right tx s (replies.Order current) never = absurd never
-abort_right tx s (replies.InDoubt holder site) never = absurd never
-abort_right tx s replies.Fault never = absurd never
-abort_right tx s (replies.Moved closed installed) never = absurd never
+abort_right tx s reply is =
+    reply_cases
+    (λ r began already gone. MatchBool gone (Unit {0}) ⊥ → MatchOption already
+    (MatchOption began (Unit {0}) (λ (other : TxId). same_tx other tx ≡ true → s ≡ Unborn))
+    (λ (other : TxId). same_tx other tx ≡ true → s ≡ Begun) × Unit {0})
+    (λ other never. absurd never) (λ other never. absurd never) (λ why its. (tt, tt)) (λ its. (tt, tt))
+    (λ r never. absurd never) reply is
 
 abbrev aborts_of : TxId → List ℕ → List Posting
 aborts_of x sites = map (λ site. record { to = site; message = messages.Decision x outcomes.Aborted }) sites

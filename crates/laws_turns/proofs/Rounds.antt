@@ -4,6 +4,8 @@ use Rattle.std.proofs.Common.{if◌then◌else◌, List, [], ◌∷◌, map, len
 use Rattle.std.proofs.Common.{sym, ap, ◌∙◌, subst, arith}
 use Rattle.std.specs.List.{AllByRecursion as Every}
 use Rattle.std.specs.Option.{option_map_or}
+use Rattle.std.specs.Prelude.{MatchOption}
+use Rattle.std.specs.Bool.{MatchBool}
 use Rattle.std.proofs.lemmas.Bool.{lt-ltb}
 use Rattle.qc_decl.specs.declared.declaration.Declaration.{Declaration}
 use Rattle.qc_decl.specs.Vocabulary.{IsAccepted, append_need_of, first_site, kind_at, most_transaction_operations}
@@ -25,9 +27,9 @@ use Rattle.qc_msg.specs.declared.reply.Reply.{Reply}
 use Rattle.qc_msg.specs.declared.reply.Reply.TheVariants as replies
 use Rattle.qc_msg.specs.declared.reply.AbortCause.TheVariants as causes
 use Rattle.qc_msg.specs.declared.step.Command.{Command}
-use Rattle.qc_msg.specs.declared.step.Command.TheVariants as commands
 use Rattle.qc_msg.specs.declared.turn.Posting.{Posting}
 use Rattle.qc_msg.specs.Vocabulary.{decisions, quiet, site_called, telling, without_call}
+use Rattle.qc_msg.specs.Vocabulary.{Requested, request_in, wants_answer}
 use Rattle.qc_front.specs.declared.doing.Doing.{Doing}
 use Rattle.qc_front.specs.declared.doing.Doing.TheVariants.{Idle, Reading, Appending}
 use Rattle.qc_front.specs.declared.front.Front.{Front}
@@ -40,6 +42,7 @@ use Rattle.qc_site.specs.Vocabulary.{names_declared}
 use Rattle.laws_turns.proofs.DeclaredSites.{AreSites, asking_rest, sites_cyclic, sites_filter, wanted_sites}
 use Rattle.laws_turns.proofs.OwnFronts.{IsOwnTransaction, OwnFront, appended_name, read_name}
 use Rattle.laws_turns.specs.Vocabulary.{IsAskable}
+use Rattle.laws_turns.proofs.ClientCases.{front_cases}
 
 pub of_either : {A : Type 0} (P : A → Type 0) (t : Bool) (x y : A) → P x → P y → P (if t then x else y)
 of_either P true x y here there = here
@@ -48,13 +51,9 @@ of_either P false x y here there = there
 -- a request goes to a site, and names a client and an object that are declared; nobody sends an Ask, a Close, an
 -- Install
 abbrev pub IsProper : Declaration → ℕ → Message → Type 0
-IsProper decl to (messages.Request tx epoch life want) = (to < decl.sites) × (names_declared decl tx want ≡ true)
-IsProper decl to (messages.Answer number answer) = Unit {0}
-IsProper decl to (messages.Decision tx verdict) = Unit {0}
-IsProper decl to (messages.Inquiry tx) = Unit {0}
-IsProper decl to (messages.Ask tx) = ⊥
-IsProper decl to (messages.Close epoch) = ⊥
-IsProper decl to (messages.Install epoch clock log) = ⊥
+IsProper decl to m =
+    MatchOption (request_in m) (MatchBool (wants_answer m) ⊥ (Unit {0}))
+    (λ (q : Requested). (to < decl.sites) × (names_declared decl q.tx q.want ≡ true))
 
 abbrev pub AreProper : Declaration → List Posting → Type 0
 AreProper decl ps = Every (λ (p : Posting). IsProper decl p.to p.message) ps
@@ -188,12 +187,12 @@ module _ (decl : Declaration) (accepted : IsAccepted decl) (k : ℕ) (within : k
 
   pub called_good : (a : ℕ) (front : Front) (command : Command) → IsAskable decl a command → OwnFront k front
       → IsSited decl front.doing → IsGood decl (fronts.called decl front command)
-  called_good a front commands.Begin is own sited = begins_good front front.transaction sited
-  called_good a front (commands.Do object inv) is own sited =
-      performs_good front front.transaction object inv own.begun is sited
-  called_good a front commands.Commit is own sited = commits_good front front.transaction sited
-  called_good a front commands.Abort is own sited = aborts_good front front.transaction sited
-  called_good a front (commands.Epoch number) is own sited = record { doing = sited; sends = tt }
+  called_good a front command is own sited =
+      front_cases decl front (λ command m. IsAskable decl a command → IsGood decl m)
+      (λ is. begins_good front front.transaction sited)
+      (λ object inv is. performs_good front front.transaction object inv own.begun is sited)
+      (λ is. commits_good front front.transaction sited) (λ is. aborts_good front front.transaction sited)
+      (λ number is. record { doing = sited; sends = tt }) command is
 
   -- answers, and requests that are lost
 

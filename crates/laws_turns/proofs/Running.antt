@@ -11,14 +11,13 @@ use Rattle.qc_link.specs.Vocabulary.{fate, with_cut, without_cut}
 use Rattle.qc_link.specs.declared.rule.Fate.{Fate}
 use Rattle.qc_msg.specs.declared.message.Envelope.{Envelope}
 use Rattle.qc_msg.specs.declared.message.Message.{Message}
-use Rattle.qc_msg.specs.declared.message.Message.TheVariants as messages
 use Rattle.qc_msg.specs.declared.step.Command.{Command}
 use Rattle.qc_msg.specs.declared.step.Control.{Control}
 use Rattle.qc_msg.specs.declared.step.Input.{Input}
 use Rattle.qc_msg.specs.declared.step.Input.TheVariants as inputs
 use Rattle.qc_msg.specs.declared.step.Step.{Step}
 use Rattle.qc_msg.specs.declared.step.Step.TheVariants as steps
-use Rattle.qc_msg.specs.Vocabulary.{Deed, Entry, deed_at, deeds, envelope_of, heard}
+use Rattle.qc_msg.specs.Vocabulary.{Deed, Entry, deed_at, deeds, envelope_of, heard, Answered, answer_in}
 use Rattle.qc_script.specs.declared.script.PhaseLines.{PhaseLines}
 use Rattle.qc_script.specs.declared.script.Script.{Script}
 use Rattle.qc_msg.specs.declared.step.Fall.{Fall}
@@ -28,8 +27,9 @@ use Rattle.qc_script.specs.Vocabulary.{emptied, empty_inbox, fell_by, first_comm
 use Rattle.qc_script.specs.Vocabulary.{goes_with, has_request, inbox, inbox_at, is_by_line, is_request, is_up}
 use Rattle.qc_script.specs.Vocabulary.{loss_taken, opened, opened_by, phase_begun, ready, ready_in, reply_told}
 use Rattle.qc_script.specs.Vocabulary.{requests_to, requests_to_others, takes_commands, with_copies, with_lost}
-use Rattle.qc_script.specs.Vocabulary.{wrote_record}
+use Rattle.qc_script.specs.Vocabulary.{wrote_record, request_answered}
 use Rattle.laws_turns.proofs.Up.{first_up, rest_up}
+use Rattle.laws_turns.proofs.ReadingCases.{mapped}
 
 busy_if : (t : Bool) (i j : Inbox) (b : Bool) → i.busy ≡ b → j.busy ≡ b → (if t then i else j).busy ≡ b
 busy_if true i j b here there = here
@@ -65,13 +65,9 @@ busy_wrote : (a : ℕ) (i : Inbox) (r : ℕ) → (wrote_record a i r).busy ≡ i
 busy_wrote a i r = busy_if (is_up i.up r) i _ i.busy refl (busy_acted a (record i { up = set i.up r true }))
 
 busy_answers : (i : Inbox) (m : Message) (f : Fate) → (answers_by i m f).busy ≡ i.busy
-busy_answers i (messages.Request tx epoch life want) f = refl
-busy_answers i (messages.Answer to answer) f = busy_if (has_request i.unanswered to) _ i i.busy refl refl
-busy_answers i (messages.Decision tx verdict) f = refl
-busy_answers i (messages.Inquiry tx) f = refl
-busy_answers i (messages.Ask tx) f = refl
-busy_answers i (messages.Close epoch) f = refl
-busy_answers i (messages.Install epoch clock log) f = refl
+busy_answers i m f =
+    mapped (λ (j : Inbox). j.busy ≡ i.busy) (λ (a : Answered). request_answered i a.to f) i (answer_in m)
+    (λ a. busy_if (has_request i.unanswered a.to) _ i i.busy refl refl) refl
 
 busy_goes : (i : Inbox) (e : Envelope) (f : Fate) → (goes_with i e f).busy ≡ i.busy
 busy_goes i e f = busy_if (is_request e.message) _ _ i.busy

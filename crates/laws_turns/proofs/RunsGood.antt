@@ -2,7 +2,7 @@
 use Rattle.std.proofs.Common.{◌≡◌, ◌≢◌, ℕ, ◌+◌, ◌-◌, Bool, true, false, List, [], ◌∷◌, ◌++◌, length, Some, slice_get}
 use Rattle.std.proofs.Common.{inl, inr, refl, sym, ap, ◌∙◌, subst}
 use Rattle.std.specs.List.{AllByRecursion as Every}
-use Rattle.std.specs.Prelude.{slice_set}
+use Rattle.std.specs.Prelude.{slice_set, MatchOption}
 use Rattle.qc_list.specs.Vocabulary.{In}
 use Rattle.qc_list.proofs.Members.{In-first, In-second, every-In, every-from_In, every-weaker}
 use Rattle.qc_stamp.specs.declared.stamp.TxId.{TxId}
@@ -13,7 +13,7 @@ use Rattle.qc_msg.specs.declared.message.Message.TheVariants as messages
 use Rattle.qc_msg.specs.declared.turn.Posting.{Posting}
 use Rattle.qc_msg.specs.declared.turn.Turn.{Turn}
 use Rattle.qc_msg.specs.Vocabulary.{Deed, Entry, Sends, by, deeds, mail, posted, sends_of, tells_of, turn_deeds}
-use Rattle.qc_msg.specs.Vocabulary.{writes_of}
+use Rattle.qc_msg.specs.Vocabulary.{writes_of, Requested}
 use Rattle.qc_msg.proofs.Growth.{deeds-posted}
 use Rattle.qc_script.specs.Vocabulary.{Runs, phase_of}
 use Rattle.qc_script.specs.Runs as runs
@@ -21,7 +21,7 @@ use Rattle.qc_script.specs.declared.script.Script.{Script}
 use Rattle.qc_core.specs.Vocabulary.{IsLawful}
 use Rattle.qc_site.specs.Vocabulary.{site_after}
 use Rattle.laws_turns.specs.Vocabulary.{ActsIn}
-use Rattle.laws_turns.proofs.Acted.{run_acts}
+use Rattle.laws_turns.proofs.Acted.{actors_take_and_post_by_turns}
 use Rattle.laws_turns.proofs.Arrivals.{what_is_ready_was_sent}
 use Rattle.laws_turns.proofs.Numbered.{control_silent, phase_silent}
 use Rattle.laws_turns.proofs.Places.{slice_get-set_same}
@@ -34,6 +34,7 @@ use Rattle.laws_turns.proofs.StatusActs.{Rests, Turns, status_acts}
 use Rattle.laws_turns.proofs.TurnsGoOn.{IsNoInquiry, NoInquiries}
 use Rattle.laws_turns.proofs.Moving.{Born, Good, IsSaid, asks_later, control_good, from_client, known_posts, posts_good}
 use Rattle.laws_turns.proofs.Moving.{site_decides_not, site_tells, takes_good}
+use Rattle.laws_turns.proofs.MessageCases.{message_cases}
 
 not_both : (t : Bool) → t ≡ true → t ≡ false → ⊥
 not_both t is other = let no : ⊥ = cc in no
@@ -72,7 +73,7 @@ module _ (decl : Declaration) (script : Script) (accepted : IsAccepted decl) whe
     next = runs.posts b turn before older run taken lawful
 
     turns : ActsIn decl b (older ++ by b (posted (length (mail older)) turn)) false
-    turns = run_acts decl script (older ++ by b (posted (length (mail older)) turn))
+    turns = actors_take_and_post_by_turns decl script (older ++ by b (posted (length (mail older)) turn))
         (slice_set before b false) next b false (slice_get-set_same before b false true taken)
 
     no_site : is_site decl b ≡ false
@@ -101,7 +102,7 @@ module _ (decl : Declaration) (script : Script) (accepted : IsAccepted decl) whe
 
     asks_none : (tx : TxId) → NoInquiries turn.sends
     asks_none tx =
-        let here : ActsIn decl b older true = run_acts decl script older before run b true taken in
+        let here : ActsIn decl b older true = actors_take_and_post_by_turns decl script older before run b true taken in
         let open_turn : Turns decl accepted b no_site named tx (deeds b [] older) =
         status_acts decl accepted b no_site named tx (deeds b [] older) true here.above here.acts
         (good.known b named tx) in
@@ -110,26 +111,29 @@ module _ (decl : Declaration) (script : Script) (accepted : IsAccepted decl) whe
 
     said : (p : Posting) → In p turn.sends → (m : Message) → p.message ≡ m
         → Tells decl (Born decl (older ++ by b (posted (length (mail older)) turn))) p.to m
-    said p among (messages.Request tx epoch life want) is =
+    said p among m is =
+        message_cases
+        (λ m r a d i. p.message ≡ m → MatchOption i (MatchOption r (Unit {0})
+        (λ (q : Requested). Born decl (older ++ by b (posted (length (mail older)) turn)) q.tx))
+        (λ (tx : TxId). (p.to ≡ client_actor decl tx.client)
+        × Born decl (older ++ by b (posted (length (mail older)) turn)) tx))
+        (λ q is.
         let d : IsDone p (turn_deeds (length (mail older)) turn) = in_turn (length (mail older)) turn p among in
         let whole : In (Sends d.number p.to p.message)
         (deeds b [] (older ++ by b (posted (length (mail older)) turn))) =
         subst (In (Sends d.number p.to p.message)) (sym (deeds-posted b (length (mail older)) older turn))
         (In-second (Sends d.number p.to p.message) (deeds b [] older)
         (turn_deeds (length (mail older)) turn) d.among) in
-        let asked : In (Sends d.number p.to (messages.Request tx epoch life want))
+        let asked : In (Sends d.number p.to (messages.Request q.tx q.epoch q.life q.want))
         (deeds b [] (older ++ by b (posted (length (mail older)) turn))) =
         subst (λ (x : Message). In (Sends d.number p.to x)
         (deeds b [] (older ++ by b (posted (length (mail older)) turn)))) is whole in
-        born_here tx (request_born tx Unborn (deeds b [] (older ++ by b (posted (length (mail older)) turn))) d.number
-        p.to epoch life want (rests tx).right asked)
-    said p among (messages.Answer asked answer) is = tt
-    said p among (messages.Decision tx verdict) is = tt
-    said p among (messages.Inquiry tx) is = absurd
-        (subst IsNoInquiry is (every-In (λ (q : Posting). IsNoInquiry q.message) p turn.sends (asks_none tx) among))
-    said p among (messages.Ask tx) is = tt
-    said p among (messages.Close epoch) is = tt
-    said p among (messages.Install epoch clock log) is = tt
+        born_here q.tx (request_born q.tx Unborn (deeds b [] (older ++ by b (posted (length (mail older)) turn)))
+        d.number p.to q.epoch q.life q.want (rests q.tx).right asked))
+        (λ a is. tt) (λ v is. tt)
+        (λ tx is. absurd
+        (subst IsNoInquiry is (every-In (λ (q : Posting). IsNoInquiry q.message) p turn.sends (asks_none tx) among)))
+        (λ m is. tt) m is
 
     client_says : Every (IsSaid decl (older ++ by b (posted (length (mail older)) turn)) b) turn.sends
     client_says = every-from_In (IsSaid decl (older ++ by b (posted (length (mail older)) turn)) b) turn.sends

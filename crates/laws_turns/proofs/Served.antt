@@ -26,8 +26,8 @@ use Rattle.qc_promise.proofs.Posts.{post_less, post_more}
 use Rattle.qc_script.specs.Vocabulary.{Runs}
 use Rattle.qc_script.specs.declared.script.Script.{Script}
 use Rattle.laws_turns.specs.Vocabulary.{ActsIn}
-use Rattle.laws_turns.proofs.Acted.{has_entry, run_acts}
-use Rattle.laws_turns.proofs.Mailed.{AreInputs, IsInputDeed, deeds_inputs, run_stamped}
+use Rattle.laws_turns.proofs.Acted.{has_entry, actors_take_and_post_by_turns}
+use Rattle.laws_turns.proofs.Mailed.{AreInputs, IsInputDeed, deeds_inputs, decisions_name_stamps_of_their_clients}
 
 pub first_part : {A : Type 0} (P : A → Type 0) (xs ys : List A) → Every P (xs ++ ys) → Every P xs
 first_part P [] ys all = tt
@@ -142,31 +142,31 @@ module _ (decl : Declaration) (script : Script) (h : List Entry) (open_inputs : 
 
   serves_at : (t : Bool) → slice_get open_inputs site ≡ Some t → ServesAt decl site (deeds site [] h) t
   serves_at t is =
-      let r : ActsIn decl site h t = run_acts decl script h open_inputs run site t is in
+      let r : ActsIn decl site h t = actors_take_and_post_by_turns decl script h open_inputs run site t is in
       acts_serve decl site a_site (deeds site [] h) t r.above r.acts
-      (deeds_inputs site [] h tt (run_stamped decl script h open_inputs run))
+      (deeds_inputs site [] h tt (decisions_name_stamps_of_their_clients decl script h open_inputs run))
 
-  pub run_serves : slice_get open_inputs site ≡ Some false → Serves decl site (deeds site [] h) true
-  run_serves free = serves_at false free
+  pub sites_serve : slice_get open_inputs site ≡ Some false → Serves decl site (deeds site [] h) true
+  sites_serve free = serves_at false free
 
   steady : (t : Bool) → slice_get open_inputs site ≡ Some t → AreSteady (deeds site [] h)
   steady t is =
-      let r : ActsIn decl site h t = run_acts decl script h open_inputs run site t is in
+      let r : ActsIn decl site h t = actors_take_and_post_by_turns decl script h open_inputs run site t is in
       acts_steady decl site (deeds site [] h) t r.above r.acts
 
-  pub run_shown : slice_get open_inputs site ≡ Some false
+  pub sites_are_what_their_steps_show : slice_get open_inputs site ≡ Some false
       → IsShown (deeds site [] h) (site_after decl site (deeds site [] h)).site
-  run_shown free =
+  sites_are_what_their_steps_show free =
       let it : (s : SiteState) × ((actor_after decl site (deeds site [] h)).actor ≡ Site s)
-      × IsShown (deeds site [] h) s = shows decl site (deeds site [] h) within (run_serves free) in
+      × IsShown (deeds site [] h) s = shows decl site (deeds site [] h) within (sites_serve free) in
       let at : Site (site_after decl site (deeds site [] h)).site ≡ Site it.0 =
       sym (ap (λ (m : ActorMove). m.actor) (at_site decl site (deeds site [] h) (steady false free) a_site))
       ∙ it.1 in
       let same : it.0 ≡ (site_after decl site (deeds site [] h)).site = cc in
       subst (IsShown (deeds site [] h)) same it.2
 
-  pub run_due : AreDue decl [] (deeds site [] h)
-  run_due = by (has_entry (IsLawful decl) decl script h open_inputs run site
+  pub what_sites_post_is_due : AreDue decl [] (deeds site [] h)
+  what_sites_post_is_due = by (has_entry (IsLawful decl) decl script h open_inputs run site
       (let all : decl.sites + decl.clients + 1 ≡ actors decl = refl in omega arith))
     where
       by : (t : Bool) × (slice_get open_inputs site ≡ Some t) → AreDue decl [] (deeds site [] h)

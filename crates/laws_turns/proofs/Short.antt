@@ -14,7 +14,9 @@ use Rattle.qc_msg.specs.declared.step.Command.{Command}
 use Rattle.qc_msg.specs.declared.step.Command.TheVariants as commands
 use Rattle.qc_msg.specs.declared.step.Input.{Input}
 use Rattle.qc_msg.specs.declared.step.Input.TheVariants as inputs
-use Rattle.qc_msg.specs.Vocabulary.{Deed, Falls, Rises, Sends, Takes, Tells, Writes, quiet, turn_deeds}
+use Rattle.qc_msg.specs.Vocabulary.{Deed, Falls, Rises, Sends, Takes, Tells, Writes, quiet, turn_deeds, Requested}
+use Rattle.qc_msg.specs.declared.message.Want.{Want}
+use Rattle.qc_msg.specs.declared.message.Outcome.{Outcome}
 use Rattle.qc_commit.specs.declared.desk.Voting.{Voting}
 use Rattle.qc_commit.specs.Conduct as desks
 use Rattle.qc_commit.specs.Vocabulary.{AsksFew, DeskMove}
@@ -26,14 +28,17 @@ use Rattle.qc_client.specs.Vocabulary.{ClientMove, answered, answered_by, by_des
 use Rattle.qc_client.specs.Vocabulary.{client_does, client_takes, commits, heard, moved, new_client, sent_one}
 use Rattle.qc_core.specs.Vocabulary.{Acts, posts, starts, takes}
 use Rattle.qc_site.specs.Vocabulary.{SiteMove, SiteState, moved as site_moved, new_site, passed, site_after, site_at}
-use Rattle.qc_site.specs.Vocabulary.{site_does, site_takes}
+use Rattle.qc_site.specs.Vocabulary.{site_does, site_takes, finishes}
 use Rattle.qc_site.proofs.RequestCases.{append_cases, close_cases, join_cases, prepare_cases, read_cases, request_cases}
 use Rattle.qc_site.proofs.Cases.{install_cases}
+use Rattle.qc_stamp.specs.declared.stamp.TxId.{TxId}
 use Rattle.laws_turns.specs.Vocabulary.{AskedSites, AsksSites, VotedSites}
 use Rattle.laws_turns.proofs.AskedMoves.{IsShort, called-short, takes_short}
 use Rattle.laws_turns.proofs.Bounding.{turn-posts}
 use Rattle.laws_turns.proofs.ClientsWithin.{IsPost}
 use Rattle.laws_turns.proofs.DesksShort.{IsDeskShort, prepare_short, vote_short}
+use Rattle.laws_turns.proofs.ClientCases.{called_cases, heard_cases, sent_cases}
+use Rattle.laws_turns.proofs.SiteCases.{site_cases}
 
 -- a site
 
@@ -42,27 +47,32 @@ FewSent m = length m.turn.sends ≤ 2
 
 site_short : (decl : Declaration) (s : SiteState) (from number : ℕ) (message : Message)
     → FewSent (site_at decl s from number message)
-site_short decl s from number (messages.Request tx epoch life (Read object inv)) =
-    request_cases FewSent decl s from number tx epoch life (Read object inv) (omega arith) (λ fault is. omega arith)
-    (λ is. read_cases FewSent decl s from number tx object inv (λ free. omega arith) (λ c clash. omega arith))
-site_short decl s from number (messages.Request tx epoch life (Append object view own)) =
-    request_cases FewSent decl s from number tx epoch life (Append object view own) (omega arith)
-    (λ fault is. omega arith)
-    (λ is. append_cases FewSent decl s from number tx object view own (λ free. omega arith) (λ c clash. omega arith))
-site_short decl s from number (messages.Request tx epoch life Prepare) =
-    request_cases FewSent decl s from number tx epoch life Prepare (omega arith) (λ fault is. omega arith)
-    (λ is. prepare_cases FewSent s from number tx (omega arith) (λ held stands. omega arith) (λ held made. omega arith))
-site_short decl s from number (messages.Answer to answer) = omega arith
-site_short decl s from number (messages.Decision tx (Committed stamp)) =
-    join_cases FewSent s tx stamp (λ none. omega arith) (λ p some. omega arith)
-site_short decl s from number (messages.Decision tx Aborted) = omega arith
-site_short decl s from number (messages.Decision tx Active) = omega arith
-site_short decl s from number (messages.Inquiry tx) = omega arith
-site_short decl s from number (messages.Ask tx) = omega arith
-site_short decl s from number (messages.Close k) =
-    close_cases FewSent s from number k (λ answer. omega arith) (λ near later. omega arith)
-site_short decl s from number (messages.Install k clock lines) =
-    install_cases FewSent s from number k clock lines (λ answer. omega arith) (λ later fits. omega arith)
+site_short decl s from number message =
+    site_cases decl s from number (λ m move. FewSent move) (λ m. omega arith) (λ q. asked q q.want) ended
+    (λ k. close_cases FewSent s from number k (λ answer. omega arith) (λ near later. omega arith))
+    (λ k clock lines. install_cases FewSent s from number k clock lines (λ answer. omega arith)
+    (λ later fits. omega arith)) message
+  where
+    asked : (q : Requested) (want : Want)
+        → FewSent (site_at decl s from number (messages.Request q.tx q.epoch q.life want))
+    asked q (Read object inv) =
+        request_cases FewSent decl s from number q.tx q.epoch q.life (Read object inv) (omega arith)
+        (λ fault is. omega arith)
+        (λ is. read_cases FewSent decl s from number q.tx object inv (λ free. omega arith) (λ c clash. omega arith))
+    asked q (Append object view own) =
+        request_cases FewSent decl s from number q.tx q.epoch q.life (Append object view own) (omega arith)
+        (λ fault is. omega arith)
+        (λ is. append_cases FewSent decl s from number q.tx object view own (λ free. omega arith)
+        (λ c clash. omega arith))
+    asked q Prepare =
+        request_cases FewSent decl s from number q.tx q.epoch q.life Prepare (omega arith) (λ fault is. omega arith)
+        (λ is. prepare_cases FewSent s from number q.tx (omega arith) (λ held stands. omega arith)
+        (λ held made. omega arith))
+
+    ended : (tx : TxId) (verdict : Outcome) → FewSent (finishes s tx verdict)
+    ended tx (Committed stamp) = join_cases FewSent s tx stamp (λ none. omega arith) (λ p some. omega arith)
+    ended tx Aborted = omega arith
+    ended tx Active = omega arith
 
 site_takes_short : (decl : Declaration) (s : SiteState) (g : Input) → FewSent (site_takes decl s g)
 site_takes_short decl s (inputs.Called command) = omega arith
@@ -124,11 +134,8 @@ module _ (decl : Declaration) (accepted : IsAccepted decl) (c : Client) (asks : 
         (prepare_short decl accepted c.desk t.begun c.front.clock.value ready.few are)
 
   calls : (command : Command) → IsClientShort decl (called decl c command)
-  calls commands.Begin = fronted commands.Begin
-  calls (commands.Do object inv) = fronted (commands.Do object inv)
-  calls commands.Commit = committed c.front.transaction asks.front
-  calls commands.Abort = fronted commands.Abort
-  calls (commands.Epoch number) = fronted (commands.Epoch number)
+  calls command =
+      called_cases decl c (λ command m. IsClientShort decl m) fronted (committed c.front.transaction asks.front) command
 
   comes : (number : ℕ) (answer : Option Answer) → IsClientShort decl (answered decl c number answer)
   comes number answer = by c.desk.voting where
@@ -138,13 +145,10 @@ module _ (decl : Declaration) (accepted : IsAccepted decl) (c : Client) (asks : 
     by (Some v) = desk_short (desks.vote c.desk number answer) (vote_short decl accepted c.desk number answer asks.desk)
 
   hears : (from number : ℕ) (message : Message) → IsClientShort decl (heard decl c from number message)
-  hears from number (messages.Request tx epoch life want) = silent
-  hears from number (messages.Answer to answer) = comes to (Some answer)
-  hears from number (messages.Decision tx verdict) = silent
-  hears from number (messages.Inquiry tx) = record { asks = asks; few = omega arith }
-  hears from number (messages.Ask tx) = record { asks = asks; few = omega arith }
-  hears from number (messages.Close epoch) = silent
-  hears from number (messages.Install epoch clock log) = silent
+  hears from number message =
+      heard_cases decl c from number (λ m move. IsClientShort decl move) (λ m none. silent)
+      (λ to answer. comes to (Some answer)) (λ tx. record { asks = asks; few = omega arith })
+      (λ tx. record { asks = asks; few = omega arith }) message
 
   -- one input
   pub client_short : (g : Input) → IsClientShort decl (client_takes decl c g)
@@ -156,21 +160,13 @@ module _ (decl : Declaration) (accepted : IsAccepted decl) (c : Client) (asks : 
 
 sent_asks : (decl : Declaration) (c : Client) (number to : ℕ) (message : Message) → AsksSites decl c
     → AsksSites decl (sent_one c number to message)
-sent_asks decl c number to (messages.Request tx epoch life (Read object inv)) asks =
-    record { front = asks.front; desk = asks.desk }
-sent_asks decl c number to (messages.Request tx epoch life (Append object view own)) asks =
-    record { front = asks.front; desk = asks.desk }
-sent_asks decl c number to (messages.Request tx epoch life Prepare) asks =
-    record { front = asks.front; desk = by c.desk.voting asks.desk } where
-      by : (o : Option Voting) → VotedSites decl o → VotedSites decl (desks.prepared_in c.desk o number to).voting
-      by None are = asks.desk
-      by (Some v) are = are
-sent_asks decl c number to (messages.Answer asked answer) asks = asks
-sent_asks decl c number to (messages.Decision tx verdict) asks = asks
-sent_asks decl c number to (messages.Inquiry tx) asks = asks
-sent_asks decl c number to (messages.Ask tx) asks = asks
-sent_asks decl c number to (messages.Close epoch) asks = asks
-sent_asks decl c number to (messages.Install epoch clock log) asks = asks
+sent_asks decl c number to message asks =
+    sent_cases c number to (AsksSites decl) (record { front = asks.front; desk = asks.desk })
+    (record { front = asks.front; desk = by c.desk.voting asks.desk }) asks message
+  where
+    by : (o : Option Voting) → VotedSites decl o → VotedSites decl (desks.prepared_in c.desk o number to).voting
+    by None are = asks.desk
+    by (Some v) are = are
 
 posts_asks : (decl : Declaration) (m : ClientMove) (ds : List Deed) → Every IsPost ds → IsClientShort decl m
     → IsClientShort decl (fold (client_does decl) m ds)

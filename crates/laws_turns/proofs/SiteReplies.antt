@@ -2,6 +2,8 @@
 use Rattle.std.proofs.Common.{◌≡◌, ℕ, ◌+◌, ◌≤◌, nat_le, not, Bool, true, false, if◌then◌else◌, List, [], ◌∷◌, Option}
 use Rattle.std.proofs.Common.{Some, None, refl, sym, subst}
 use Rattle.std.specs.List.{AllByRecursion as Every, fold}
+use Rattle.std.specs.Prelude.{MatchOption}
+use Rattle.std.specs.Bool.{MatchBool}
 use Rattle.qc_decl.specs.declared.declaration.Declaration.{Declaration}
 use Rattle.qc_decl.specs.Vocabulary.{most_record_bytes}
 use Rattle.qc_entry.specs.declared.line.Line.{Line}
@@ -22,6 +24,7 @@ use Rattle.qc_msg.specs.declared.step.Input.{Input}
 use Rattle.qc_msg.specs.declared.step.Input.TheVariants as inputs
 use Rattle.qc_msg.specs.declared.turn.Posting.{Posting}
 use Rattle.qc_msg.specs.Vocabulary.{Deed, Falls, Rises, Sends, Takes, Tells, Writes, envelopes, quiet}
+use Rattle.qc_msg.specs.Vocabulary.{Requested, request_in, wants_answer}
 use Rattle.qc_stamp.specs.declared.stamp.Stamp.{Stamp}
 use Rattle.qc_stamp.specs.declared.stamp.TxId.{TxId}
 use Rattle.qc_site.specs.Vocabulary.{SiteMove, SiteState, answering, appends_by, fault_of, finishes, grants}
@@ -31,16 +34,13 @@ use Rattle.qc_site.specs.Vocabulary.{site_after, site_at, site_does, site_takes}
 use Rattle.qc_site.proofs.RequestCases.{close_cases}
 use Rattle.qc_site.proofs.Cases.{install_cases}
 use Rattle.laws_turns.proofs.Rounds.{IsProper}
+use Rattle.laws_turns.proofs.SiteCases.{site_cases}
+use Rattle.laws_turns.proofs.ReadingCases.{matched_by}
 
 abbrev pub IsProperFrom : Declaration → ℕ → ℕ → Message → Type 0
-IsProperFrom decl from to (messages.Request tx epoch life want) = (decl.sites ≤ from)
-    × IsProper decl to (messages.Request tx epoch life want)
-IsProperFrom decl from to (messages.Answer number answer) = Unit {0}
-IsProperFrom decl from to (messages.Decision tx verdict) = Unit {0}
-IsProperFrom decl from to (messages.Inquiry tx) = Unit {0}
-IsProperFrom decl from to (messages.Ask tx) = ⊥
-IsProperFrom decl from to (messages.Close epoch) = ⊥
-IsProperFrom decl from to (messages.Install epoch clock log) = ⊥
+IsProperFrom decl from to m =
+    MatchOption (request_in m) (MatchBool (wants_answer m) ⊥ (Unit {0}))
+    (λ (q : Requested). (decl.sites ≤ from) × IsProper decl to (messages.Request q.tx q.epoch q.life q.want))
 
 abbrev pub IsMailProper : Declaration → List Envelope → Type 0
 IsMailProper decl ms = Every (λ (e : Envelope). IsProperFrom decl e.from e.to e.message) ms
@@ -51,13 +51,8 @@ either P false x y here there = there
 
 -- a message that asks nothing
 abbrev AsksNothing : Message → Type 0
-AsksNothing (messages.Request tx epoch life want) = ⊥
-AsksNothing (messages.Answer number answer) = Unit {0}
-AsksNothing (messages.Decision tx verdict) = Unit {0}
-AsksNothing (messages.Inquiry tx) = Unit {0}
-AsksNothing (messages.Ask tx) = ⊥
-AsksNothing (messages.Close epoch) = ⊥
-AsksNothing (messages.Install epoch clock log) = ⊥
+AsksNothing m =
+    MatchOption (request_in m) (MatchBool (wants_answer m) ⊥ (Unit {0})) (λ (q : Requested). ⊥)
 
 abbrev AskNothing : List Posting → Type 0
 AskNothing ps = Every (λ (p : Posting). AsksNothing p.message) ps
@@ -132,21 +127,17 @@ decision_asks s tx Active = tt
 
 site_asks : (decl : Declaration) (s : SiteState) (from number : ℕ) (m : Message)
     → AskNothing (site_at decl s from number m).turn.sends
-site_asks decl s from number (messages.Request tx epoch life want) =
-    either (λ (m : SiteMove). AskNothing m.turn.sends) (names_declared decl tx want)
-    (requested decl s from number tx want (fault_of s epoch life)) (moved s quiet)
-    (reply_asks from number (requested decl s from number tx want (fault_of s epoch life))
-    (requests_reply decl s from number tx want (fault_of s epoch life))) tt
-site_asks decl s from number (messages.Answer to answer) = tt
-site_asks decl s from number (messages.Decision tx verdict) = decision_asks s tx verdict
-site_asks decl s from number (messages.Inquiry tx) = tt
-site_asks decl s from number (messages.Ask tx) = tt
-site_asks decl s from number (messages.Close k) =
-    close_cases (λ (m : SiteMove). AskNothing m.turn.sends) s from number k (λ answer. (tt, tt))
-    (λ near later. (tt, tt))
-site_asks decl s from number (messages.Install k clock lines) =
-    install_cases (λ (m : SiteMove). AskNothing m.turn.sends) s from number k clock lines (λ answer. (tt, tt))
-    (λ later fits. (tt, tt))
+site_asks decl s from number m =
+    site_cases decl s from number (λ m move. AskNothing move.turn.sends) (λ m. tt)
+    (λ q. either (λ (m : SiteMove). AskNothing m.turn.sends) (names_declared decl q.tx q.want)
+    (requested decl s from number q.tx q.want (fault_of s q.epoch q.life)) (moved s quiet)
+    (reply_asks from number (requested decl s from number q.tx q.want (fault_of s q.epoch q.life))
+    (requests_reply decl s from number q.tx q.want (fault_of s q.epoch q.life))) tt)
+    (decision_asks s)
+    (λ k. close_cases (λ (m : SiteMove). AskNothing m.turn.sends) s from number k (λ answer. (tt, tt))
+    (λ near later. (tt, tt)))
+    (λ k clock lines. install_cases (λ (m : SiteMove). AskNothing m.turn.sends) s from number k clock lines
+    (λ answer. (tt, tt)) (λ later fits. (tt, tt))) m
 
 takes_asks : (decl : Declaration) (s : SiteState) (g : Input) → AskNothing (site_takes decl s g).turn.sends
 takes_asks decl s (inputs.Called command) = tt
@@ -169,13 +160,11 @@ folded_asks decl [] m is = is
 folded_asks decl (d ∷ ds) m is = folded_asks decl ds (site_does decl m d) (does_asks decl m d is)
 
 nothing_proper : (decl : Declaration) (from to : ℕ) (m : Message) → AsksNothing m → IsProperFrom decl from to m
-nothing_proper decl from to (messages.Request tx epoch life want) is = absurd is
-nothing_proper decl from to (messages.Answer number answer) is = tt
-nothing_proper decl from to (messages.Decision tx verdict) is = tt
-nothing_proper decl from to (messages.Inquiry tx) is = tt
-nothing_proper decl from to (messages.Ask tx) is = is
-nothing_proper decl from to (messages.Close epoch) is = is
-nothing_proper decl from to (messages.Install epoch clock log) is = is
+nothing_proper decl from to m is =
+    matched_by (MatchBool (wants_answer m) ⊥ (Unit {0})) (MatchBool (wants_answer m) ⊥ (Unit {0}))
+    (λ (q : Requested). ⊥)
+    (λ (q : Requested). (decl.sites ≤ from) × IsProper decl to (messages.Request q.tx q.epoch q.life q.want))
+    (request_in m) (λ q never. absurd never) (λ none. none) is
 
 mail_asks : (decl : Declaration) (a n : ℕ) (ps : List Posting) → AskNothing ps → IsMailProper decl (envelopes a n ps)
 mail_asks decl a n [] are = tt

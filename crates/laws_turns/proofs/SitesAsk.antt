@@ -2,6 +2,7 @@
 use Rattle.std.proofs.Common.{◌≡◌, ℕ, ◌&&◌, ◌==◌, not, Bool, true, false, cond, List, [], ◌∷◌, ◌++◌, fold, length, Some}
 use Rattle.std.proofs.Common.{refl, sym, subst}
 use Rattle.std.specs.List.{AllByRecursion as Every}
+use Rattle.std.specs.Prelude.{MatchOption}
 use Rattle.qc_list.proofs.Members.{every-In, every-filter}
 use Rattle.qc_stamp.specs.declared.stamp.TxId.{TxId}
 use Rattle.qc_stamp.specs.Vocabulary.{same_tx}
@@ -25,32 +26,26 @@ use Rattle.qc_msg.specs.declared.message.Want.TheVariants.{Append, Prepare, Read
 use Rattle.qc_msg.specs.declared.step.Input.{Input}
 use Rattle.qc_msg.specs.declared.step.Input.TheVariants as inputs
 use Rattle.qc_msg.specs.declared.turn.Posting.{Posting}
-use Rattle.qc_msg.specs.Vocabulary.{quiet}
+use Rattle.qc_msg.specs.Vocabulary.{quiet, Answered, Requested, answer_in, inquiry_in, request_in}
 use Rattle.qc_site.specs.Vocabulary.{SiteMove, SiteState, answers, clashing, grants, holds, moved, passed, promise_of}
-use Rattle.qc_site.specs.Vocabulary.{relation_at, site_at, site_takes, without_prepared}
+use Rattle.qc_site.specs.Vocabulary.{relation_at, site_at, site_takes, without_prepared, finishes}
 use Rattle.qc_site.proofs.RequestCases.{append_cases, close_cases, join_cases, prepare_cases, read_cases, request_cases}
 use Rattle.qc_site.proofs.Cases.{install_cases}
+use Rattle.laws_turns.proofs.SiteCases.{site_cases}
+use Rattle.qc_msg.specs.declared.message.Outcome.{Outcome}
 
 -- of what a message says, where B holds of transactions: a request is for such a one, a question about such a one goes
 -- to its client
 abbrev pub Tells : Declaration → (TxId → Type 0) → ℕ → Message → Type 0
-Tells decl B to (messages.Request tx epoch life want) = B tx
-Tells decl B to (messages.Answer asked answer) = Unit {0}
-Tells decl B to (messages.Decision tx verdict) = Unit {0}
-Tells decl B to (messages.Inquiry tx) = (to ≡ client_actor decl tx.client) × B tx
-Tells decl B to (messages.Ask tx) = Unit {0}
-Tells decl B to (messages.Close epoch) = Unit {0}
-Tells decl B to (messages.Install epoch clock log) = Unit {0}
+Tells decl B to m =
+    MatchOption (inquiry_in m) (MatchOption (request_in m) (Unit {0}) (λ (q : Requested). B q.tx))
+    (λ (tx : TxId). (to ≡ client_actor decl tx.client) × B tx)
 
 -- a site sends answers and questions alone
 abbrev pub SiteTells : Declaration → (TxId → Type 0) → ℕ → Message → Type 0
-SiteTells decl B to (messages.Request tx epoch life want) = ⊥
-SiteTells decl B to (messages.Answer asked answer) = Unit {0}
-SiteTells decl B to (messages.Decision tx verdict) = ⊥
-SiteTells decl B to (messages.Inquiry tx) = (to ≡ client_actor decl tx.client) × B tx
-SiteTells decl B to (messages.Ask tx) = ⊥
-SiteTells decl B to (messages.Close epoch) = ⊥
-SiteTells decl B to (messages.Install epoch clock log) = ⊥
+SiteTells decl B to m =
+    MatchOption (inquiry_in m) (MatchOption (answer_in m) ⊥ (λ (a : Answered). Unit {0}))
+    (λ (tx : TxId). (to ≡ client_actor decl tx.client) × B tx)
 
 module _ (decl : Declaration) (B : TxId → Type 0) where
   abbrev pub HeldFor : List Held → Type 0
@@ -162,27 +157,27 @@ module _ (decl : Declaration) (B : TxId → Type 0) where
     ended tx = (held-without s.held tx all, prepared-left s.prepared tx promised)
 
     at : (to : ℕ) (message : Message) → Tells decl B to message → Asks (site_at decl s from number message)
-    at to (messages.Request tx epoch life want) here =
-        request_cases Asks decl s from number tx epoch life want silent (λ fault is. answered fault)
-        (λ is. granted tx want here)
-    at to (messages.Answer asked answer) here = silent
-    at to (messages.Decision tx (Committed stamp)) here =
-        join_cases Asks s tx stamp (λ none. record { held = (ended tx).0; prepared = (ended tx).1; sends = tt })
-        (λ p some. record { held = (ended tx).0; prepared = (ended tx).1; sends = tt })
-    at to (messages.Decision tx Aborted) here = record { held = (ended tx).0; prepared = (ended tx).1; sends = tt }
-    at to (messages.Decision tx Active) here = silent
-    at to (messages.Inquiry tx) here = silent
-    at to (messages.Ask tx) here = silent
-    at to (messages.Close k) here =
-        close_cases Asks s from number k answered
+    at to message here =
+        site_cases decl s from number (λ m move. Tells decl B to m → Asks move) (λ m its. silent)
+        (λ q its. request_cases Asks decl s from number q.tx q.epoch q.life q.want silent (λ fault is. answered fault)
+        (λ is. granted q.tx q.want its))
+        decided
+        (λ k its. close_cases Asks s from number k answered
         (λ near later. record {
           held = held-promised [] s.prepared tt promised;
           prepared = promised;
           sends = (tt, tt);
-        })
-    at to (messages.Install k clock lines) here =
-        install_cases Asks s from number k clock lines answered
-        (λ later fits. record { held = tt; prepared = tt; sends = (tt, tt) })
+        }))
+        (λ k clock lines its. install_cases Asks s from number k clock lines answered
+        (λ later fits. record { held = tt; prepared = tt; sends = (tt, tt) })) message here
+      where
+        decided : (tx : TxId) (verdict : Outcome) → Tells decl B to (messages.Decision tx verdict)
+            → Asks (finishes s tx verdict)
+        decided tx (Committed stamp) its =
+            join_cases Asks s tx stamp (λ none. record { held = (ended tx).0; prepared = (ended tx).1; sends = tt })
+            (λ p some. record { held = (ended tx).0; prepared = (ended tx).1; sends = tt })
+        decided tx Aborted its = record { held = (ended tx).0; prepared = (ended tx).1; sends = tt }
+        decided tx Active its = silent
 
   -- what is taken
   abbrev pub GivenTells : Input → Type 0

@@ -33,6 +33,7 @@ use Rattle.qc_site.proofs.RequestCases.{read_cases, request_cases}
 use Rattle.laws_turns.proofs.Greater.{lines-le, promises-le, sends-le}
 use Rattle.laws_turns.specs.Vocabulary.{AnswerWithin, GivenWithin, LinesWithin, MessageWithin, OutcomeWithin}
 use Rattle.laws_turns.specs.Vocabulary.{PromisesWithin, SiteMoveWithin, SiteWithin, WantWithin}
+use Rattle.laws_turns.proofs.SiteCases.{site_cases}
 
 -- a greater bound
 
@@ -225,61 +226,43 @@ module _ (bound : ℕ) (decl : Declaration) (s : SiteState) (from number : ℕ) 
 
   at-within : (message : Message) → MessageWithin bound message
       → SiteMoveWithin bound (site_at decl s from number message)
-  at-within (messages.Request tx epoch life want) here = requested-within tx epoch life want here
-  at-within (messages.Answer to answer) here = silent
-  at-within (messages.Decision tx verdict) here = finished tx verdict here
-  at-within (messages.Inquiry tx) here = silent
-  at-within (messages.Ask tx) here = silent
-  at-within (messages.Close k) here = closed-within k
-  at-within (messages.Install k clock lines) here = installed-within k clock lines here.0 here.1
+  at-within message here =
+      site_cases decl s from number (λ m move. MessageWithin bound m → SiteMoveWithin bound move) (λ m within. silent)
+      (λ q within. requested-within q.tx q.epoch q.life q.want within) finished (λ k within. closed-within k)
+      (λ k clock lines within. installed-within k clock lines within.0 within.1) message here
 
 -- the clock as a message comes
 
-asked-within : (bound : ℕ) (s : SiteState) (tx : TxId) (epoch life : ℕ) (want : Want) → SiteWithin bound s
-    → WantWithin bound want → SiteWithin bound (passed s (messages.Request tx epoch life want))
-asked-within bound s tx epoch life (Read object inv) w here =
-    record { clock = w.clock; began = w.began; log = w.log; prepared = w.prepared }
-asked-within bound s tx epoch life (Append object view own) w here =
-    record {
-      clock = latest-within bound s.clock view w.clock here;
-      began = w.began;
-      log = w.log;
-      prepared = w.prepared;
-    }
-asked-within bound s tx epoch life Prepare w here =
-    record { clock = w.clock; began = w.began; log = w.log; prepared = w.prepared }
+asked-within : (bound : ℕ) (s : SiteState) (tx : TxId) (epoch life : ℕ) (want : Want) → s.clock ≤ bound
+    → WantWithin bound want → (passed s (messages.Request tx epoch life want)).clock ≤ bound
+asked-within bound s tx epoch life (Read object inv) w here = w
+asked-within bound s tx epoch life (Append object view own) w here = latest-within bound s.clock view w here
+asked-within bound s tx epoch life Prepare w here = w
 
-told-within : (bound : ℕ) (s : SiteState) (tx : TxId) (verdict : Outcome) → SiteWithin bound s
-    → OutcomeWithin bound verdict → SiteWithin bound (passed s (messages.Decision tx verdict))
-told-within bound s tx (Committed stamp) w here =
-    record {
-      clock = (let c : s.clock ≤ bound = w.clock in let t : stamp.clock ≤ bound = here in omega arith);
-      began = w.began;
-      log = w.log;
-      prepared = w.prepared;
-    }
-told-within bound s tx Aborted w here = record { clock = w.clock; began = w.began; log = w.log; prepared = w.prepared }
-told-within bound s tx Active w here = record { clock = w.clock; began = w.began; log = w.log; prepared = w.prepared }
+told-within : (bound : ℕ) (s : SiteState) (tx : TxId) (verdict : Outcome) → s.clock ≤ bound
+    → OutcomeWithin bound verdict → (passed s (messages.Decision tx verdict)).clock ≤ bound
+told-within bound s tx (Committed stamp) w here = let t : stamp.clock ≤ bound = here in omega arith
+told-within bound s tx Aborted w here = w
+told-within bound s tx Active w here = w
+
+clock-within : (bound : ℕ) (s : SiteState) (message : Message) → s.clock ≤ bound → MessageWithin bound message
+    → (passed s message).clock ≤ bound
+clock-within bound s (messages.Request tx epoch life want) w here = asked-within bound s tx epoch life want w here
+clock-within bound s (messages.Answer to answer) w here = w
+clock-within bound s (messages.Decision tx verdict) w here = told-within bound s tx verdict w here
+clock-within bound s (messages.Inquiry tx) w here = w
+clock-within bound s (messages.Ask tx) w here = w
+clock-within bound s (messages.Close epoch) w here = w
+clock-within bound s (messages.Install epoch clock lines) w here = latest-within bound s.clock lines w here.1
 
 passed-within : (bound : ℕ) (s : SiteState) (message : Message) → SiteWithin bound s → MessageWithin bound message
     → SiteWithin bound (passed s message)
-passed-within bound s (messages.Request tx epoch life want) w here = asked-within bound s tx epoch life want w here
-passed-within bound s (messages.Answer to answer) w here =
-    record { clock = w.clock; began = w.began; log = w.log; prepared = w.prepared }
-passed-within bound s (messages.Decision tx verdict) w here = told-within bound s tx verdict w here
-passed-within bound s (messages.Inquiry tx) w here =
-    record { clock = w.clock; began = w.began; log = w.log; prepared = w.prepared }
-passed-within bound s (messages.Ask tx) w here =
-    record { clock = w.clock; began = w.began; log = w.log; prepared = w.prepared }
-passed-within bound s (messages.Close epoch) w here =
-    record { clock = w.clock; began = w.began; log = w.log; prepared = w.prepared }
-passed-within bound s (messages.Install epoch clock lines) w here =
-    record {
-      clock = latest-within bound s.clock lines w.clock here.1;
-      began = w.began;
-      log = w.log;
-      prepared = w.prepared;
-    }
+passed-within bound s message w here = record {
+  clock = clock-within bound s message w.clock here;
+  began = w.began;
+  log = w.log;
+  prepared = w.prepared;
+}
 
 -- one input
 pub site_takes_within : (bound : ℕ) (decl : Declaration) (s : SiteState) (g : Input) → SiteWithin bound s

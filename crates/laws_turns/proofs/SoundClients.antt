@@ -10,10 +10,7 @@ use Rattle.qc_decl.specs.Vocabulary.{IsAccepted, first_site}
 use Rattle.qc_msg.specs.declared.begun.Begun.{Begun}
 use Rattle.qc_msg.specs.declared.message.Answer.{Answer}
 use Rattle.qc_msg.specs.declared.message.Message.{Message}
-use Rattle.qc_msg.specs.declared.message.Message.TheVariants as messages
 use Rattle.qc_msg.specs.declared.message.Outcome.TheVariants as outcomes
-use Rattle.qc_msg.specs.declared.message.Want.{Want}
-use Rattle.qc_msg.specs.declared.message.Want.TheVariants.{Read, Append, Prepare}
 use Rattle.qc_msg.specs.declared.reply.AbortCause.{AbortCause}
 use Rattle.qc_msg.specs.declared.step.Command.{Command}
 use Rattle.qc_msg.specs.declared.step.Command.TheVariants as commands
@@ -31,7 +28,7 @@ use Rattle.qc_front.specs.Conduct as fronts
 use Rattle.qc_front.specs.Vocabulary.{FrontMove, ended}
 use Rattle.qc_client.specs.declared.client.Client.{Client}
 use Rattle.qc_client.specs.Vocabulary.{ClientMove, answered, answered_by, by_desk, by_front, called, client_after}
-use Rattle.qc_client.specs.Vocabulary.{client_does, client_takes, commits, heard, moved, new_client, requested}
+use Rattle.qc_client.specs.Vocabulary.{client_does, client_takes, commits, heard, moved, new_client}
 use Rattle.qc_client.specs.Vocabulary.{sent_one}
 use Rattle.qc_front.specs.declared.doing.Doing.{Doing}
 use Rattle.qc_front.specs.declared.doing.Doing.TheVariants.{Idle, Reading, Appending}
@@ -41,12 +38,13 @@ use Rattle.qc_script.specs.declared.script.CommandLine.{CommandLine}
 use Rattle.qc_script.specs.declared.script.PhaseLines.{PhaseLines}
 use Rattle.qc_script.specs.declared.script.Script.{Script}
 use Rattle.laws_turns.specs.Vocabulary.{AreAskable, AsksDeclared, IsAskable, asked_in_all, call_in, calls_of}
-use Rattle.laws_turns.proofs.Calling.{run_asked}
+use Rattle.laws_turns.proofs.Calling.{calls_are_asked}
 use Rattle.laws_turns.proofs.DeclaredSites.{AreSites, sites_cyclic, sites_filter}
 use Rattle.laws_turns.proofs.Mailed.{both_all}
 use Rattle.laws_turns.proofs.OwnFronts.{OwnFront}
 use Rattle.laws_turns.proofs.OwnFronts as own_fronts
 use Rattle.laws_turns.proofs.Rounds.{AreProper, IsGood, IsSited, called_good, decisions_proper, of_either, takes_good}
+use Rattle.laws_turns.proofs.ClientCases.{called_cases, heard_cases, sent_cases}
 
 -- what a client is asked is what the script asks
 
@@ -107,7 +105,7 @@ pub run_askable : (decl : Declaration) (script : Script) (a : ℕ) (h : List Ent
     → Every (IsAskableDeed decl a) (deeds a [] h)
 run_askable decl script a h open_inputs asks run =
     askable_deeds decl a (deeds a [] h) (front_part (IsAskable decl a) (calls_of a h) (inbox script a h).commands
-    (subst (Every (IsAskable decl a)) (sym (run_asked decl script a h open_inputs run))
+    (subst (Every (IsAskable decl a)) (sym (calls_are_asked decl script a h open_inputs run))
     (asked_phases decl a script.phases (phase_of h) asks)))
 
 -- a client
@@ -206,11 +204,9 @@ module _ (decl : Declaration) (accepted : IsAccepted decl) (a k : ℕ) (within :
 
   called_sound : (c : Client) (command : Command) → IsAskable decl a command → Sound decl k c
       → SoundMove decl k (called decl c command)
-  called_sound c commands.Begin is s = called_front c commands.Begin is s
-  called_sound c (commands.Do object inv) is s = called_front c (commands.Do object inv) is s
-  called_sound c commands.Commit is s = commits_sound c c.front.transaction refl s
-  called_sound c commands.Abort is s = called_front c commands.Abort is s
-  called_sound c (commands.Epoch number) is s = called_front c (commands.Epoch number) is s
+  called_sound c command is s =
+      called_cases decl c (λ command m. IsAskable decl a command → SoundMove decl k m)
+      (λ command is. called_front c command is s) (λ is. commits_sound c c.front.transaction refl s) command is
 
   answered_sound : (c : Client) (number : ℕ) (answer : Option Answer) → Sound decl k c
       → SoundMove decl k (answered decl c number answer)
@@ -222,13 +218,10 @@ module _ (decl : Declaration) (accepted : IsAccepted decl) (a k : ℕ) (within :
 
   heard_sound : (c : Client) (from number : ℕ) (m : Message) → Sound decl k c
       → SoundMove decl k (heard decl c from number m)
-  heard_sound c from number (messages.Request tx epoch life want) s = record { sound = s; sends = tt }
-  heard_sound c from number (messages.Answer to answer) s = answered_sound c to (Some answer) s
-  heard_sound c from number (messages.Decision tx verdict) s = record { sound = s; sends = tt }
-  heard_sound c from number (messages.Inquiry tx) s = record { sound = s; sends = (tt, tt) }
-  heard_sound c from number (messages.Ask tx) s = record { sound = s; sends = (tt, tt) }
-  heard_sound c from number (messages.Close epoch) s = record { sound = s; sends = tt }
-  heard_sound c from number (messages.Install epoch clock log) s = record { sound = s; sends = tt }
+  heard_sound c from number m s =
+      heard_cases decl c from number (λ m move. SoundMove decl k move) (λ m none. record { sound = s; sends = tt })
+      (λ to answer. answered_sound c to (Some answer) s) (λ tx. record { sound = s; sends = (tt, tt) })
+      (λ tx. record { sound = s; sends = (tt, tt) }) m
 
   pub takes_sound : (c : Client) (g : Input) → IsAskableGiven decl a g → Sound decl k c
       → SoundMove decl k (client_takes decl c g)
@@ -243,26 +236,13 @@ module _ (decl : Declaration) (accepted : IsAccepted decl) (a k : ℕ) (within :
   asked_sited (Appending object inv event calls round) number site is = is
 
   pub sent_sound : (c : Client) (number to : ℕ) (m : Message) → Sound decl k c → Sound decl k (sent_one c number to m)
-  sent_sound c number to (messages.Request tx epoch life want) s = at want
-    where
-      at : (w : Want) → Sound decl k (requested c number to w)
-      at (Read object inv) =
-          record {
-            front = record { client = s.front.client; begun = s.front.begun };
-            sited = asked_sited c.front.doing number to s.sited;
-          }
-      at (Append object view own) =
-          record {
-            front = record { client = s.front.client; begun = s.front.begun };
-            sited = asked_sited c.front.doing number to s.sited;
-          }
-      at Prepare = record { front = s.front; sited = s.sited }
-  sent_sound c number to (messages.Answer number_asked answer) s = s
-  sent_sound c number to (messages.Decision tx verdict) s = s
-  sent_sound c number to (messages.Inquiry tx) s = s
-  sent_sound c number to (messages.Ask tx) s = s
-  sent_sound c number to (messages.Close epoch) s = s
-  sent_sound c number to (messages.Install epoch clock log) s = s
+  sent_sound c number to m s =
+      sent_cases c number to (Sound decl k)
+      (record {
+        front = record { client = s.front.client; begun = s.front.begun };
+        sited = asked_sited c.front.doing number to s.sited;
+      })
+      (record { front = s.front; sited = s.sited }) s m
 
   does_sound : (m : ClientMove) (d : Deed) → IsAskableDeed decl a d → SoundMove decl k m
       → SoundMove decl k (client_does decl m d)

@@ -15,7 +15,6 @@ use Rattle.qc_lock.specs.declared.clash.Clash.{Clash as Conflict}
 use Rattle.qc_lock.specs.Vocabulary.{append_clash, is_held, read_clash}
 use Rattle.qc_msg.specs.declared.message.Answer.{Answer}
 use Rattle.qc_msg.specs.declared.message.Message.{Message}
-use Rattle.qc_msg.specs.declared.message.Message.TheVariants as messages
 use Rattle.qc_msg.specs.declared.message.Outcome.{Outcome}
 use Rattle.qc_msg.specs.declared.message.Outcome.TheVariants.{Committed, Aborted, Active}
 use Rattle.qc_msg.specs.declared.message.Want.{Want}
@@ -34,6 +33,7 @@ use Rattle.qc_site.proofs.RequestCases.{close_cases}
 use Rattle.qc_site.proofs.Cases.{install_cases}
 use Rattle.laws_turns.proofs.StampsOwn.{AreStamped, IsOwnWrite, by_two, unwritten}
 use Rattle.laws_turns.proofs.OwnStamps.{client_stamped}
+use Rattle.laws_turns.proofs.SiteCases.{site_cases}
 
 -- a site sends answers, and Inquiries with them
 
@@ -96,35 +96,30 @@ decision_answers s tx Active = (record { sends = tt; failed = tt; writes = unwri
 
 site_answers : (decl : Declaration) (s : SiteState) (from number : ℕ) (m : Message)
     → IsAnswering (site_at decl s from number m)
-site_answers decl s from number (messages.Request tx epoch life want) =
-    by_two IsAnswering (names_declared decl tx want) (site_requested decl s from number tx want (fault_of s epoch life))
-    (sites.moved s quiet) (request_answers decl s from number tx want (fault_of s epoch life))
-    (record { sends = tt; failed = tt; writes = unwritten None refl; told = refl })
-site_answers decl s from number (messages.Answer to answer) =
-    (record { sends = tt; failed = tt; writes = unwritten None refl; told = refl })
-site_answers decl s from number (messages.Decision tx verdict) = decision_answers s tx verdict
-site_answers decl s from number (messages.Inquiry tx) =
-    (record { sends = tt; failed = tt; writes = unwritten None refl; told = refl })
-site_answers decl s from number (messages.Ask tx) =
-    (record { sends = tt; failed = tt; writes = unwritten None refl; told = refl })
-site_answers decl s from number (messages.Close k) =
-    close_cases IsAnswering s from number k (λ answer. record
-    { sends = (tt, tt); failed = tt; writes = unwritten None refl; told = refl })
+site_answers decl s from number m =
+    site_cases decl s from number (λ m move. IsAnswering move)
+    (λ m. record { sends = tt; failed = tt; writes = unwritten None refl; told = refl })
+    (λ q. by_two IsAnswering (names_declared decl q.tx q.want)
+    (site_requested decl s from number q.tx q.want (fault_of s q.epoch q.life)) (sites.moved s quiet)
+    (request_answers decl s from number q.tx q.want (fault_of s q.epoch q.life))
+    (record { sends = tt; failed = tt; writes = unwritten None refl; told = refl }))
+    (decision_answers s)
+    (λ k. close_cases IsAnswering s from number k
+    (λ answer. record { sends = (tt, tt); failed = tt; writes = unwritten None refl; told = refl })
     (λ near later. record {
       sends = (tt, tt);
       failed = (tt, tt);
       writes = λ c is. absurd (let never : ⊥ = cc in never);
       told = refl;
-    })
-site_answers decl s from number (messages.Install k clock lines) =
-    install_cases IsAnswering s from number k clock lines
+    }))
+    (λ k clock lines. install_cases IsAnswering s from number k clock lines
     (λ answer. record { sends = (tt, tt); failed = tt; writes = unwritten None refl; told = refl })
     (λ later fits. record {
       sends = (tt, tt);
       failed = (tt, tt);
       writes = λ c is. absurd (let never : ⊥ = cc in never);
       told = refl;
-    })
+    })) m
 
 pub takes_answer : (decl : Declaration) (s : SiteState) (g : Input) → IsAnswering (site_takes decl s g)
 takes_answer decl s (inputs.Called command) =

@@ -2,6 +2,7 @@
 use Rattle.std.proofs.Common.{[], ◌≡◌, ℕ, ◌==◌, ◌&&◌, Bool, true, false, if◌then◌else◌, List, ◌∷◌, map, Option, Some}
 use Rattle.std.proofs.Common.{None, is_some, inl, inr, refl, sym, ap, ◌∙◌, subst, eqb-true}
 use Rattle.std.specs.List.{AllByRecursion as Every}
+use Rattle.std.specs.Prelude.{MatchOption}
 use Rattle.qc_list.proofs.Members.{every-append, every-weaker}
 use Rattle.qc_core.specs.Vocabulary.{IsOwnStamp, IsStamped}
 use Rattle.qc_decl.specs.declared.declaration.Declaration.{Declaration}
@@ -20,7 +21,7 @@ use Rattle.qc_msg.specs.declared.record.Record.TheVariants as records
 use Rattle.qc_msg.specs.declared.step.Command.{Command}
 use Rattle.qc_msg.specs.declared.turn.Posting.{Posting}
 use Rattle.qc_msg.specs.declared.turn.Turn.{Turn}
-use Rattle.qc_msg.specs.Vocabulary.{decisions}
+use Rattle.qc_msg.specs.Vocabulary.{decisions, Decided}
 use Rattle.qc_commit.specs.declared.desk.Desk.{Desk}
 use Rattle.qc_commit.specs.declared.desk.Known.{Known}
 use Rattle.qc_commit.specs.declared.desk.Known.TheVariants as knowns
@@ -33,6 +34,7 @@ use Rattle.qc_client.specs.declared.client.Client.{Client}
 use Rattle.qc_client.specs.Vocabulary.{ClientMove, by_desk, by_front, called, commits, is_begun, outcome_by, outcome_of}
 use Rattle.laws_turns.proofs.OwnFronts.{OwnFront}
 use Rattle.laws_turns.proofs.OwnFronts as own_fronts
+use Rattle.laws_turns.proofs.MessageCases.{message_cases}
 
 abbrev pub AreStamped : List Posting → Type 0
 AreStamped ps = Every (λ (p : Posting). IsStamped p.message) ps
@@ -96,13 +98,10 @@ desk_front k c d true own is commits hand =
 desk_front k c d false own is commits hand = record { front = own.front; desk = is; commits = commits; hand = hand }
 
 prepare_stamped : (m : Message) → IsPrepare m → IsStamped m
-prepare_stamped (messages.Request tx epoch life want) is = tt
-prepare_stamped (messages.Answer to answer) is = tt
-prepare_stamped (messages.Decision tx verdict) is = absurd is
-prepare_stamped (messages.Inquiry tx) is = tt
-prepare_stamped (messages.Ask tx) is = tt
-prepare_stamped (messages.Close epoch) is = tt
-prepare_stamped (messages.Install epoch clock log) is = tt
+prepare_stamped m is =
+    message_cases
+    (λ m r a d i. IsPrepare m → MatchOption d (Unit {0}) (λ (v : Decided). IsOwnStamp v.tx v.verdict))
+    (λ q is. tt) (λ a is. tt) (λ v is. absurd is) (λ tx is. tt) (λ m is. tt) m is
 
 decisions_stamped : (b : Begun) (v : Outcome) → IsOwnStamp b.tx v → AreStamped (decisions b v)
 decisions_stamped b v is = over b.asked

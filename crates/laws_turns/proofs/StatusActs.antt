@@ -6,10 +6,7 @@ use Rattle.std.proofs.lemmas.List.Sums.{fold-append}
 use Rattle.qc_stamp.specs.declared.stamp.TxId.{TxId}
 use Rattle.qc_decl.specs.Vocabulary.{IsAccepted, is_client, is_site}
 use Rattle.qc_decl.specs.declared.declaration.Declaration.{Declaration}
-use Rattle.qc_msg.specs.declared.message.Answer.{Answer}
 use Rattle.qc_msg.specs.declared.message.Message.{Message}
-use Rattle.qc_msg.specs.declared.message.Message.TheVariants as messages
-use Rattle.qc_msg.specs.declared.message.Want.TheVariants.{Append, Prepare, Read}
 use Rattle.qc_msg.specs.declared.turn.Turn.{Turn}
 use Rattle.qc_msg.specs.Vocabulary.{Deed, Falls, Rises, Sends, Takes, Tells, Writes, quiet, turn_deeds}
 use Rattle.qc_commit.specs.declared.desk.Voting.{Voting}
@@ -28,22 +25,17 @@ use Rattle.laws_turns.proofs.TurnsGoOn.{TurnRight}
 use Rattle.laws_turns.proofs.Statuses.{IsStatus, Page, new_status}
 use Rattle.laws_turns.proofs.KnownDeeds.{IsKnown, KnownFrom, known-first, known-second, right-append}
 use Rattle.laws_turns.proofs.StatusInputs.{page_of, input_right}
+use Rattle.laws_turns.proofs.ClientCases.{sent_cases}
 
 -- the numbers of messages change nothing of it
 
 page_one : (c : Client) (number to : ℕ) (message : Message) → page_of (sent_one c number to message) ≡ page_of c
-page_one c number to (messages.Request other epoch life (Read object inv)) = refl
-page_one c number to (messages.Request other epoch life (Append object view own)) = refl
-page_one c number to (messages.Request other epoch life Prepare) = by c.desk.voting where
-  by : (o : Option Voting) → page_of (record c { desk = desks.prepared_in c.desk o number to }) ≡ page_of c
-  by None = refl
-  by (Some v) = refl
-page_one c number to (messages.Answer other answer) = refl
-page_one c number to (messages.Decision other verdict) = refl
-page_one c number to (messages.Inquiry other) = refl
-page_one c number to (messages.Ask other) = refl
-page_one c number to (messages.Close epoch) = refl
-page_one c number to (messages.Install epoch clock log) = refl
+page_one c number to message =
+    sent_cases c number to (λ (d : Client). page_of d ≡ page_of c) refl (by c.desk.voting) refl message
+  where
+    by : (o : Option Voting) → page_of (record c { desk = desks.prepared_in c.desk o number to }) ≡ page_of c
+    by None = refl
+    by (Some v) = refl
 
 page_posts : (decl : Declaration) (m : ClientMove) (ds : List Deed) → Every IsPost ds
     → page_of (fold (client_does decl) m ds).client ≡ page_of m.client

@@ -42,6 +42,7 @@ use Rattle.laws_turns.proofs.TurnsGoOn.{TurnRight, goes_right}
 use Rattle.laws_turns.proofs.RightTurns.{IsExact, begins_right, commits_right, gives_right, verdict_right}
 use Rattle.laws_turns.proofs.Statuses.{IsStatus, Page}
 use Rattle.laws_turns.proofs.KnownDeeds.{IsKnown, IsKnownIn}
+use Rattle.laws_turns.proofs.ClientCases.{called_cases, heard_cases}
 
 abbrev pub page_of : Client → Page
 page_of c =
@@ -195,11 +196,7 @@ module _ (decl : Declaration) (tx : TxId) (s : Status) (c : Client) (w : IsStatu
         (prepare-it decl c.desk t.begun c.front.clock.value)
 
   calls : (command : Command) → Right (called decl c command)
-  calls commands.Begin = fronted commands.Begin
-  calls (commands.Do object inv) = fronted (commands.Do object inv)
-  calls commands.Commit = committing c.front.transaction refl
-  calls commands.Abort = fronted commands.Abort
-  calls (commands.Epoch number) = fronted (commands.Epoch number)
+  calls command = called_cases decl c (λ command m. Right m) fronted (committing c.front.transaction refl) command
 
   comes : (number : ℕ) (answer : Option Answer) → Right (answered decl c number answer)
   comes number answer = by c.desk.voting refl hand where
@@ -250,13 +247,10 @@ module _ (decl : Declaration) (tx : TxId) (s : Status) (c : Client) (w : IsStatu
   answers_right from number x = record { asks = (tt, tt); right = λ n. (tt, tt); status = λ n. w }
 
   hears : (from number : ℕ) (message : Message) → IsKnownIn tx s message → Right (heard decl c from number message)
-  hears from number (messages.Request other epoch life want) known = silent quiet refl refl refl
-  hears from number (messages.Answer to answer) known = comes to (Some answer)
-  hears from number (messages.Decision other verdict) known = silent quiet refl refl refl
-  hears from number (messages.Inquiry other) known = asked_right from number other known
-  hears from number (messages.Ask other) known = answers_right from number other
-  hears from number (messages.Close epoch) known = silent quiet refl refl refl
-  hears from number (messages.Install epoch clock log) known = silent quiet refl refl refl
+  hears from number message known =
+      heard_cases decl c from number (λ m move. IsKnownIn tx s m → Right move)
+      (λ m none is. silent quiet refl refl refl) (λ to answer is. comes to (Some answer)) (asked_right from number)
+      (λ other is. answers_right from number other) message known
 
   -- one input
   pub input_right : (g : Input) → IsKnown tx s g

@@ -2,12 +2,13 @@
 use Rattle.std.proofs.Common.{[], ◌≡◌, ℕ, ◌+◌, ◌<◌, ◌≤◌, ◌==◌, ◌⊎◌, Bool, true, false, if◌then◌else◌, inl, inr, List}
 use Rattle.std.proofs.Common.{◌∷◌, ◌++◌, Option, Some, None, refl, sym, ap, ◌∙◌, subst, arith, eqb-true, eq-eqb}
 use Rattle.std.proofs.Common.{append_assoc}
+use Rattle.std.specs.Prelude.{MatchOption}
+use Rattle.std.specs.Bool.{MatchBool}
 use Rattle.std.proofs.lemmas.List.Sums.{fold-append}
 use Rattle.std.proofs.lemmas.List.{append-nil}
 use Rattle.qc_list.specs.Vocabulary.{In}
 use Rattle.qc_list.proofs.Members.{In-first, In-second}
 use Rattle.qc_decl.specs.declared.declaration.Declaration.{Declaration}
-use Rattle.qc_msg.specs.declared.message.Answer.{Answer}
 use Rattle.qc_msg.specs.declared.message.Envelope.{Envelope}
 use Rattle.qc_msg.specs.declared.message.Message.{Message}
 use Rattle.qc_msg.specs.declared.message.Message.TheVariants as messages
@@ -18,6 +19,7 @@ use Rattle.qc_msg.specs.declared.step.Step.TheVariants as steps
 use Rattle.qc_msg.specs.declared.turn.Posting.{Posting}
 use Rattle.qc_msg.specs.declared.turn.Turn.{Turn}
 use Rattle.qc_msg.specs.Vocabulary.{Entry, by, envelopes, mail, marked, posted, sents, told, wrote}
+use Rattle.qc_msg.specs.Vocabulary.{Requested, wants_answer}
 use Rattle.qc_msg.proofs.GrownMail.{mail-append}
 use Rattle.qc_script.specs.declared.script.Script.{Script}
 use Rattle.qc_script.specs.Vocabulary.{Inbox, SentRequest, comes_at_once, empty_inbox, everybody, inbox, inbox_at}
@@ -26,6 +28,8 @@ use Rattle.qc_script.proofs.AllUp.{Stays, step_up, wrote_up}
 use Rattle.qc_script.proofs.Inboxes.{one_fate}
 use Rattle.laws_turns.proofs.Answering.{copies_stay, copy_made, others_fewer, own_fate, own_new, silent_fewer}
 use Rattle.laws_turns.proofs.SiteReplies.{IsMailProper, IsProperFrom}
+use Rattle.laws_turns.proofs.MessageCases.{message_cases}
+use Rattle.laws_turns.proofs.Rounds.{IsProper}
 use Rattle.qc_link.specs.Vocabulary.{most_actors}
 
 -- The steps of a turn, one by one: the requests that are unanswered before it stay somewhere, and those that it adds are
@@ -189,13 +193,13 @@ module _ (script : Script) (X : Envelope → Type 0) (a : ℕ) where
       where
         apart : (c : ℕ) → (m2 : Message) → is_request m2 ≡ true → IsProperFrom decl c to m2
             → (to < decl.sites) × (decl.sites ≤ c)
-        apart c (messages.Request tx epoch life want) is p = (p.1.0, p.0)
-        apart c (messages.Answer number answer) is p = absurd (let never : ⊥ = cc in never)
-        apart c (messages.Decision tx verdict) is p = absurd (let never : ⊥ = cc in never)
-        apart c (messages.Inquiry tx) is p = absurd (let never : ⊥ = cc in never)
-        apart c (messages.Ask tx) is p = absurd p
-        apart c (messages.Close epoch) is p = absurd p
-        apart c (messages.Install epoch clock log) is p = absurd p
+        apart c m2 is p =
+            message_cases (λ m r a d i. is_request m ≡ true → MatchOption r (MatchBool (wants_answer m) ⊥ (Unit {0}))
+            (λ (q : Requested). (decl.sites ≤ c) × IsProper decl to (messages.Request q.tx q.epoch q.life q.want))
+            → (to < decl.sites) × (decl.sites ≤ c))
+            (λ q is p. (p.1.0, p.0)) (λ a is p. absurd (let never : ⊥ = cc in never))
+            (λ v is p. absurd (let never : ⊥ = cc in never)) (λ tx is p. absurd (let never : ⊥ = cc in never))
+            (λ m is p. absurd (subst (λ (t : Bool). MatchBool t ⊥ (Unit {0})) is p)) m2 is p
 
         on : (t : Bool) → (b == a) ≡ t → (q : Bool) → is_request m ≡ q
             → AreSomewhere script X (h ++ marked b (steps.Sent n to m) ∷ []) a

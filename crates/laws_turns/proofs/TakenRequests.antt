@@ -1,8 +1,9 @@
 -- An actor takes what is ready; another's entries leave its open input, and a request is at its site.
 use Rattle.std.proofs.Common.{[], ◌≡◌, ℕ, ◌+◌, ◌-◌, ◌<◌, ◌≤◌, ◌==◌, ◌⊎◌, Bool, true, false, if◌then◌else◌, inl, inr}
 use Rattle.std.proofs.Common.{List, ◌∷◌, ◌++◌, drop, Some, slice_get, refl, sym, ap, ◌∙◌, subst, eqb-true, eq-eqb}
-use Rattle.std.specs.Prelude.{slice_set}
+use Rattle.std.specs.Prelude.{slice_set, MatchOption}
 use Rattle.std.specs.List.{AllByRecursion as Every}
+use Rattle.std.specs.Bool.{MatchBool}
 use Rattle.std.proofs.lemmas.List.Sums.{fold-append}
 use Rattle.qc_list.specs.Vocabulary.{In}
 use Rattle.qc_decl.specs.declared.declaration.Declaration.{Declaration}
@@ -14,7 +15,7 @@ use Rattle.qc_msg.specs.declared.message.Message.TheVariants as messages
 use Rattle.qc_msg.specs.declared.step.Input.{Input}
 use Rattle.qc_msg.specs.declared.step.Input.TheVariants as inputs
 use Rattle.qc_msg.specs.declared.step.Step.{Step}
-use Rattle.qc_msg.specs.Vocabulary.{Deed, Entry, Takes, by, deeds, marked, quiet, step_of}
+use Rattle.qc_msg.specs.Vocabulary.{Deed, Entry, Takes, by, deeds, marked, quiet, step_of, Requested, wants_answer}
 use Rattle.qc_msg.proofs.GrownMail.{mail-taken}
 use Rattle.qc_msg.proofs.DeedsGrow.{deeds-other}
 use Rattle.qc_script.specs.declared.script.Script.{Script}
@@ -25,6 +26,8 @@ use Rattle.laws_turns.specs.Vocabulary.{AsksDeclared, IsTaken}
 use Rattle.laws_turns.proofs.StepsKeep.{AreSomewhere, IsSomewhere}
 use Rattle.laws_turns.proofs.Places.{slice_get-set_other, slice_get-set_same}
 use Rattle.laws_turns.proofs.SiteReplies.{IsProperFrom, IsReply, request_reply}
+use Rattle.laws_turns.proofs.MessageCases.{message_cases}
+use Rattle.laws_turns.proofs.Rounds.{IsProper}
 
 -- what a site's turn for a request begins with
 
@@ -35,19 +38,20 @@ pub record IsDeclared (decl : Declaration) (e : Envelope) : Type 0 where
 
 pub declared_request : (decl : Declaration) (e : Envelope) (m : Message) → e.message ≡ m → is_request m ≡ true
     → IsProperFrom decl e.from e.to m → IsDeclared decl e
-declared_request decl e (messages.Request tx epoch life want) is request p = record {
-  site = p.1.0;
-  past = p.0;
-  replies =
-      λ s. subst (λ (m : Message). IsReply e.from e.number (site_at decl s e.from e.number m)) (sym is)
-      (request_reply decl s e.from e.number tx epoch life want p.1.1);
-}
-declared_request decl e (messages.Answer to answer) is request p = absurd (let never : ⊥ = cc in never)
-declared_request decl e (messages.Decision tx verdict) is request p = absurd (let never : ⊥ = cc in never)
-declared_request decl e (messages.Inquiry tx) is request p = absurd (let never : ⊥ = cc in never)
-declared_request decl e (messages.Ask tx) is request p = absurd p
-declared_request decl e (messages.Close epoch) is request p = absurd p
-declared_request decl e (messages.Install epoch clock log) is request p = absurd p
+declared_request decl e m is request p =
+    message_cases
+    (λ m r a d i. e.message ≡ m → is_request m ≡ true → MatchOption r (MatchBool (wants_answer m) ⊥ (Unit {0}))
+    (λ (q : Requested). (decl.sites ≤ e.from) × IsProper decl e.to (messages.Request q.tx q.epoch q.life q.want))
+    → IsDeclared decl e)
+    (λ q is request p. record {
+      site = p.1.0;
+      past = p.0;
+      replies = λ s. subst (λ (m : Message). IsReply e.from e.number (site_at decl s e.from e.number m)) (sym is)
+          (request_reply decl s e.from e.number q.tx q.epoch q.life q.want p.1.1);
+    })
+    (λ a is request p. absurd (let never : ⊥ = cc in never)) (λ v is request p. absurd (let never : ⊥ = cc in never))
+    (λ tx is request p. absurd (let never : ⊥ = cc in never))
+    (λ m is request p. absurd (subst (λ (t : Bool). MatchBool t ⊥ (Unit {0})) request p)) m is request p
 
 pub site_turn : (decl : Declaration) (b : ℕ) (before : List Deed) (e : Envelope)
     → site_after decl b (before ++ Takes (inputs.Got e) ∷ [])

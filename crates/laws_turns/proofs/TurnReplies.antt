@@ -17,7 +17,8 @@ use Rattle.qc_msg.specs.Vocabulary.{Deed, Sends, Takes, quiet, sends_of, tells_o
 use Rattle.qc_client.specs.Vocabulary.{ClientMove, client_after, client_does, client_takes, moved, new_client}
 use Rattle.laws_turns.specs.Vocabulary.{is_waiting}
 use Rattle.laws_turns.proofs.Waiting.{Ends, IsNoCall, Rests, called_ends, epoch_rests, sent_waits, takes_ends}
-use Rattle.laws_turns.proofs.Waiting.{takes_rests}
+use Rattle.laws_turns.proofs.Waiting.{takes_rests, are_clients}
+use Rattle.laws_turns.proofs.ClientCases.{command_cases}
 
 -- whether a command runs, as deeds go on
 
@@ -100,21 +101,12 @@ ends_replies m r runs ends = record {
 
 called_replies : (decl : Declaration) (m : ClientMove) (command : Command) → is_waiting m.client ≡ false
     → Replies true (client_takes decl m.client (inputs.Called command))
-called_replies decl m commands.Begin still =
-    ends_replies (client_takes decl m.client (inputs.Called commands.Begin)) true refl
-    (called_ends decl m.client commands.Begin tt still)
-called_replies decl m (commands.Do object inv) still =
-    ends_replies (client_takes decl m.client (inputs.Called (commands.Do object inv))) true refl
-    (called_ends decl m.client (commands.Do object inv) tt still)
-called_replies decl m commands.Commit still =
-    ends_replies (client_takes decl m.client (inputs.Called commands.Commit)) true refl
-    (called_ends decl m.client commands.Commit tt still)
-called_replies decl m commands.Abort still =
-    ends_replies (client_takes decl m.client (inputs.Called commands.Abort)) true refl
-    (called_ends decl m.client commands.Abort tt still)
-called_replies decl m (commands.Epoch number) still =
-    never_told (client_takes decl m.client (inputs.Called (commands.Epoch number))) true
-    (epoch_rests decl m.client number still)
+called_replies decl m command still =
+    command_cases (λ (command : Command). Replies true (client_takes decl m.client (inputs.Called command)))
+    (λ command none. ends_replies (client_takes decl m.client (inputs.Called command)) true refl
+    (called_ends decl m.client command (are_clients command none) still))
+    (λ number. never_told (client_takes decl m.client (inputs.Called (commands.Epoch number))) true
+    (epoch_rests decl m.client number still)) command
 
 other_replies : (decl : Declaration) (m : ClientMove) (g : Input) (r : Bool) → IsNoCall g
     → (r ≡ false → is_waiting m.client ≡ false) → Replies r (client_takes decl m.client g)

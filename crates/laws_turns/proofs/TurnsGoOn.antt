@@ -1,41 +1,43 @@
 -- A turn by which a transaction goes on: its deeds are right, and leave its status.
 use Rattle.std.proofs.Common.{[], ◌≡◌, ℕ, ◌+◌, List, ◌∷◌, ◌++◌, fold, map, Option, Some, None, refl, sym, ap, ◌∙◌}
-use Rattle.std.proofs.Common.{subst}
+use Rattle.std.proofs.Common.{subst, cond, true}
 use Rattle.std.specs.List.{AllByRecursion as Every}
+use Rattle.std.specs.Prelude.{MatchOption}
+use Rattle.std.specs.Option.{option_map_or}
 use Rattle.qc_list.proofs.Members.{every-weaker}
 use Rattle.qc_stamp.specs.declared.stamp.TxId.{TxId}
 use Rattle.qc_stamp.proofs.Orders.{same_tx_is}
+use Rattle.qc_stamp.specs.Vocabulary.{same_tx}
 use Rattle.qc_msg.specs.declared.message.Message.{Message}
 use Rattle.qc_msg.specs.declared.message.Message.TheVariants as messages
 use Rattle.qc_msg.specs.declared.message.Outcome.{Outcome}
 use Rattle.qc_msg.specs.declared.record.Record.{Record}
 use Rattle.qc_msg.specs.declared.reply.Reply.{Reply}
-use Rattle.qc_msg.specs.declared.reply.Reply.TheVariants as replies
 use Rattle.qc_msg.specs.declared.turn.Posting.{Posting}
 use Rattle.qc_msg.specs.declared.turn.Turn.{Turn}
 use Rattle.qc_msg.specs.Vocabulary.{Deed, Sends, Tells, sends_of, tells_of, turn_deeds, writes_of}
-use Rattle.qc_promise.specs.Vocabulary.{AreRightFrom, Begun, Committed, Status, status_at, status_told}
-use Rattle.laws_turns.proofs.FrontGoesOn.{IsRequestFor, ToldNeutral}
+use Rattle.qc_msg.specs.Vocabulary.{Requested, inquiry_in}
+use Rattle.qc_promise.specs.Vocabulary.{AreRightFrom, Begun, Status, status_at, status_told}
+use Rattle.qc_promise.specs.Vocabulary.{given_up, Unborn}
+use Rattle.laws_turns.proofs.FrontGoesOn.{IsRequestFor, ToldNeutral, IsNeutral}
 use Rattle.laws_turns.proofs.Statuses.{IsStatus, Page}
+use Rattle.laws_turns.proofs.MessageCases.{message_cases}
+use Rattle.laws_turns.proofs.ReplyCases.{reply_cases}
 
 -- a client asks nobody how a transaction stands
 abbrev pub IsNoInquiry : Message → Type 0
-IsNoInquiry (messages.Request other epoch life want) = Unit {0}
-IsNoInquiry (messages.Answer to answer) = Unit {0}
-IsNoInquiry (messages.Decision other verdict) = Unit {0}
-IsNoInquiry (messages.Inquiry other) = ⊥
-IsNoInquiry (messages.Ask other) = Unit {0}
-IsNoInquiry (messages.Close epoch) = Unit {0}
-IsNoInquiry (messages.Install epoch clock log) = Unit {0}
+IsNoInquiry m = MatchOption (inquiry_in m) (Unit {0}) (λ (other : TxId). ⊥)
+
+-- a message that is such a request
+request_for : (name : Option TxId) (P : Message → Type 0)
+    → ((q : Requested) → name ≡ Some q.tx → P (messages.Request q.tx q.epoch q.life q.want)) → (m : Message)
+    → IsRequestFor name m → P m
+request_for name P each m is =
+    message_cases (λ m r a d i. MatchOption r ⊥ (λ (q : Requested). name ≡ Some q.tx) → P m) each
+    (λ a never. absurd never) (λ v never. absurd never) (λ tx never. absurd never) (λ m never. absurd never) m is
 
 request_asks : (name : Option TxId) (m : Message) → IsRequestFor name m → IsNoInquiry m
-request_asks name (messages.Request other epoch life want) is = tt
-request_asks name (messages.Answer to answer) never = absurd never
-request_asks name (messages.Decision other verdict) never = absurd never
-request_asks name (messages.Inquiry other) never = absurd never
-request_asks name (messages.Ask other) never = absurd never
-request_asks name (messages.Close epoch) never = absurd never
-request_asks name (messages.Install epoch clock log) never = absurd never
+request_asks name m is = request_for name IsNoInquiry (λ q its. tt) m is
 
 pub verdicts_ask : (x : TxId) (v : Outcome) (sites : List ℕ)
     → Every (λ (q : Posting). IsNoInquiry q.message)
@@ -61,47 +63,22 @@ turn_is turn w ps told n write sends tells = λ i. writes_of (write i) ++ (sends
 
 module _ (tx : TxId) (s : Status) (name : Option TxId) (live : name ≡ Some tx → s ≡ Begun) where
   neutral_right : (reply : Reply) → ToldNeutral name (Some reply) → AreRightFrom tx s (Tells reply ∷ [])
-  neutral_right replies.Down never = absurd never
-  neutral_right (replies.Already other) is =
-      ((λ same. live (is ∙ ap (λ (t : TxId). Some t) (same_tx_is other tx same))), tt)
-  neutral_right (replies.Began other) never = absurd never
-  neutral_right replies.NoTransaction is = (tt, tt)
-  neutral_right replies.Doomed is = (tt, tt)
-  neutral_right replies.TooLong is = (tt, tt)
-  neutral_right (replies.Closed epoch site) is = (tt, tt)
-  neutral_right (replies.Conflict holder site) is = (tt, tt)
-  neutral_right (replies.Quorum half got need) is = (tt, tt)
-  neutral_right replies.Absent is = (tt, tt)
-  neutral_right (replies.Response resp) is = (tt, tt)
-  neutral_right (replies.Aborted why) never = absurd never
-  neutral_right replies.Unknown never = absurd never
-  neutral_right (replies.Committed stamp) never = absurd never
-  neutral_right replies.Dropped never = absurd never
-  neutral_right (replies.Order current) never = absurd never
-  neutral_right (replies.InDoubt holder site) never = absurd never
-  neutral_right replies.Fault never = absurd never
-  neutral_right (replies.Moved closed installed) never = absurd never
+  neutral_right reply is =
+      reply_cases
+      (λ r began already gone. IsNeutral name r → MatchOption already
+      (MatchOption began (Unit {0}) (λ (other : TxId). same_tx other tx ≡ true → s ≡ Unborn))
+      (λ (other : TxId). same_tx other tx ≡ true → s ≡ Begun) × Unit {0})
+      (λ other never. absurd never)
+      (λ other its. ((λ same. live (its ∙ ap (λ (t : TxId). Some t) (same_tx_is other tx same))), tt))
+      (λ why never. absurd never) (λ never. absurd never) (λ r its. (tt, tt)) reply is
 
   neutral_same : (reply : Reply) → ToldNeutral name (Some reply) → status_told tx s reply ≡ s
-  neutral_same replies.Down never = absurd never
-  neutral_same (replies.Already other) is = refl
-  neutral_same (replies.Began other) never = absurd never
-  neutral_same replies.NoTransaction is = refl
-  neutral_same replies.Doomed is = refl
-  neutral_same replies.TooLong is = refl
-  neutral_same (replies.Closed epoch site) is = refl
-  neutral_same (replies.Conflict holder site) is = refl
-  neutral_same (replies.Quorum half got need) is = refl
-  neutral_same replies.Absent is = refl
-  neutral_same (replies.Response resp) is = refl
-  neutral_same (replies.Aborted why) never = absurd never
-  neutral_same replies.Unknown never = absurd never
-  neutral_same (replies.Committed stamp) never = absurd never
-  neutral_same replies.Dropped never = absurd never
-  neutral_same (replies.Order current) never = absurd never
-  neutral_same (replies.InDoubt holder site) never = absurd never
-  neutral_same replies.Fault never = absurd never
-  neutral_same (replies.Moved closed installed) never = absurd never
+  neutral_same reply is =
+      reply_cases
+      (λ r began already gone. IsNeutral name r
+      → option_map_or (λ (other : TxId). cond (same_tx other tx) Begun s) began (cond gone (given_up s) s) ≡ s)
+      (λ other never. absurd never) (λ other its. refl) (λ why never. absurd never) (λ never. absurd never)
+      (λ r its. refl) reply is
 
   talk_right : (n : ℕ) (ps : List Posting) (told : Option Reply)
       → Every (λ (p : Posting). IsRequestFor name p.message) ps → ToldNeutral name told
@@ -111,14 +88,9 @@ module _ (tx : TxId) (s : Status) (name : Option TxId) (live : name ≡ Some tx 
   talk_right n (p ∷ ps) told all is = by p.message all.0 (talk_right (n + 1) ps told all.1 is) where
     by : (m : Message) → IsRequestFor name m → AreRightFrom tx s (sends_of (n + 1) ps ++ tells_of told)
         → AreRightFrom tx s (Sends n p.to m ∷ (sends_of (n + 1) ps ++ tells_of told))
-    by (messages.Request other epoch life want) its rest =
-        ((λ same. live (its ∙ ap (λ (t : TxId). Some t) (same_tx_is other tx same))), rest)
-    by (messages.Answer to answer) never rest = absurd never
-    by (messages.Decision other verdict) never rest = absurd never
-    by (messages.Inquiry other) never rest = absurd never
-    by (messages.Ask other) never rest = absurd never
-    by (messages.Close epoch) never rest = absurd never
-    by (messages.Install epoch clock log) never rest = absurd never
+    by m is rest =
+        request_for name (λ (m : Message). AreRightFrom tx s (Sends n p.to m ∷ (sends_of (n + 1) ps ++ tells_of told)))
+        (λ q its. ((λ same. live (its ∙ ap (λ (t : TxId). Some t) (same_tx_is q.tx tx same))), rest)) m is
 
   talk_same : (n : ℕ) (ps : List Posting) (told : Option Reply)
       → Every (λ (p : Posting). IsRequestFor name p.message) ps → ToldNeutral name told
@@ -128,13 +100,10 @@ module _ (tx : TxId) (s : Status) (name : Option TxId) (live : name ≡ Some tx 
   talk_same n (p ∷ ps) told all is = by p.message all.0 (talk_same (n + 1) ps told all.1 is) where
     by : (m : Message) → IsRequestFor name m → fold (status_at tx) s (sends_of (n + 1) ps ++ tells_of told) ≡ s
         → fold (status_at tx) s (Sends n p.to m ∷ (sends_of (n + 1) ps ++ tells_of told)) ≡ s
-    by (messages.Request other epoch life want) its rest = rest
-    by (messages.Answer to answer) never rest = absurd never
-    by (messages.Decision other verdict) never rest = absurd never
-    by (messages.Inquiry other) never rest = absurd never
-    by (messages.Ask other) never rest = absurd never
-    by (messages.Close epoch) never rest = absurd never
-    by (messages.Install epoch clock log) never rest = absurd never
+    by m is rest =
+        request_for name
+        (λ (m : Message). fold (status_at tx) s (Sends n p.to m ∷ (sends_of (n + 1) ps ++ tells_of told)) ≡ s)
+        (λ q its. rest) m is
 
 -- the transaction goes on: its requests, and such a reply
 pub goes_right : (tx : TxId) (s : Status) (turn : Turn) (p : Page) → IsStatus tx s p → turn.write ≡ None

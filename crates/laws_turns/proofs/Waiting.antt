@@ -1,13 +1,10 @@
 -- A client waits for something just while it goes on with a command: it tells the reply as it ceases to wait.
 use Rattle.std.proofs.Common.{◌≡◌, ℕ, ◌||◌, not, Bool, true, false, if◌then◌else◌, Option, Some, None, is_some, inl}
-use Rattle.std.proofs.Common.{inr, refl, sym, ap, ◌∙◌, subst}
+use Rattle.std.proofs.Common.{inr, refl, sym, ap, ◌∙◌, subst, MatchOption}
 use Rattle.qc_decl.specs.declared.declaration.Declaration.{Declaration}
 use Rattle.qc_stamp.specs.declared.stamp.TxId.{TxId}
 use Rattle.qc_msg.specs.declared.message.Answer.{Answer}
 use Rattle.qc_msg.specs.declared.message.Message.{Message}
-use Rattle.qc_msg.specs.declared.message.Message.TheVariants as messages
-use Rattle.qc_msg.specs.declared.message.Want.{Want}
-use Rattle.qc_msg.specs.declared.message.Want.TheVariants.{Read, Append, Prepare}
 use Rattle.qc_msg.specs.declared.reply.Reply.{Reply}
 use Rattle.qc_msg.specs.declared.reply.Reply.TheVariants as replies
 use Rattle.qc_msg.specs.declared.reply.AbortCause.TheVariants as causes
@@ -16,7 +13,7 @@ use Rattle.qc_msg.specs.declared.step.Command.TheVariants as commands
 use Rattle.qc_msg.specs.declared.step.Input.{Input}
 use Rattle.qc_msg.specs.declared.step.Input.TheVariants as inputs
 use Rattle.qc_msg.specs.declared.turn.Turn.{Turn}
-use Rattle.qc_msg.specs.Vocabulary.{quiet, telling}
+use Rattle.qc_msg.specs.Vocabulary.{quiet, telling, epoch_in}
 use Rattle.qc_commit.specs.declared.desk.Desk.{Desk}
 use Rattle.qc_commit.specs.declared.desk.Voting.{Voting}
 use Rattle.qc_commit.specs.Conduct as desks
@@ -31,8 +28,9 @@ use Rattle.qc_front.specs.Vocabulary.{FrontMove, GoesOn, aborts, begins, ended, 
 use Rattle.qc_front.proofs.Goes.{do_goes, takes_goes}
 use Rattle.qc_client.specs.declared.client.Client.{Client}
 use Rattle.laws_turns.specs.Vocabulary.{is_waiting, waits}
+use Rattle.laws_turns.proofs.ClientCases.{heard_cases, sent_cases}
 use Rattle.qc_client.specs.Vocabulary.{ClientMove, answered, answered_by, by_desk, by_front, called, client_takes}
-use Rattle.qc_client.specs.Vocabulary.{commits, heard, requested, sent_one}
+use Rattle.qc_client.specs.Vocabulary.{commits, heard, sent_one}
 
 -- it tells a reply just where it doesn't wait any more
 abbrev pub Ends : ClientMove → Type 0
@@ -150,11 +148,10 @@ commits_ends decl c (Some t) is none idle = by t.begun.doomed refl
 
 -- nobody asks a client to move an epoch
 abbrev pub IsClients : Command → Type 0
-IsClients commands.Begin = Unit {0}
-IsClients (commands.Do object inv) = Unit {0}
-IsClients commands.Commit = Unit {0}
-IsClients commands.Abort = Unit {0}
-IsClients (commands.Epoch number) = ⊥
+IsClients command = MatchOption (epoch_in command) (Unit {0}) (λ (number : ℕ). ⊥)
+
+pub are_clients : (command : Command) → epoch_in command ≡ None → IsClients command
+are_clients command none = subst (λ (o : Option ℕ). MatchOption o (Unit {0}) (λ (number : ℕ). ⊥)) (sym none) tt
 
 pub called_ends : (decl : Declaration) (c : Client) (command : Command) → IsClients command → is_waiting c ≡ false
     → Ends (called decl c command)
@@ -206,23 +203,16 @@ IsNoCall (inputs.Lost number) = Unit {0}
 
 heard_rests : (decl : Declaration) (c : Client) (from number : ℕ) (m : Message) → is_waiting c ≡ false
     → Rests (heard decl c from number m)
-heard_rests decl c from number (messages.Request tx epoch life want) still = record { told = refl; still = still }
-heard_rests decl c from number (messages.Answer to answer) still = answered_rests decl c to (Some answer) still
-heard_rests decl c from number (messages.Decision tx verdict) still = record { told = refl; still = still }
-heard_rests decl c from number (messages.Inquiry tx) still = record { told = refl; still = still }
-heard_rests decl c from number (messages.Ask tx) still = record { told = refl; still = still }
-heard_rests decl c from number (messages.Close epoch) still = record { told = refl; still = still }
-heard_rests decl c from number (messages.Install epoch clock log) still = record { told = refl; still = still }
+heard_rests decl c from number m still =
+    heard_cases decl c from number (λ m move. Rests move) (λ m none. record { told = refl; still = still })
+    (λ to answer. answered_rests decl c to (Some answer) still) (λ tx. record { told = refl; still = still })
+    (λ tx. record { told = refl; still = still }) m
 
 heard_ends : (decl : Declaration) (c : Client) (from number : ℕ) (m : Message) → is_waiting c ≡ true
     → Ends (heard decl c from number m)
-heard_ends decl c from number (messages.Request tx epoch life want) busy = sym (ap not busy)
-heard_ends decl c from number (messages.Answer to answer) busy = answered_ends decl c to (Some answer) busy
-heard_ends decl c from number (messages.Decision tx verdict) busy = sym (ap not busy)
-heard_ends decl c from number (messages.Inquiry tx) busy = sym (ap not busy)
-heard_ends decl c from number (messages.Ask tx) busy = sym (ap not busy)
-heard_ends decl c from number (messages.Close epoch) busy = sym (ap not busy)
-heard_ends decl c from number (messages.Install epoch clock log) busy = sym (ap not busy)
+heard_ends decl c from number m busy =
+    heard_cases decl c from number (λ m move. Ends move) (λ m none. sym (ap not busy))
+    (λ to answer. answered_ends decl c to (Some answer) busy) (λ tx. sym (ap not busy)) (λ tx. sym (ap not busy)) m
 
 pub takes_rests : (decl : Declaration) (c : Client) (g : Input) → IsNoCall g → is_waiting c ≡ false
     → Rests (client_takes decl c g)
@@ -251,15 +241,7 @@ votes_asked desk None number site is = refl
 votes_asked desk (Some v) number site is = sym (ap is_some is)
 
 pub sent_waits : (c : Client) (number to : ℕ) (m : Message) → is_waiting (sent_one c number to m) ≡ is_waiting c
-sent_waits c number to (messages.Request tx epoch life want) = by want
-  where
-    by : (w : Want) → is_waiting (requested c number to w) ≡ is_waiting c
-    by (Read object inv) = ap (λ (t : Bool). is_some c.desk.voting || not t) (idle_asked c.front.doing number to)
-    by (Append object view own) = ap (λ (t : Bool). is_some c.desk.voting || not t) (idle_asked c.front.doing number to)
-    by Prepare = ap (λ (t : Bool). t || not (is_idle c.front.doing)) (votes_asked c.desk c.desk.voting number to refl)
-sent_waits c number to (messages.Answer number_asked answer) = refl
-sent_waits c number to (messages.Decision tx verdict) = refl
-sent_waits c number to (messages.Inquiry tx) = refl
-sent_waits c number to (messages.Ask tx) = refl
-sent_waits c number to (messages.Close epoch) = refl
-sent_waits c number to (messages.Install epoch clock log) = refl
+sent_waits c number to m =
+    sent_cases c number to (λ (d : Client). is_waiting d ≡ is_waiting c)
+    (ap (λ (t : Bool). is_some c.desk.voting || not t) (idle_asked c.front.doing number to))
+    (ap (λ (t : Bool). t || not (is_idle c.front.doing)) (votes_asked c.desk c.desk.voting number to refl)) refl m

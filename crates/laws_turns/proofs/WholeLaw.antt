@@ -17,10 +17,10 @@ use Rattle.qc_script.specs.Vocabulary.{command_in, controls_left, first_command,
 use Rattle.qc_script.specs.Vocabulary.{phase_of, takes_commands}
 use Rattle.laws_turns.specs.Vocabulary.{AreAnswered, AsksDeclared, IsClosed, IsQuiet, IsWhole, asked_by, asked_in_all}
 use Rattle.laws_turns.specs.Vocabulary.{calls_of, exchanges}
-use Rattle.laws_turns.proofs.Calling.{run_asked, run_phases}
+use Rattle.laws_turns.proofs.Calling.{calls_are_asked, phases_are_the_scripts}
 use Rattle.laws_turns.proofs.Ends.{copies_none, losts_none, nothing_ready}
 use Rattle.laws_turns.proofs.Exchanging.{answered}
-use Rattle.laws_turns.proofs.Ordered.{run_ordered}
+use Rattle.laws_turns.proofs.Ordered.{replies_answer_commands}
 use Rattle.laws_turns.proofs.Running.{busy_is_running}
 use Rattle.laws_turns.proofs.Up.{run_up}
 
@@ -61,21 +61,21 @@ module _ (decl : Declaration) (script : Script) (accepted : IsAccepted decl) (as
   calls_whole : length script.phases ≤ phase_of h → (a : ℕ) → is_client decl a ≡ true → calls_of a h ≡ asked_by a script
   calls_whole all a client =
       sym (append-nil (calls_of a h)) ∙ ap (λ (v : List Command). calls_of a h ++ v) (sym (none_left a client))
-      ∙ run_asked decl script a h (replicate (actors decl) false) closed
+      ∙ calls_are_asked decl script a h (replicate (actors decl) false) closed
       ∙ ap (λ (v : List PhaseLines). asked_in_all a v) (take_all (phase_of h) script.phases all)
 
   replies_whole : length script.phases ≤ phase_of h → (a : ℕ) → is_client decl a ≡ true
       → AreAnswered (asked_by a script) (exchanges (deeds a [] h))
   replies_whole all a client =
       subst (λ (cs : List Command). AreAnswered cs (exchanges (deeds a [] h))) (calls_whole all a client)
-      (answered (deeds a [] h) (run_ordered decl script h (replicate (actors decl) false) closed a)
+      (answered (deeds a [] h) (replies_answer_commands decl script h (replicate (actors decl) false) closed a)
       (run_up (IsLawful decl) decl script h (replicate (actors decl) false) closed a) (idle a client))
 
-  pub is_whole : length script.phases ≤ phase_of h → IsWhole decl script h
-  is_whole all = record {
+  pub runs_without_commands_are_whole : length script.phases ≤ phase_of h → IsWhole decl script h
+  runs_without_commands_are_whole all = record {
     closed = closed;
     phases = (let most : phase_of h ≤ length script.phases =
-        run_phases (IsLawful decl) decl script h (replicate (actors decl) false) closed in omega arith);
+        phases_are_the_scripts (IsLawful decl) decl script h (replicate (actors decl) false) closed in omega arith);
     controls = done;
     replies = replies_whole all;
     quiet = quiet;

@@ -2,7 +2,9 @@
 use Rattle.std.proofs.Common.{◌≡◌, ℕ, ◌+◌, ◌==◌, Bool, true, false, cond, List, [], ◌∷◌, ◌++◌, ◌⊎◌, inl, inr, fold}
 use Rattle.std.proofs.Common.{Option, Some, None, option_to_list, slice_get, refl, sym, ap, ◌∙◌, subst, eqb-true}
 use Rattle.std.proofs.Common.{eq-eqb}
-use Rattle.std.specs.List.{AllByRecursion as Every, cons_option}
+use Rattle.std.specs.List.{AllByRecursion as Every, cons_option, filter_map}
+use Rattle.std.specs.Prelude.{option_and_then, slice_get}
+use Rattle.std.specs.Option.{option_map_or}
 use Rattle.std.proofs.lemmas.List.{append-nil}
 use Rattle.std.proofs.lemmas.List.Elements.{filter_map-append}
 use Rattle.qc_list.specs.Vocabulary.{In}
@@ -12,17 +14,15 @@ use Rattle.qc_decl.specs.declared.declaration.Declaration.{Declaration}
 use Rattle.qc_entry.specs.declared.record.Commit.{Commit}
 use Rattle.qc_msg.specs.declared.message.Envelope.{Envelope}
 use Rattle.qc_msg.specs.declared.message.Message.{Message}
-use Rattle.qc_msg.specs.declared.message.Message.TheVariants as messages
-use Rattle.qc_msg.specs.declared.message.Want.TheVariants.{Append, Prepare, Read}
 use Rattle.qc_msg.specs.declared.record.Record.{Record}
 use Rattle.qc_msg.specs.declared.reply.Reply.{Reply}
 use Rattle.qc_msg.specs.declared.step.Input.{Input}
 use Rattle.qc_msg.specs.declared.step.Step.{Step}
-use Rattle.qc_msg.specs.declared.step.Step.TheVariants as steps
 use Rattle.qc_msg.specs.declared.turn.Posting.{Posting}
 use Rattle.qc_msg.specs.declared.turn.Turn.{Turn}
 use Rattle.qc_msg.specs.Vocabulary.{Deed, Entry, Falls, Rises, Sends, Takes, Tells, Writes, commit_in, commit_of}
 use Rattle.qc_msg.specs.Vocabulary.{deed_at, deeds, envelope_of, heard, sends_of, tells_of, turn_deeds, writes_of}
+use Rattle.qc_msg.specs.Vocabulary.{wrote_in, rose_in}
 use Rattle.qc_commit.specs.declared.desk.Voting.{Voting}
 use Rattle.qc_commit.specs.Conduct as desks
 use Rattle.qc_client.specs.declared.client.Client.{Client}
@@ -33,6 +33,8 @@ use Rattle.qc_core.specs.Vocabulary.{AreSteady}
 use Rattle.laws_turns.specs.Vocabulary.{written_by, written_in}
 use Rattle.laws_turns.proofs.ClientsWithin.{IsPost}
 use Rattle.laws_turns.proofs.DealtCommands.{commits_of}
+use Rattle.laws_turns.proofs.StepCases.{deed_cases}
+use Rattle.laws_turns.proofs.ClientCases.{sent_cases}
 
 pub written-append : (xs ys : List Deed) → written_in (xs ++ ys) ≡ written_in xs ++ written_in ys
 written-append xs ys = filter_map-append written_by xs ys
@@ -64,18 +66,12 @@ written-turn ds n turn = written-append ds (turn_deeds n turn)
 
 desk_one : (c : Client) (number to : ℕ) (message : Message)
     → (sent_one c number to message).desk.commits ≡ c.desk.commits
-desk_one c number to (messages.Request other epoch life (Read object inv)) = refl
-desk_one c number to (messages.Request other epoch life (Append object view own)) = refl
-desk_one c number to (messages.Request other epoch life Prepare) = by c.desk.voting where
-  by : (o : Option Voting) → (desks.prepared_in c.desk o number to).commits ≡ c.desk.commits
-  by None = refl
-  by (Some v) = refl
-desk_one c number to (messages.Answer other answer) = refl
-desk_one c number to (messages.Decision other verdict) = refl
-desk_one c number to (messages.Inquiry other) = refl
-desk_one c number to (messages.Ask other) = refl
-desk_one c number to (messages.Close epoch) = refl
-desk_one c number to (messages.Install epoch clock log) = refl
+desk_one c number to message =
+    sent_cases c number to (λ (d : Client). d.desk.commits ≡ c.desk.commits) refl (by c.desk.voting) refl message
+  where
+    by : (o : Option Voting) → (desks.prepared_in c.desk o number to).commits ≡ c.desk.commits
+    by None = refl
+    by (Some v) = refl
 
 pub desk_posts : (decl : Declaration) (m : ClientMove) (ds : List Deed) → Every IsPost ds
     → (fold (client_does decl) m ds).client.desk.commits ≡ m.client.desk.commits
@@ -96,19 +92,12 @@ heard_none None = refl
 heard_none (Some e) = refl
 
 step_written : (ms : List Envelope) (step : Step) → written_in (deed_at ms step) ≡ option_to_list (commit_in step)
-step_written ms (steps.Phase k) = refl
-step_written ms (steps.Cut x y) = refl
-step_written ms (steps.Heal x y) = refl
-step_written ms (steps.Armed actor kind at) = refl
-step_written ms (steps.Called command) = refl
-step_written ms (steps.Got n) = heard_none (slice_get ms n)
-step_written ms (steps.Lost n) = refl
-step_written ms (steps.Wrote written) = cons_is (commit_of written) [] ∙ append-nil (option_to_list (commit_of written))
-step_written ms (steps.Sent n to message) = refl
-step_written ms (steps.Told reply) = refl
-step_written ms (steps.Fell cause pending) = refl
-step_written ms (steps.Rose records) = refl
-step_written ms (steps.Damaged offset) = refl
+step_written ms step =
+    deed_cases ms (λ step ds. written_in ds ≡ option_to_list (commit_in step))
+    (λ step w m r. ap (λ (o : Option Record). option_to_list (option_and_then commit_of o)) (sym w)) (λ command. refl)
+    (λ n. heard_none (slice_get ms n)) (λ n. refl)
+    (λ written. cons_is (commit_of written) [] ∙ append-nil (option_to_list (commit_of written)))
+    (λ n to message. refl) (λ reply. refl) (λ cause pending. refl) (λ records. refl) step
 
 in_either : (c : Commit) (xs ys : List Commit) → In c (xs ++ ys) → In c xs ⊎ In c ys
 in_either c [] ys among = inr among
@@ -147,19 +136,17 @@ rest_all_up ms e h up a = rest_up (cond (e.actor == a) (deed_at ms e.step) [])
 
 step_commits : (ms : List Envelope) (step : Step) → AreSteady (deed_at ms step)
     → commits_in step ≡ option_to_list (commit_in step)
-step_commits ms (steps.Phase k) up = refl
-step_commits ms (steps.Cut x y) up = refl
-step_commits ms (steps.Heal x y) up = refl
-step_commits ms (steps.Armed actor kind at) up = refl
-step_commits ms (steps.Called command) up = refl
-step_commits ms (steps.Got n) up = refl
-step_commits ms (steps.Lost n) up = refl
-step_commits ms (steps.Wrote written) up = refl
-step_commits ms (steps.Sent n to message) up = refl
-step_commits ms (steps.Told reply) up = refl
-step_commits ms (steps.Fell cause pending) up = refl
-step_commits ms (steps.Rose kept) up = absurd up.0
-step_commits ms (steps.Damaged offset) up = refl
+step_commits ms step up =
+    deed_cases ms (λ step ds. AreSteady ds → commits_in step ≡ option_to_list (commit_in step))
+    (λ step w m r up. one_commit (wrote_in step) (rose_in step) r) (λ command up. refl) (λ n up. refl) (λ n up. refl)
+    (λ written up. refl) (λ n to message up. refl) (λ reply up. refl) (λ cause pending up. refl)
+    (λ records up. absurd up.0) step up
+  where
+    one_commit : (w : Option Record) (r : Option (List Record)) → r ≡ None
+        → option_map_or (λ (written : Record). option_to_list (commit_of written)) w
+        (option_map_or (filter_map commit_of) r []) ≡ option_to_list (option_and_then commit_of w)
+    one_commit (Some written) r none = refl
+    one_commit None r none = ap (λ (o : Option (List Record)). option_map_or (filter_map commit_of) o []) none
 
 pub entry_commits : (ms : List Envelope) (e : Entry) (h : List Entry) → AllUp ms (e ∷ h)
     → commits_in e.step ≡ option_to_list (commit_in e.step)
@@ -171,19 +158,14 @@ entry_commits ms e h up =
 
 -- in any case it is among its commit records
 among_commits : (c : Commit) (step : Step) → In c (option_to_list (commit_in step)) → In c (commits_in step)
-among_commits c (steps.Phase k) among = among
-among_commits c (steps.Cut x y) among = among
-among_commits c (steps.Heal x y) among = among
-among_commits c (steps.Armed actor kind at) among = among
-among_commits c (steps.Called command) among = among
-among_commits c (steps.Got n) among = among
-among_commits c (steps.Lost n) among = among
-among_commits c (steps.Wrote written) among = among
-among_commits c (steps.Sent n to message) among = among
-among_commits c (steps.Told reply) among = among
-among_commits c (steps.Fell cause pending) among = among
-among_commits c (steps.Rose kept) among = absurd among
-among_commits c (steps.Damaged offset) among = among
+among_commits c step among =
+    by (wrote_in step) among
+  where
+    by : (w : Option Record) → In c (option_to_list (option_and_then commit_of w))
+        → In c (option_map_or (λ (written : Record). option_to_list (commit_of written)) w
+        (option_map_or (filter_map commit_of) (rose_in step) []))
+    by None never = absurd never
+    by (Some written) is = is
 
 pub listed_written : (decl : Declaration) (ms : List Envelope) (h : List Entry) (c : Commit) → AllUp ms h
     → In c (records decl h) → IsWritten decl ms h c

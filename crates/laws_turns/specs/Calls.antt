@@ -1,5 +1,5 @@
 -- The open requests of a client, and what becomes of each.
-use Rattle.std.specs.Prelude.{◌≡◌, ℕ, ◌⊎◌, ◌||◌, not, Bool, List, Option, Some, None, is_some}
+use Rattle.std.specs.Prelude.{MatchOption, ◌≡◌, ℕ, ◌⊎◌, ◌||◌, not, Bool, List, Option, Some, None, is_some}
 use Rattle.qc_list.specs.Vocabulary.{In}
 use Rattle.qc_client.specs.declared.client.Client.{Client}
 use Rattle.qc_commit.specs.declared.desk.Voting.{Voting}
@@ -8,8 +8,8 @@ use Rattle.qc_front.specs.Vocabulary.{calls_in, is_idle}
 use Rattle.qc_msg.specs.declared.call.Call.{Call}
 use Rattle.qc_msg.specs.declared.message.Envelope.{Envelope}
 use Rattle.qc_msg.specs.declared.message.Message.{Message}
-use Rattle.qc_msg.specs.declared.message.Message.TheVariants as messages
 use Rattle.qc_script.specs.Vocabulary.{Inbox, request_numbers}
+use Rattle.qc_msg.specs.Vocabulary.{Answered, answer_in}
 
 -- the requests that a client waits for: its Prepares while it commits, else those of its running `do`
 
@@ -30,13 +30,7 @@ is_waiting c = waits c.desk.voting c.front.doing
 
 -- a message that answers the request of this number
 abbrev pub IsAnswerTo : ℕ → Message → Type 0
-IsAnswerTo n (messages.Request tx epoch life want) = ⊥
-IsAnswerTo n (messages.Answer to answer) = to ≡ n
-IsAnswerTo n (messages.Decision tx verdict) = ⊥
-IsAnswerTo n (messages.Inquiry tx) = ⊥
-IsAnswerTo n (messages.Ask tx) = ⊥
-IsAnswerTo n (messages.Close epoch) = ⊥
-IsAnswerTo n (messages.Install epoch clock log) = ⊥
+IsAnswerTo n message = MatchOption (answer_in message) ⊥ (λ (a : Answered). a.to ≡ n)
 
 pub record HasAnswer (n : ℕ) (es : List Envelope) : Type 0 where
   pub envelope : Envelope

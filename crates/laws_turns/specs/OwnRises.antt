@@ -1,20 +1,15 @@
 -- What clients are given as they rise: commit records that name stamps of their transactions' own clients.
-use Rattle.std.specs.Prelude.{◌≡◌, ℕ, true, List, []}
+use Rattle.std.specs.Prelude.{[], MatchOption, ◌≡◌, ℕ, true, List}
 use Rattle.std.specs.List.{AllByRecursion as Every}
 use Rattle.qc_decl.specs.declared.declaration.Declaration.{Declaration}
 use Rattle.qc_decl.specs.Vocabulary.{is_client}
 use Rattle.qc_msg.specs.declared.record.Record.{Record}
-use Rattle.qc_msg.specs.declared.record.Record.TheVariants.{Life, Prepare, Done, Close, Install, Commit, Decide}
-use Rattle.qc_msg.specs.Vocabulary.{Deed, Entry, Falls, Rises, Sends, Takes, Tells, Writes, deeds}
+use Rattle.qc_entry.specs.declared.record.Commit.{Commit}
+use Rattle.qc_msg.specs.Vocabulary.{Deed, Entry, Falls, Rises, Sends, Takes, Tells, Writes, deeds, commit_of}
 
 abbrev pub IsOwnRecord : Record → Type 0
-IsOwnRecord Life = Unit {0}
-IsOwnRecord (Prepare prepared) = Unit {0}
-IsOwnRecord (Done tx clock) = Unit {0}
-IsOwnRecord (Close epoch) = Unit {0}
-IsOwnRecord (Install epoch clock lines) = Unit {0}
-IsOwnRecord (Commit commit) = commit.stamp.client ≡ commit.tx.client
-IsOwnRecord (Decide epoch clock lines) = Unit {0}
+IsOwnRecord written =
+    MatchOption (commit_of written) (Unit {0}) (λ (commit : Commit). commit.stamp.client ≡ commit.tx.client)
 
 abbrev pub GivesOwn : Deed → Type 0
 GivesOwn (Takes given) = Unit {0}

@@ -21,3 +21,4 @@ pub use Rattle.laws_turns.specs.Within.{ViewsWithin, WantWithin}
 pub use Rattle.laws_turns.specs.Written.{written_by, written_in}
 pub use Rattle.laws_turns.specs.Wrong.{asks, begun, commit, committed, first, none_read, read_it, reading, says, second}
 pub use Rattle.laws_turns.specs.Wrong.{tx}
+pub use Rattle.laws_turns.specs.EachRun.{OfEachKeptRun}

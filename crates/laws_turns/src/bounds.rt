@@ -53,7 +53,7 @@ pub fn clients_calls_may_be_made()
 
 /// A turn that is posted has at most 16 messages: a site answers and asks at
 /// most one client, a client asks each site once, or tells it a verdict.
-#[tactic(auto, using(crate::proofs::Needs::run_short))]
+#[tactic(auto, using(crate::proofs::Needs::turns_are_short))]
 pub fn turns_are_short()
     ensures { (decl : Declaration) (script : Script) (h : List Entry) (open_inputs : List Bool)
         → IsAccepted decl → Runs (IsLawful decl) decl script h open_inputs

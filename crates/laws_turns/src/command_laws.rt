@@ -21,7 +21,7 @@ ghost use Rattle.laws_turns.specs.Whole.{asked_until, calls_of, replies_of};
 
 /// The commands that an actor called, and then those that are left to it, are
 /// those that the phases so far ask it, in their order.
-#[tactic(auto, using(crate::proofs::Calling::run_asked))]
+#[tactic(auto, using(crate::proofs::Calling::calls_are_asked))]
 pub fn calls_are_asked()
     ensures { (decl : Declaration) (script : Script) (h : List Entry) (open_inputs : List Bool) (a : ℕ)
         → Runs (IsLawful decl) decl script h open_inputs
@@ -29,7 +29,7 @@ pub fn calls_are_asked()
 {}
 
 /// No more phases begin than the script has.
-#[tactic(auto, using(crate::proofs::Calling::run_phases))]
+#[tactic(auto, using(crate::proofs::Calling::phases_are_the_scripts))]
 pub fn phases_are_the_scripts()
     ensures { (decl : Declaration) (script : Script) (h : List Entry) (open_inputs : List Bool)
         → Runs (IsLawful decl) decl script h open_inputs → phase_of h ≤ length script.phases }
@@ -37,7 +37,7 @@ pub fn phases_are_the_scripts()
 
 /// An actor calls a command only where none runs, and each reply that it tells
 /// answers a command that was called and not yet answered.
-#[tactic(auto, using(crate::proofs::Ordered::run_ordered))]
+#[tactic(auto, using(crate::proofs::Ordered::replies_answer_commands))]
 pub fn replies_answer_commands()
     ensures { (decl : Declaration) (script : Script) (h : List Entry) (open_inputs : List Bool) (a : ℕ)
         → Runs (IsLawful decl) decl script h open_inputs → AreInOrder [] (deeds a [] h) }
@@ -45,7 +45,7 @@ pub fn replies_answer_commands()
 
 /// An actor told one reply to each command that it called, but for the one that
 /// runs.
-#[tactic(auto, using(crate::proofs::Ordered::run_replied))]
+#[tactic(auto, using(crate::proofs::Ordered::calls_are_replied))]
 pub fn calls_are_replied()
     ensures { (decl : Declaration) (script : Script) (h : List Entry) (open_inputs : List Bool) (a : ℕ)
         → Runs (IsLawful decl) decl script h open_inputs
@@ -54,7 +54,7 @@ pub fn calls_are_replied()
 
 /// Where the script asks clients to move no epoch, a client without an open
 /// input waits for something just while a command of it runs.
-#[tactic(auto, using(crate::proofs::Busy::run_waits))]
+#[tactic(auto, using(crate::proofs::Busy::clients_wait_while_commands_run))]
 pub fn clients_wait_while_commands_run()
     ensures { (decl : Declaration) (script : Script) → AsksDeclared decl script → (h : List Entry)
         (open_inputs : List Bool) → Runs (IsLawful decl) decl script h open_inputs

@@ -21,7 +21,7 @@ use qc_script::ConductWithFalls;
 
 /// Only a turn that has a record may end otherwise than written; and an actor
 /// that is down has no record and no message to send.
-#[tactic(auto, using(crate::proofs::Downs::tells))]
+#[tactic(auto, using(crate::proofs::Downs::who_is_down_only_tells))]
 pub fn who_is_down_only_tells()
     ensures { (decl : Declaration) → TellsWhereDown (IsLawfulWithFalls decl) }
 {}

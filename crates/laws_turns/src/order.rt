@@ -18,7 +18,7 @@ ghost use Rattle.laws_turns.specs.Turns.{ActsIn};
 
 /// Messages are numbered from 0 in the order in which they were sent: a
 /// message's number is its place.
-#[tactic(auto, using(crate::proofs::Numbered::numbers_are_places))]
+#[tactic(auto, using(crate::proofs::Numbered::messages_are_numbered_in_order))]
 pub fn messages_are_numbered_in_order()
     ensures { (decl : Declaration) (script : Script) (h : List Entry) (open_inputs : List Bool)
         → Runs (IsLawful decl) decl script h open_inputs
@@ -36,7 +36,7 @@ pub fn what_is_ready_was_sent()
 /// Each actor takes an input, then posts the turn that its deeds call for, and
 /// so on; a command comes only where none runs, and the numbers of an actor's
 /// messages rise.
-#[tactic(auto, using(crate::proofs::Acted::run_acts))]
+#[tactic(auto, using(crate::proofs::Acted::actors_take_and_post_by_turns))]
 pub fn actors_take_and_post_by_turns()
     ensures { (decl : Declaration) (script : Script) (h : List Entry) (open_inputs : List Bool)
         → Runs (IsLawful decl) decl script h open_inputs
@@ -54,7 +54,7 @@ pub fn others_do_nothing()
 
 /// Each actor goes by turns: it posts for each input, its record first; no
 /// command comes to a site.
-#[tactic(auto, using(crate::proofs::ByMail::run_by_turns))]
+#[tactic(auto, using(crate::proofs::ByMail::actors_go_by_turns))]
 pub fn actors_go_by_turns()
     ensures { (decl : Declaration) (script : Script) (h : List Entry) (open_inputs : List Bool)
         → Runs (IsLawful decl) decl script h open_inputs
@@ -64,7 +64,7 @@ pub fn actors_go_by_turns()
 /// Messages reach those whom they were sent to: each has its number and is
 /// taken by its receiver, an answer comes from who was asked to who asked, and
 /// an actor loses requests of its own.
-#[tactic(auto, using(crate::proofs::ByMail::run_mailed))]
+#[tactic(auto, using(crate::proofs::ByMail::messages_reach_their_receivers))]
 pub fn messages_reach_their_receivers()
     ensures { (decl : Declaration) (script : Script) (h : List Entry) (open_inputs : List Bool)
         → Runs (IsLawful decl) decl script h open_inputs → IsMailed [] h }

@@ -26,7 +26,7 @@ pub fn records_are_apart()
 
 /// Records are just the operations that their clients were told, from the
 /// begin of the transaction to its end.
-#[tactic(auto, using(crate::proofs::RecordLaws::dealt))]
+#[tactic(auto, using(crate::proofs::RecordLaws::records_are_what_was_told))]
 pub fn records_are_what_was_told()
     ensures { (decl : Declaration) (script : Script) (h : List Entry) (open_inputs : List Bool)
         → IsAccepted decl → Runs (IsLawful decl) decl script h open_inputs → AreDealt decl (committed decl h) h }
@@ -34,7 +34,7 @@ pub fn records_are_what_was_told()
 
 /// A client is told Committed with a record's stamp, and for each record;
 /// Aborted or Dropped it is told only of a transaction without one.
-#[tactic(auto, using(crate::proofs::RecordLaws::told))]
+#[tactic(auto, using(crate::proofs::RecordLaws::clients_are_told))]
 pub fn clients_are_told()
     ensures { (decl : Declaration) (script : Script) (h : List Entry) (open_inputs : List Bool)
         → IsAccepted decl → Runs (IsLawful decl) decl script h open_inputs → AreTold decl (committed decl h) h }

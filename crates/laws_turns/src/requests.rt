@@ -23,7 +23,7 @@ ghost use Rattle.qc_link.specs.Limits.{most_actors};
 
 /// Each open request of a client is awaited in its inbox: that it is lost isn't
 /// taken yet, or it is unanswered, or a copy of its answer is ready.
-#[tactic(auto, using(crate::proofs::Covered::open_requests_awaited))]
+#[tactic(auto, using(crate::proofs::Covered::open_requests_are_awaited))]
 pub fn open_requests_are_awaited()
     ensures { (decl : Declaration) (script : Script) (a : ℕ) (h : List Entry) (open_inputs : List Bool)
         → Runs (IsLawful decl) decl script h open_inputs
@@ -34,7 +34,7 @@ pub fn open_requests_are_awaited()
 /// With an accepted declaration, and a script that names declared objects, an
 /// unanswered request is at the site that it was sent to: a copy of it is ready
 /// there, or it is the site's open input.
-#[tactic(auto, using(crate::proofs::Reached::unanswered_at_site))]
+#[tactic(auto, using(crate::proofs::Reached::unanswered_requests_are_at_their_sites))]
 pub fn unanswered_requests_are_at_their_sites()
     ensures { (decl : Declaration) (script : Script) → IsAccepted decl → AsksDeclared decl script
         → (a : ℕ) → a < most_actors → (h : List Entry) (open_inputs : List Bool)
@@ -44,7 +44,7 @@ pub fn unanswered_requests_are_at_their_sites()
 
 /// Then no client waits for a request where no input is open, nothing is ready
 /// for any actor, and each control line of the phases so far has acted.
-#[tactic(auto, using(crate::proofs::Ends::none_open))]
+#[tactic(auto, using(crate::proofs::Ends::no_request_is_open_at_the_end))]
 pub fn no_request_is_open_at_the_end()
     ensures { (decl : Declaration) (script : Script) → IsAccepted decl → AsksDeclared decl script
         → (h : List Entry) → IsClosed decl script h → IsQuiet decl script h → controls_left script h ≡ []

@@ -14,7 +14,7 @@ ghost use Rattle.qc_script.specs.declared.script.Script.{Script};
 ghost use Rattle.qc_site.specs.Conduct.{site_after};
 
 /// Each Decision Committed names a stamp of its transaction's own client.
-#[tactic(auto, using(crate::proofs::Mailed::run_stamped))]
+#[tactic(auto, using(crate::proofs::Mailed::decisions_name_stamps_of_their_clients))]
 pub fn decisions_name_stamps_of_their_clients()
     ensures { (decl : Declaration) (script : Script) (h : List Entry) (open_inputs : List Bool)
         → Runs (IsLawful decl) decl script h open_inputs
@@ -23,7 +23,7 @@ pub fn decisions_name_stamps_of_their_clients()
 
 /// A site without an open input has taken inputs and posted its turn after
 /// each, and it is up.
-#[tactic(auto, using(crate::proofs::Served::run_serves))]
+#[tactic(auto, using(crate::proofs::Served::sites_serve))]
 pub fn sites_serve()
     ensures { (decl : Declaration) (script : Script) (h : List Entry) (open_inputs : List Bool)
         → Runs (IsLawful decl) decl script h open_inputs → (site : ℕ) → site < decl.sites
@@ -31,7 +31,7 @@ pub fn sites_serve()
 {}
 
 /// All that such a site is, its own steps show.
-#[tactic(auto, using(crate::proofs::Served::run_shown))]
+#[tactic(auto, using(crate::proofs::Served::sites_are_what_their_steps_show))]
 pub fn sites_are_what_their_steps_show()
     ensures { (decl : Declaration) (script : Script) (h : List Entry) (open_inputs : List Bool)
         → Runs (IsLawful decl) decl script h open_inputs → (site : ℕ) → site < decl.sites
@@ -41,7 +41,7 @@ pub fn sites_are_what_their_steps_show()
 
 /// What a site sends for each input is due, and so is what it writes: in every
 /// run, whether the site has an open input or not.
-#[tactic(auto, using(crate::proofs::Served::run_due))]
+#[tactic(auto, using(crate::proofs::Served::what_sites_post_is_due))]
 pub fn what_sites_post_is_due()
     ensures { (decl : Declaration) (script : Script) (h : List Entry) (open_inputs : List Bool)
         → Runs (IsLawful decl) decl script h open_inputs → (site : ℕ) → site < decl.sites

@@ -24,7 +24,7 @@ ghost use Rattle.qc_stamp.specs.declared.stamp.TxId.{TxId};
 /// told that it committed, with its stamp, only once it has; that it aborted
 /// only while it is begun, or once it is given up; that it is active only while
 /// it is begun.
-#[tactic(auto, using(crate::proofs::DecisionLaws::moves_on))]
+#[tactic(auto, using(crate::proofs::DecisionLaws::transactions_move_on))]
 pub fn transactions_move_on()
     ensures { (decl : Declaration) (script : Script) (h : List Entry) (open_inputs : List Bool)
         → IsAccepted decl → Runs (IsLawful decl) decl script h open_inputs
@@ -34,7 +34,7 @@ pub fn transactions_move_on()
 /// Each Decision that anybody is sent agrees with the records: Committed is
 /// said with the stamp of a record, Aborted only of a transaction that has none
 /// and never gets one.
-#[tactic(auto, using(crate::proofs::DecisionLaws::decisions_agree))]
+#[tactic(auto, using(crate::proofs::DecisionLaws::decisions_agree_with_records))]
 pub fn decisions_agree_with_records()
     ensures { (decl : Declaration) (script : Script) (h : List Entry) (open_inputs : List Bool)
         → IsAccepted decl → Runs (IsLawful decl) decl script h open_inputs

@@ -14,7 +14,7 @@ ghost use Rattle.laws_turns.specs.Whole.{IsClosed, IsQuiet, IsWhole};
 
 /// A run is whole where no input is open, nothing is ready for any actor, each
 /// phase began and each of its control lines acted, and no command runs.
-#[tactic(auto, using(crate::proofs::WholeLaw::is_whole))]
+#[tactic(auto, using(crate::proofs::WholeLaw::runs_without_commands_are_whole))]
 pub fn runs_without_commands_are_whole()
     ensures { (decl : Declaration) (script : Script) → IsAccepted decl → AsksDeclared decl script
         → (h : List Entry) → IsClosed decl script h → IsQuiet decl script h → controls_left script h ≡ []

@@ -4,7 +4,7 @@ use Rattle.std.proofs.Common.{◌≡◌, ◌<◌, ◌≤◌, ◌-◌, ℕ, Bool,
 use Rattle.std.proofs.Common.{sym, ap, ◌∙◌, subst, arith}
 use Rattle.qc_decl.proofs.Clients.{client_below, client_past, client_within}
 use Rattle.laws_due.proofs.Commands.{free_for}
-use Rattle.laws_due.proofs.AccountDeclared.{asks_declared}
+use Rattle.laws_due.proofs.AccountDeclared.{scripts_ask_what_is_declared}
 use Rattle.laws_due.proofs.Lifelong.{client_lives}
 use Rattle.laws_due.proofs.Standing.{IsAt, IsAtInput, IsTied, Stands, account_is, account_more, actor_more, turn_is}
 use Rattle.laws_due.proofs.Step.{inputs_are_answered_as_is_due}
@@ -51,8 +51,9 @@ module _ (fits : ℕ → List Record → Type 0) (decl : Declaration) (script : 
   client_at a client t slot =
       let lived : LivesIn decl a h t = run_lives decl script fits few h open_inputs run a t slot in
       let declared : Declares decl (deeds a [] h) =
-      run_declares decl script fits accepted (asks_declared decl script accepted sound) h open_inputs run
-      (kept_planned decl script fits accepted (asks_declared decl script accepted sound) h open_inputs run kept) a
+      run_declares decl script fits accepted (scripts_ask_what_is_declared decl script accepted sound) h open_inputs run
+      (kept_planned decl script fits accepted (scripts_ask_what_is_declared decl script accepted sound) h open_inputs
+      run kept) a
       in
       client_lives decl a client declared.first (deeds a [] h) t lived.above lived.lives declared.deeds
 

@@ -14,7 +14,7 @@ use Rattle.laws_votes.proofs.Clients.{IsCommitting, client_at, committing}
 use Rattle.laws_votes.proofs.Nets.{net, reached}
 use Rattle.qc_mailbox.specs.Vocabulary.{is_down}
 use Rattle.qc_list.specs.Vocabulary.{In}
-use Rattle.laws_turns.proofs.Downs.{due, tells, up_is}
+use Rattle.laws_turns.proofs.Downs.{due, who_is_down_only_tells, up_is}
 use Rattle.qc_msg.proofs.DeedsGrow.{deeds-append, deeds-rose}
 use Rattle.qc_msg.specs.Vocabulary.{Deed, Entry, by, commit_in, deeds, fell, mail, marked, posted_as, sents, step_of}
 use Rattle.qc_msg.specs.Vocabulary.{told}
@@ -123,7 +123,7 @@ module _ (fits : ℕ → List Record → Type 0) (decl : Declaration) (script : 
             x.given).turn.write c (ap (λ (t : Turn). t.write) same ∙ writes)
             (site_silent decl ((net fits decl script h inputs accepted sound run kept).sites b) x.given)
         by false down = none_commit turn.write c writes
-            ((tells decl).writes_none b ds turn law (fallen (is_down ds) (up_is ds) down))
+            ((who_is_down_only_tells decl).writes_none b ds turn law (fallen (is_down ds) (up_is ds) down))
 
     -- so a client does, where it is due
     pub posted : slice_get inputs b ≡ Some true → IsLawfulWithFalls decl b ds turn → WroteAt h b c

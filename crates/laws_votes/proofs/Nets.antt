@@ -23,7 +23,7 @@ use Rattle.qc_stamp.specs.declared.stamp.TxId.{TxId}
 use Rattle.laws_guarantees.proofs.NetMessages.{same_request}
 use Rattle.laws_reach.specs.Vocabulary.{AreStanding, IsOfClient, IsReachedWithFalls, records_of}
 use Rattle.laws_reach.proofs.Committing.{committed_records_stand}
-use Rattle.laws_reach.proofs.Reaching.{net_of}
+use Rattle.laws_reach.proofs.Reaching.{runs_with_falls_reach_nets}
 use Rattle.laws_reach.proofs.RunLaws.{apart}
 use Rattle.laws_reach.proofs.Written.{Agree, written_are}
 use Rattle.qc_msg.specs.declared.record.Record.TheVariants as journals
@@ -32,7 +32,7 @@ module _ (fits : ℕ → List Record → Type 0) (decl : Declaration) (script : 
     (open_inputs : List Bool) (accepted : IsAccepted decl) (sound : IsScriptFor decl script)
     (run : RunsWithFalls (IsLawfulWithFalls decl) fits decl script h open_inputs) (kept : Kept h) where
   pub reached : IsReachedWithFalls decl h open_inputs
-  reached = net_of fits decl script h open_inputs accepted sound run kept
+  reached = runs_with_falls_reach_nets fits decl script h open_inputs accepted sound run kept
 
   abbrev pub net : Net
   net = reached.net

@@ -3,7 +3,7 @@ use Rattle.std.proofs.Common.{◌≡◌, ◌<◌, ◌≤◌, ◌+◌, ◌-◌, �
 use Rattle.std.proofs.Common.{Option, Some, None, refl, sym, ap, ◌∙◌, subst, arith, append_assoc}
 use Rattle.std.specs.Prelude.{option_and_then}
 use Rattle.std.proofs.lemmas.List.Sums.{fold-append}
-use Rattle.laws_due.proofs.AccountDeclared.{asks_declared}
+use Rattle.laws_due.proofs.AccountDeclared.{scripts_ask_what_is_declared}
 use Rattle.qc_core.specs.Vocabulary.{AreSteady, IsLawfulWithFalls}
 use Rattle.qc_decl.specs.Vocabulary.{IsAccepted, actors, is_client}
 use Rattle.qc_decl.specs.declared.declaration.Declaration.{Declaration}
@@ -134,7 +134,9 @@ module _ (fits : ℕ → List Record → Type 0) (decl : Declaration) (script : 
   few = let s = accepted.sites in let c = accepted.clients in omega arith
 
   all_due : Due decl h
-  all_due = kept_due decl script fits accepted (asks_declared decl script accepted sound) few h open_inputs run kept
+  all_due =
+      kept_due decl script fits accepted (scripts_ask_what_is_declared decl script accepted sound) few h open_inputs run
+      kept
 
   pub client_due : (a : ℕ) → is_client decl a ≡ true → AreRepliesDue decl (a - decl.sites) (deeds a [] h)
   client_due a client =

@@ -16,7 +16,7 @@ use Rattle.qc_list.specs.Vocabulary.{In}
 use Rattle.qc_list.proofs.Members.{In-second}
 use Rattle.qc_entry.specs.declared.record.Prepared.{Prepared}
 use Rattle.qc_msg.specs.declared.step.Step.TheVariants as steps
-use Rattle.laws_turns.proofs.Downs.{due, tells}
+use Rattle.laws_turns.proofs.Downs.{due, who_is_down_only_tells}
 use Rattle.qc_msg.proofs.DeedsGrow.{deeds-append, deeds-rose}
 use Rattle.qc_msg.proofs.Growth.{deeds-posted_as}
 use Rattle.qc_msg.specs.Vocabulary.{Deed, Entry, HasRecord, MayEnd, WasSentTo, by, deeds, envelopes, mail, posted_as}
@@ -152,7 +152,8 @@ module _ (decl : Declaration) (accepted : IsAccepted decl) (h : List Entry) (inp
       where
         written : (end : Appended) → is_up ds ≡ false → MayEnd turn.write end → (end ≡ Done) ⊎ (sends_as end turn ≡ [])
         written Done down may = inl refl
-        written Failed down may = absurd (subst HasRecord ((tells decl).writes_none a ds turn law (fallen ds down)) may)
+        written Failed down may =
+            absurd (subst HasRecord ((who_is_down_only_tells decl).writes_none a ds turn law (fallen ds down)) may)
         written Stopped down may = inr refl
 
         by : (u : Bool) → is_up ds ≡ u → (end : Appended) → MayEnd turn.write end
@@ -175,7 +176,8 @@ module _ (decl : Declaration) (accepted : IsAccepted decl) (h : List Entry) (inp
         by false down end may there sent = absurd (elim (written end down may) [
           | inl done ↦
               subst (In p)
-              (ap (λ (x : Appended). sends_as x turn) done ∙ (tells decl).sends_none a ds turn law (fallen ds down))
+              (ap (λ (x : Appended). sends_as x turn) done
+              ∙ (who_is_down_only_tells decl).sends_none a ds turn law (fallen ds down))
               sent
           | inr none ↦ subst (In p) none sent
         ])

@@ -1,12 +1,11 @@
 -- What holds of him, and of what he takes, in every run, and his calls rely on.
-use Rattle.std.specs.Prelude.{◌≡◌, ℕ, ◌+◌, ◌^◌, ◌<◌, ◌≤◌, List, [], ◌++◌, length, map, Option, Some, None}
+use Rattle.std.specs.Prelude.{[], MatchOption, option_and_then, ◌≡◌, ℕ, ◌+◌, ◌^◌, ◌<◌, ◌≤◌, List, ◌++◌, length, map}
+use Rattle.std.specs.Prelude.{Option, Some}
 use Rattle.std.specs.List.{AllByRecursion as Every}
 use Rattle.qc_decl.specs.Vocabulary.{most_clients, most_sites}
 use Rattle.qc_entry.specs.declared.record.Prepared.{Prepared}
 use Rattle.qc_msg.specs.declared.message.Answer.{Answer}
-use Rattle.qc_msg.specs.declared.message.Answer.TheVariants as answers
 use Rattle.qc_msg.specs.declared.message.Message.{Message}
-use Rattle.qc_msg.specs.declared.message.Message.TheVariants as messages
 use Rattle.qc_msg.specs.declared.step.Input.{Input}
 use Rattle.qc_msg.specs.declared.step.Input.TheVariants as inputs
 use Rattle.qc_msg.specs.declared.turn.Posting.{Posting}
@@ -14,6 +13,7 @@ use Rattle.qc_msg.specs.declared.turn.Turn.{Turn}
 use Rattle.qc_plan.specs.Vocabulary.{RoundState}
 use Rattle.qc_front.specs.Vocabulary.{sites_called, sites_of}
 use Rattle.qc_epoch.specs.Vocabulary.{Admin, Asking, Closing, Doing, Installing, Resting, ShutSite, most_asks, site_set}
+use Rattle.qc_msg.specs.Vocabulary.{Answered, Shutting, answer_in, shut_in}
 
 -- few sites, which are a set of 16 bits
 pub record AreSites (sites : List ℕ) : Type 0 where
@@ -51,27 +51,10 @@ AdminFits m = DoingFits m.doing
 -- what he takes
 
 abbrev pub AnswerFits : Option Answer → Type 0
-AnswerFits None = Unit {0}
-AnswerFits (Some (answers.Granted life clock log)) = Unit {0}
-AnswerFits (Some (answers.Clash holder inv event)) = Unit {0}
-AnswerFits (Some (answers.Closed epoch)) = Unit {0}
-AnswerFits (Some (answers.Behind epoch)) = Unit {0}
-AnswerFits (Some (answers.Restarted life)) = Unit {0}
-AnswerFits (Some answers.Stale) = Unit {0}
-AnswerFits (Some answers.Fault) = Unit {0}
-AnswerFits (Some (answers.Yes clock)) = Unit {0}
-AnswerFits (Some (answers.Shut clock log prepared)) = AreOfClients prepared
-AnswerFits (Some answers.Installed) = Unit {0}
-AnswerFits (Some (answers.Answered verdict)) = Unit {0}
+AnswerFits answer = MatchOption (option_and_then shut_in answer) (Unit {0}) (λ (z : Shutting). AreOfClients z.prepared)
 
 abbrev pub MessageFits : Message → Type 0
-MessageFits (messages.Request tx epoch life want) = Unit {0}
-MessageFits (messages.Answer to answer) = AnswerFits (Some answer)
-MessageFits (messages.Decision tx verdict) = Unit {0}
-MessageFits (messages.Inquiry tx) = Unit {0}
-MessageFits (messages.Ask tx) = Unit {0}
-MessageFits (messages.Close epoch) = Unit {0}
-MessageFits (messages.Install epoch clock log) = Unit {0}
+MessageFits message = MatchOption (answer_in message) (Unit {0}) (λ (a : Answered). AnswerFits (Some a.answer))
 
 abbrev pub GivenFits : Input → Type 0
 GivenFits (inputs.Called command) = Unit {0}

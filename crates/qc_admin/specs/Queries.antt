@@ -16,6 +16,8 @@ use Rattle.qc_msg.specs.declared.reply.Reply.TheVariants as replies
 use Rattle.qc_msg.specs.declared.turn.Posting.{Posting}
 use Rattle.qc_epoch.specs.Vocabulary.{Question, clock_in, is_questioned, most_asks, stamp_in}
 use Rattle.qc_admin.specs.declared.questions.Query.{Query}
+use Rattle.qc_msg.specs.Vocabulary.{has_installed}
+use Rattle.std.specs.Option.{option_map_or}
 
 abbrev pub question_of : Option ℕ → Query → Question
 question_of number q = record { tx = q.tx; site = q.site; number = number; taken = q.taken }
@@ -74,15 +76,4 @@ latest_of clock questions = fold (λ (most : ℕ) (q : Question). clock_in most 
 
 -- whether the answer to an Install tells that the site is in the epoch
 abbrev pub is_installed : Option Answer → Bool
-is_installed None = false
-is_installed (Some (answers.Granted life clock log)) = false
-is_installed (Some (answers.Clash holder inv event)) = false
-is_installed (Some (answers.Closed epoch)) = false
-is_installed (Some (answers.Behind epoch)) = false
-is_installed (Some (answers.Restarted life)) = false
-is_installed (Some answers.Stale) = false
-is_installed (Some answers.Fault) = false
-is_installed (Some (answers.Yes clock)) = false
-is_installed (Some (answers.Shut clock log prepared)) = false
-is_installed (Some answers.Installed) = true
-is_installed (Some (answers.Answered verdict)) = false
+is_installed answer = option_map_or has_installed answer false

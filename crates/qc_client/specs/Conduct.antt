@@ -1,5 +1,6 @@
 -- What a client becomes and does for each input, and over all its deeds.
-use Rattle.std.specs.Prelude.{ℕ, if◌then◌else◌, List, [], ◌∷◌, fold, Option, Some, None}
+use Rattle.std.specs.Prelude.{[], ℕ, if◌then◌else◌, List, ◌∷◌, fold, Option, Some, None}
+use Rattle.std.specs.Option.{option_map_or}
 use Rattle.qc_decl.specs.declared.declaration.Declaration.{Declaration}
 use Rattle.qc_commit.specs.declared.desk.Voting.{Voting}
 use Rattle.qc_commit.specs.Conduct as desks
@@ -15,9 +16,11 @@ use Rattle.qc_msg.specs.declared.step.Command.{Command}
 use Rattle.qc_msg.specs.declared.step.Command.TheVariants as commands
 use Rattle.qc_msg.specs.declared.step.Input.{Input}
 use Rattle.qc_msg.specs.declared.step.Input.TheVariants as inputs
-use Rattle.qc_msg.specs.Vocabulary.{Deed, Falls, Rises, Sends, Takes, Tells, Writes, quiet, sending}
+use Rattle.qc_msg.specs.Vocabulary.{Deed, Falls, Rises, Sends, Takes, Tells, Writes, quiet, sending, Requested}
+use Rattle.qc_msg.specs.Vocabulary.{request_in}
 use Rattle.qc_client.specs.declared.client.Client.{Client}
 use Rattle.qc_client.specs.Client.{ClientMove, moved, by_desk, by_front, new_client, outcome_of}
+use Rattle.qc_entry.specs.declared.record.Commit.{Commit}
 
 -- a commit of a begun transaction that can commit is the desk's, with the front end's clock
 abbrev pub commits : Declaration → Client → Option Transaction → ClientMove
@@ -68,13 +71,7 @@ requested c number to (Append object view own) = record c { front = fronts.reque
 requested c number to Prepare = record c { desk = desks.prepared c.desk number to }
 
 abbrev pub sent_one : Client → ℕ → ℕ → Message → Client
-sent_one c number to (messages.Request tx epoch life want) = requested c number to want
-sent_one c number to (messages.Answer number_asked answer) = c
-sent_one c number to (messages.Decision tx verdict) = c
-sent_one c number to (messages.Inquiry tx) = c
-sent_one c number to (messages.Ask tx) = c
-sent_one c number to (messages.Close epoch) = c
-sent_one c number to (messages.Install epoch clock log) = c
+sent_one c number to message = option_map_or (λ (q : Requested). requested c number to q.want) (request_in message) c
 
 -- a client over its deeds
 

@@ -1,16 +1,16 @@
 -- A client over its inputs, each followed by the numbers of its turn's messages; and what it tells of transactions.
-use Rattle.std.specs.Prelude.{◌≡◌, ℕ, List, [], ◌∷◌, fold, Option, None, option_map}
+use Rattle.std.specs.Prelude.{[], MatchOption, ◌≡◌, ℕ, List, ◌∷◌, fold, Option, None, option_map}
 use Rattle.qc_decl.specs.declared.declaration.Declaration.{Declaration}
 use Rattle.qc_stamp.specs.declared.stamp.TxId.{TxId}
 use Rattle.qc_front.specs.declared.doing.Doing.TheVariants.{Idle}
 use Rattle.qc_front.specs.declared.transaction.Transaction.{Transaction}
 use Rattle.qc_msg.specs.declared.message.Message.{Message}
-use Rattle.qc_msg.specs.declared.message.Message.TheVariants as messages
 use Rattle.qc_msg.specs.declared.step.Input.{Input}
 use Rattle.qc_msg.specs.declared.step.Input.TheVariants as given
 use Rattle.qc_client.specs.declared.client.Client.{Client}
 use Rattle.qc_client.specs.Client.{outcome_of}
 use Rattle.qc_client.specs.Conduct.{client_takes, sent}
+use Rattle.qc_msg.specs.Vocabulary.{Decided, decision_in}
 
 -- what a client takes, and the number of the first message of its turn
 pub record NumberedInput : Type 0 where
@@ -45,10 +45,4 @@ name_of transaction = option_map (λ (t : Transaction). t.begun.tx) transaction
 
 -- a Decision tells how its transaction stands
 abbrev pub TellsOutcome : Client → Message → Type 0
-TellsOutcome c (messages.Request tx epoch life want) = Unit {0}
-TellsOutcome c (messages.Answer to answer) = Unit {0}
-TellsOutcome c (messages.Decision tx verdict) = verdict ≡ outcome_of c tx
-TellsOutcome c (messages.Inquiry tx) = Unit {0}
-TellsOutcome c (messages.Ask tx) = Unit {0}
-TellsOutcome c (messages.Close epoch) = Unit {0}
-TellsOutcome c (messages.Install epoch clock log) = Unit {0}
+TellsOutcome c message = MatchOption (decision_in message) (Unit {0}) (λ (v : Decided). v.verdict ≡ outcome_of c v.tx)

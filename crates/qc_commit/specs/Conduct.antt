@@ -1,13 +1,13 @@
 -- What a desk becomes and does: a commit begins, a vote comes, all votes are in (presumed abort).
-use Rattle.std.specs.Prelude.{ℕ, ◌+◌, ◌==◌, max, if◌then◌else◌, List, [], ◌∷◌, ◌++◌, length, map, filter, is_none}
-use Rattle.std.specs.Prelude.{Option, Some, None}
+use Rattle.std.specs.Prelude.{[], option_and_then, ℕ, ◌+◌, ◌==◌, max, if◌then◌else◌, List, ◌∷◌, ◌++◌, length, map}
+use Rattle.std.specs.Prelude.{filter, is_none, Option, Some, None}
+use Rattle.std.specs.Option.{option_map_or}
 use Rattle.qc_stamp.specs.declared.stamp.Stamp.{Stamp}
 use Rattle.qc_entry.specs.declared.record.Commit.{Commit}
 use Rattle.qc_decl.specs.declared.declaration.Declaration.{Declaration}
 use Rattle.qc_msg.specs.declared.begun.Begun.{Begun}
 use Rattle.qc_msg.specs.declared.call.Call.{Call}
 use Rattle.qc_msg.specs.declared.message.Answer.{Answer}
-use Rattle.qc_msg.specs.declared.message.Answer.TheVariants as answers
 use Rattle.qc_msg.specs.declared.message.Outcome.TheVariants as outcomes
 use Rattle.qc_msg.specs.declared.record.Record.TheVariants as records
 use Rattle.qc_msg.specs.declared.reply.Reply.TheVariants as replies
@@ -15,7 +15,7 @@ use Rattle.qc_msg.specs.declared.reply.AbortCause.{AbortCause}
 use Rattle.qc_msg.specs.declared.turn.Appended.TheVariants.{Done}
 use Rattle.qc_msg.specs.declared.turn.Turn.{Turn}
 use Rattle.qc_msg.specs.Vocabulary.{decisions, ending, numbered_from, quiet, sending, site_called, with_call}
-use Rattle.qc_msg.specs.Vocabulary.{without_call}
+use Rattle.qc_msg.specs.Vocabulary.{without_call, closed_in, promised_in}
 use Rattle.qc_commit.specs.declared.ballot.Ballot.{Ballot}
 use Rattle.qc_commit.specs.declared.desk.Desk.{Desk}
 use Rattle.qc_commit.specs.declared.desk.Voting.{Voting}
@@ -80,18 +80,9 @@ prepare decl desk b clock =
 
 -- the clock passes that of a promise, the known epoch that of a closed one
 abbrev pub learns : Desk → Option Answer → Desk
-learns desk None = desk
-learns desk (Some (answers.Granted life clock log)) = desk
-learns desk (Some (answers.Clash holder inv event)) = desk
-learns desk (Some (answers.Closed epoch)) = record desk { epoch = max desk.epoch epoch }
-learns desk (Some (answers.Behind epoch)) = desk
-learns desk (Some (answers.Restarted life)) = desk
-learns desk (Some answers.Stale) = desk
-learns desk (Some answers.Fault) = desk
-learns desk (Some (answers.Yes clock)) = passed desk clock
-learns desk (Some (answers.Shut clock log prepared)) = desk
-learns desk (Some answers.Installed) = desk
-learns desk (Some (answers.Answered verdict)) = desk
+learns desk answer =
+    option_map_or (λ (epoch : ℕ). record desk { epoch = max desk.epoch epoch }) (option_and_then closed_in answer)
+    (option_map_or (passed desk) (option_and_then promised_in answer) desk)
 
 -- once all votes are in, the first against decides; where there is none, the transaction commits
 

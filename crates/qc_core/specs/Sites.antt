@@ -1,10 +1,9 @@
 -- A site by its conduct: it takes an input and posts the turn that this calls for, again and again; it falls, and rises
 -- from its records. And what is promised of it: all that it is, its own steps show.
-use Rattle.std.specs.Prelude.{◌≡◌, ℕ, Bool, true, false, List, [], ◌∷◌, ◌++◌, None}
+use Rattle.std.specs.Prelude.{[], MatchOption, ◌≡◌, ℕ, Bool, true, false, List, ◌∷◌, ◌++◌, None}
 use Rattle.qc_stamp.specs.declared.stamp.TxId.{TxId}
 use Rattle.qc_decl.specs.declared.declaration.Declaration.{Declaration}
 use Rattle.qc_msg.specs.declared.message.Message.{Message}
-use Rattle.qc_msg.specs.declared.message.Message.TheVariants as messages
 use Rattle.qc_msg.specs.declared.message.Outcome.{Outcome}
 use Rattle.qc_msg.specs.declared.message.Outcome.TheVariants.{Committed, Aborted, Active}
 use Rattle.qc_msg.specs.declared.step.Input.{Input}
@@ -15,7 +14,7 @@ use Rattle.qc_msg.specs.declared.step.Fall.TheVariants.{Script}
 use Rattle.qc_msg.specs.declared.turn.Appended.{Appended}
 use Rattle.qc_msg.specs.declared.turn.Appended.TheVariants.{Done, Failed, Stopped}
 use Rattle.qc_msg.specs.declared.turn.Turn.{Turn}
-use Rattle.qc_msg.specs.Vocabulary.{Deed, Falls, Rises, Sends, Takes, Tells, Writes, deeds_as}
+use Rattle.qc_msg.specs.Vocabulary.{Deed, Falls, Rises, Sends, Takes, Tells, Writes, deeds_as, Decided, decision_in}
 use Rattle.qc_promise.specs.Vocabulary.{began_shown, clock_shown, closed_shown, epoch_shown, held_shown, life_shown}
 use Rattle.qc_promise.specs.Vocabulary.{prepared_shown, recorded_shown, since_shown}
 use Rattle.qc_site.specs.Vocabulary.{SiteState}
@@ -29,13 +28,7 @@ IsOwnStamp tx Aborted = Unit {0}
 IsOwnStamp tx Active = Unit {0}
 
 abbrev pub IsStamped : Message → Type 0
-IsStamped (messages.Request tx epoch life want) = Unit {0}
-IsStamped (messages.Answer to answer) = Unit {0}
-IsStamped (messages.Decision tx verdict) = IsOwnStamp tx verdict
-IsStamped (messages.Inquiry tx) = Unit {0}
-IsStamped (messages.Ask tx) = Unit {0}
-IsStamped (messages.Close epoch) = Unit {0}
-IsStamped (messages.Install epoch clock log) = Unit {0}
+IsStamped message = MatchOption (decision_in message) (Unit {0}) (λ (v : Decided). IsOwnStamp v.tx v.verdict)
 
 abbrev pub IsInput : Input → Type 0
 IsInput (inputs.Called command) = Unit {0}

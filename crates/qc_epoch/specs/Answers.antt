@@ -1,27 +1,23 @@
 -- What an answer, or that a request is lost, tells the administrator.
-use Rattle.std.specs.Prelude.{ℕ, ◌==◌, if◌then◌else◌, Bool, false, List, [], ◌∷◌, ◌++◌, Option, Some, None, is_none}
+use Rattle.std.specs.Prelude.{[], option_and_then, ℕ, ◌==◌, if◌then◌else◌, Bool, false, List, ◌∷◌, ◌++◌, Option, Some}
+use Rattle.std.specs.Prelude.{None, is_none}
+use Rattle.std.specs.Option.{option_map_or}
 use Rattle.qc_plan.specs.declared.standing.Standing.{Standing}
 use Rattle.qc_plan.specs.declared.standing.Standing.TheVariants as standings
 use Rattle.qc_msg.specs.declared.message.Answer.{Answer}
 use Rattle.qc_msg.specs.declared.message.Answer.TheVariants as answers
 use Rattle.qc_msg.specs.declared.message.Outcome.{Outcome}
 use Rattle.qc_epoch.specs.Admin.{Question, ShutSite}
+use Rattle.qc_msg.specs.Vocabulary.{Answered, Shutting, shut_in, verdict_in}
+use Rattle.qc_msg.specs.Vocabulary.{has_installed}
+use Rattle.std.specs.Option.{option_map_or}
+use Rattle.std.specs.Prelude.{if◌then◌else◌}
 
 -- a Close: a site that tells all it has is closed, every other one is missing
 
 abbrev pub standing_of : Option Answer → Standing
-standing_of None = standings.Missing
-standing_of (Some (answers.Granted life clock log)) = standings.Missing
-standing_of (Some (answers.Clash holder inv event)) = standings.Missing
-standing_of (Some (answers.Closed epoch)) = standings.Missing
-standing_of (Some (answers.Behind epoch)) = standings.Missing
-standing_of (Some (answers.Restarted life)) = standings.Missing
-standing_of (Some answers.Stale) = standings.Missing
-standing_of (Some answers.Fault) = standings.Missing
-standing_of (Some (answers.Yes clock)) = standings.Missing
-standing_of (Some (answers.Shut clock log prepared)) = standings.Granted
-standing_of (Some answers.Installed) = standings.Missing
-standing_of (Some (answers.Answered verdict)) = standings.Missing
+standing_of answer =
+    option_map_or (λ (x : Shutting). standings.Granted) (option_and_then shut_in answer) standings.Missing
 
 abbrev pub with_shut_of : List ShutSite → ℕ → Option Answer → List ShutSite
 with_shut_of shuts site None = shuts
@@ -41,18 +37,7 @@ with_shut_of shuts site (Some (answers.Answered verdict)) = shuts
 -- an Ask: the verdict that its client told, or none
 
 abbrev pub outcome_in : Option Answer → Option Outcome
-outcome_in None = None
-outcome_in (Some (answers.Granted life clock log)) = None
-outcome_in (Some (answers.Clash holder inv event)) = None
-outcome_in (Some (answers.Closed epoch)) = None
-outcome_in (Some (answers.Behind epoch)) = None
-outcome_in (Some (answers.Restarted life)) = None
-outcome_in (Some answers.Stale) = None
-outcome_in (Some answers.Fault) = None
-outcome_in (Some (answers.Yes clock)) = None
-outcome_in (Some (answers.Shut clock log prepared)) = None
-outcome_in (Some answers.Installed) = None
-outcome_in (Some (answers.Answered verdict)) = Some verdict
+outcome_in answer = option_and_then verdict_in answer
 
 abbrev pub is_number : ℕ → Option ℕ → Bool
 is_number number None = false
@@ -67,15 +52,5 @@ taken_for number outcome q =
 
 -- an Install: the sites that have installed
 abbrev pub with_installed : List ℕ → ℕ → Option Answer → List ℕ
-with_installed installed site None = installed
-with_installed installed site (Some (answers.Granted life clock log)) = installed
-with_installed installed site (Some (answers.Clash holder inv event)) = installed
-with_installed installed site (Some (answers.Closed epoch)) = installed
-with_installed installed site (Some (answers.Behind epoch)) = installed
-with_installed installed site (Some (answers.Restarted life)) = installed
-with_installed installed site (Some answers.Stale) = installed
-with_installed installed site (Some answers.Fault) = installed
-with_installed installed site (Some (answers.Yes clock)) = installed
-with_installed installed site (Some (answers.Shut clock log prepared)) = installed
-with_installed installed site (Some answers.Installed) = installed ++ site ∷ []
-with_installed installed site (Some (answers.Answered verdict)) = installed
+with_installed installed site answer =
+    if option_map_or has_installed answer false then installed ++ site ∷ [] else installed

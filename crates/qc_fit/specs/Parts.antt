@@ -1,21 +1,22 @@
 -- The parts of a record: what it has of each, kind by kind.
-use Rattle.std.specs.Prelude.{ℕ, List, [], ◌∷◌}
+use Rattle.std.specs.Prelude.{[], ℕ, List, ◌∷◌}
+use Rattle.std.specs.Option.{option_map_or}
 use Rattle.qc_entry.specs.declared.line.Line.{Line}
 use Rattle.qc_entry.specs.declared.line.Op.{Op}
 use Rattle.qc_entry.specs.declared.line.OwnLine.{OwnLine}
 use Rattle.qc_entry.specs.declared.line.ReadLock.{ReadLock}
 use Rattle.qc_msg.specs.declared.record.Record.{Record}
 use Rattle.qc_msg.specs.declared.record.Record.TheVariants as records
+use Rattle.qc_msg.specs.Vocabulary.{Finished, Installing, commit_of, decide_in, done_in, install_in, prepare_in}
+use Rattle.qc_entry.specs.declared.record.Prepared.{Prepared}
+use Rattle.qc_entry.specs.declared.record.Commit.{Commit}
 
 -- the clients of its transaction, beside those of its lines
 abbrev pub clients_of : Record → List ℕ
-clients_of records.Life = []
-clients_of (records.Prepare p) = p.tx.client ∷ []
-clients_of (records.Done tx clock) = tx.client ∷ []
-clients_of (records.Close epoch) = []
-clients_of (records.Install epoch clock lines) = []
-clients_of (records.Commit c) = c.tx.client ∷ []
-clients_of (records.Decide epoch clock lines) = []
+clients_of written =
+    option_map_or (λ (p : Prepared). p.tx.client ∷ []) (prepare_in written)
+    (option_map_or (λ (f : Finished). f.tx.client ∷ []) (done_in written)
+    (option_map_or (λ (c : Commit). c.tx.client ∷ []) (commit_of written) []))
 
 abbrev pub epochs_of : Record → List ℕ
 epochs_of records.Life = []
@@ -37,37 +38,16 @@ clocks_of (records.Commit c) = c.stamp.clock ∷ []
 clocks_of (records.Decide epoch clock lines) = clock ∷ []
 
 abbrev pub locks_of : Record → List ReadLock
-locks_of records.Life = []
-locks_of (records.Prepare p) = p.locks
-locks_of (records.Done tx clock) = []
-locks_of (records.Close epoch) = []
-locks_of (records.Install epoch clock lines) = []
-locks_of (records.Commit c) = []
-locks_of (records.Decide epoch clock lines) = []
+locks_of written = option_map_or (λ (p : Prepared). p.locks) (prepare_in written) []
 
 abbrev pub owns_of : Record → List OwnLine
-owns_of records.Life = []
-owns_of (records.Prepare p) = p.own
-owns_of (records.Done tx clock) = []
-owns_of (records.Close epoch) = []
-owns_of (records.Install epoch clock lines) = []
-owns_of (records.Commit c) = []
-owns_of (records.Decide epoch clock lines) = []
+owns_of written = option_map_or (λ (p : Prepared). p.own) (prepare_in written) []
 
 abbrev pub lines_of : Record → List Line
-lines_of records.Life = []
-lines_of (records.Prepare p) = p.lines
-lines_of (records.Done tx clock) = []
-lines_of (records.Close epoch) = []
-lines_of (records.Install epoch clock lines) = lines
-lines_of (records.Commit c) = []
-lines_of (records.Decide epoch clock lines) = lines
+lines_of written =
+    option_map_or (λ (p : Prepared). p.lines) (prepare_in written)
+    (option_map_or (λ (i : Installing). i.lines) (install_in written)
+    (option_map_or (λ (i : Installing). i.lines) (decide_in written) []))
 
 abbrev pub ops_of : Record → List Op
-ops_of records.Life = []
-ops_of (records.Prepare p) = []
-ops_of (records.Done tx clock) = []
-ops_of (records.Close epoch) = []
-ops_of (records.Install epoch clock lines) = []
-ops_of (records.Commit c) = c.ops
-ops_of (records.Decide epoch clock lines) = []
+ops_of written = option_map_or (λ (c : Commit). c.ops) (commit_of written) []

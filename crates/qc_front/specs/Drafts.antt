@@ -1,5 +1,5 @@
 -- A transaction as it is to become: what a `do` on one object changes of it.
-use Rattle.std.specs.Prelude.{◌≡◌, ℕ, true, List, [], ◌∷◌, ◌++◌, fold, map, slice_get, slice_set, is_some, Option, Some}
+use Rattle.std.specs.Prelude.{[], ◌≡◌, ℕ, true, List, ◌∷◌, ◌++◌, fold, map, slice_get, slice_set, is_some, Option, Some}
 use Rattle.std.specs.Prelude.{None, option_and_then, option_map}
 use Rattle.std.specs.Option.{option_map_or}
 use Rattle.qc_decl.specs.declared.declaration.Declaration.{Declaration}
@@ -8,10 +8,10 @@ use Rattle.qc_entry.specs.declared.line.Line.{Line}
 use Rattle.qc_entry.specs.declared.line.Op.{Op}
 use Rattle.qc_msg.specs.declared.call.Call.{Call}
 use Rattle.qc_msg.specs.declared.message.Answer.{Answer}
-use Rattle.qc_msg.specs.declared.message.Answer.TheVariants as answers
 use Rattle.qc_msg.specs.declared.message.Want.{Want}
 use Rattle.qc_msg.specs.declared.message.Want.TheVariants.{Append}
-use Rattle.qc_msg.specs.Vocabulary.{quiet, sending, site_called, with_life, with_site, without_call}
+use Rattle.qc_msg.specs.Vocabulary.{quiet, sending, site_called, with_life, with_site, without_call, Granting}
+use Rattle.qc_msg.specs.Vocabulary.{granted_in}
 use Rattle.qc_view.specs.declared.view.View.{View}
 use Rattle.qc_table.specs.Vocabulary.{Rules}
 use Rattle.qc_view.specs.Vocabulary.{answer_in, with_log, with_own}
@@ -73,32 +73,13 @@ doomed_draft d = record d { begun = record d.begun { doomed = true } }
 -- the draft after what came of a request to a site
 
 abbrev pub read_draft : Draft → ℕ → Option Answer → Draft
-read_draft d site None = d
-read_draft d site (Some (answers.Granted life clock log)) = granted_draft (lived_draft d site life) log
-read_draft d site (Some (answers.Clash holder inv event)) = d
-read_draft d site (Some (answers.Closed epoch)) = d
-read_draft d site (Some (answers.Behind epoch)) = d
-read_draft d site (Some (answers.Restarted life)) = d
-read_draft d site (Some answers.Stale) = d
-read_draft d site (Some answers.Fault) = d
-read_draft d site (Some (answers.Yes clock)) = d
-read_draft d site (Some (answers.Shut clock log prepared)) = d
-read_draft d site (Some answers.Installed) = d
-read_draft d site (Some (answers.Answered verdict)) = d
+read_draft d site answer =
+    option_map_or (λ (g : Granting). granted_draft (lived_draft d site g.life) g.log)
+    (option_and_then granted_in answer) d
 
 abbrev pub appended_draft : Draft → ℕ → Option Answer → Draft
-appended_draft d site None = d
-appended_draft d site (Some (answers.Granted life clock log)) = lived_draft d site life
-appended_draft d site (Some (answers.Clash holder inv event)) = d
-appended_draft d site (Some (answers.Closed epoch)) = d
-appended_draft d site (Some (answers.Behind epoch)) = d
-appended_draft d site (Some (answers.Restarted life)) = d
-appended_draft d site (Some answers.Stale) = d
-appended_draft d site (Some answers.Fault) = d
-appended_draft d site (Some (answers.Yes clock)) = d
-appended_draft d site (Some (answers.Shut clock log prepared)) = d
-appended_draft d site (Some answers.Installed) = d
-appended_draft d site (Some (answers.Answered verdict)) = d
+appended_draft d site answer =
+    option_map_or (λ (g : Granting). lived_draft d site g.life) (option_and_then granted_in answer) d
 
 -- the view's answer, and its lines
 

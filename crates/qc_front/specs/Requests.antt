@@ -1,17 +1,18 @@
 -- Which messages a front end's turns send, and how its requests get their numbers.
-use Rattle.std.specs.Prelude.{◌≡◌, ℕ, ◌+◌, ◌<◌, ◌⊎◌, Bool, true, false, List, [], ◌∷◌, ◌++◌, map, Option, Some, None}
+use Rattle.std.specs.Prelude.{[], MatchOption, is_some, ◌≡◌, ℕ, ◌+◌, ◌<◌, ◌⊎◌, Bool, false, List, ◌∷◌, ◌++◌, map}
+use Rattle.std.specs.Prelude.{Option, Some, None}
+use Rattle.std.specs.Option.{option_map_or}
 use Rattle.qc_stamp.specs.declared.stamp.TxId.{TxId}
 use Rattle.qc_list.specs.Vocabulary.{In}
 use Rattle.qc_decl.specs.declared.declaration.Declaration.{Declaration}
 use Rattle.qc_msg.specs.declared.begun.Begun.{Begun}
 use Rattle.qc_msg.specs.declared.call.Call.{Call}
 use Rattle.qc_msg.specs.declared.message.Message.{Message}
-use Rattle.qc_msg.specs.declared.message.Message.TheVariants as messages
 use Rattle.qc_msg.specs.declared.message.Outcome.{Outcome}
 use Rattle.qc_msg.specs.declared.message.Outcome.TheVariants.{Aborted}
 use Rattle.qc_msg.specs.declared.message.Want.{Want}
 use Rattle.qc_msg.specs.declared.turn.Posting.{Posting}
-use Rattle.qc_msg.specs.Vocabulary.{life_of}
+use Rattle.qc_msg.specs.Vocabulary.{life_of, Decided, Requested, decision_in, request_in}
 use Rattle.qc_plan.specs.Vocabulary.{RoundState}
 use Rattle.qc_front.specs.declared.doing.Doing.{Doing}
 use Rattle.qc_front.specs.declared.doing.Doing.TheVariants.{Idle, Reading, Appending}
@@ -50,13 +51,10 @@ pub record IsVerdictOf (front : Front) (to : ℕ) (tx : TxId) (verdict : Outcome
 
 -- what a front end sends as it moves: nothing but these
 abbrev pub IsSent : Declaration → Front → Front → ℕ → Message → Type 0
-IsSent decl before after to (messages.Request tx epoch life want) = IsRequestOf decl after to tx epoch life want
-IsSent decl before after to (messages.Answer number answer) = ⊥
-IsSent decl before after to (messages.Decision tx verdict) = IsVerdictOf before to tx verdict
-IsSent decl before after to (messages.Inquiry tx) = ⊥
-IsSent decl before after to (messages.Ask tx) = ⊥
-IsSent decl before after to (messages.Close epoch) = ⊥
-IsSent decl before after to (messages.Install epoch clock log) = ⊥
+IsSent decl before after to message =
+    MatchOption (request_in message)
+    (MatchOption (decision_in message) ⊥ (λ (v : Decided). IsVerdictOf before to v.tx v.verdict))
+    (λ (q : Requested). IsRequestOf decl after to q.tx q.epoch q.life q.want)
 
 abbrev pub AreSent : Declaration → Front → FrontMove → Type 0
 AreSent decl before move = (p : Posting) → In p move.turn.sends → IsSent decl before move.front p.to p.message
@@ -64,13 +62,7 @@ AreSent decl before move = (p : Posting) → In p move.turn.sends → IsSent dec
 -- requests are sent where no request is open, and then to all awaited sites at once, in the order of asking
 
 abbrev pub is_request : Message → Bool
-is_request (messages.Request tx epoch life want) = true
-is_request (messages.Answer number answer) = false
-is_request (messages.Decision tx verdict) = false
-is_request (messages.Inquiry tx) = false
-is_request (messages.Ask tx) = false
-is_request (messages.Close epoch) = false
-is_request (messages.Install epoch clock log) = false
+is_request message = is_some (request_in message)
 
 abbrev pub AsksNobody : List Posting → Type 0
 AsksNobody sends = (p : Posting) → In p sends → is_request p.message ≡ false
@@ -92,13 +84,8 @@ AsksIn decl (Some t) (Appending object inv event calls round) sends =
 -- the messages of a turn get their numbers one after another, from this one on
 
 abbrev pub numbered_one : Front → ℕ → ℕ → Message → Front
-numbered_one front number to (messages.Request tx epoch life want) = requested front number to
-numbered_one front number to (messages.Answer asked answer) = front
-numbered_one front number to (messages.Decision tx verdict) = front
-numbered_one front number to (messages.Inquiry tx) = front
-numbered_one front number to (messages.Ask tx) = front
-numbered_one front number to (messages.Close epoch) = front
-numbered_one front number to (messages.Install epoch clock log) = front
+numbered_one front number to message =
+    option_map_or (λ (x : Requested). requested front number to) (request_in message) front
 
 abbrev pub numbered_all : Front → ℕ → List Posting → Front
 numbered_all front first [] = front

@@ -8,6 +8,7 @@ ghost use Rattle.qc_front.specs.Drafts.{IsDraft, append_want_of, asking, becomes
 ghost use Rattle.qc_front.specs.Rounds.{appends, responds};
 
 use crate::answering::response;
+use crate::counting::OpenRound;
 use crate::doing::Doing;
 use crate::draft::Draft;
 use crate::front::Front;
@@ -15,30 +16,29 @@ use crate::next::Next;
 use qc_decl::Declaration;
 use qc_entry::{OwnLine, Owns};
 use qc_list::{List, OutOfMemory};
-use qc_msg::{Calls, Half, Reply, Want};
-use qc_plan::{Round, Verdict};
+use qc_msg::{Half, Reply, Want};
+use qc_plan::Verdict;
 use std::alloc::Global;
 
 impl Front {
     /// Goes on with an append round. Where it is refused, the transaction
     /// can't commit any more.
-    pub(crate) fn append(
+    pub(crate) fn go_on_appending(
         &self,
         alloc: Global,
         decl: &Declaration,
         draft: Draft,
         inv: u8,
         event: u8,
-        calls: Calls,
-        round: Round,
+        open: OpenRound,
     ) -> Result<Next, OutOfMemory>
         requires room { length draft.begun.ops < most_transaction_operations }
         requires draft { IsDraft (views_of self.now.transaction) draft }
         ensures { IfOk result (λ next. appends decl.now self.now (drafted (views_of self.now.transaction) draft)
-            draft.object inv event calls round ≡ becomes self.now next) }
+            draft.object inv event open.calls open.round ≡ becomes self.now next) }
     {
-        match round.verdict() {
-            Verdict::Waiting => ask_to_append(alloc, decl, draft, inv, event, calls, round),
+        match open.round.verdict() {
+            Verdict::Waiting => ask_to_append(alloc, decl, draft, inv, event, open),
             Verdict::Met => self.respond(alloc, decl, draft, inv, event),
             Verdict::Closed { epoch, site } => {
                 Ok(Next::dooming(alloc, draft, Reply::Closed { epoch, site }))
@@ -80,13 +80,13 @@ fn ask_to_append(
     mut draft: Draft,
     inv: u8,
     event: u8,
-    calls: Calls,
-    mut round: Round,
+    open: OpenRound,
 ) -> Result<Next, OutOfMemory>
     requires { length draft.begun.ops < most_transaction_operations }
-    ensures { IfOk result (λ next. next ≡ asking draft (Doing.Appending draft.object inv event calls)
-        (append_want_of decl.now draft event) round) }
+    ensures { IfOk result (λ next. next ≡ asking draft (Doing.Appending draft.object inv event open.calls)
+        (append_want_of decl.now draft event) open.round) }
 {
+    let OpenRound { calls, mut round } = open;
     let object = draft.object;
     let want = draft.append_want(alloc, decl, event)?;
     let turn = draft.ask(alloc, &want, &mut round)?;

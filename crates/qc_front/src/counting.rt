@@ -63,6 +63,15 @@ impl Transaction {
     }
 }
 
+/// A round as far as it has come, with its requests that are open.
+#[derive(Drop)]
+pub(crate) struct OpenRound {
+    /// The open requests.
+    pub(crate) calls: Calls,
+    /// What came of the others.
+    pub(crate) round: Round,
+}
+
 /// A round once it notes what came of one of its open requests.
 #[derive(Drop)]
 pub(crate) struct Noted {

@@ -9,6 +9,7 @@ ghost use Rattle.qc_front.specs.Drafts.{IsDraft, answer_in_draft, asking, become
 ghost use Rattle.qc_front.specs.Front.{moved};
 ghost use Rattle.qc_front.specs.Rounds.{answered, performs, reads};
 
+use crate::counting::OpenRound;
 use crate::doing::Doing;
 use crate::draft::Draft;
 use crate::front::Front;
@@ -17,7 +18,7 @@ use crate::transaction::Transaction;
 use qc_decl::{Declaration, MOST_TRANSACTION_OPERATIONS};
 use qc_list::OutOfMemory;
 use qc_msg::{Calls, Half, Reply, Turn, Want};
-use qc_plan::{Round, Verdict};
+use qc_plan::Verdict;
 use std::alloc::Global;
 
 impl Front {
@@ -67,27 +68,27 @@ impl Front {
         let draft = transaction.draft(object)?;
         let need = decl.read_need(draft.begun.epoch, object, inv);
         let round = self.round_for(alloc, decl, draft.begun.epoch, need)?;
-        self.read(alloc, decl, draft, inv, Calls::new(), round)
+        let calls = Calls::new();
+        self.go_on_reading(alloc, decl, draft, inv, OpenRound { calls, round })
     }
 
     /// Goes on with a read round.
-    pub(crate) fn read(
+    pub(crate) fn go_on_reading(
         &self,
         alloc: Global,
         decl: &Declaration,
         draft: Draft,
         inv: u8,
-        calls: Calls,
-        round: Round,
+        open: OpenRound,
     ) -> Result<Next, OutOfMemory>
         requires accepted { IsAccepted decl.now }
         requires room { length draft.begun.ops < most_transaction_operations }
         requires draft { IsDraft (views_of self.now.transaction) draft }
         ensures { IfOk result (λ next. reads decl.now self.now (drafted (views_of self.now.transaction) draft)
-            draft.object inv calls round ≡ becomes self.now next) }
+            draft.object inv open.calls open.round ≡ becomes self.now next) }
     {
-        match round.verdict() {
-            Verdict::Waiting => ask_to_read(alloc, draft, inv, calls, round),
+        match open.round.verdict() {
+            Verdict::Waiting => ask_to_read(alloc, draft, inv, open),
             Verdict::Met => self.answer_by_view(alloc, decl, draft, inv),
             Verdict::Closed { epoch, site } => {
                 Ok(Next::telling(alloc, draft, Reply::Closed { epoch, site }))
@@ -122,7 +123,8 @@ impl Front {
         };
         let need = decl.append_need(draft.begun.epoch, draft.object, event);
         let round = self.round_for(alloc, decl, draft.begun.epoch, need)?;
-        self.append(alloc, decl, draft, inv, event, Calls::new(), round)
+        let calls = Calls::new();
+        self.go_on_appending(alloc, decl, draft, inv, event, OpenRound { calls, round })
     }
 }
 
@@ -131,12 +133,12 @@ fn ask_to_read(
     alloc: Global,
     mut draft: Draft,
     inv: u8,
-    calls: Calls,
-    mut round: Round,
+    open: OpenRound,
 ) -> Result<Next, OutOfMemory>
-    ensures { IfOk result (λ next. next ≡ asking draft (Doing.Reading draft.object inv calls)
-        (read_want draft.object inv) round) }
+    ensures { IfOk result (λ next. next ≡ asking draft (Doing.Reading draft.object inv open.calls)
+        (read_want draft.object inv) open.round) }
 {
+    let OpenRound { calls, mut round } = open;
     let object = draft.object;
     let turn = draft.ask(alloc, &Want::Read { object, inv }, &mut round)?;
     let doing = Doing::Reading {

@@ -9,7 +9,7 @@ ghost use Rattle.qc_front.specs.Drafts.{went};
 ghost use Rattle.qc_front.specs.Fits.{FrontFits};
 ghost use Rattle.qc_front.specs.Front.{moved};
 
-use crate::counting::Noted;
+use crate::counting::{Noted, OpenRound};
 use crate::doing::Doing;
 use crate::front::Front;
 use crate::next::Next;
@@ -71,7 +71,8 @@ impl Front {
                 };
                 let draft = transaction.read_with(*object, noted.site, answer)?;
                 let Noted { calls, round, .. } = noted;
-                Ok(Some(self.read(alloc, decl, draft, *inv, calls, round)?))
+                let open = OpenRound { calls, round };
+                Ok(Some(self.go_on_reading(alloc, decl, draft, *inv, open)?))
             }
             Doing::Appending {
                 object,
@@ -85,7 +86,8 @@ impl Front {
                 };
                 let draft = transaction.appended_with(*object, noted.site, answer)?;
                 let Noted { calls, round, .. } = noted;
-                Ok(Some(self.append(alloc, decl, draft, *inv, *event, calls, round)?))
+                let open = OpenRound { calls, round };
+                Ok(Some(self.go_on_appending(alloc, decl, draft, *inv, *event, open)?))
             }
         }
     }

@@ -1,14 +1,15 @@
 -- What changes in an actor's tray. What all inboxes have in common, cuts, who is up, counts and control lines, stands
 -- beside the trays.
-use Rattle.std.specs.Prelude.{ℕ, ◌+◌, ◌&&◌, Bool, true, false, if◌then◌else◌, List, [], ◌∷◌, ◌++◌, drop}
+use Rattle.std.specs.Prelude.{[], ℕ, ◌+◌, ◌&&◌, Bool, true, false, if◌then◌else◌, List, ◌∷◌, ◌++◌, drop}
+use Rattle.std.specs.Option.{option_map_or}
 use Rattle.qc_link.specs.declared.rule.Fate.{Fate}
 use Rattle.qc_link.specs.declared.rule.Fate.TheVariants.{Pass, Drop, Twice, Late, Again}
 use Rattle.qc_msg.specs.declared.message.Message.{Message}
-use Rattle.qc_msg.specs.declared.message.Message.TheVariants as messages
 use Rattle.qc_msg.specs.declared.step.Command.{Command}
 use Rattle.qc_script.specs.Vocabulary.{comes_at_once, has_request, is_request, requests_to, requests_to_others}
 use Rattle.qc_script.specs.Vocabulary.{with_lost, with_number, without_request}
 use Rattle.qc_mailbox.specs.Inboxes.{Tray}
+use Rattle.qc_msg.specs.Vocabulary.{Answered, answer_in}
 
 abbrev pub empty_tray : Tray
 empty_tray =
@@ -50,13 +51,7 @@ tray_answered t n f =
     else t
 
 abbrev pub tray_answered_by : Tray → Message → Fate → Tray
-tray_answered_by t (messages.Request tx epoch life want) f = t
-tray_answered_by t (messages.Answer to answer) f = tray_answered t to f
-tray_answered_by t (messages.Decision tx verdict) f = t
-tray_answered_by t (messages.Inquiry tx) f = t
-tray_answered_by t (messages.Ask tx) f = t
-tray_answered_by t (messages.Close epoch) f = t
-tray_answered_by t (messages.Install epoch clock log) f = t
+tray_answered_by t message f = option_map_or (λ (a : Answered). tray_answered t a.to f) (answer_in message) t
 
 -- a message comes to the actor, which is up or down
 abbrev pub tray_comes : Bool → Tray → ℕ → Message → Fate → Tray

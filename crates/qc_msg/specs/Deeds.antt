@@ -1,6 +1,6 @@
 -- The messages of a history, and what an actor does in it: one form for all that is read off its steps.
-use Rattle.std.specs.Prelude.{◌≡◌, ℕ, ◌+◌, ◌==◌, List, [], ◌∷◌, ◌++◌, filter, map, cond, slice_get, Option, Some, None}
-use Rattle.std.specs.Prelude.{option_to_list}
+use Rattle.std.specs.Prelude.{[], option_and_then, ◌≡◌, ℕ, ◌+◌, ◌==◌, List, ◌∷◌, ◌++◌, filter, map, cond, slice_get}
+use Rattle.std.specs.Prelude.{Option, Some, None, option_to_list}
 use Rattle.std.specs.List.{filter_map}
 use Rattle.qc_msg.specs.declared.message.Envelope.{Envelope}
 use Rattle.qc_msg.specs.declared.message.Message.{Message}
@@ -17,23 +17,14 @@ use Rattle.qc_msg.specs.declared.turn.Appended.TheVariants.{Done, Failed, Stoppe
 use Rattle.qc_msg.specs.declared.turn.Posting.{Posting}
 use Rattle.qc_msg.specs.declared.turn.Turn.{Turn}
 use Rattle.qc_msg.specs.Steps.{Entry}
+use Rattle.qc_msg.specs.StepReadings.{Mailed, mailed_in}
 
 -- the messages of a history, in the order of their numbers
 
 abbrev pub envelope_at : ℕ → Step → Option Envelope
-envelope_at a (steps.Phase k) = None
-envelope_at a (steps.Cut x y) = None
-envelope_at a (steps.Heal x y) = None
-envelope_at a (steps.Armed actor kind at) = None
-envelope_at a (steps.Called command) = None
-envelope_at a (steps.Got n) = None
-envelope_at a (steps.Lost n) = None
-envelope_at a (steps.Wrote written) = None
-envelope_at a (steps.Sent n to message) = Some (record { number = n; from = a; to = to; message = message })
-envelope_at a (steps.Told reply) = None
-envelope_at a (steps.Fell cause pending) = None
-envelope_at a (steps.Rose records) = None
-envelope_at a (steps.Damaged offset) = None
+envelope_at a step =
+    option_and_then (λ (m : Mailed). Some (record { number = m.number; from = a; to = m.to; message = m.message }))
+    (mailed_in step)
 
 abbrev pub envelope_of : Entry → Option Envelope
 envelope_of e = envelope_at e.actor e.step

@@ -28,6 +28,19 @@ epoch_in commands.Commit = None
 epoch_in commands.Abort = None
 epoch_in (commands.Epoch number) = Some number
 
+-- of a command: the object and the invocation of a `do`
+
+pub record Invocation : Type 0 where
+  pub object : ℕ
+  pub inv : ℕ
+
+abbrev pub do_in : Command → Option Invocation
+do_in commands.Begin = None
+do_in (commands.Do object inv) = Some (record { object = object; inv = inv })
+do_in commands.Commit = None
+do_in commands.Abort = None
+do_in (commands.Epoch number) = None
+
 -- of an input: a message, a command
 
 abbrev pub heard_in : Input → Option Envelope

@@ -8,4 +8,6 @@ pub mod Calls
 pub mod Begun
 pub mod Readings
 pub mod InputReadings
+pub mod StepReadings
+pub mod ReplyReadings
 pub mod Vocabulary

@@ -86,8 +86,8 @@ installing_in (messages.Ask tx) = None
 installing_in (messages.Close epoch) = None
 installing_in (messages.Install epoch clock log) = Some (record { epoch = epoch; clock = clock; lines = log })
 
--- of an answer: a grant, a promise with its clock, the epoch that another one closed, what a closed site tells, that an
--- epoch is installed, how a transaction stands
+-- of an answer: a grant, a promise with its clock, the epoch that another one closed, who holds what conflicts, what a
+-- closed site tells, that an epoch is installed, how a transaction stands
 
 pub record Granting : Type 0 where
   pub life : ℕ
@@ -132,6 +132,24 @@ closed_in (answers.Yes clock) = None
 closed_in (answers.Shut clock log prepared) = None
 closed_in answers.Installed = None
 closed_in (answers.Answered verdict) = None
+
+pub record Clashing : Type 0 where
+  pub holder : TxId
+  pub inv : ℕ
+  pub event : ℕ
+
+abbrev pub clash_in : Answer → Option Clashing
+clash_in (answers.Granted life clock log) = None
+clash_in (answers.Clash holder inv event) = Some (record { holder = holder; inv = inv; event = event })
+clash_in (answers.Closed epoch) = None
+clash_in (answers.Behind epoch) = None
+clash_in (answers.Restarted life) = None
+clash_in answers.Stale = None
+clash_in answers.Fault = None
+clash_in (answers.Yes clock) = None
+clash_in (answers.Shut clock log prepared) = None
+clash_in answers.Installed = None
+clash_in (answers.Answered verdict) = None
 
 pub record Shutting : Type 0 where
   pub clock : ℕ
@@ -248,3 +266,25 @@ asking_in (messages.Inquiry tx) = None
 asking_in (messages.Ask tx) = Some tx
 asking_in (messages.Close epoch) = None
 asking_in (messages.Install epoch clock log) = None
+
+-- and of a site's: the transaction that is inquired about
+
+abbrev pub inquiry_in : Message → Option TxId
+inquiry_in (messages.Request tx epoch life want) = None
+inquiry_in (messages.Answer to answer) = None
+inquiry_in (messages.Decision tx verdict) = None
+inquiry_in (messages.Inquiry tx) = Some tx
+inquiry_in (messages.Ask tx) = None
+inquiry_in (messages.Close epoch) = None
+inquiry_in (messages.Install epoch clock log) = None
+
+-- whether who sends it waits for an answer
+
+abbrev pub wants_answer : Message → Bool
+wants_answer (messages.Request tx epoch life want) = true
+wants_answer (messages.Answer to answer) = false
+wants_answer (messages.Decision tx verdict) = false
+wants_answer (messages.Inquiry tx) = false
+wants_answer (messages.Ask tx) = true
+wants_answer (messages.Close epoch) = true
+wants_answer (messages.Install epoch clock log) = true

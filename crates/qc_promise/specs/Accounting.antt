@@ -1,31 +1,34 @@
 -- The account of a client's deeds.
-use Rattle.std.specs.Prelude.{ℕ, ◌+◌, ◌-◌, ◌==◌, ◌&&◌, ◌||◌, not, max, if◌then◌else◌, Bool, true, false, List, [], ◌∷◌}
-use Rattle.std.specs.Prelude.{◌++◌, fold, length, map, is_none, Option, Some, None, option_map}
+use Rattle.std.specs.Prelude.{[], option_and_then, ℕ, ◌+◌, ◌-◌, ◌==◌, ◌&&◌, ◌||◌, not, max, if◌then◌else◌, Bool, true}
+use Rattle.std.specs.Prelude.{false, List, ◌∷◌, ◌++◌, fold, length, map, is_none, Option, Some, None, option_map}
+use Rattle.std.specs.Prelude.{is_some}
+use Rattle.std.specs.Option.{option_map_or}
 use Rattle.std.specs.List.{find}
 use Rattle.qc_stamp.specs.declared.stamp.TxId.{TxId}
 use Rattle.qc_entry.specs.declared.line.Line.{Line}
 use Rattle.qc_decl.specs.declared.declaration.Declaration.{Declaration}
 use Rattle.qc_msg.specs.declared.message.Answer.{Answer}
-use Rattle.qc_msg.specs.declared.message.Answer.TheVariants as answers
 use Rattle.qc_msg.specs.declared.message.Message.{Message}
-use Rattle.qc_msg.specs.declared.message.Message.TheVariants as messages
 use Rattle.qc_msg.specs.declared.message.Want.{Want}
 use Rattle.qc_msg.specs.declared.message.Want.TheVariants.{Read, Append, Prepare}
 use Rattle.qc_msg.specs.declared.record.Record.{Record}
-use Rattle.qc_msg.specs.declared.record.Record.TheVariants as records
 use Rattle.qc_msg.specs.declared.reply.Half.{Half}
 use Rattle.qc_msg.specs.declared.reply.Half.TheVariants as halves
 use Rattle.qc_msg.specs.declared.reply.Reply.{Reply}
 use Rattle.qc_msg.specs.declared.reply.Reply.TheVariants as replies
 use Rattle.qc_msg.specs.declared.step.Command.{Command}
-use Rattle.qc_msg.specs.declared.step.Command.TheVariants as commands
 use Rattle.qc_msg.specs.declared.step.Input.{Input}
 use Rattle.qc_msg.specs.declared.step.Input.TheVariants as inputs
-use Rattle.qc_msg.specs.Vocabulary.{Deed, Entry, Falls, Rises, Sends, Takes, Tells, Writes, deeds, with_life}
+use Rattle.qc_msg.specs.Vocabulary.{Deed, Entry, Falls, Rises, Sends, Takes, Tells, Writes, deeds, with_life, Answered}
+use Rattle.qc_msg.specs.Vocabulary.{Granting, Invocation, Requested, answer_in, closed_in, commit_of, do_in, granted_in}
+use Rattle.qc_msg.specs.Vocabulary.{is_life, promised_in, request_in, began_in, committed_in, short_in, response_in}
+use Rattle.qc_msg.specs.Vocabulary.{is_end, is_refused}
 use Rattle.qc_promise.specs.Account.{Account, Current, ClientRequest, account_with, is_append, new_account, new_current}
 use Rattle.qc_promise.specs.Account.{requests_for}
 use Rattle.qc_promise.specs.Asked.{is_asked_for}
 use Rattle.qc_promise.specs.Rounds.{answer_of, next_own, resp_of}
+use Rattle.qc_entry.specs.declared.record.Commit.{Commit}
+use Rattle.qc_stamp.specs.declared.stamp.Stamp.{Stamp}
 
 -- the begun transaction, if there is one, is changed
 abbrev pub with_current : Account → (Current → Current) → Account
@@ -55,18 +58,10 @@ promised d clock (Append object view own) = d
 promised d clock Prepare = record d { clock = max d.clock clock }
 
 abbrev pub told_by : Account → ClientRequest → Option Answer → Account
-told_by d q None = d
-told_by d q (Some (answers.Granted life clock log)) = granted d q.site life clock log q.want
-told_by d q (Some (answers.Clash holder inv event)) = d
-told_by d q (Some (answers.Closed epoch)) = record d { known = max d.known epoch }
-told_by d q (Some (answers.Behind epoch)) = d
-told_by d q (Some (answers.Restarted life)) = d
-told_by d q (Some answers.Stale) = d
-told_by d q (Some answers.Fault) = d
-told_by d q (Some (answers.Yes clock)) = promised d clock q.want
-told_by d q (Some (answers.Shut clock log prepared)) = d
-told_by d q (Some answers.Installed) = d
-told_by d q (Some (answers.Answered verdict)) = d
+told_by d q answer =
+    option_map_or (λ (g : Granting). granted d q.site g.life g.clock g.log q.want) (option_and_then granted_in answer)
+    (option_map_or (λ (epoch : ℕ). record d { known = max d.known epoch }) (option_and_then closed_in answer)
+    (option_map_or (λ (clock : ℕ). promised d clock q.want) (option_and_then promised_in answer) d))
 
 -- the first thing that is taken for a request of the running command counts; all else changes nothing
 
@@ -86,13 +81,7 @@ abbrev pub counted : Account → ℕ → Option Answer → Account
 counted d number answer = counted_for d number answer (find (is_open number) d.requests)
 
 abbrev pub account_heard : Account → Message → Account
-account_heard d (messages.Request tx epoch life want) = d
-account_heard d (messages.Answer to answer) = counted d to (Some answer)
-account_heard d (messages.Decision tx verdict) = d
-account_heard d (messages.Inquiry tx) = d
-account_heard d (messages.Ask tx) = d
-account_heard d (messages.Close epoch) = d
-account_heard d (messages.Install epoch clock log) = d
+account_heard d message = option_map_or (λ (a : Answered). counted d a.to (Some a.answer)) (answer_in message) d
 
 abbrev pub account_taken : Account → Input → Account
 account_taken d (inputs.Called command) = record d { command = Some command; requests = []; written = None }
@@ -102,13 +91,9 @@ account_taken d (inputs.Lost number) = counted d number None
 -- a record: a commit, or that of its rise
 
 abbrev pub account_written : Account → Record → Account
-account_written d records.Life = record d { life = d.life + 1 }
-account_written d (records.Prepare prepared) = d
-account_written d (records.Done tx clock) = d
-account_written d (records.Close epoch) = d
-account_written d (records.Install epoch clock lines) = d
-account_written d (records.Commit commit) = record d { written = Some commit }
-account_written d (records.Decide epoch clock lines) = d
+account_written d r =
+    if is_life r then record d { life = d.life + 1 } else option_map_or
+    (λ (commit : Commit). record d { written = Some commit }) (commit_of r) d
 
 -- a request, where the running command asks for it
 
@@ -122,13 +107,8 @@ requested decl d number site tx epoch life want =
     else d
 
 abbrev pub account_sent : Declaration → Account → ℕ → ℕ → Message → Account
-account_sent decl d number to (messages.Request tx epoch life want) = requested decl d number to tx epoch life want
-account_sent decl d number to (messages.Answer request answer) = d
-account_sent decl d number to (messages.Decision tx verdict) = d
-account_sent decl d number to (messages.Inquiry tx) = d
-account_sent decl d number to (messages.Ask tx) = d
-account_sent decl d number to (messages.Close epoch) = d
-account_sent decl d number to (messages.Install epoch clock log) = d
+account_sent decl d number to message =
+    option_map_or (λ (q : Requested). requested decl d number to q.tx q.epoch q.life q.want) (request_in message) d
 
 -- a reply: an operation is recorded, with an own line where it has a response
 
@@ -144,21 +124,15 @@ with_response decl t object inv (Some event) =
     }
 
 abbrev pub responded : Declaration → Account → Option Command → Account
-responded decl d None = d
-responded decl d (Some commands.Begin) = d
-responded decl d (Some (commands.Do object inv)) =
-    with_current d (λ (t : Current). with_response decl t object inv (answer_of decl t object inv))
-responded decl d (Some commands.Commit) = d
-responded decl d (Some commands.Abort) = d
-responded decl d (Some (commands.Epoch number)) = d
+responded decl d command =
+    option_map_or (λ (i : Invocation). with_current d
+    (λ (t : Current). with_response decl t i.object i.inv (answer_of decl t i.object i.inv)))
+    (option_and_then do_in command) d
 
 abbrev pub found_absent : Account → Option Command → Account
-found_absent d None = d
-found_absent d (Some commands.Begin) = d
-found_absent d (Some (commands.Do object inv)) = with_current d (λ (t : Current). with_absent t object inv)
-found_absent d (Some commands.Commit) = d
-found_absent d (Some commands.Abort) = d
-found_absent d (Some (commands.Epoch number)) = d
+found_absent d command =
+    option_map_or (λ (i : Invocation). with_current d (λ (t : Current). with_absent t i.object i.inv))
+    (option_and_then do_in command) d
 
 -- a `do` that is refused while appending dooms its transaction: one that asked for an Append, or whose append half is
 -- told
@@ -181,25 +155,13 @@ abbrev pub ended : Account → Account
 ended d = record d { current = None }
 
 abbrev pub account_told_in : Declaration → Account → Reply → Account
-account_told_in decl d replies.Down = d
-account_told_in decl d (replies.Already tx) = d
-account_told_in decl d (replies.Began tx) = begun d tx
-account_told_in decl d replies.NoTransaction = d
-account_told_in decl d replies.Doomed = d
-account_told_in decl d replies.TooLong = d
-account_told_in decl d (replies.Closed epoch site) = refused d
-account_told_in decl d (replies.Conflict tx site) = refused d
-account_told_in decl d (replies.Quorum half got need) = short_of d half
-account_told_in decl d replies.Absent = found_absent d d.command
-account_told_in decl d (replies.Response resp) = responded decl d d.command
-account_told_in decl d (replies.Aborted why) = ended d
-account_told_in decl d replies.Unknown = ended d
-account_told_in decl d (replies.Committed stamp) = record (ended d) { clock = stamp.clock }
-account_told_in decl d replies.Dropped = ended d
-account_told_in decl d (replies.Order current) = d
-account_told_in decl d (replies.InDoubt tx site) = d
-account_told_in decl d replies.Fault = d
-account_told_in decl d (replies.Moved closed installed) = d
+account_told_in decl d reply =
+    option_map_or (begun d) (began_in reply)
+    (option_map_or (λ (stamp : Stamp). record (ended d) { clock = stamp.clock }) (committed_in reply)
+    (option_map_or (short_of d) (short_in reply)
+    (option_map_or (λ (resp : Option ℕ). if is_some resp then responded decl d d.command else found_absent d d.command)
+    (response_in reply)
+    (if is_end reply then ended d else if is_refused reply then refused d else d))))
 
 -- it ends its command
 abbrev pub account_told : Declaration → Account → Reply → Account

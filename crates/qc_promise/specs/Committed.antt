@@ -1,30 +1,21 @@
 -- The committed transactions of a history: one committed where its client wrote so, or rose with a record that says so
 -- (presumed abort).
-use Rattle.std.specs.Prelude.{if◌then◌else◌, List, [], option_to_list}
+use Rattle.std.specs.Prelude.{[], if◌then◌else◌, List, option_to_list}
+use Rattle.std.specs.Option.{option_map_or}
 use Rattle.std.specs.List.{filter_map, flat_map}
 use Rattle.qc_decl.specs.Vocabulary.{is_client}
 use Rattle.qc_decl.specs.declared.declaration.Declaration.{Declaration}
 use Rattle.qc_entry.specs.declared.record.Commit.{Commit}
 use Rattle.qc_msg.specs.declared.step.Step.{Step}
-use Rattle.qc_msg.specs.declared.step.Step.TheVariants as steps
-use Rattle.qc_msg.specs.Vocabulary.{Entry, commit_of}
+use Rattle.qc_msg.specs.Vocabulary.{Entry, commit_of, rose_in, wrote_in}
 use Rattle.theory_onecopy.specs.Vocabulary.{sorted}
+use Rattle.qc_msg.specs.declared.record.Record.{Record}
 
 -- the commit records that a step writes, or that a rise gives
 abbrev pub commits_in : Step → List Commit
-commits_in (steps.Phase k) = []
-commits_in (steps.Cut a b) = []
-commits_in (steps.Heal a b) = []
-commits_in (steps.Armed actor kind at) = []
-commits_in (steps.Called command) = []
-commits_in (steps.Got n) = []
-commits_in (steps.Lost n) = []
-commits_in (steps.Wrote written) = option_to_list (commit_of written)
-commits_in (steps.Sent n to message) = []
-commits_in (steps.Told reply) = []
-commits_in (steps.Fell cause pending) = []
-commits_in (steps.Rose kept) = filter_map commit_of kept
-commits_in (steps.Damaged offset) = []
+commits_in step =
+    option_map_or (λ (written : Record). option_to_list (commit_of written)) (wrote_in step)
+    (option_map_or (filter_map commit_of) (rose_in step) [])
 
 -- those of clients
 abbrev pub commits_by : Declaration → Entry → List Commit

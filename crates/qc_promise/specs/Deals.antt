@@ -1,13 +1,14 @@
 -- What a client was told in a transaction, from its begin to its end: the reply that ends it, or the client's fall.
-use Rattle.std.specs.Prelude.{ℕ, Bool, false, if◌then◌else◌, List, [], ◌∷◌, ◌++◌, Option, Some, None, fold}
+use Rattle.std.specs.Prelude.{[], ℕ, Bool, false, if◌then◌else◌, List, ◌∷◌, ◌++◌, Option, Some, None, fold}
+use Rattle.std.specs.Option.{option_map_or}
 use Rattle.qc_decl.specs.Vocabulary.{client_actor}
 use Rattle.qc_decl.specs.declared.declaration.Declaration.{Declaration}
 use Rattle.qc_entry.specs.declared.line.Op.{Op}
-use Rattle.qc_msg.specs.Vocabulary.{Deed, Entry, Falls, Rises, Sends, Takes, Tells, Writes, deeds}
+use Rattle.qc_msg.specs.Vocabulary.{Deed, Entry, Falls, Rises, Sends, Takes, Tells, Writes, deeds, Invocation, do_in}
+use Rattle.qc_msg.specs.Vocabulary.{began_in, response_in, is_end}
 use Rattle.qc_msg.specs.declared.reply.Reply.{Reply}
 use Rattle.qc_msg.specs.declared.reply.Reply.TheVariants as replies
 use Rattle.qc_msg.specs.declared.step.Command.{Command}
-use Rattle.qc_msg.specs.declared.step.Command.TheVariants as commands
 use Rattle.qc_msg.specs.declared.step.Input.{Input}
 use Rattle.qc_msg.specs.declared.step.Input.TheVariants as inputs
 use Rattle.qc_stamp.specs.Vocabulary.{same_tx}
@@ -31,11 +32,8 @@ is_begun tx (Some other) = same_tx other tx
 -- the operation of a `do`, with its response or none; other commands have none
 
 abbrev pub operation_of : Command → Option ℕ → List Op
-operation_of commands.Begin resp = []
-operation_of (commands.Do object inv) resp = record { object = object; inv = inv; resp = resp } ∷ []
-operation_of commands.Commit resp = []
-operation_of commands.Abort resp = []
-operation_of (commands.Epoch number) resp = []
+operation_of command resp =
+    option_map_or (λ (i : Invocation). record { object = i.object; inv = i.inv; resp = resp } ∷ []) (do_in command) []
 
 abbrev pub operation : Option Command → Option ℕ → List Op
 operation None resp = []
@@ -48,25 +46,9 @@ abbrev pub ended : TxId → Dealing → Reply → Dealing
 ended tx d reply = record d { begun = None; ends = d.ends ++ (if is_begun tx d.begun then reply ∷ [] else []) }
 
 abbrev pub deal_told : TxId → Dealing → Reply → Dealing
-deal_told tx d replies.Down = d
-deal_told tx d (replies.Already other) = d
-deal_told tx d (replies.Began other) = record d { begun = Some other }
-deal_told tx d replies.NoTransaction = d
-deal_told tx d replies.Doomed = d
-deal_told tx d replies.TooLong = d
-deal_told tx d (replies.Closed epoch site) = d
-deal_told tx d (replies.Conflict holder site) = d
-deal_told tx d (replies.Quorum half got need) = d
-deal_told tx d replies.Absent = dealt tx d None
-deal_told tx d (replies.Response resp) = dealt tx d (Some resp)
-deal_told tx d (replies.Aborted why) = ended tx d (replies.Aborted why)
-deal_told tx d replies.Unknown = ended tx d replies.Unknown
-deal_told tx d (replies.Committed stamp) = ended tx d (replies.Committed stamp)
-deal_told tx d replies.Dropped = ended tx d replies.Dropped
-deal_told tx d (replies.Order current) = d
-deal_told tx d (replies.InDoubt holder site) = d
-deal_told tx d replies.Fault = d
-deal_told tx d (replies.Moved closed installed) = d
+deal_told tx d reply =
+    option_map_or (λ (other : TxId). record d { begun = Some other }) (began_in reply)
+    (option_map_or (dealt tx d) (response_in reply) (if is_end reply then ended tx d reply else d))
 
 abbrev pub deal_taken : Dealing → Input → Dealing
 deal_taken d (inputs.Called command) = record d { asked = Some command }

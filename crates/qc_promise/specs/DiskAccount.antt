@@ -1,9 +1,9 @@
 -- The account of one actor's disk in a history: the fault that is armed for it, and the falls in which that can't have
 -- acted. It is `tally` (`Spent`) for one actor alone, so a disk's owner can keep it.
-use Rattle.std.specs.Prelude.{◌≡◌, ℕ, zero, suc, ◌+◌, ◌<◌, ◌==◌, nat_le, Bool, ◌&&◌, if◌then◌else◌, List, ◌++◌, Option}
-use Rattle.std.specs.Prelude.{Some, None, fold}
+use Rattle.std.specs.Prelude.{MatchOption, ◌≡◌, ℕ, zero, suc, ◌+◌, ◌<◌, ◌==◌, nat_le, Bool, ◌&&◌, if◌then◌else◌, List}
+use Rattle.std.specs.Prelude.{◌++◌, Option, Some, None, fold}
 use Rattle.std.specs.List.{AllByRecursion as Every}
-use Rattle.qc_msg.specs.Vocabulary.{Entry}
+use Rattle.qc_msg.specs.Vocabulary.{Entry, Fallen, fell_in}
 use Rattle.qc_msg.specs.declared.step.Fall.{Fall}
 use Rattle.qc_msg.specs.declared.step.Fall.TheVariants as falls
 use Rattle.qc_msg.specs.declared.step.Step.{Step}
@@ -94,19 +94,7 @@ IsEverInTime a h = (before later : List Entry) → before ++ later ≡ h → IsI
 -- falls are of actors below a number
 
 abbrev pub IsFallBelow : ℕ → ℕ → Step → Type 0
-IsFallBelow n actor (steps.Phase number) = Unit {0}
-IsFallBelow n actor (steps.Cut x y) = Unit {0}
-IsFallBelow n actor (steps.Heal x y) = Unit {0}
-IsFallBelow n actor (steps.Armed b kind at) = Unit {0}
-IsFallBelow n actor (steps.Called command) = Unit {0}
-IsFallBelow n actor (steps.Got number) = Unit {0}
-IsFallBelow n actor (steps.Lost number) = Unit {0}
-IsFallBelow n actor (steps.Wrote written) = Unit {0}
-IsFallBelow n actor (steps.Sent number to message) = Unit {0}
-IsFallBelow n actor (steps.Told reply) = Unit {0}
-IsFallBelow n actor (steps.Fell cause pending) = actor < n
-IsFallBelow n actor (steps.Rose records) = Unit {0}
-IsFallBelow n actor (steps.Damaged offset) = Unit {0}
+IsFallBelow n actor step = MatchOption (fell_in step) (Unit {0}) (λ (x : Fallen). actor < n)
 
 abbrev pub AreFallsBelow : ℕ → List Entry → Type 0
 AreFallsBelow n h = Every (λ (e : Entry). IsFallBelow n e.actor e.step) h

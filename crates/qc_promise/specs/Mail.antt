@@ -1,23 +1,17 @@
 -- Messages reach those whom they were sent to: each has its number, who takes it is its receiver, an answer comes from
 -- who was asked, to who asked; and what an actor takes as lost is a request of its own.
-use Rattle.std.specs.Prelude.{◌≡◌, ℕ, Bool, true, false, List, [], ◌∷◌, ◌++◌, length, Option, Some, None, slice_get}
-use Rattle.std.specs.Prelude.{option_to_list}
+use Rattle.std.specs.Prelude.{[], MatchOption, ◌≡◌, ℕ, Bool, true, false, List, ◌∷◌, ◌++◌, length, Option, Some, None}
+use Rattle.std.specs.Prelude.{slice_get, option_to_list}
 use Rattle.qc_msg.specs.declared.message.Envelope.{Envelope}
 use Rattle.qc_msg.specs.declared.message.Message.{Message}
 use Rattle.qc_msg.specs.declared.message.Message.TheVariants as messages
 use Rattle.qc_msg.specs.declared.step.Step.{Step}
-use Rattle.qc_msg.specs.declared.step.Step.TheVariants as steps
-use Rattle.qc_msg.specs.Vocabulary.{Answered, Entry, answer_in, envelope_of}
+use Rattle.qc_msg.specs.Vocabulary.{Answered, Entry, answer_in, envelope_of, Mailed, lost_in, mailed_in, received_in}
+use Rattle.qc_msg.specs.Vocabulary.{wants_answer}
 
 -- the messages that wait for an answer
 abbrev pub asks_answer : Message → Bool
-asks_answer (messages.Request tx epoch life want) = true
-asks_answer (messages.Answer to answer) = false
-asks_answer (messages.Decision tx verdict) = false
-asks_answer (messages.Inquiry tx) = false
-asks_answer (messages.Ask tx) = true
-asks_answer (messages.Close epoch) = true
-asks_answer (messages.Install epoch clock log) = true
+asks_answer m = wants_answer m
 
 -- a request of this sender
 abbrev pub IsRequestOf : ℕ → Option Envelope → Type 0
@@ -40,19 +34,10 @@ IsReceived ms a None = ⊥
 IsReceived ms a (Some e) = (e.to ≡ a) × IsAnswerOf ms e.from a (answer_in e.message)
 
 abbrev pub IsMailStep : List Envelope → ℕ → Step → Type 0
-IsMailStep ms a (steps.Phase k) = Unit {0}
-IsMailStep ms a (steps.Cut x y) = Unit {0}
-IsMailStep ms a (steps.Heal x y) = Unit {0}
-IsMailStep ms a (steps.Armed actor kind at) = Unit {0}
-IsMailStep ms a (steps.Called command) = Unit {0}
-IsMailStep ms a (steps.Got n) = IsReceived ms a (slice_get ms n)
-IsMailStep ms a (steps.Lost n) = IsRequestOf a (slice_get ms n)
-IsMailStep ms a (steps.Wrote written) = Unit {0}
-IsMailStep ms a (steps.Sent n to message) = n ≡ length ms
-IsMailStep ms a (steps.Told reply) = Unit {0}
-IsMailStep ms a (steps.Fell cause pending) = Unit {0}
-IsMailStep ms a (steps.Rose records) = Unit {0}
-IsMailStep ms a (steps.Damaged offset) = Unit {0}
+IsMailStep ms a step =
+    MatchOption (received_in step)
+    (MatchOption (lost_in step) (MatchOption (mailed_in step) (Unit {0}) (λ (m : Mailed). m.number ≡ length ms))
+    (λ (n : ℕ). IsRequestOf a (slice_get ms n))) (λ (n : ℕ). IsReceived ms a (slice_get ms n))
 
 -- the messages so far being ms
 abbrev pub IsMailed : List Envelope → List Entry → Type 0

@@ -1,6 +1,6 @@
 -- How far a command has come: a half of a `do` is a round over the sites that it asked, a commit a vote of
 -- participants.
-use Rattle.std.specs.Prelude.{ℕ, ◌+◌, ◌==◌, ◌&&◌, Bool, List, [], ◌∷◌, ◌++◌, drop, filter, length, map, is_some}
+use Rattle.std.specs.Prelude.{[], ℕ, ◌+◌, ◌==◌, ◌&&◌, Bool, List, ◌∷◌, ◌++◌, drop, filter, length, map, is_some}
 use Rattle.std.specs.Prelude.{slice_get, unwrap_or, Option, Some, None, option_map, option_and_then}
 use Rattle.std.specs.List.{list_all}
 use Rattle.std.specs.Option.{option_map_or, option_or}
@@ -20,23 +20,15 @@ use Rattle.qc_msg.specs.declared.message.Answer.TheVariants as answers
 use Rattle.qc_msg.specs.declared.message.Want.{Want}
 use Rattle.qc_msg.specs.declared.reply.AbortCause.{AbortCause}
 use Rattle.qc_msg.specs.declared.reply.AbortCause.TheVariants as causes
-use Rattle.qc_msg.specs.Vocabulary.{has_granted}
+use Rattle.qc_msg.specs.Vocabulary.{has_granted, Answered, Clashing, Granting, clash_in, closed_in, granted_in}
 use Rattle.qc_promise.specs.Account.{Account, Current, ClientRequest, is_prepare, requests_for, view_of}
 
 -- what came of a request, for a round: a site that neither grants, nor clashes, nor is closed, is missing
 abbrev pub standing_of : Option Answer → Standing
-standing_of None = standings.Missing
-standing_of (Some (answers.Granted life clock log)) = standings.Granted
-standing_of (Some (answers.Clash holder inv event)) = standings.Clash holder
-standing_of (Some (answers.Closed epoch)) = standings.Closed epoch
-standing_of (Some (answers.Behind epoch)) = standings.Missing
-standing_of (Some (answers.Restarted life)) = standings.Missing
-standing_of (Some answers.Stale) = standings.Missing
-standing_of (Some answers.Fault) = standings.Missing
-standing_of (Some (answers.Yes clock)) = standings.Missing
-standing_of (Some (answers.Shut clock log prepared)) = standings.Missing
-standing_of (Some answers.Installed) = standings.Missing
-standing_of (Some (answers.Answered verdict)) = standings.Missing
+standing_of answer =
+    option_map_or (λ (x : Granting). standings.Granted) (option_and_then granted_in answer)
+    (option_map_or (λ (c : Clashing). standings.Clash c.holder) (option_and_then clash_in answer)
+    (option_map_or standings.Closed (option_and_then closed_in answer) standings.Missing))
 
 abbrev pub asked_by : ClientRequest → Asked
 asked_by q = record { site = q.site; standing = option_map standing_of q.taken }

@@ -1,5 +1,6 @@
 -- The reply that is due to a command: that of the first row that applies, in the order of the table of replies. A row
 -- that speaks of requests waits until each is answered or lost; none is there of what isn't declared.
+use Rattle.std.specs.Option.{option_map_or}
 use Rattle.std.specs.Prelude.{ℕ, ◌+◌, ◌&&◌, nat_le, if◌then◌else◌, Bool, true, length, Option, Some, None, is_some}
 use Rattle.std.specs.Prelude.{option_and_then, option_map}
 use Rattle.qc_stamp.specs.declared.stamp.Stamp.{Stamp}
@@ -20,6 +21,7 @@ use Rattle.qc_msg.specs.declared.step.Command.{Command}
 use Rattle.qc_msg.specs.declared.step.Command.TheVariants as commands
 use Rattle.qc_promise.specs.Account.{Account, Current, is_append, is_prepare, is_read, requests_for}
 use Rattle.qc_promise.specs.Rounds.{answer_of, are_votes_in, first_against, resp_of, round_of}
+use Rattle.qc_msg.specs.Vocabulary.{Invocation, committed_in, do_in, is_in_doubt}
 
 -- a `do`
 
@@ -91,11 +93,9 @@ running_row decl d unwritten = option_and_then (row_of decl d unwritten d.curren
 -- whether what a command speaks of is declared: a `do` within a transaction, of its object's type and its epoch's plan
 
 abbrev pub is_declared_within : Declaration → Current → Command → Bool
-is_declared_within decl t commands.Begin = true
-is_declared_within decl t (commands.Do object inv) = is_some (plan_in decl t.epoch) && is_some (table_at decl object)
-is_declared_within decl t commands.Commit = true
-is_declared_within decl t commands.Abort = true
-is_declared_within decl t (commands.Epoch number) = true
+is_declared_within decl t command =
+    option_map_or (λ (i : Invocation). is_some (plan_in decl t.epoch) && is_some (table_at decl i.object))
+    (do_in command) true
 
 abbrev pub is_declared_for : Declaration → Option Current → Command → Bool
 is_declared_for decl None command = true
@@ -119,25 +119,7 @@ abbrev pub commit_of : Account → Stamp → Option Commit
 commit_of d stamp = option_map (λ (t : Current). record { stamp = stamp; tx = t.tx; ops = t.ops }) d.current
 
 abbrev pub record_with : Account → Reply → Option Commit
-record_with d replies.Down = None
-record_with d (replies.Already tx) = None
-record_with d (replies.Began tx) = None
-record_with d replies.NoTransaction = None
-record_with d replies.Doomed = None
-record_with d replies.TooLong = None
-record_with d (replies.Closed epoch site) = None
-record_with d (replies.Conflict tx site) = None
-record_with d (replies.Quorum half got need) = None
-record_with d replies.Absent = None
-record_with d (replies.Response resp) = None
-record_with d (replies.Aborted why) = None
-record_with d replies.Unknown = None
-record_with d (replies.Committed stamp) = commit_of d stamp
-record_with d replies.Dropped = None
-record_with d (replies.Order current) = None
-record_with d (replies.InDoubt tx site) = None
-record_with d replies.Fault = None
-record_with d (replies.Moved closed installed) = None
+record_with d reply = option_and_then (λ (stamp : Stamp). commit_of d stamp) (committed_in reply)
 
 -- the record that was being written at the fall behind a reply: the one that would have been written
 
@@ -145,22 +127,4 @@ abbrev pub next_commit : Account → Option Record
 next_commit d = option_map records.Commit (commit_of d (next_stamp d))
 
 abbrev pub pending_with : Account → Reply → Option Record
-pending_with d replies.Down = None
-pending_with d (replies.Already tx) = None
-pending_with d (replies.Began tx) = None
-pending_with d replies.NoTransaction = None
-pending_with d replies.Doomed = None
-pending_with d replies.TooLong = None
-pending_with d (replies.Closed epoch site) = None
-pending_with d (replies.Conflict tx site) = None
-pending_with d (replies.Quorum half got need) = None
-pending_with d replies.Absent = None
-pending_with d (replies.Response resp) = None
-pending_with d (replies.Aborted why) = None
-pending_with d replies.Unknown = next_commit d
-pending_with d (replies.Committed stamp) = None
-pending_with d replies.Dropped = None
-pending_with d (replies.Order current) = None
-pending_with d (replies.InDoubt tx site) = None
-pending_with d replies.Fault = None
-pending_with d (replies.Moved closed installed) = None
+pending_with d reply = if is_in_doubt reply then next_commit d else None

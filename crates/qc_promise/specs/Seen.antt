@@ -1,15 +1,15 @@
 -- What a transaction's client had seen of other transactions, by the end of this one.
-use Rattle.std.specs.Prelude.{ℕ, ◌==◌, Bool, not, if◌then◌else◌, List, [], ◌∷◌, ◌++◌, Option, Some, None, fold, filter}
+use Rattle.std.specs.Prelude.{[], ℕ, ◌==◌, Bool, not, if◌then◌else◌, List, ◌∷◌, ◌++◌, Option, Some, None, fold, filter}
 use Rattle.std.specs.Prelude.{map, option_to_list}
+use Rattle.std.specs.Option.{option_map_or}
 use Rattle.std.specs.List.{list_any}
 use Rattle.qc_decl.specs.Vocabulary.{client_actor}
 use Rattle.qc_decl.specs.declared.declaration.Declaration.{Declaration}
 use Rattle.qc_entry.specs.declared.line.Line.{Line}
-use Rattle.qc_msg.specs.Vocabulary.{Deed, Entry, Falls, Rises, Sends, Takes, Tells, Writes, deeds}
+use Rattle.qc_msg.specs.Vocabulary.{Deed, Entry, Falls, Rises, Sends, Takes, Tells, Writes, deeds, Answered, Granting}
+use Rattle.qc_msg.specs.Vocabulary.{Requested, answer_in, granted_in, request_in, began_in, committed_in, is_end}
 use Rattle.qc_msg.specs.declared.message.Answer.{Answer}
-use Rattle.qc_msg.specs.declared.message.Answer.TheVariants as answers
 use Rattle.qc_msg.specs.declared.message.Message.{Message}
-use Rattle.qc_msg.specs.declared.message.Message.TheVariants as messages
 use Rattle.qc_msg.specs.declared.reply.Reply.{Reply}
 use Rattle.qc_msg.specs.declared.reply.Reply.TheVariants as replies
 use Rattle.qc_msg.specs.declared.step.Input.{Input}
@@ -17,6 +17,7 @@ use Rattle.qc_msg.specs.declared.step.Input.TheVariants as inputs
 use Rattle.qc_promise.specs.Deals.{is_begun}
 use Rattle.qc_stamp.specs.Vocabulary.{same_tx}
 use Rattle.qc_stamp.specs.declared.stamp.TxId.{TxId}
+use Rattle.qc_stamp.specs.declared.stamp.Stamp.{Stamp}
 
 -- a client's sight of transactions so far, and what of it counts for one transaction
 pub record Sight : Type 0 where
@@ -48,26 +49,12 @@ answered s number = record s { waiting = filter (λ n. not (n == number)) s.wait
 
 -- the lines that an answer grants
 abbrev pub granted : Answer → List Line
-granted (answers.Granted life clock log) = log
-granted (answers.Clash holder inv event) = []
-granted (answers.Closed epoch) = []
-granted (answers.Behind epoch) = []
-granted (answers.Restarted life) = []
-granted answers.Stale = []
-granted answers.Fault = []
-granted (answers.Yes clock) = []
-granted (answers.Shut clock log prepared) = []
-granted answers.Installed = []
-granted (answers.Answered verdict) = []
+granted answer = option_map_or (λ (g : Granting). g.log) (granted_in answer) []
 
 abbrev pub sight_heard : TxId → Sight → Message → Sight
-sight_heard tx s (messages.Request other epoch life want) = s
-sight_heard tx s (messages.Answer to answer) = if waits s to then sees tx (answered s to) (granted answer) else s
-sight_heard tx s (messages.Decision other verdict) = s
-sight_heard tx s (messages.Inquiry other) = s
-sight_heard tx s (messages.Ask other) = s
-sight_heard tx s (messages.Close epoch) = s
-sight_heard tx s (messages.Install epoch clock log) = s
+sight_heard tx s message =
+    option_map_or (λ (a : Answered). if waits s a.to then sees tx (answered s a.to) (granted a.answer) else s)
+    (answer_in message) s
 
 abbrev pub sight_taken : TxId → Sight → Input → Sight
 sight_taken tx s (inputs.Called command) = s
@@ -76,39 +63,19 @@ sight_taken tx s (inputs.Lost number) = answered s number
 
 -- a request waits
 abbrev pub sight_sent : Sight → ℕ → Message → Sight
-sight_sent s number (messages.Request other epoch life want) = record s { waiting = s.waiting ++ number ∷ [] }
-sight_sent s number (messages.Answer to answer) = s
-sight_sent s number (messages.Decision other verdict) = s
-sight_sent s number (messages.Inquiry other) = s
-sight_sent s number (messages.Ask other) = s
-sight_sent s number (messages.Close epoch) = s
-sight_sent s number (messages.Install epoch clock log) = s
+sight_sent s number message =
+    option_map_or (λ (x : Requested). record s { waiting = s.waiting ++ number ∷ [] }) (request_in message) s
 
 -- the transaction has ended
 abbrev pub over : Sight → Sight
 over s = record s { begun = None }
 
 abbrev pub sight_told : TxId → Sight → Reply → Sight
-sight_told tx s replies.Down = s
-sight_told tx s (replies.Already other) = s
-sight_told tx s (replies.Began other) =
-    record s { begun = Some other; seen = if same_tx other tx then s.shown ++ s.committed else s.seen }
-sight_told tx s replies.NoTransaction = s
-sight_told tx s replies.Doomed = s
-sight_told tx s replies.TooLong = s
-sight_told tx s (replies.Closed epoch site) = s
-sight_told tx s (replies.Conflict holder site) = s
-sight_told tx s (replies.Quorum half got need) = s
-sight_told tx s replies.Absent = s
-sight_told tx s (replies.Response resp) = s
-sight_told tx s (replies.Aborted why) = over s
-sight_told tx s replies.Unknown = over s
-sight_told tx s (replies.Committed stamp) = over (record s { committed = s.committed ++ option_to_list s.begun })
-sight_told tx s replies.Dropped = over s
-sight_told tx s (replies.Order current) = s
-sight_told tx s (replies.InDoubt holder site) = s
-sight_told tx s replies.Fault = s
-sight_told tx s (replies.Moved closed installed) = s
+sight_told tx s reply =
+    option_map_or (λ (other : TxId).
+    record s { begun = Some other; seen = if same_tx other tx then s.shown ++ s.committed else s.seen }) (began_in reply)
+    (option_map_or (λ (stamp : Stamp). over (record s { committed = s.committed ++ option_to_list s.begun }))
+    (committed_in reply) (if is_end reply then over s else s))
 
 -- one deed more. A fall ends the transaction, and no answer counts that comes later; a rise begins with nothing shown
 abbrev pub sight : TxId → Sight → Deed → Sight

@@ -1,7 +1,7 @@
 -- What a site is to write and to send for what it takes, and as it rises, by what its own steps show: the first row
 -- that applies.
-use Rattle.std.specs.Prelude.{ℕ, ◌+◌, ◌==◌, ◌&&◌, nat_lt, nat_le, Bool, true, false, not, if◌then◌else◌, is_some, List}
-use Rattle.std.specs.Prelude.{[], ◌∷◌, ◌++◌, map, take, fold, Option, Some, None, option_map}
+use Rattle.std.specs.Prelude.{[], ℕ, ◌+◌, ◌==◌, ◌&&◌, nat_lt, nat_le, Bool, true, false, not, if◌then◌else◌, is_some}
+use Rattle.std.specs.Prelude.{List, ◌∷◌, ◌++◌, map, take, fold, Option, Some, None, option_map}
 use Rattle.std.specs.Option.{option_map_or, option_or}
 use Rattle.std.specs.Ordering.{on}
 use Rattle.std.specs.declared.cmp.Ordering.{Ordering}
@@ -30,7 +30,7 @@ use Rattle.qc_msg.specs.declared.step.Input.{Input}
 use Rattle.qc_msg.specs.declared.turn.Posting.{Posting}
 use Rattle.qc_msg.specs.Vocabulary.{Decided, Deed, Falls, Installing, Requested, Rises, Sends, Takes, Tells, Writes}
 use Rattle.qc_msg.specs.Vocabulary.{closing_in, decision_in, epoch_length, heard_in, installing_in, prepare_length}
-use Rattle.qc_msg.specs.Vocabulary.{request_in}
+use Rattle.qc_msg.specs.Vocabulary.{request_in, Clashing, clash_in}
 use Rattle.qc_promise.specs.Posts.{IsPostOf, TurnDue, quiet_turn, sending}
 use Rattle.qc_promise.specs.SiteClocks.{clock_shown}
 use Rattle.qc_promise.specs.SiteHeld.{held_shown}
@@ -105,17 +105,7 @@ inquiry decl tx = record { to = client_actor decl tx.client; message = messages.
 
 -- with a Clash that of the holder is
 abbrev pub inquiries_due : Declaration → Answer → List Posting
-inquiries_due decl (answers.Granted life clock log) = []
-inquiries_due decl (answers.Clash holder inv event) = inquiry decl holder ∷ []
-inquiries_due decl (answers.Closed epoch) = []
-inquiries_due decl (answers.Behind epoch) = []
-inquiries_due decl (answers.Restarted life) = []
-inquiries_due decl answers.Stale = []
-inquiries_due decl answers.Fault = []
-inquiries_due decl (answers.Yes clock) = []
-inquiries_due decl (answers.Shut clock log prepared) = []
-inquiries_due decl answers.Installed = []
-inquiries_due decl (answers.Answered verdict) = []
+inquiries_due decl answer = option_map_or (λ (c : Clashing). inquiry decl c.holder ∷ []) (clash_in answer) []
 
 -- whether what a request names is declared; no run gives another one
 

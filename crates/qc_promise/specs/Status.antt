@@ -1,19 +1,20 @@
 -- How far a transaction is, as its client's deeds show (presumed abort: without a commit record it is given up), and
 -- which deeds are right for it.
-use Rattle.std.specs.Prelude.{◌≡◌, ◌⊎◌, true, if◌then◌else◌, List, [], ◌∷◌, fold}
+use Rattle.std.specs.Prelude.{[], MatchOption, ◌≡◌, ◌⊎◌, true, if◌then◌else◌, List, ◌∷◌, fold}
+use Rattle.std.specs.Option.{option_map_or}
 use Rattle.std.specs.List.{AllByRecursion as Every}
-use Rattle.qc_msg.specs.Vocabulary.{Deed, Falls, Rises, Sends, Takes, Tells, Writes}
+use Rattle.qc_msg.specs.Vocabulary.{Deed, Falls, Rises, Sends, Takes, Tells, Writes, Decided, Requested, already_in}
+use Rattle.qc_msg.specs.Vocabulary.{began_in, commit_of, decision_in, request_in, is_given_up}
 use Rattle.qc_msg.specs.declared.message.Message.{Message}
-use Rattle.qc_msg.specs.declared.message.Message.TheVariants as messages
 use Rattle.qc_msg.specs.declared.message.Outcome.{Outcome}
 use Rattle.qc_msg.specs.declared.message.Outcome.TheVariants as outcomes
 use Rattle.qc_msg.specs.declared.record.Record.{Record}
-use Rattle.qc_msg.specs.declared.record.Record.TheVariants as records
 use Rattle.qc_msg.specs.declared.reply.Reply.{Reply}
 use Rattle.qc_msg.specs.declared.reply.Reply.TheVariants as replies
 use Rattle.qc_stamp.specs.Vocabulary.{same_tx}
 use Rattle.qc_stamp.specs.declared.stamp.Stamp.{Stamp}
 use Rattle.qc_stamp.specs.declared.stamp.TxId.{TxId}
+use Rattle.qc_entry.specs.declared.record.Commit.{Commit}
 
 pub data Status : Type 0 where
   Unborn : Status
@@ -32,13 +33,8 @@ given_up Dead = Dead
 -- is told that it has ended
 
 abbrev pub status_written : TxId → Status → Record → Status
-status_written tx s records.Life = s
-status_written tx s (records.Prepare prepared) = s
-status_written tx s (records.Done other clock) = s
-status_written tx s (records.Close epoch) = s
-status_written tx s (records.Install epoch clock lines) = s
-status_written tx s (records.Commit c) = if same_tx c.tx tx then Committed c.stamp else s
-status_written tx s (records.Decide epoch clock lines) = s
+status_written tx s written =
+    option_map_or (λ (c : Commit). if same_tx c.tx tx then Committed c.stamp else s) (commit_of written) s
 
 abbrev pub status_decided : TxId → Status → TxId → Outcome → Status
 status_decided tx s other (outcomes.Committed stamp) = s
@@ -46,34 +42,12 @@ status_decided tx s other outcomes.Aborted = if same_tx other tx then given_up s
 status_decided tx s other outcomes.Active = s
 
 abbrev pub status_sent : TxId → Status → Message → Status
-status_sent tx s (messages.Request other epoch life want) = s
-status_sent tx s (messages.Answer to answer) = s
-status_sent tx s (messages.Decision other verdict) = status_decided tx s other verdict
-status_sent tx s (messages.Inquiry other) = s
-status_sent tx s (messages.Ask other) = s
-status_sent tx s (messages.Close epoch) = s
-status_sent tx s (messages.Install epoch clock log) = s
+status_sent tx s message = option_map_or (λ (v : Decided). status_decided tx s v.tx v.verdict) (decision_in message) s
 
 abbrev pub status_told : TxId → Status → Reply → Status
-status_told tx s replies.Down = s
-status_told tx s (replies.Already other) = s
-status_told tx s (replies.Began other) = if same_tx other tx then Begun else s
-status_told tx s replies.NoTransaction = s
-status_told tx s replies.Doomed = s
-status_told tx s replies.TooLong = s
-status_told tx s (replies.Closed epoch site) = s
-status_told tx s (replies.Conflict holder site) = s
-status_told tx s (replies.Quorum half got need) = s
-status_told tx s replies.Absent = s
-status_told tx s (replies.Response resp) = s
-status_told tx s (replies.Aborted why) = given_up s
-status_told tx s replies.Unknown = s
-status_told tx s (replies.Committed stamp) = s
-status_told tx s replies.Dropped = given_up s
-status_told tx s (replies.Order current) = s
-status_told tx s (replies.InDoubt holder site) = s
-status_told tx s replies.Fault = s
-status_told tx s (replies.Moved closed installed) = s
+status_told tx s reply =
+    option_map_or (λ (other : TxId). if same_tx other tx then Begun else s) (began_in reply)
+    (if is_given_up reply then given_up s else s)
 
 -- a fall decides nothing, since a record may be pending; the rise does: it committed where the records have it, and
 -- else it is given up
@@ -98,23 +72,14 @@ status ds tx = fold (status_at tx) Unborn ds
 -- no record; that it is active only while it is
 
 abbrev pub IsRightRecord : TxId → Status → Record → Type 0
-IsRightRecord tx s records.Life = Unit {0}
-IsRightRecord tx s (records.Prepare prepared) = Unit {0}
-IsRightRecord tx s (records.Done other clock) = Unit {0}
-IsRightRecord tx s (records.Close epoch) = Unit {0}
-IsRightRecord tx s (records.Install epoch clock lines) = Unit {0}
-IsRightRecord tx s (records.Commit c) = same_tx c.tx tx ≡ true → s ≡ Begun
-IsRightRecord tx s (records.Decide epoch clock lines) = Unit {0}
+IsRightRecord tx s written =
+    MatchOption (commit_of written) (Unit {0}) (λ (c : Commit). same_tx c.tx tx ≡ true → s ≡ Begun)
 
 -- a record that a rise gives
 abbrev pub IsRightKept : TxId → Status → Record → Type 0
-IsRightKept tx s records.Life = Unit {0}
-IsRightKept tx s (records.Prepare prepared) = Unit {0}
-IsRightKept tx s (records.Done other clock) = Unit {0}
-IsRightKept tx s (records.Close epoch) = Unit {0}
-IsRightKept tx s (records.Install epoch clock lines) = Unit {0}
-IsRightKept tx s (records.Commit c) = same_tx c.tx tx ≡ true → (s ≡ Begun) ⊎ (s ≡ Committed c.stamp)
-IsRightKept tx s (records.Decide epoch clock lines) = Unit {0}
+IsRightKept tx s written =
+    MatchOption (commit_of written) (Unit {0})
+    (λ (c : Commit). same_tx c.tx tx ≡ true → (s ≡ Begun) ⊎ (s ≡ Committed c.stamp))
 
 abbrev pub AreRightKept : TxId → Status → List Record → Type 0
 AreRightKept tx s kept = Every (IsRightKept tx s) kept
@@ -125,34 +90,17 @@ IsRightVerdict s outcomes.Aborted = (s ≡ Begun) ⊎ (s ≡ Dead)
 IsRightVerdict s outcomes.Active = s ≡ Begun
 
 abbrev pub IsRightMessage : TxId → Status → Message → Type 0
-IsRightMessage tx s (messages.Request other epoch life want) = same_tx other tx ≡ true → s ≡ Begun
-IsRightMessage tx s (messages.Answer to answer) = Unit {0}
-IsRightMessage tx s (messages.Decision other verdict) = same_tx other tx ≡ true → IsRightVerdict s verdict
-IsRightMessage tx s (messages.Inquiry other) = Unit {0}
-IsRightMessage tx s (messages.Ask other) = Unit {0}
-IsRightMessage tx s (messages.Close epoch) = Unit {0}
-IsRightMessage tx s (messages.Install epoch clock log) = Unit {0}
+IsRightMessage tx s message =
+    MatchOption (request_in message)
+    (MatchOption (decision_in message) (Unit {0})
+    (λ (v : Decided). same_tx v.tx tx ≡ true → IsRightVerdict s v.verdict))
+    (λ (q : Requested). same_tx q.tx tx ≡ true → s ≡ Begun)
 
 abbrev pub IsRightReply : TxId → Status → Reply → Type 0
-IsRightReply tx s replies.Down = Unit {0}
-IsRightReply tx s (replies.Already other) = same_tx other tx ≡ true → s ≡ Begun
-IsRightReply tx s (replies.Began other) = same_tx other tx ≡ true → s ≡ Unborn
-IsRightReply tx s replies.NoTransaction = Unit {0}
-IsRightReply tx s replies.Doomed = Unit {0}
-IsRightReply tx s replies.TooLong = Unit {0}
-IsRightReply tx s (replies.Closed epoch site) = Unit {0}
-IsRightReply tx s (replies.Conflict holder site) = Unit {0}
-IsRightReply tx s (replies.Quorum half got need) = Unit {0}
-IsRightReply tx s replies.Absent = Unit {0}
-IsRightReply tx s (replies.Response resp) = Unit {0}
-IsRightReply tx s (replies.Aborted why) = Unit {0}
-IsRightReply tx s replies.Unknown = Unit {0}
-IsRightReply tx s (replies.Committed stamp) = Unit {0}
-IsRightReply tx s replies.Dropped = Unit {0}
-IsRightReply tx s (replies.Order current) = Unit {0}
-IsRightReply tx s (replies.InDoubt holder site) = Unit {0}
-IsRightReply tx s replies.Fault = Unit {0}
-IsRightReply tx s (replies.Moved closed installed) = Unit {0}
+IsRightReply tx s reply =
+    MatchOption (already_in reply)
+    (MatchOption (began_in reply) (Unit {0}) (λ (other : TxId). same_tx other tx ≡ true → s ≡ Unborn))
+    (λ (other : TxId). same_tx other tx ≡ true → s ≡ Begun)
 
 abbrev pub IsRight : TxId → Status → Deed → Type 0
 IsRight tx s (Takes given) = Unit {0}

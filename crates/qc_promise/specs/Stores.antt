@@ -1,12 +1,14 @@
 -- What is known of an actor's store, its journal on its disk: what its own steps make of the journal and of the disk's
 -- account, whatever others do meanwhile.
-use Rattle.std.specs.Prelude.{◌≡◌, ℕ, ◌==◌, Bool, true, false, List, [], ◌∷◌, ◌++◌, fold}
+use Rattle.std.specs.Prelude.{[], MatchOption, ◌≡◌, ℕ, ◌==◌, Bool, true, false, List, ◌∷◌, ◌++◌, fold}
+use Rattle.std.specs.Option.{option_map_or}
 use Rattle.std.specs.List.{AllByRecursion as Every}
-use Rattle.qc_msg.specs.Vocabulary.{Entry, own}
+use Rattle.qc_msg.specs.Vocabulary.{Entry, own, Arming, armed_in, damaged_in, rose_in}
 use Rattle.qc_msg.specs.declared.step.Step.{Step}
 use Rattle.qc_msg.specs.declared.step.Step.TheVariants as steps
 use Rattle.qc_promise.specs.DiskAccount.{DiskAccount, IsEverInTime, IsInTime, disk_account, disk_account_with}
 use Rattle.qc_promise.specs.Kept.{IsGivenBack, IsKeptAt, Journal, journal_of, journal_with}
+use Rattle.qc_msg.specs.declared.record.Record.{Record}
 
 -- an actor's own steps keep its records
 abbrev pub AreKept : List Step → Type 0
@@ -14,19 +16,7 @@ AreKept own = (before later : List Step) (s : Step) → before ++ s ∷ later �
 
 -- whether a step arms a fault for actor a's disk
 abbrev pub arms_disk : ℕ → Step → Bool
-arms_disk a (steps.Phase number) = false
-arms_disk a (steps.Cut x y) = false
-arms_disk a (steps.Heal x y) = false
-arms_disk a (steps.Armed b kind at) = b == a
-arms_disk a (steps.Called command) = false
-arms_disk a (steps.Got number) = false
-arms_disk a (steps.Lost number) = false
-arms_disk a (steps.Wrote written) = false
-arms_disk a (steps.Sent number to message) = false
-arms_disk a (steps.Told reply) = false
-arms_disk a (steps.Fell cause pending) = false
-arms_disk a (steps.Rose records) = false
-arms_disk a (steps.Damaged offset) = false
+arms_disk a step = option_map_or (λ (x : Arming). x.actor == a) (armed_in step) false
 
 -- others did this: nothing of it is the actor's, and nothing arms a fault for its disk
 abbrev pub IsOfOthers : ℕ → List Entry → Type 0
@@ -34,19 +24,9 @@ IsOfOthers a h = Every (λ (e : Entry). ((e.actor == a) ≡ false) × (arms_disk
 
 -- whether a step leaves the records of an actor whose journal is this
 abbrev pub IsKeptBy : Journal → Step → Type 0
-IsKeptBy j (steps.Phase number) = Unit {0}
-IsKeptBy j (steps.Cut x y) = Unit {0}
-IsKeptBy j (steps.Heal x y) = Unit {0}
-IsKeptBy j (steps.Armed b kind at) = Unit {0}
-IsKeptBy j (steps.Called command) = Unit {0}
-IsKeptBy j (steps.Got number) = Unit {0}
-IsKeptBy j (steps.Lost number) = Unit {0}
-IsKeptBy j (steps.Wrote written) = Unit {0}
-IsKeptBy j (steps.Sent number to message) = Unit {0}
-IsKeptBy j (steps.Told reply) = Unit {0}
-IsKeptBy j (steps.Fell cause pending) = Unit {0}
-IsKeptBy j (steps.Rose records) = IsGivenBack j records
-IsKeptBy j (steps.Damaged offset) = ⊥
+IsKeptBy j step =
+    MatchOption (rose_in step) (MatchOption (damaged_in step) (Unit {0}) (λ (x : ℕ). ⊥))
+    (λ (records : List Record). IsGivenBack j records)
 
 -- each of an actor's next steps leaves its records, where its disk tells, and no fault waits past its call after it
 abbrev pub AreStoreSteps : Bool → ℕ → Journal → DiskAccount → List Step → Type 0
@@ -71,16 +51,6 @@ pub record IsStoreOf (tells : Bool) (a : ℕ) (h : List Entry) (j : Journal) (t 
 
 -- whether a step leaves the records of an actor with these steps before it, or finds damage where a record doesn't fit
 abbrev pub IsKeptOrUnfit : Bool → List Step → Step → Type 0
-IsKeptOrUnfit fit before (steps.Phase number) = Unit {0}
-IsKeptOrUnfit fit before (steps.Cut x y) = Unit {0}
-IsKeptOrUnfit fit before (steps.Heal x y) = Unit {0}
-IsKeptOrUnfit fit before (steps.Armed b kind at) = Unit {0}
-IsKeptOrUnfit fit before (steps.Called command) = Unit {0}
-IsKeptOrUnfit fit before (steps.Got number) = Unit {0}
-IsKeptOrUnfit fit before (steps.Lost number) = Unit {0}
-IsKeptOrUnfit fit before (steps.Wrote written) = Unit {0}
-IsKeptOrUnfit fit before (steps.Sent number to message) = Unit {0}
-IsKeptOrUnfit fit before (steps.Told reply) = Unit {0}
-IsKeptOrUnfit fit before (steps.Fell cause pending) = Unit {0}
-IsKeptOrUnfit fit before (steps.Rose records) = IsGivenBack (journal_of before) records
-IsKeptOrUnfit fit before (steps.Damaged offset) = fit ≡ false
+IsKeptOrUnfit fit before step =
+    MatchOption (rose_in step) (MatchOption (damaged_in step) (Unit {0}) (λ (x : ℕ). fit ≡ false))
+    (λ (records : List Record). IsGivenBack (journal_of before) records)

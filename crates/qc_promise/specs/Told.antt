@@ -1,11 +1,10 @@
 -- What clients were told of their transactions' ends, and in them, agrees with the commit records.
-use Rattle.std.specs.Prelude.{◌≡◌, ◌≢◌, ◌⊎◌, ℕ, ◌<◌, List}
+use Rattle.std.specs.Prelude.{MatchOption, ◌≡◌, ◌≢◌, ◌⊎◌, ℕ, ◌<◌, List}
 use Rattle.qc_decl.specs.declared.declaration.Declaration.{Declaration}
 use Rattle.qc_entry.specs.declared.record.Commit.{Commit}
 use Rattle.qc_list.specs.Vocabulary.{In}
-use Rattle.qc_msg.specs.Vocabulary.{Entry}
+use Rattle.qc_msg.specs.Vocabulary.{Entry, Decided, decision_in}
 use Rattle.qc_msg.specs.declared.message.Message.{Message}
-use Rattle.qc_msg.specs.declared.message.Message.TheVariants as messages
 use Rattle.qc_msg.specs.declared.message.Outcome.{Outcome}
 use Rattle.qc_msg.specs.declared.message.Outcome.TheVariants as outcomes
 use Rattle.qc_msg.specs.declared.reply.Reply.TheVariants.{Aborted, Committed, Dropped, Unknown}
@@ -45,10 +44,5 @@ VerdictAgrees commits tx outcomes.Aborted = (c : Commit) → In c commits → c.
 VerdictAgrees commits tx outcomes.Active = Unit {0}
 
 abbrev pub DecisionAgrees : List Commit → Message → Type 0
-DecisionAgrees commits (messages.Request tx epoch life want) = Unit {0}
-DecisionAgrees commits (messages.Answer to answer) = Unit {0}
-DecisionAgrees commits (messages.Decision tx verdict) = VerdictAgrees commits tx verdict
-DecisionAgrees commits (messages.Inquiry tx) = Unit {0}
-DecisionAgrees commits (messages.Ask tx) = Unit {0}
-DecisionAgrees commits (messages.Close epoch) = Unit {0}
-DecisionAgrees commits (messages.Install epoch clock log) = Unit {0}
+DecisionAgrees commits message =
+    MatchOption (decision_in message) (Unit {0}) (λ (v : Decided). VerdictAgrees commits v.tx v.verdict)

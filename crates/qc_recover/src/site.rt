@@ -15,7 +15,7 @@ use qc_decl::Declaration;
 use qc_list::{List, OutOfMemory};
 use qc_lock::Locks;
 use qc_msg::{Message, Posting, Record, Sends, Turn};
-use qc_site::{Promises, Site, held_by};
+use qc_site::{Promises, RisenState, Site, held_by};
 use std::alloc::Global;
 
 /// A site that has risen, and its rising turn.
@@ -68,20 +68,17 @@ fn site_by(alloc: Global, number: u8, kept: SiteRecords) -> Result<Site, OutOfMe
     ensures { IfOk result (λ site. site ≡ site_by number kept) }
 {
     let held = held_by(alloc, &kept.promises)?;
-    let SiteRecords {
-        life,
-        epoch,
-        closed_for,
-        began,
-        lines,
-        prepares: _,
-        promises,
-        clock,
-    } = kept;
-    let lines = lines.into_log(alloc)?;
-    Site::risen(
-        number, life, epoch, closed_for, began, lines, held, promises, clock,
-    )
+    let state = RisenState {
+        life: kept.life,
+        epoch: kept.epoch,
+        closed_for: kept.closed_for,
+        began: kept.began,
+        lines: kept.lines.into_log(alloc)?,
+        held,
+        prepared: kept.promises,
+        clock: kept.clock,
+    };
+    Site::risen(number, state)
 }
 
 /// At most so many questions go out at a rise.

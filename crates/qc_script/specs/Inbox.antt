@@ -1,7 +1,7 @@
 -- What waits for an actor after a history: copies of messages, requests of its own that are lost, and commands. Links
 -- drop, repeat and delay messages; a fall takes away what waits for the actor that falls, and each request to it that
 -- has no answer is lost.
-use Rattle.std.specs.Prelude.{ℕ, ◌+◌, ◌-◌, ◌==◌, ◌&&◌, Bool, true, false, not, if◌then◌else◌, List, [], ◌∷◌, ◌++◌, drop}
+use Rattle.std.specs.Prelude.{[], ℕ, ◌+◌, ◌-◌, ◌==◌, ◌&&◌, Bool, true, false, not, if◌then◌else◌, List, ◌∷◌, ◌++◌, drop}
 use Rattle.std.specs.Prelude.{filter, fold, get_or, map, replicate, set, slice_get}
 use Rattle.std.specs.Option.{option_map_or}
 use Rattle.qc_link.specs.Vocabulary.{fate, most_actors, no_cuts, with_cut, without_cut}
@@ -18,7 +18,7 @@ use Rattle.qc_msg.specs.declared.step.Fall.{Fall}
 use Rattle.qc_msg.specs.declared.step.Fall.TheVariants as causes
 use Rattle.qc_msg.specs.declared.step.Step.{Step}
 use Rattle.qc_msg.specs.declared.step.Step.TheVariants as steps
-use Rattle.qc_msg.specs.Vocabulary.{Entry}
+use Rattle.qc_msg.specs.Vocabulary.{Entry, Answered, answer_in, wants_answer}
 use Rattle.qc_script.specs.Requests.{SentRequest, has_request, requests_to, requests_to_others, with_lost, with_number}
 use Rattle.qc_script.specs.Requests.{without_request}
 use Rattle.qc_script.specs.declared.script.CommandLine.{CommandLine}
@@ -131,13 +131,7 @@ request_answered i number f =
     else i
 
 abbrev pub answers_by : Inbox → Message → Fate → Inbox
-answers_by i (messages.Request tx epoch life want) f = i
-answers_by i (messages.Answer to answer) f = request_answered i to f
-answers_by i (messages.Decision tx verdict) f = i
-answers_by i (messages.Inquiry tx) f = i
-answers_by i (messages.Ask tx) f = i
-answers_by i (messages.Close epoch) f = i
-answers_by i (messages.Install epoch clock log) f = i
+answers_by i message f = option_map_or (λ (a : Answered). request_answered i a.to f) (answer_in message) i
 
 abbrev pub comes_with : Bool → Inbox → Envelope → Fate → Inbox
 comes_with up i e f = answers_by (with_copies up i e f) e.message f
@@ -146,13 +140,7 @@ comes_with up i e f = answers_by (with_copies up i e f) e.message f
 -- actor that is down
 
 abbrev pub is_request : Message → Bool
-is_request (messages.Request tx epoch life want) = true
-is_request (messages.Answer to answer) = false
-is_request (messages.Decision tx verdict) = false
-is_request (messages.Inquiry tx) = false
-is_request (messages.Ask tx) = true
-is_request (messages.Close epoch) = true
-is_request (messages.Install epoch clock log) = true
+is_request m = wants_answer m
 
 abbrev pub request_sent : Inbox → ℕ → ℕ → Fate → Inbox
 request_sent i number to f =

@@ -1,17 +1,17 @@
 -- What every script that is read has: its actors, objects and invocations are declared, and its numbers are in range.
-use Rattle.std.specs.Prelude.{◌≡◌, ◌≢◌, ℕ, ◌≤◌, IsTrue, List, length, Option, Some, None}
+use Rattle.std.specs.Prelude.{MatchOption, ◌≡◌, ◌≢◌, ℕ, ◌≤◌, IsTrue, List, length, Option, Some, None}
 use Rattle.std.specs.List.{AllByRecursion as Every}
 use Rattle.qc_decl.specs.Vocabulary.{administrator, inv_named, is_client, object_named}
 use Rattle.qc_decl.specs.declared.declaration.Declaration.{Declaration}
 use Rattle.qc_link.specs.declared.plan.Link.{Link}
 use Rattle.qc_msg.specs.declared.step.Command.{Command}
-use Rattle.qc_msg.specs.declared.step.Command.TheVariants.{Begin, Do, Commit, Abort, Epoch}
 use Rattle.qc_msg.specs.declared.step.Control.{Control}
 use Rattle.qc_msg.specs.declared.step.Control.TheVariants.{Phase, Cut, Heal, Armed, Crash, Restart}
 use Rattle.qc_script.specs.Ranges.{most_number}
 use Rattle.qc_script.specs.declared.script.CommandLine.{CommandLine}
 use Rattle.qc_script.specs.declared.script.PhaseLines.{PhaseLines}
 use Rattle.qc_script.specs.declared.script.Script.{Script}
+use Rattle.qc_msg.specs.Vocabulary.{Invocation, do_in, epoch_in}
 
 -- a site, a client or the administrator
 abbrev pub IsActor : Declaration → ℕ → Type 0
@@ -51,12 +51,11 @@ IsInv decl object inv = (name : List ℕ) × (inv_named decl object name ≡ Som
 
 -- who may be asked what
 abbrev pub IsAskedFor : Declaration → ℕ → Command → Type 0
-IsAskedFor decl actor Begin = IsTrue (is_client decl actor)
-IsAskedFor decl actor (Do object inv) =
-    IsTrue (is_client decl actor) × IsObject decl object × IsInv decl object inv
-IsAskedFor decl actor Commit = IsTrue (is_client decl actor)
-IsAskedFor decl actor Abort = IsTrue (is_client decl actor)
-IsAskedFor decl actor (Epoch number) = (actor ≡ administrator decl) × (2 ≤ number) × (number ≤ length decl.plans)
+IsAskedFor decl actor command =
+    MatchOption (do_in command)
+    (MatchOption (epoch_in command) (IsTrue (is_client decl actor))
+    (λ (number : ℕ). (actor ≡ administrator decl) × (2 ≤ number) × (number ≤ length decl.plans)))
+    (λ (i : Invocation). IsTrue (is_client decl actor) × IsObject decl i.object × IsInv decl i.object i.inv)
 
 abbrev pub IsCommandFor : Declaration → CommandLine → Type 0
 IsCommandFor decl line = IsAskedFor decl line.actor line.command

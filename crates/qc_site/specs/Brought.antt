@@ -1,19 +1,20 @@
 -- What a message brings to a site: stamps that the clock passes, and lines that join the log.
-use Rattle.std.specs.Prelude.{Bool, if◌then◌else◌, List, [], ◌∷◌, map, Option, Some, None}
+use Rattle.std.specs.Prelude.{[], Bool, if◌then◌else◌, List, ◌∷◌, map, Option, Some, None}
+use Rattle.std.specs.Option.{option_map_or}
 use Rattle.std.specs.List.{flat_map}
 use Rattle.qc_stamp.specs.declared.stamp.Stamp.{Stamp}
 use Rattle.qc_stamp.specs.declared.stamp.TxId.{TxId}
 use Rattle.qc_entry.specs.declared.line.Line.{Line}
 use Rattle.qc_entry.specs.declared.record.Prepared.{Prepared}
 use Rattle.qc_msg.specs.declared.message.Message.{Message}
-use Rattle.qc_msg.specs.declared.message.Message.TheVariants as messages
 use Rattle.qc_msg.specs.declared.message.Outcome.{Outcome}
 use Rattle.qc_msg.specs.declared.message.Outcome.TheVariants.{Committed, Aborted, Active}
 use Rattle.qc_msg.specs.declared.message.Want.{Want}
 use Rattle.qc_msg.specs.declared.message.Want.TheVariants.{Read, Append, Prepare}
 use Rattle.qc_msg.specs.declared.step.Input.{Input}
 use Rattle.qc_msg.specs.declared.step.Input.TheVariants as inputs
-use Rattle.qc_msg.specs.Vocabulary.{Deed, Falls, Rises, Sends, Takes, Tells, Writes}
+use Rattle.qc_msg.specs.Vocabulary.{Deed, Falls, Rises, Sends, Takes, Tells, Writes, Decided, Installing, Requested}
+use Rattle.qc_msg.specs.Vocabulary.{decision_in, installing_in, request_in}
 use Rattle.qc_site.specs.Promise.{lines_of, prepared_of}
 
 -- the view that a request carries
@@ -33,13 +34,10 @@ stamps_told Aborted = []
 stamps_told Active = []
 
 abbrev pub stamps_in : Message → List Stamp
-stamps_in (messages.Request tx epoch life want) = stamps_of (view_in want)
-stamps_in (messages.Answer to answer) = []
-stamps_in (messages.Decision tx verdict) = stamps_told verdict
-stamps_in (messages.Inquiry tx) = []
-stamps_in (messages.Ask tx) = []
-stamps_in (messages.Close epoch) = []
-stamps_in (messages.Install epoch clock lines) = stamps_of lines
+stamps_in message =
+    option_map_or (λ (q : Requested). stamps_of (view_in q.want)) (request_in message)
+    (option_map_or (λ (v : Decided). stamps_told v.verdict) (decision_in message)
+    (option_map_or (λ (i : Installing). stamps_of i.lines) (installing_in message) []))
 
 abbrev pub stamps_given : Input → List Stamp
 stamps_given (inputs.Called command) = []
@@ -71,10 +69,6 @@ lines_told prepared tx Aborted = []
 lines_told prepared tx Active = []
 
 abbrev pub brought : List Prepared → Bool → Message → List Line
-brought prepared granted (messages.Request tx epoch life want) = if granted then view_in want else []
-brought prepared granted (messages.Answer to answer) = []
-brought prepared granted (messages.Decision tx verdict) = lines_told prepared tx verdict
-brought prepared granted (messages.Inquiry tx) = []
-brought prepared granted (messages.Ask tx) = []
-brought prepared granted (messages.Close epoch) = []
-brought prepared granted (messages.Install epoch clock log) = []
+brought prepared granted message =
+    option_map_or (λ (q : Requested). if granted then view_in q.want else []) (request_in message)
+    (option_map_or (λ (v : Decided). lines_told prepared v.tx v.verdict) (decision_in message) [])

@@ -1,4 +1,5 @@
 -- What a site becomes and does for each input, and over all its deeds.
+use Rattle.std.specs.Option.{option_map_or}
 use Rattle.std.specs.Prelude.{ℕ, max, if◌then◌else◌, List, fold}
 use Rattle.qc_stamp.specs.declared.stamp.TxId.{TxId}
 use Rattle.qc_entry.specs.declared.line.Line.{Line}
@@ -11,7 +12,8 @@ use Rattle.qc_msg.specs.declared.message.Want.{Want}
 use Rattle.qc_msg.specs.declared.message.Want.TheVariants.{Read, Append, Prepare}
 use Rattle.qc_msg.specs.declared.step.Input.{Input}
 use Rattle.qc_msg.specs.declared.step.Input.TheVariants as inputs
-use Rattle.qc_msg.specs.Vocabulary.{Deed, Falls, Rises, Sends, Takes, Tells, Writes, quiet}
+use Rattle.qc_msg.specs.Vocabulary.{Deed, Falls, Rises, Sends, Takes, Tells, Writes, quiet, Decided, Installing}
+use Rattle.qc_msg.specs.Vocabulary.{Requested, decision_in, installing_in, request_in}
 use Rattle.qc_site.specs.Site.{SiteState, SiteMove, moved, new_site}
 use Rattle.qc_site.specs.Epochs.{closes, installs}
 use Rattle.qc_site.specs.Promise.{finishes}
@@ -33,13 +35,10 @@ clock_told clock Aborted = clock
 clock_told clock Active = clock
 
 abbrev pub clock_after : ℕ → Message → ℕ
-clock_after clock (messages.Request tx epoch life want) = clock_asked clock want
-clock_after clock (messages.Answer to answer) = clock
-clock_after clock (messages.Decision tx verdict) = clock_told clock verdict
-clock_after clock (messages.Inquiry tx) = clock
-clock_after clock (messages.Ask tx) = clock
-clock_after clock (messages.Close epoch) = clock
-clock_after clock (messages.Install epoch installed lines) = latest clock lines
+clock_after clock message =
+    option_map_or (λ (q : Requested). clock_asked clock q.want) (request_in message)
+    (option_map_or (λ (v : Decided). clock_told clock v.verdict) (decision_in message)
+    (option_map_or (λ (i : Installing). latest clock i.lines) (installing_in message) clock))
 
 -- what the site does for a message once its clock has passed. Nobody sends it an answer, an Inquiry or an Ask
 abbrev pub site_at : Declaration → SiteState → ℕ → ℕ → Message → SiteMove

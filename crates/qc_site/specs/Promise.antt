@@ -20,7 +20,7 @@ use Rattle.qc_msg.specs.declared.turn.Appended.TheVariants.{Done}
 use Rattle.qc_msg.specs.declared.turn.Turn.{Turn}
 pub use Rattle.qc_msg.specs.Lengths.{prepare_length}
 use Rattle.qc_msg.specs.Vocabulary.{quiet}
-use Rattle.qc_site.specs.Site.{SiteState, SiteMove, moved, answers, recording}
+use Rattle.qc_site.specs.Site.{SiteState, SiteMove, learned, moved, answers, recording}
 
 -- what the site would promise: all that the transaction holds, and the lines that no record gives yet
 abbrev pub promise_of : SiteState → TxId → Prepared
@@ -95,9 +95,9 @@ records_done tx stamp =
 abbrev pub joins : SiteState → TxId → Stamp → Option Prepared → SiteMove
 joins s tx stamp None = moved (dropped s tx) quiet
 joins s tx stamp (Some p) =
-    let lines : List Line = without (lines_of stamp tx p.own) s.began in
+    let lines : List Line = lines_of stamp tx p.own in
     moved
-    (record (dropped s tx) { log = union s.log lines; recorded = union s.recorded lines })
+    (record (dropped s tx) { log = learned s lines; recorded = union s.recorded (without lines s.began) })
     (records_done tx stamp)
 
 -- a Decision

@@ -1,14 +1,14 @@
 -- What is in order at a site: its lines, all that is held, and each promise.
-use Rattle.std.specs.Prelude.{List, [], ◌∷◌}
+use Rattle.std.specs.Prelude.{[], MatchOption, List, ◌∷◌}
 use Rattle.qc_list.specs.Vocabulary.{Ascends}
 use Rattle.qc_entry.specs.declared.record.Prepared.{Prepared}
 use Rattle.qc_entry.specs.Vocabulary.{IsAscending}
 use Rattle.qc_lock.specs.Vocabulary.{IsSound, lock_cmp, own_cmp}
 use Rattle.qc_msg.specs.declared.message.Message.{Message}
-use Rattle.qc_msg.specs.declared.message.Message.TheVariants as messages
 use Rattle.qc_msg.specs.declared.step.Input.{Input}
 use Rattle.qc_msg.specs.declared.step.Input.TheVariants as inputs
-use Rattle.qc_msg.specs.Vocabulary.{Deed, Falls, Rises, Sends, Takes, Tells, Writes}
+use Rattle.qc_msg.specs.Vocabulary.{Deed, Falls, Rises, Sends, Takes, Tells, Writes, Installing, Requested}
+use Rattle.qc_msg.specs.Vocabulary.{installing_in, request_in}
 use Rattle.qc_site.specs.Brought.{view_in}
 use Rattle.qc_site.specs.Site.{SiteState}
 
@@ -28,13 +28,10 @@ pub record IsSiteSorted (s : SiteState) : Type 0 where
 -- the lines that a message brings, and each that was taken
 
 abbrev pub IsMessageSorted : Message → Type 0
-IsMessageSorted (messages.Request tx epoch life want) = IsAscending (view_in want)
-IsMessageSorted (messages.Answer to answer) = Unit {0}
-IsMessageSorted (messages.Decision tx verdict) = Unit {0}
-IsMessageSorted (messages.Inquiry tx) = Unit {0}
-IsMessageSorted (messages.Ask tx) = Unit {0}
-IsMessageSorted (messages.Close epoch) = Unit {0}
-IsMessageSorted (messages.Install epoch clock lines) = IsAscending lines
+IsMessageSorted message =
+    MatchOption (request_in message)
+    (MatchOption (installing_in message) (Unit {0}) (λ (i : Installing). IsAscending i.lines))
+    (λ (q : Requested). IsAscending (view_in q.want))
 
 abbrev pub IsGivenSorted : Input → Type 0
 IsGivenSorted (inputs.Called command) = Unit {0}

@@ -1,5 +1,5 @@
 -- What a turn answers, the answer in its first message, and what it writes of epochs.
-use Rattle.std.specs.Prelude.{Bool, true, false, List, [], ◌∷◌, Option, Some, None, is_some}
+use Rattle.std.specs.Prelude.{[], Bool, true, false, List, ◌∷◌, Option, Some, None, is_some}
 use Rattle.std.specs.Option.{option_map_or}
 use Rattle.qc_msg.specs.declared.message.Answer.{Answer}
 use Rattle.qc_msg.specs.declared.message.Answer.TheVariants as answers
@@ -8,7 +8,7 @@ use Rattle.qc_msg.specs.declared.message.Message.TheVariants as messages
 use Rattle.qc_msg.specs.declared.record.Record.{Record}
 use Rattle.qc_msg.specs.declared.turn.Posting.{Posting}
 use Rattle.qc_msg.specs.declared.turn.Turn.{Turn}
-use Rattle.qc_msg.specs.Vocabulary.{close_in, install_in}
+use Rattle.qc_msg.specs.Vocabulary.{close_in, install_in, Answered, granted_in, promised_in}
 
 abbrev pub answer_in : Message → Option Answer
 answer_in (messages.Request tx epoch life want) = None
@@ -29,17 +29,7 @@ answer_of turn = first_answer turn.sends
 -- whether an answer grants, and whether it refuses what was asked
 
 abbrev pub is_grant : Answer → Bool
-is_grant (answers.Granted life clock log) = true
-is_grant (answers.Clash holder inv event) = false
-is_grant (answers.Closed epoch) = false
-is_grant (answers.Behind epoch) = false
-is_grant (answers.Restarted life) = false
-is_grant answers.Stale = false
-is_grant answers.Fault = false
-is_grant (answers.Yes clock) = false
-is_grant (answers.Shut clock log prepared) = false
-is_grant answers.Installed = false
-is_grant (answers.Answered verdict) = false
+is_grant answer = is_some (granted_in answer)
 
 abbrev pub is_refusal : Answer → Bool
 is_refusal (answers.Granted life clock log) = false
@@ -55,17 +45,7 @@ is_refusal answers.Installed = false
 is_refusal (answers.Answered verdict) = false
 
 abbrev pub is_vote : Answer → Bool
-is_vote (answers.Granted life clock log) = false
-is_vote (answers.Clash holder inv event) = false
-is_vote (answers.Closed epoch) = false
-is_vote (answers.Behind epoch) = false
-is_vote (answers.Restarted life) = false
-is_vote answers.Stale = false
-is_vote answers.Fault = false
-is_vote (answers.Yes clock) = true
-is_vote (answers.Shut clock log prepared) = false
-is_vote answers.Installed = false
-is_vote (answers.Answered verdict) = false
+is_vote answer = is_some (promised_in answer)
 
 -- whether there is an answer that passes a test
 abbrev pub passes : (Answer → Bool) → Option Answer → Bool

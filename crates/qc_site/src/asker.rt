@@ -5,6 +5,7 @@ ghost use Rattle.qc_site.specs.Site.{answering, answers, recording};
 
 use qc_list::OutOfMemory;
 use qc_msg::{Answer, Appended, Message, Posting, Record, Sends, Turn};
+use qc_stamp::TxId;
 use std::alloc::Global;
 
 /// The sender of a request, with the request's number.
@@ -14,6 +15,15 @@ pub(crate) struct Asker {
     pub(crate) from: u8,
     /// The request's number.
     pub(crate) number: u32,
+}
+
+/// A transaction that asks for something by a request.
+#[derive(Clone, Copy)]
+pub(crate) struct Requester {
+    /// Who sends the request, and its number.
+    pub(crate) asker: Asker,
+    /// The transaction.
+    pub(crate) tx: TxId,
 }
 
 impl Asker {

@@ -12,14 +12,13 @@ ghost use Rattle.qc_site.specs.Requests.{appends_by, clashing, grants, names_dec
 ghost use Rattle.qc_site.specs.Site.{moved};
 
 use crate::Site;
-use crate::asker::Asker;
+use crate::asker::{Asker, Requester};
 use crate::requests::kind_of;
 use qc_decl::Declaration;
 use qc_entry::{Line, Log, Owns};
 use qc_list::OutOfMemory;
 use qc_lock::{Clash, LockFault};
 use qc_msg::{Answer, Message, Posting, Turn, Want};
-use qc_stamp::TxId;
 use std::alloc::{AllocError, Global};
 
 impl Site {
@@ -29,23 +28,22 @@ impl Site {
         &mut self,
         alloc: Global,
         decl: &Declaration,
-        asker: Asker,
-        tx: TxId,
+        requester: Requester,
         want: &Want,
     ) -> Result<Turn, OutOfMemory>
         requires sites { decl.now.sites ≤ most_sites }
         requires clients { decl.now.clients ≤ most_clients }
-        requires declared { names_declared decl.now tx want.now ≡ true }
-        ensures ok { IfOk result (λ turn. grants decl.now self.old asker.from asker.number tx want.now
+        requires declared { names_declared decl.now requester.tx want.now ≡ true }
+        ensures ok { IfOk result (λ turn. grants decl.now self.old requester.asker.from requester.asker.number requester.tx want.now
             ≡ record { site = self.new; turn = turn }) }
         ensures err { OnErr result (self.new ≡ self.old) }
     {
         match want {
-            Want::Read { object, inv } => self.read(alloc, decl, asker, tx, *object, *inv),
+            Want::Read { object, inv } => self.read(alloc, decl, requester, *object, *inv),
             Want::Append { object, view, own } => {
-                self.append(alloc, decl, asker, tx, *object, view, own)
+                self.append(alloc, decl, requester, *object, view, own)
             }
-            Want::Prepare => self.prepare(alloc, asker, tx),
+            Want::Prepare => self.prepare(alloc, requester.asker, requester.tx),
         }
     }
 
@@ -54,19 +52,19 @@ impl Site {
         &mut self,
         alloc: Global,
         decl: &Declaration,
-        asker: Asker,
-        tx: TxId,
+        requester: Requester,
         object: u8,
         inv: u8,
     ) -> Result<Turn, OutOfMemory>
         requires sites { decl.now.sites ≤ most_sites }
-        requires client { tx.client < most_clients }
+        requires client { requester.tx.client < most_clients }
         requires declared { IsSome (kind_at decl.now object) }
-        ensures ok { IfOk result (λ turn. reads_by decl.now self.old asker.from asker.number tx object inv
-            (read_clash (relation_at decl.now object) self.old.held tx object inv)
+        ensures ok { IfOk result (λ turn. reads_by decl.now self.old requester.asker.from requester.asker.number requester.tx object inv
+            (read_clash (relation_at decl.now object) self.old.held requester.tx object inv)
             ≡ record { site = self.new; turn = turn }) }
         ensures err { OnErr result (self.new ≡ self.old) }
     {
+        let Requester { asker, tx } = requester;
         let kind = kind_of(decl, object).unwrap();
         let turn = asker.answered(alloc, self.granted(self.known_of(object)?))?;
         match self.held.try_read(kind, tx, object, inv) {
@@ -82,20 +80,20 @@ impl Site {
         &mut self,
         alloc: Global,
         decl: &Declaration,
-        asker: Asker,
-        tx: TxId,
+        requester: Requester,
         object: u8,
         view: &Log,
         own: &Owns,
     ) -> Result<Turn, OutOfMemory>
         requires sites { decl.now.sites ≤ most_sites }
-        requires client { tx.client < most_clients }
+        requires client { requester.tx.client < most_clients }
         requires declared { IsSome (kind_at decl.now object) }
-        ensures ok { IfOk result (λ turn. appends_by decl.now self.old asker.from asker.number tx view.now own.now
-            (append_clash (relation_at decl.now object) self.old.held tx own.now)
+        ensures ok { IfOk result (λ turn. appends_by decl.now self.old requester.asker.from requester.asker.number requester.tx view.now own.now
+            (append_clash (relation_at decl.now object) self.old.held requester.tx own.now)
             ≡ record { site = self.new; turn = turn }) }
         ensures err { OnErr result (self.new ≡ self.old) }
     {
+        let Requester { asker, tx } = requester;
         let kind = kind_of(decl, object).unwrap();
         let turn = asker.answered(alloc, self.granted(Log::new(alloc)?))?;
         let log = self.learned(view)?;

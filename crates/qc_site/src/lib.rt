@@ -41,4 +41,4 @@ pub use laws::{
     requests_are_answered_by_rows, sites_stay_sorted, votes_are_backed, what_is_held_stays,
 };
 pub use promises::Promises;
-pub use site::Site;
+pub use site::{RisenState, Site};

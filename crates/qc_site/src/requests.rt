@@ -10,7 +10,7 @@ ghost use Rattle.qc_site.specs.Requests.{requested};
 ghost use Rattle.qc_site.specs.Site.{moved};
 
 use crate::Site;
-use crate::asker::Asker;
+use crate::asker::Requester;
 use qc_decl::Declaration;
 use qc_list::OutOfMemory;
 use qc_msg::{Answer, Turn, Want};
@@ -26,24 +26,23 @@ impl Site {
         &mut self,
         alloc: Global,
         decl: &Declaration,
-        asker: Asker,
-        tx: TxId,
+        requester: Requester,
         want: &Want,
         fault: Option<Answer>,
     ) -> Result<Turn, OutOfMemory>
         requires sites { decl.now.sites ≤ most_sites }
         requires clients { decl.now.clients ≤ most_clients }
-        ensures ok { IfOk result (λ turn. (if names_declared decl.now tx want.now
-            then requested decl.now self.old asker.from asker.number tx want.now fault
+        ensures ok { IfOk result (λ turn. (if names_declared decl.now requester.tx want.now
+            then requested decl.now self.old requester.asker.from requester.asker.number requester.tx want.now fault
             else moved self.old quiet) ≡ record { site = self.new; turn = turn }) }
         ensures err { OnErr result (self.new ≡ self.old) }
     {
-        if !names_declared(decl, tx, want) {
+        if !names_declared(decl, requester.tx, want) {
             return Ok(Turn::quiet(alloc));
         }
         match fault {
-            Some(fault) => asker.answered(alloc, fault),
-            None => self.grant(alloc, decl, asker, tx, want),
+            Some(fault) => requester.asker.answered(alloc, fault),
+            None => self.grant(alloc, decl, requester, want),
         }
     }
 

@@ -7,7 +7,7 @@ ghost use Rattle.qc_site.specs.Promise.{dropped};
 ghost use Rattle.qc_site.specs.Holders.{AreByClients, AreOfClients};
 ghost use Rattle.qc_site.specs.Site.{new_site};
 
-use crate::asker::Asker;
+use crate::asker::{Asker, Requester};
 use crate::clock::clock_after;
 use crate::promises::Promises;
 use qc_decl::Declaration;
@@ -18,6 +18,27 @@ use qc_msg::{FIRST_EPOCH, Message, Turn};
 use qc_stamp::{Clock, FIRST_LIFE};
 use std::alloc::Global;
 use std::marker::Model;
+
+/// What a site's records give as it rises.
+#[derive(Drop)]
+pub struct RisenState {
+    /// Its life.
+    pub life: u32,
+    /// Its epoch.
+    pub epoch: u8,
+    /// The epoch that it has closed that one for, if any.
+    pub closed_for: Option<u8>,
+    /// The lines that its epoch began with.
+    pub began: Log,
+    /// The lines since.
+    pub lines: Log,
+    /// What its promises hold.
+    pub held: Locks,
+    /// Its promises.
+    pub prepared: Promises,
+    /// Its clock.
+    pub clock: Clock,
+}
 
 /// A site: its life and epoch, what its epoch began with and the log since,
 /// what is held and promised, and its clock. Each transaction that holds
@@ -77,47 +98,34 @@ impl Site {
         })
     }
 
-    /// The site of this number that rises: its records give its life, its epoch
-    /// and the one that it has closed that for, what its epoch began with and the
-    /// lines since, its promises and its clock, and its promises give what is
-    /// held.
-    pub fn risen(
-        number: u8,
-        life: u32,
-        epoch: u8,
-        closed_for: Option<u8>,
-        began: Log,
-        lines: Log,
-        held: Locks,
-        prepared: Promises,
-        clock: Clock,
-    ) -> Result<Site, OutOfMemory>
-        requires held { AreOfClients held }
-        requires prepared { AreByClients prepared }
+    /// The site of this number that rises with what its records give.
+    pub fn risen(number: u8, state: RisenState) -> Result<Site, OutOfMemory>
+        requires held { AreOfClients state.held }
+        requires prepared { AreByClients state.prepared }
         ensures { IfOk result (λ s. s ≡ record {
           number = number;
-          life = life;
-          epoch = epoch;
-          closed_for = closed_for;
-          began = began;
-          log = lines;
-          recorded = lines;
-          held = held;
-          prepared = prepared;
-          clock = clock.value;
+          life = state.life;
+          epoch = state.epoch;
+          closed_for = state.closed_for;
+          began = state.began;
+          log = state.lines;
+          recorded = state.lines;
+          held = state.held;
+          prepared = state.prepared;
+          clock = state.clock.value;
         }) }
     {
         Ok(Site {
             number,
-            life,
-            epoch,
-            closed_for,
-            began,
-            recorded: lines.copy()?,
-            log: lines,
-            held,
-            prepared,
-            clock,
+            life: state.life,
+            epoch: state.epoch,
+            closed_for: state.closed_for,
+            began: state.began,
+            recorded: state.lines.copy()?,
+            log: state.lines,
+            held: state.held,
+            prepared: state.prepared,
+            clock: state.clock,
         })
     }
 
@@ -172,7 +180,8 @@ impl Site {
                 want,
             } => {
                 let fault = self.fault_of(*epoch, *life);
-                self.request(alloc, decl, asker, *tx, want, fault)
+                let requester = Requester { asker, tx: *tx };
+                self.request(alloc, decl, requester, want, fault)
             }
             Message::Decision { tx, verdict } => self.finish(alloc, *tx, *verdict),
             Message::Close { epoch } => self.close(alloc, asker, *epoch),

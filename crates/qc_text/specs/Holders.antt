@@ -1,20 +1,21 @@
 -- The transactions that hold something at a site, one deed after another.
-use Rattle.std.specs.Prelude.{◌≡◌, ℕ, ◌==◌, ◌&&◌, not, Bool, true, false, if◌then◌else◌, List, [], ◌∷◌, ◌++◌, filter}
+use Rattle.std.specs.Prelude.{[], ◌≡◌, ℕ, ◌==◌, ◌&&◌, not, Bool, true, false, if◌then◌else◌, List, ◌∷◌, ◌++◌, filter}
 use Rattle.std.specs.Prelude.{length}
+use Rattle.std.specs.Option.{option_map_or}
 use Rattle.std.specs.List.{list_any}
 use Rattle.std.specs.BTreeMap.{is_at}
 use Rattle.qc_stamp.specs.Vocabulary.{same_tx, tx_cmp}
 use Rattle.qc_stamp.specs.declared.stamp.TxId.{TxId}
 use Rattle.qc_entry.specs.declared.record.Prepared.{Prepared}
 use Rattle.qc_msg.specs.declared.message.Message.{Message}
-use Rattle.qc_msg.specs.declared.message.Message.TheVariants as messages
 use Rattle.qc_msg.specs.declared.message.Want.{Want}
 use Rattle.qc_msg.specs.declared.message.Want.TheVariants.{Read, Append, Prepare}
 use Rattle.qc_msg.specs.declared.record.Record.{Record}
 use Rattle.qc_msg.specs.declared.record.Record.TheVariants as records
 use Rattle.qc_msg.specs.declared.step.Input.{Input}
 use Rattle.qc_msg.specs.declared.step.Input.TheVariants as inputs
-use Rattle.qc_msg.specs.Vocabulary.{Deed, Falls, Rises, Sends, Takes, Tells, Writes}
+use Rattle.qc_msg.specs.Vocabulary.{Deed, Falls, Rises, Sends, Takes, Tells, Writes, Decided, Finished, Installing}
+use Rattle.qc_msg.specs.Vocabulary.{Requested, decision_in, done_in, install_in, prepare_in, request_in}
 use Rattle.qc_promise.specs.Vocabulary.{grants, is_final, is_granted}
 
 -- whether a post ends before or with a deed, and whether this sends the grant of the request of this number
@@ -56,16 +57,11 @@ abbrev pub names_some : Prepared → Bool
 names_some p = not ((length p.locks == 0) && (length p.own == 0))
 
 abbrev pub holders_with : List TxId → Record → List TxId
-holders_with txs records.Life = txs
-holders_with txs (records.Prepare prepared) =
-    if names_some prepared
-    then with_holder (without_holder txs prepared.tx) prepared.tx
-    else without_holder txs prepared.tx
-holders_with txs (records.Done tx clock) = without_holder txs tx
-holders_with txs (records.Close epoch) = txs
-holders_with txs (records.Install epoch clock lines) = []
-holders_with txs (records.Commit commit) = txs
-holders_with txs (records.Decide epoch clock lines) = txs
+holders_with txs written =
+    option_map_or (λ (prepared : Prepared). if names_some prepared then with_holder (without_holder txs prepared.tx)
+    prepared.tx else without_holder txs prepared.tx) (prepare_in written)
+    (option_map_or (λ (f : Finished). without_holder txs f.tx) (done_in written)
+    (option_map_or (λ (x : Installing). []) (install_in written) txs))
 
 -- each transaction is there once
 abbrev pub AreOnce : List TxId → Type 0
@@ -80,14 +76,12 @@ pub record IsSetOf (txs keys : List TxId) : Type 0 where
 
 -- the holders after a message of this number is taken, the deeds after it being these
 abbrev pub holders_by : List TxId → ℕ → Message → List Deed → List TxId
-holders_by txs number (messages.Request tx epoch life want) after =
-    if is_holding want && is_granted number after then with_holder txs tx else txs
-holders_by txs number (messages.Answer to answer) after = txs
-holders_by txs number (messages.Decision tx verdict) after = if is_final verdict then without_holder txs tx else txs
-holders_by txs number (messages.Inquiry tx) after = txs
-holders_by txs number (messages.Ask tx) after = txs
-holders_by txs number (messages.Close epoch) after = txs
-holders_by txs number (messages.Install epoch clock log) after = txs
+holders_by txs number message after =
+    option_map_or
+    (λ (q : Requested). if is_holding q.want && is_granted number after then with_holder txs q.tx else txs)
+    (request_in message)
+    (option_map_or (λ (v : Decided). if is_final v.verdict then without_holder txs v.tx else txs) (decision_in message)
+    txs)
 
 abbrev pub holders_given : List TxId → Input → List Deed → List TxId
 holders_given txs (inputs.Called command) after = txs

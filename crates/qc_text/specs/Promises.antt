@@ -1,23 +1,19 @@
 -- The transactions whose promises stand at a site and name something, one deed after another.
+use Rattle.std.specs.Option.{option_map_or}
 use Rattle.std.specs.Prelude.{if◌then◌else◌, List}
 use Rattle.qc_stamp.specs.declared.stamp.TxId.{TxId}
 use Rattle.qc_msg.specs.declared.message.Message.{Message}
-use Rattle.qc_msg.specs.declared.message.Message.TheVariants as messages
 use Rattle.qc_msg.specs.declared.step.Input.{Input}
 use Rattle.qc_msg.specs.declared.step.Input.TheVariants as inputs
-use Rattle.qc_msg.specs.Vocabulary.{Deed, Falls, Rises, Sends, Takes, Tells, Writes}
+use Rattle.qc_msg.specs.Vocabulary.{Deed, Falls, Rises, Sends, Takes, Tells, Writes, Decided, decision_in}
 use Rattle.qc_promise.specs.Vocabulary.{is_aborted}
 use Rattle.qc_text.specs.Holders.{holders_with, without_holder}
 
 -- after a message: one that is aborted isn't promised any more
 abbrev pub promised_by : List TxId → Message → List TxId
-promised_by txs (messages.Request tx epoch life want) = txs
-promised_by txs (messages.Answer to answer) = txs
-promised_by txs (messages.Decision tx verdict) = if is_aborted verdict then without_holder txs tx else txs
-promised_by txs (messages.Inquiry tx) = txs
-promised_by txs (messages.Ask tx) = txs
-promised_by txs (messages.Close epoch) = txs
-promised_by txs (messages.Install epoch clock log) = txs
+promised_by txs message =
+    option_map_or (λ (v : Decided). if is_aborted v.verdict then without_holder txs v.tx else txs) (decision_in message)
+    txs
 
 abbrev pub promised_given : List TxId → Input → List TxId
 promised_given txs (inputs.Called command) = txs

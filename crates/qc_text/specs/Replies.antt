@@ -5,7 +5,7 @@ use Rattle.qc_decl.specs.declared.declaration.Declaration.{Declaration}
 use Rattle.qc_msg.specs.declared.reply.Reply.{Reply}
 use Rattle.qc_msg.specs.declared.step.Step.{Step}
 use Rattle.qc_msg.specs.declared.step.Step.TheVariants as steps
-use Rattle.qc_msg.specs.Vocabulary.{Entry}
+use Rattle.qc_msg.specs.Vocabulary.{Entry, replied_in}
 use Rattle.qc_script.specs.declared.script.CommandLine.{CommandLine}
 use Rattle.qc_script.specs.declared.script.Script.{Script}
 use Rattle.qc_text.specs.Asked.{asked, command_text, commands_of}
@@ -15,19 +15,7 @@ use Rattle.qc_text.specs.Results.{reply_text}
 -- what an actor told, oldest first
 
 abbrev pub reply_in : Step → Option Reply
-reply_in (steps.Phase k) = None
-reply_in (steps.Cut a b) = None
-reply_in (steps.Heal a b) = None
-reply_in (steps.Armed actor kind at) = None
-reply_in (steps.Called command) = None
-reply_in (steps.Got n) = None
-reply_in (steps.Lost n) = None
-reply_in (steps.Wrote written) = None
-reply_in (steps.Sent n to message) = None
-reply_in (steps.Told reply) = Some reply
-reply_in (steps.Fell cause pending) = None
-reply_in (steps.Rose written) = None
-reply_in (steps.Damaged offset) = None
+reply_in step = replied_in step
 
 abbrev pub reply_by : ℕ → Entry → Option Reply
 reply_by a e = if e.actor == a then reply_in e.step else None

@@ -1,5 +1,6 @@
 -- The result of a command: a line for each kind of reply. What was refused begins with `!`.
-use Rattle.std.specs.Prelude.{ℕ, List, [], ◌++◌, codes, decimal}
+use Rattle.std.specs.Prelude.{[], ℕ, List, ◌++◌, codes, decimal}
+use Rattle.std.specs.Option.{option_map_or}
 use Rattle.qc_stamp.specs.declared.stamp.TxId.{TxId}
 use Rattle.qc_decl.specs.declared.declaration.Declaration.{Declaration}
 use Rattle.qc_msg.specs.declared.reply.Half.{Half}
@@ -9,17 +10,14 @@ use Rattle.qc_msg.specs.declared.reply.Reply.TheVariants as replies
 use Rattle.qc_msg.specs.declared.reply.AbortCause.{AbortCause}
 use Rattle.qc_msg.specs.declared.reply.AbortCause.TheVariants as whys
 use Rattle.qc_msg.specs.declared.step.Command.{Command}
-use Rattle.qc_msg.specs.declared.step.Command.TheVariants.{Begin, Do, Commit, Abort, Epoch}
 use Rattle.qc_text.specs.Names.{response_name}
 use Rattle.qc_text.specs.Parts.{set_text, site_text, stamp_text, transaction_text}
+use Rattle.qc_msg.specs.Vocabulary.{Invocation, do_in}
 
 -- a response's name, by the object of the command
 abbrev pub response_text : Declaration → Command → ℕ → List ℕ
-response_text decl Begin resp = []
-response_text decl (Do object inv) resp = response_name decl object resp
-response_text decl Commit resp = []
-response_text decl Abort resp = []
-response_text decl (Epoch number) resp = []
+response_text decl command resp =
+    option_map_or (λ (i : Invocation). response_name decl i.object resp) (do_in command) []
 
 abbrev pub half_text : Half → List ℕ
 half_text halves.Read = codes "read"

@@ -1,30 +1,20 @@
 -- The section of sites: one line for each, all of it read off the site's own steps.
-use Rattle.std.specs.Prelude.{ℕ, ◌==◌, Bool, true, false, if◌then◌else◌, List, [], ◌++◌, codes, decimal, flat_map, fold}
+use Rattle.std.specs.Prelude.{[], ℕ, ◌==◌, Bool, true, false, if◌then◌else◌, List, ◌++◌, codes, decimal, flat_map, fold}
 use Rattle.std.specs.Prelude.{length}
+use Rattle.std.specs.Option.{option_map_or}
 use Rattle.std.specs.List.{range_with_len}
 use Rattle.qc_decl.specs.declared.declaration.Declaration.{Declaration}
 use Rattle.qc_msg.specs.declared.step.Step.{Step}
-use Rattle.qc_msg.specs.declared.step.Step.TheVariants as steps
-use Rattle.qc_msg.specs.Vocabulary.{Deed, Entry, deeds, own}
+use Rattle.qc_msg.specs.Vocabulary.{Deed, Entry, deeds, own, Fallen, fell_in, rose_in}
 use Rattle.qc_promise.specs.Vocabulary.{epoch_shown, held_shown, life_shown, log_shown}
 use Rattle.qc_text.specs.Parts.{site_text}
+use Rattle.qc_msg.specs.declared.record.Record.{Record}
 
 -- whether an actor is down: it fell, and hasn't risen since; one whose journal is damaged doesn't rise
 
 abbrev pub down_after : Bool → Step → Bool
-down_after down (steps.Phase k) = down
-down_after down (steps.Cut a b) = down
-down_after down (steps.Heal a b) = down
-down_after down (steps.Armed actor kind at) = down
-down_after down (steps.Called command) = down
-down_after down (steps.Got n) = down
-down_after down (steps.Lost n) = down
-down_after down (steps.Wrote written) = down
-down_after down (steps.Sent n to message) = down
-down_after down (steps.Told reply) = down
-down_after down (steps.Fell cause pending) = true
-down_after down (steps.Rose written) = false
-down_after down (steps.Damaged offset) = down
+down_after down step =
+    option_map_or (λ (x : Fallen). true) (fell_in step) (option_map_or (λ (x : List Record). false) (rose_in step) down)
 
 -- after an entry of anybody
 abbrev pub down_by : Bool → ℕ → Entry → Bool

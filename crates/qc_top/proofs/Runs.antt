@@ -2,7 +2,7 @@
 use Rattle.std.proofs.Common.{◌≡◌, ◌≤◌, ℕ, zero, suc, Bool, true, false, List, [], ◌∷◌, length, Some, refl, sym, ap}
 use Rattle.std.proofs.Common.{◌∙◌, subst, arith, slice_get}
 use Rattle.std.specs.Prelude.{replicate}
-use Rattle.laws_due.proofs.AccountDeclared.{asks_declared, asks_epochs}
+use Rattle.laws_due.proofs.AccountDeclared.{scripts_ask_what_is_declared, asks_epochs}
 use Rattle.laws_bounds.proofs.FitsNamed.{asks_known}
 use Rattle.laws_bounds.proofs.Rising.{run_rises_fit}
 use Rattle.qc_core.specs.Vocabulary.{IsLawfulWithFalls}
@@ -20,11 +20,9 @@ use Rattle.qc_node.specs.declared.ends.DriveEnd.{DriveEnd}
 use Rattle.qc_node.specs.declared.ends.DriveEnd.TheVariants as ends
 use Rattle.theory_onecopy.proofs.Copies.{replays_are_one_copy}
 use Rattle.qc_promise.specs.Vocabulary.{Atomic, Due, Kept, committed}
-use Rattle.laws_reach.proofs.RunLaws.{committed_apart, committed_one_copy}
+use Rattle.laws_reach.proofs.AtomicLaw.{runs_with_falls_are_atomic_where_records_are_kept}
 use Rattle.qc_script.specs.Vocabulary.{RunWithFalls, RunsWithFalls}
 use Rattle.qc_script.specs.declared.script.Script.{Script}
-use Rattle.laws_reach.proofs.SightLaw.{records_follow_what_was_seen_through_falls}
-use Rattle.laws_reach.proofs.ToldRunLaws.{dealt, told}
 use Rattle.qc_top.proofs.OwnRises.{run_own}
 use Rattle.qc_top.proofs.Planned.{rises_planned}
 use Rattle.qc_top.specs.Vocabulary.{AreStatesKnown, IsEnd, IsRunnable}
@@ -32,14 +30,9 @@ use Rattle.qc_top.specs.Vocabulary.{AreStatesKnown, IsEnd, IsRunnable}
 module _ (decl : Declaration) (script : Script) (ready : IsRunnable decl script) (h : List Entry)
     (run : RunWithFalls (IsLawfulWithFalls decl) (fits_of decl) decl script h) where
   pub run_atomic : Kept h → Atomic decl h
-  run_atomic kept = record {
-    apart = committed_apart (fits_of decl) decl script h run.0 ready.accepted ready.declared run.1 kept;
-    one_copy = committed_one_copy (fits_of decl) decl script h run.0 ready.accepted ready.declared run.1 kept;
-    dealt = dealt (fits_of decl) decl script h run.0 ready.accepted ready.declared run.1 kept;
-    seen = records_follow_what_was_seen_through_falls
-        (fits_of decl) decl script h run.0 ready.accepted ready.declared run.1 kept;
-    told = told (fits_of decl) decl script h run.0 ready.accepted ready.declared run.1 kept;
-  }
+  run_atomic kept =
+      runs_with_falls_are_atomic_where_records_are_kept (fits_of decl) decl script h run.0 ready.accepted ready.declared
+      run.1 kept
 
   few : actors decl ≤ most_actors
   few =
@@ -50,7 +43,7 @@ module _ (decl : Declaration) (script : Script) (ready : IsRunnable decl script)
   pub run_due : Due decl h
   run_due =
       runs_due decl script (fits_of decl) ready.accepted
-      (asks_declared decl script ready.accepted ready.declared) few h run.0 run.1
+      (scripts_ask_what_is_declared decl script ready.accepted ready.declared) few h run.0 run.1
       (rises_planned decl h (run_rises_fit decl script (fits_of decl) (λ a records fit. fit.0) h run.0 run.1))
       (run_own decl script h run.0 run.1)
 
@@ -79,7 +72,7 @@ module _ (decl : Declaration) (script : Script) (ready : IsRunnable decl script)
       let closed : IsClosedWithFalls (fits_of decl) decl script h =
       subst (λ (bits : List Bool). RunsWithFalls (IsLawfulWithFalls decl) (fits_of decl) decl script h bits) clear
       ended.runs in
-      is_whole decl script ready.accepted (asks_declared decl script ready.accepted ready.declared)
+      is_whole decl script ready.accepted (scripts_ask_what_is_declared decl script ready.accepted ready.declared)
       (fits_of decl) h closed over.1.1.none_ready over.1.1.none_left
       (asks_known decl ready.accepted script ready.declared (fits_of decl) (λ a records fit. fit.0))
       (asks_epochs decl script ready.declared) over.1.0

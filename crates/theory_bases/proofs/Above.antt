@@ -83,10 +83,10 @@ module _ (decl : Declaration) (accepted : IsAccepted decl) (acts : List Act) (ru
       ((epoch_laws decl accepted acts run disciplined).decisions d m stands i).after_first m i
 
   -- a line of a site's log is of the site's epoch, or of the log that this began with
-  pub sites_split : (site : ℕ) (l : Line) → In l (site_after ((state acts).deeds site)).volatile
+  pub logs_are_split_by_epochs : (site : ℕ) (l : Line) → In l (site_after ((state acts).deeds site)).volatile
       → BelongsTo decl (state acts).status (state acts).epoch (state acts).decided
       (epoch_from 1 ((state acts).deeds site)) l
-  sites_split site l i = ((epoch_laws decl accepted acts run disciplined).sites site).lines l i
+  logs_are_split_by_epochs site l i = ((epoch_laws decl accepted acts run disciplined).sites site).lines l i
 
   -- and where it is of the epoch, it is above all of that log
   pub later_lines_are_above : (site : ℕ) (l m : Line) (d : Decision)
@@ -96,7 +96,7 @@ module _ (decl : Declaration) (accepted : IsAccepted decl) (acts : List Act) (ru
   later_lines_are_above site l m d i stands is j =
       let e = epoch_laws decl accepted acts run disciplined in
       let below = e.decisions d m stands j in
-      elim (sites_split site l i) [
+      elim (logs_are_split_by_epochs site l i) [
         | inr x ↦ inl (subst (λ (y : Decision). In l y.log)
             (e.one x.decision d x.stands stands (x.epoch ∙ is)) x.merged)
         | inl x ↦
@@ -128,9 +128,9 @@ module _ (decl : Declaration) (accepted : IsAccepted decl) (acts : List Act) (ru
       ]
 
   -- and it has all of this one's, where some site answered
-  pub decisions_keep : (d e : Decision) (s : Snapshot) (m : Line) → In d (state acts).decided
+  pub next_logs_keep_what_was : (d e : Decision) (s : Snapshot) (m : Line) → In d (state acts).decided
       → In e (state acts).decided → e.epoch ≡ suc d.epoch → In s e.snapshots → In m d.log → In m e.log
-  decisions_keep d e s m stands next is shut i =
+  next_logs_keep_what_was d e s m stands next is shut i =
       let l = laws decl acts run in
       let made = l.made e next in
       let at = made.epochs s shut in
@@ -141,19 +141,21 @@ module _ (decl : Declaration) (accepted : IsAccepted decl) (acts : List Act) (ru
       (began_with s.site s.before split.0 split.1 d stands epoch
       ((epoch_laws decl accepted acts run disciplined).decisions d m stands i).after_first m i)
 
-  pub decided_older : (d : Decision) (l : Line) → In d (state acts).decided → In l d.log
+  pub decided_logs_are_of_earlier_epochs : (d : Decision) (l : Line) → In d (state acts).decided → In l d.log
       → ((state acts).epoch l.tx < d.epoch) × (l.stamp.clock ≤ d.clock)
-  decided_older d l i j = let x = (epoch_laws decl accepted acts run disciplined).decisions d l i j in
+  decided_logs_are_of_earlier_epochs d l i j =
+      let x = (epoch_laws decl accepted acts run disciplined).decisions d l i j in
       (x.earlier, passes decl accepted acts run disciplined d l i j)
 
-  pub decided_once : (d e : Decision) → In d (state acts).decided → In e (state acts).decided → d.epoch ≡ e.epoch
+  pub epochs_are_decided_once : (d e : Decision) → In d (state acts).decided → In e (state acts).decided
+      → d.epoch ≡ e.epoch
       → d ≡ e
-  decided_once = (epoch_laws decl accepted acts run disciplined).one
+  epochs_are_decided_once = (epoch_laws decl accepted acts run disciplined).one
 
   -- and so are all lines that an operation saw: a counted grant showed them, of its transaction's epoch
-  pub views_older : (tx : TxId) (b : Executed) (l : Line) → In b ((state acts).executed tx) → In l b.view
+  pub views_have_no_later_lines : (tx : TxId) (b : Executed) (l : Line) → In b ((state acts).executed tx) → In l b.view
       → (state acts).epoch l.tx ≤ (state acts).epoch tx
-  views_older tx b l i j =
+  views_have_no_later_lines tx b l i j =
       let w = laws decl acts run in
       let s = (((log_laws decl accepted acts run).right tx b (inl i)).shown l j).1 in
       let k : s.grant.epoch ≡ (state acts).epoch tx = w.counts_epoch s.grant s.counts ∙ ap (state acts).epoch s.its in
@@ -165,4 +167,5 @@ module _ (decl : Declaration) (accepted : IsAccepted decl) (acts : List Act) (ru
           → (state acts).epoch l.tx ≤ (state acts).epoch tx
       by k e (inl x) = let w : (state acts).epoch l.tx ≡ k = x.writer in omega arith
       by k e (inr x) = let less : (state acts).epoch l.tx < x.decision.epoch =
-          (decided_older x.decision l x.stands x.merged).0 in let same : x.decision.epoch ≡ k = x.epoch in omega arith
+          (decided_logs_are_of_earlier_epochs x.decision l x.stands x.merged).0 in let same : x.decision.epoch ≡ k =
+          x.epoch in omega arith

@@ -9,7 +9,7 @@ use Rattle.theory_machine.specs.Vocabulary.{Act, Closes, Decision, Deed, Grants,
 use Rattle.theory_machine.specs.Vocabulary.{LearnsCommit, Prepares, Rises, epoch_from, site_after, state}
 use Rattle.theory_machine.proofs.Keeps.{laws}
 use Rattle.theory_bases.specs.Vocabulary.{AreDisciplined, AreShortDeeds, IsAbove, base_from, base_of, short_site_after}
-use Rattle.theory_bases.proofs.Above.{decided_once, later_lines_are_above}
+use Rattle.theory_bases.proofs.Above.{epochs_are_decided_once, later_lines_are_above}
 use Rattle.theory_bases.proofs.Stands.{short_sites_stand_for_whole_ones}
 
 -- an Install of this epoch and log
@@ -73,7 +73,7 @@ module _ (decl : Declaration) (acts : List Act) (run : IsRun decl acts) where
             let x = (laws decl acts run).installed site (epoch_from 1 ((state acts).deeds site)) i.clock
             (base_of ((state acts).deeds site)) i.stands in
             sym x.logs ∙ ap (λ (y : Decision). y.log)
-            (decided_once decl accepted acts run disciplined x.by d x.stands h (x.epoch ∙ is))
+            (epochs_are_decided_once decl accepted acts run disciplined x.by d x.stands h (x.epoch ∙ is))
 
     pub short_logs_are_above_their_bases : (site : ℕ) (short : List Deed)
         → AreShortDeeds ((state acts).deeds site) short

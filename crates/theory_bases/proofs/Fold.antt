@@ -20,9 +20,9 @@ pub above_is_later : (m l : Line) → m.stamp.clock < l.stamp.clock → line_cmp
 above_is_later m l h = rw (nat_less m.stamp.clock l.stamp.clock h) refl
 
 -- lines that are above a log stand behind it
-pub splits : (first second : List Line) → IsAbove first second → union first second ≡ first ++ second
-splits first [] above = union-nil first ∙ sym (append-nil first)
-splits first (l ∷ second) above = union-after first l second
+pub logs_stand_behind : (first second : List Line) → IsAbove first second → union first second ≡ first ++ second
+logs_stand_behind first [] above = union-nil first ∙ sym (append-nil first)
+logs_stand_behind first (l ∷ second) above = union-after first l second
     (every-from_In (λ (m : Line). line_cmp m l ≡ Less) first (λ m i. above_is_later m l (above m l i (inl refl))))
 
 events-append : (xs ys : List Line) → events (xs ++ ys) ≡ events xs ++ events ys
@@ -30,20 +30,20 @@ events-append [] ys = refl
 events-append (x ∷ xs) ys = ap (λ (es : List ℕ). x.event ∷ es) (events-append xs ys)
 
 -- own events stand behind all lines
-pub fold_splits : (step : ℕ → ℕ → Option ℕ) (start : ℕ) (first second : List Line) (own : List ℕ) → IsAbove first second
+pub folds_split : (step : ℕ → ℕ → Option ℕ) (start : ℕ) (first second : List Line) (own : List ℕ) → IsAbove first second
     → after step start (events (union first second) ++ own) ≡ state_from step
     (after step start (events first)) second own
-fold_splits step start first second own above =
+folds_split step start first second own above =
     ap (λ (es : List ℕ). after step start (es ++ own))
-    (ap events (splits first second above) ∙ events-append first second)
+    (ap events (logs_stand_behind first second above) ∙ events-append first second)
     ∙ reached-append step (Some start) (events first ++ events second) own
     ∙ ap (λ (s : Option ℕ). reached step s own) (reached-append step (Some start) (events first) (events second))
     ∙ sym (reached-append step (reached step (Some start) (events first)) (events second) own)
 
 -- the views of several sites that began with one log: their lines of the epoch join
-pub views_join : (first a b : List Line) → IsAscending first → IsAscending a → IsAscending b
+pub views_of_an_epoch_join : (first a b : List Line) → IsAscending first → IsAscending a → IsAscending b
     → union (union first a) (union first b) ≡ union first (union a b)
-views_join first a b um ua ub =
+views_of_an_epoch_join first a b um ua ub =
     ascending-same (union (union first a) (union first b)) (union first (union a b))
     (ascending-union (union first a) (union first b) (ascending-union first a um ua) (ascending-union first b um ub))
     (ascending-union first (union a b) um (ascending-union a b ua ub))
@@ -68,14 +68,14 @@ views_join first a b um ua ub =
     ])
 
 -- the next epoch's base is reached from this one's, by the lines of this epoch
-pub next_base : (step : ℕ → ℕ → Option ℕ) (start : ℕ) (base since next : List Line) → IsAscending base
+pub next_bases_are_reached : (step : ℕ → ℕ → Option ℕ) (start : ℕ) (base since next : List Line) → IsAscending base
     → IsAscending since → IsAscending next → IsAbove base since → IsUnionOf base since next
     → after step start (events next) ≡ state_from step (after step start (events base)) since []
-next_base step start base since next ub us un above both =
+next_bases_are_reached step start base since next ub us un above both =
     let same : next ≡ union base since =
     ascending-same next (union base since) un (ascending-union base since ub us)
     (λ l i. elim (both.only l i) [ inl b ↦ in_second l base since b | inr a ↦ in_first l base since a ])
     (λ l i. elim (in_either l base since i) [ inl a ↦ both.has_base l a | inr b ↦ both.has_short l b ]) in
     ap (λ (xs : List Line). after step start (events xs)) same
     ∙ ap (after step start) (sym (append-nil (events (union base since))))
-    ∙ fold_splits step start base since [] above
+    ∙ folds_split step start base since [] above

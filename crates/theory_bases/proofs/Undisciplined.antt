@@ -18,7 +18,8 @@ use Rattle.theory_bases.specs.Vocabulary.{AreDisciplined, BelongsNow, HasLaterVi
 use Rattle.theory_bases.specs.Vocabulary.{HasTwoDecisions, IsUndisciplinedRun, IsWrittenIn, appended_without_threshold}
 use Rattle.theory_bases.specs.Vocabulary.{decided_twice, decided_with_two_logs, granted_in_another_epoch}
 use Rattle.theory_bases.specs.Vocabulary.{seen_in_another_epoch}
-use Rattle.theory_bases.proofs.Above.{decided_once, sites_have_what_their_epoch_began_with, sites_split, views_older}
+use Rattle.theory_bases.proofs.Above.{epochs_are_decided_once, sites_have_what_their_epoch_began_with}
+use Rattle.theory_bases.proofs.Above.{logs_are_split_by_epochs, views_have_no_later_lines}
 use Rattle.theory_bases.proofs.Disciplined.{different}
 
 -- the last two decisions are of one epoch, with different clocks
@@ -119,7 +120,7 @@ module _ (decl : Declaration) (story : List Move) (accepted : IsAccepted decl) (
   shows_two r = record {
     accepted = accepted;
     run = run;
-    undisciplined = λ h. r.apart (decided_once decl accepted
+    undisciplined = λ h. r.apart (epochs_are_decided_once decl accepted
         (acts_of story) run h r.one r.other r.first_stands r.second_stands r.epochs);
     broken = r;
   }
@@ -128,7 +129,7 @@ module _ (decl : Declaration) (story : List Move) (accepted : IsAccepted decl) (
   shows_stray r = record {
     accepted = accepted;
     run = run;
-    undisciplined = λ h. r.stray (sites_split decl accepted (acts_of story) run h r.site r.line r.stands);
+    undisciplined = λ h. r.stray (logs_are_split_by_epochs decl accepted (acts_of story) run h r.site r.line r.stands);
     broken = r;
   }
 
@@ -148,33 +149,37 @@ module _ (decl : Declaration) (story : List Move) (accepted : IsAccepted decl) (
       never h =
           let later : (state (acts_of story)).epoch r.tx < (state (acts_of story)).epoch r.line.tx = r.later in
           let older : (state (acts_of story)).epoch r.line.tx ≤ (state (acts_of story)).epoch r.tx =
-          views_older decl accepted (acts_of story) run h r.tx r.operation r.line r.executed r.seen in
+          views_have_no_later_lines decl accepted (acts_of story) run h r.tx r.operation r.line r.executed r.seen in
           omega arith
 
 runs : (story : List Move) → is_some (run_of every_guard moving_register story) ≡ true
     → IsRun moving_register (acts_of story)
 runs story e = proof_of (run_of every_guard moving_register story) e
 
-pub twice : IsUndisciplinedRun moving_register decided_twice HasTwoDecisions
-twice = shows_two moving_register decided_twice moving_register_accepted (runs decided_twice refl)
+pub epochs_decided_twice_are_refused : IsUndisciplinedRun moving_register decided_twice HasTwoDecisions
+epochs_decided_twice_are_refused =
+    shows_two moving_register decided_twice moving_register_accepted (runs decided_twice refl)
     (proof_of (two_decisions (state (acts_of decided_twice)) (state (acts_of decided_twice)).decided (λ d h. h)) refl)
 
-pub two_logs : IsUndisciplinedRun three_in_two_epochs decided_with_two_logs HasMissedLine
-two_logs =
+pub epochs_with_two_logs_are_refused : IsUndisciplinedRun three_in_two_epochs decided_with_two_logs HasMissedLine
+epochs_with_two_logs_are_refused =
     shows_missed three_in_two_epochs decided_with_two_logs three_in_two_epochs_accepted
     (proof_of (run_of every_guard three_in_two_epochs decided_with_two_logs) refl)
     (proof_of (missed_at 1 (state (acts_of decided_with_two_logs))) refl)
 
-pub elsewhere : IsUndisciplinedRun moving_register granted_in_another_epoch (HasStrayLine moving_register)
-elsewhere = shows_stray moving_register granted_in_another_epoch moving_register_accepted
+pub grants_of_another_epoch_are_refused : IsUndisciplinedRun moving_register granted_in_another_epoch
+    (HasStrayLine moving_register)
+grants_of_another_epoch_are_refused = shows_stray moving_register granted_in_another_epoch moving_register_accepted
     (runs granted_in_another_epoch refl) (proof_of
     (stray_at 2 moving_register (state (acts_of granted_in_another_epoch))) refl)
 
-pub weightless : IsUndisciplinedRun moving_register appended_without_threshold (HasStrayLine moving_register)
-weightless = shows_stray moving_register appended_without_threshold moving_register_accepted
+pub lines_without_threshold_are_refused : IsUndisciplinedRun moving_register appended_without_threshold
+    (HasStrayLine moving_register)
+lines_without_threshold_are_refused = shows_stray moving_register appended_without_threshold moving_register_accepted
     (runs appended_without_threshold refl) (proof_of
     (stray_at 0 moving_register (state (acts_of appended_without_threshold))) refl)
 
-pub early : IsUndisciplinedRun moving_register seen_in_another_epoch HasLaterView
-early = shows_early moving_register seen_in_another_epoch moving_register_accepted (runs seen_in_another_epoch refl)
+pub views_of_later_epochs_are_refused : IsUndisciplinedRun moving_register seen_in_another_epoch HasLaterView
+views_of_later_epochs_are_refused =
+    shows_early moving_register seen_in_another_epoch moving_register_accepted (runs seen_in_another_epoch refl)
     (proof_of (early_view third (state (acts_of seen_in_another_epoch))) refl)

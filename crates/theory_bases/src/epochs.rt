@@ -14,7 +14,7 @@ ghost use Rattle.theory_bases.specs.Belongs.{BelongsNow};
 
 /// A line of a site's log was written in the site's epoch, or is of the log
 /// that this began with.
-#[tactic(auto, using(crate::proofs::Above::sites_split))]
+#[tactic(auto, using(crate::proofs::Above::logs_are_split_by_epochs))]
 pub fn logs_are_split_by_epochs()
     ensures { (decl : Declaration) (accepted : IsAccepted decl) (acts : List Act) (run : IsRun decl acts)
         (disciplined : AreDisciplined decl acts) (site : ℕ) (l : Line)
@@ -50,7 +50,7 @@ pub fn next_logs_stand_behind()
 
 /// That log has all of what this epoch began with, where it was made from any
 /// snapshot.
-#[tactic(auto, using(crate::proofs::Above::decisions_keep))]
+#[tactic(auto, using(crate::proofs::Above::next_logs_keep_what_was))]
 pub fn next_logs_keep_what_was()
     ensures { (decl : Declaration) (accepted : IsAccepted decl) (acts : List Act) (run : IsRun decl acts)
         (disciplined : AreDisciplined decl acts) (d e : Decision) (s : Snapshot) (m : Line)
@@ -60,7 +60,7 @@ pub fn next_logs_keep_what_was()
 
 /// The log that an epoch begins with was written in earlier epochs, and the
 /// epoch's clock has passed its stamps.
-#[tactic(auto, using(crate::proofs::Above::decided_older))]
+#[tactic(auto, using(crate::proofs::Above::decided_logs_are_of_earlier_epochs))]
 pub fn decided_logs_are_of_earlier_epochs()
     ensures { (decl : Declaration) (accepted : IsAccepted decl) (acts : List Act) (run : IsRun decl acts)
         (disciplined : AreDisciplined decl acts) (d : Decision) (l : Line) → In d (state acts).decided → In l d.log
@@ -68,7 +68,7 @@ pub fn decided_logs_are_of_earlier_epochs()
 {}
 
 /// An epoch is decided once.
-#[tactic(auto, using(crate::proofs::Above::decided_once))]
+#[tactic(auto, using(crate::proofs::Above::epochs_are_decided_once))]
 pub fn epochs_are_decided_once()
     ensures { (decl : Declaration) (accepted : IsAccepted decl) (acts : List Act) (run : IsRun decl acts)
         (disciplined : AreDisciplined decl acts) (d e : Decision) → In d (state acts).decided

@@ -33,7 +33,7 @@ pub fn later_epochs_follow_earlier_ones()
 
 /// In a disciplined run no operation sees a line of a later epoch, be it one on
 /// which it depends or not.
-#[tactic(auto, using(crate::proofs::Above::views_older))]
+#[tactic(auto, using(crate::proofs::Above::views_have_no_later_lines))]
 pub fn views_have_no_later_lines()
     ensures { (decl : Declaration) (accepted : IsAccepted decl) (acts : List Act) (run : IsRun decl acts)
         (disciplined : AreDisciplined decl acts) (tx : TxId) (b : Executed) (l : Line)

@@ -13,34 +13,34 @@ ghost use Rattle.theory_bases.specs.Wrong.{appended_without_threshold, decided_t
 ghost use Rattle.theory_bases.specs.Wrong.{granted_in_another_epoch, seen_in_another_epoch, short_deeds, shorter_deeds, whole_deeds};
 
 /// The machine allows an epoch to be decided twice, with another clock.
-#[tactic(auto, using(crate::proofs::Undisciplined::twice))]
+#[tactic(auto, using(crate::proofs::Undisciplined::epochs_decided_twice_are_refused))]
 pub fn epochs_decided_twice_are_refused()
     ensures { IsUndisciplinedRun moving_register decided_twice HasTwoDecisions }
 {}
 
 /// Even with another log: then a site that has installed the one lacks a line of
 /// the other.
-#[tactic(auto, using(crate::proofs::Undisciplined::two_logs))]
+#[tactic(auto, using(crate::proofs::Undisciplined::epochs_with_two_logs_are_refused))]
 pub fn epochs_with_two_logs_are_refused()
     ensures { IsUndisciplinedRun three_in_two_epochs decided_with_two_logs HasMissedLine }
 {}
 
 /// It allows a site to grant what belongs to a later epoch: its log has a line
 /// of that epoch.
-#[tactic(auto, using(crate::proofs::Undisciplined::elsewhere))]
+#[tactic(auto, using(crate::proofs::Undisciplined::grants_of_another_epoch_are_refused))]
 pub fn grants_of_another_epoch_are_refused()
     ensures { IsUndisciplinedRun moving_register granted_in_another_epoch (HasStrayLine moving_register) }
 {}
 
 /// So an operation may see a line of a later epoch.
-#[tactic(auto, using(crate::proofs::Undisciplined::early))]
+#[tactic(auto, using(crate::proofs::Undisciplined::views_of_later_epochs_are_refused))]
 pub fn views_of_later_epochs_are_refused()
     ensures { IsUndisciplinedRun moving_register seen_in_another_epoch HasLaterView }
 {}
 
 /// It allows lines of events without a final threshold: its site's log has a
 /// line that no quorum has.
-#[tactic(auto, using(crate::proofs::Undisciplined::weightless))]
+#[tactic(auto, using(crate::proofs::Undisciplined::lines_without_threshold_are_refused))]
 pub fn lines_without_threshold_are_refused()
     ensures { IsUndisciplinedRun moving_register appended_without_threshold (HasStrayLine moving_register) }
 {}

@@ -34,6 +34,7 @@ module _ (decl : Declaration) where
         let x : g.clock ≤ w.clock g.tx.client = l.passed g h live in
         let y : w.clock g.tx.client ≡ w.clock c.tx.client = ap (λ (t : TxId). w.clock t.client) e in
         let z : w.clock c.tx.client < c.stamp.clock = may.above in
+        -- AllHaveVoted
         (may.votes g h e, omega arith);
   }
 

@@ -10,20 +10,20 @@ ghost use Rattle.theory_witnesses.specs.Guarantees.{Guarantee, Holds};
 ghost use Rattle.theory_witnesses.specs.Needed.{IsNeeded, every_guard_but};
 
 /// A machine without a guard asks all others.
-#[tactic(auto, using(crate::proofs::EveryGuard::left_out))]
+#[tactic(auto, using(crate::proofs::EveryGuard::one_guard_is_left_out))]
 pub fn one_guard_is_left_out()
     ensures { (one guard : Guard) → (every_guard_but one guard ≡ false) ↔ (guard ≡ one) }
 {}
 
 /// Every run of the protocol keeps each guarantee.
-#[tactic(auto, using(crate::proofs::Kept::keeps))]
+#[tactic(auto, using(crate::proofs::Kept::runs_keep_the_guarantees))]
 pub fn runs_keep_the_guarantees()
     ensures { (guarantee : Guarantee) (decl : Declaration) (acts : List Act) → IsAccepted decl → IsRun decl acts
         → Holds guarantee decl acts }
 {}
 
 /// Without a guard, any of them, some run breaks a guarantee.
-#[tactic(auto, using(crate::proofs::EveryGuard::some_is_broken))]
+#[tactic(auto, using(crate::proofs::EveryGuard::every_guard_is_needed))]
 pub fn every_guard_is_needed()
     ensures { (guard : Guard) → (guarantee : Guarantee) × IsNeeded guard guarantee }
 {}

@@ -2,13 +2,13 @@ use Rattle.std.proofs.Common.{◌≡◌, ◌∙◌, subst}
 use Rattle.std.specs.Prelude.{vec_len, option_copied}
 use Rattle.qc_decl.specs.Vocabulary.{actors, controller}
 use Rattle.qc_decl.specs.declared.declaration.Declaration.{Declaration}
-use Rattle.laws_turns.proofs.Downs.{tells}
+use Rattle.laws_turns.proofs.Downs.{who_is_down_only_tells}
 use Rattle.qc_node.specs.Vocabulary.{AreProcesses, IsHandedBelow}
 use Rattle.qc_node.proofs.Starts.{all_handed, empty_before, started_tells}
 use Rattle.qc_node.proofs.runs.run_named.Goals as goal
 
 pub make-requires-clause-down : goal.make-requires-clause-down
-make-requires-clause-down g c = tells g.N.RunName.declaration
+make-requires-clause-down g c = who_is_down_only_tells g.N.RunName.declaration
 
 pub cells_of-cells-requires-clause-processes : goal.cells_of-cells-requires-clause-processes
 cells_of-cells-requires-clause-processes g c κs within =

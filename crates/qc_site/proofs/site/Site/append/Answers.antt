@@ -9,21 +9,21 @@ use Rattle.qc_site.proofs.site.Site.append.Goals as goal
 pub invariant_of-self : goal.invariant_of-self
 invariant_of-self c = (
   subst AreOfClients (sym c.in-Ok.ensures.ok)
-      (clients-held c.self.inside.held c.args.tx [] c.items.result.now c.self.invariant.0 c.requires.client),
+      (clients-held c.self.inside.held c.args.requester.tx [] c.items.result.now c.self.invariant.0 c.requires.client),
   c.self.invariant.1,
 )
 
 pub invariant_of-self-in-Ok : goal.invariant_of-self-in-Ok
 invariant_of-self-in-Ok c = (
   subst AreOfClients (sym c.in-Ok.ensures.ok)
-      (clients-held c.self.inside.held c.args.tx [] c.items.result.now c.self.invariant.0 c.requires.client),
+      (clients-held c.self.inside.held c.args.requester.tx [] c.items.result.now c.self.invariant.0 c.requires.client),
   c.self.invariant.1,
 )
 
 pub clashing-requires-clause-client : goal.clashing-requires-clause-client
 clashing-requires-clause-client c =
-    let told : append_clash c.unwrap-kind.result.now.relation c.self.inside.held c.args.tx c.items.result.now
+    let told : append_clash c.unwrap-kind.result.now.relation c.self.inside.held c.args.requester.tx c.items.result.now
     ≡ Some c.in-Err-Conflict.clash = rw c.in-Err-Conflict.field-0-is at c.in-Err-Conflict.ensures.told in
     let within : c.in-Err-Conflict.clash.holder.client < most_clients =
-    append_client _ c.self.inside.held c.args.tx _ c.in-Err-Conflict.clash c.self.invariant.0 told in
+    append_client _ c.self.inside.held c.args.requester.tx _ c.in-Err-Conflict.clash c.self.invariant.0 told in
     subst (λ (k : Clash). k.holder.client < most_clients) (sym c.in-Err-Conflict.clash-is) within
